@@ -1,4 +1,5 @@
 -- Lines and rows, one after the other, and the watchers.
+pub mod Loops
 pub mod LinesLaws
 pub mod LinesCarry
 pub mod HeadCarry

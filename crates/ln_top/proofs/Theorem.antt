@@ -6,7 +6,7 @@ pub mod GoodLines
 pub mod Lightness
 pub mod HeadlineLaws
 pub mod EmittedLaws
-pub mod Accepting
+pub mod Standing
 pub mod TrustedLaws
 pub mod ListedLaws
 pub mod EdgedLaws

@@ -1,19 +1,18 @@
 -- `list FILE`: the listing of the programs of a source.
-use Rattle.std.specs.Prelude.{◌≡◌, ℕ, ◌≤◌, List, [], ◌∷◌, take, IfSome}
+use Rattle.std.specs.Prelude.{◌≡◌, ℕ, List, [], ◌∷◌, take}
 use Rattle.ln_tree.specs.declared.shape.Shape.{Shape}
-use Rattle.ln_tree.specs.Exps.{IsRising}
 use Rattle.ln_tree.specs.Names.{name_bytes}
 use Rattle.ln_tree.specs.Row.{InRange, Row}
 use Rattle.ln_tree.specs.Table.{PredOf}
 use Rattle.ln_code.specs.declared.verdict.Verdict.{Verdict}
 use Rattle.ln_code.specs.declared.verdict.By.TheVariants.{Filter}
-use Rattle.ln_code.specs.Part.{Code, Part}
+use Rattle.ln_code.specs.Part.{Part}
 use Rattle.ln_code.specs.Verdict.{IsVerdict}
 use Rattle.ln_compile.specs.Compiled.{AreProgramsOf}
 use Rattle.ln_compile.specs.Filtered.{IsDue}
 use Rattle.ln_cemit.specs.Emitted.{AreKept}
 use Rattle.ln_cert.specs.Listing.{ListText, Listed, parts_of}
-use Rattle.ln_cert.specs.Written.{listing_of}
+use Rattle.ln_cert.specs.Written.{IsListable, listing_of}
 use Rattle.ln_verify.specs.AsPart.{part_of}
 use Rattle.ln_verify.specs.Line.{Written}
 use Rattle.ln_verify.specs.Verified.{IsValidFor}
@@ -22,22 +21,7 @@ use Rattle.ln_top.specs.declared.status.End.TheVariants.{Done}
 use Rattle.ln_top.specs.Said.{Said, whole}
 use Rattle.ln_top.specs.Steps.{Given}
 
--- ---- what a listing can say
--- the variables of a block's exponents rise, and its stack needs at most 2,048 places
-pub record IsListableBlock (c : Code) : Type 0 where
-  pub rising : IsRising c.exps
-  pub shallow : c.depth ≤ 2048
-
--- each of these blocks can be listed
-abbrev pub AreListableBlocks : List Code → Type 0
-AreListableBlocks [] = Unit {0}
-AreListableBlocks (c ∷ cs) = IsListableBlock c × AreListableBlocks cs
-
--- each block of a program, and the stack of its filter
-pub record IsListable (p : Part) : Type 0 where
-  pub blocks : AreListableBlocks p.blocks
-  pub filter : IfSome p.filter (λ f. f.depth ≤ 2048)
-
+-- ---- what a listing can state
 -- each of these programs can be listed
 abbrev pub AreListable : List Part → Type 0
 AreListable [] = Unit {0}

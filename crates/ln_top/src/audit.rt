@@ -1,7 +1,7 @@
 //! The work of `audit`: a trace is judged by the predicate's polynomial and the records of the rows file.
 ghost use Rattle.std.specs.Prelude.{◌≡◌, ◌≤◌, ◌∷◌, ◌++◌, ℕ, List, IfOk, Some, length, slice_get, slice_index_or, codes, decimal};
 ghost use Rattle.ln_tree.specs.Table.{pred_of};
-ghost use Rattle.ln_verify.specs.Accepted.{IsAccepted};
+ghost use Rattle.ln_stage.specs.Sound.{IsSound};
 ghost use Rattle.ln_top.specs.Audit.{AreJudged, AuditSaid, HasTrace, IsAuditOf, PutsOrStops};
 ghost use Rattle.ln_top.specs.Carried.{CarriesOut, NoPart};
 ghost use Rattle.ln_top.specs.Columns.{names_of};
@@ -30,7 +30,7 @@ fn judged(
     rows: &mut Rows<'_>,
     lines: &mut TraceLines<'_>,
 ) -> Result<Judged, NoMemory>
-    requires accepted { IsAccepted (pred_of p.now) }
+    requires accepted { IsSound (pred_of p.now) }
     requires second { lines.old.line ≡ 2 }
     ensures { IfOk result (λ j. AreJudged (pred_of p.now) rows.old lines.old j) }
 {
@@ -41,7 +41,7 @@ fn judged(
 
 // Returns what is judged of a trace: a form fault comes first.
 fn audited(alloc: Global, p: &Pred, rows: &mut Rows<'_>, trace: &[u8]) -> Result<Judged, NoMemory>
-    requires accepted { IsAccepted (pred_of p.now) }
+    requires accepted { IsSound (pred_of p.now) }
     requires short { length trace.now ≤ most_file }
     ensures { IfOk result (λ j. IsAuditOf (pred_of p.now) rows.old trace.now j) }
 {
@@ -87,7 +87,7 @@ fn audit_rows<C: Console>(
     rows: &mut Rows<'_>,
     trace: &[u8],
 ) -> Result<End, Early>
-    requires accepted { IsAccepted (pred_of p.now) }
+    requires accepted { IsSound (pred_of p.now) }
     requires short { length trace.now ≤ most_file }
     ensures { (g : Given) (names : List (List ℕ)) → HasTrace g (pred_of p.now) names (names ∷ rows.old) trace.now
         → CarriesOut (AuditSaid g) NoPart ⊥ ⊥
@@ -117,7 +117,7 @@ fn audit_records<C: Console>(
     rows: &mut Rows<'_>,
     trace: &[u8],
 ) -> Result<End, Early>
-    requires accepted { IsAccepted (pred_of p.now) }
+    requires accepted { IsSound (pred_of p.now) }
     requires short { length trace.now ≤ most_file }
     ensures { (g : Given) → HasTrace g (pred_of p.now) (names_of t.now p.now) rows.old trace.now
         → CarriesOut (AuditSaid g) NoPart ⊥ ⊥

@@ -14,7 +14,7 @@ ghost use Rattle.ln_top.specs.Said.{count};
 ghost use Rattle.ln_top.specs.Steps.{Given, most_file};
 ghost use Rattle.ln_top.specs.Target.{Belongs, IsGivenBy, IsInRange, IsReadFor, pred_in};
 
-use crate::gather::{PIECE, both, end_of, put_piece};
+use crate::gather::{PIECE, end_of, put_piece};
 use crate::prepare::{Ready, one_target, short_text};
 use crate::put::{put_out, put_rest};
 use crate::status::{Early, End};
@@ -113,7 +113,7 @@ fn put_records<C: Console>(
         match rows.next_row(target.pred(), &mut row) {
             Ok(Some(read)) => match take_record(alloc, target, s, seen + 1, read, &row, text) {
                 Ok(right) => {
-                    good = both(good, right);
+                    good &= right;
                     seen += 1;
                 }
                 Err(early) => return Err(early),

@@ -12,7 +12,6 @@ ghost use Rattle.ln_top.specs.Product.{AreDue};
 ghost use Rattle.ln_top.specs.Ready.{AreNumbered};
 ghost use Rattle.ln_top.specs.Run.{HeaderIs};
 
-use crate::listable::kept;
 use ln_base::{NoMemory, Sign};
 use ln_code::{By, Program, Programs, Row, Scratch, Verdict};
 use ln_compile::Checked;
@@ -99,7 +98,8 @@ fn add(
     ensures made { OnOk result (AreMade (map pred_of c.now.table.preds) numbers.new.items programs.new) }
 {
     let program = c.program(alloc, i)?;
-    let _kept = kept(&program);
+    // The contract of `blocks` states that the program follows the rules.
+    let _blocks = program.blocks();
     programs.push(program)?;
     numbers.push(i)?;
     Ok(())

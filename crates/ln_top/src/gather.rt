@@ -1,5 +1,5 @@
 //! Lines of records that are gathered, and written in pieces.
-ghost use Rattle.std.specs.Prelude.{◌&&◌, ◌≡◌, ◌<◌, true, vec_len, vec_capacity};
+ghost use Rattle.std.specs.Prelude.{◌≡◌, ◌<◌, true, vec_len, vec_capacity};
 ghost use Rattle.ln_top.specs.Lines.{Empties};
 ghost use Rattle.ln_top.specs.Run.{end_of, piece};
 ghost use Rattle.ln_top.specs.Said.{count};
@@ -26,13 +26,6 @@ pub(crate) fn put_piece<C: Console>(con: &mut C, text: &mut Vec<u8>) -> bool
     }
     text.clear();
     true
-}
-
-/// Returns whether both are true.
-pub(crate) fn both(a: bool, b: bool) -> bool
-    ensures { result ≡ (a && b) }
-{
-    a && b
 }
 
 /// Returns the end of work on records: done where all are rows.

@@ -28,7 +28,6 @@ pub mod graded;
 pub mod laws;
 pub mod line;
 mod list;
-mod listable;
 pub mod panel;
 pub mod prepare;
 mod product;

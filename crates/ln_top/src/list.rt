@@ -7,7 +7,6 @@ ghost use Rattle.ln_top.specs.Ready.{StandsFor};
 ghost use Rattle.ln_top.specs.Said.{count};
 ghost use Rattle.ln_top.specs.Steps.{Given};
 
-use crate::listable::{kept, listable};
 use crate::prepare::Ready;
 use crate::status::{Early, End};
 use crate::stop::put_text;
@@ -23,8 +22,8 @@ fn put_listed(alloc: Global, text: &mut Vec<u8>, source: &Checked, i: usize) -> 
         → IsListingOfFirst (map pred_of source.now.table.preds) (i + 1) text.new.items) }
 {
     let program = source.program(alloc, i)?;
-    let _kept = kept(&program);
-    let _listable = listable(&program);
+    // The contract of `blocks` states that the program follows the rules.
+    let _blocks = program.blocks();
     put_program(alloc, text, &program)
 }
 

@@ -10,7 +10,7 @@ ghost use Rattle.ln_top.specs.Suits.{Asks, objection};
 ghost use Rattle.ln_top.specs.Steps.{Each, Finds, Given, Prepares, Reads, Suits, gives, most_file};
 ghost use Rattle.ln_top.specs.Carried.{Halts};
 ghost use Rattle.ln_top.specs.Target.{IsGivenBy};
-ghost use Rattle.ln_verify.specs.Accepted.{AreAccepted};
+ghost use Rattle.ln_stage.specs.Sound.{AreSound};
 ghost use Rattle.ln_top.specs.Factors.{AreGivenBy};
 ghost use Rattle.ln_top.specs.Ready.{AreNumbered, HasNumbers, HasStanding, IsReady, IsReadyFor, StandsFor};
 
@@ -265,7 +265,7 @@ pub fn short_text(ready: &Ready) -> &[u8]
 pub fn sound_table(ready: &Ready) -> &Table
     requires { HasStanding ready.now }
     ensures is { (g : Given) → StandsFor ready.now g → g.table ≡ view result.now }
-    ensures sound { AreAccepted (map pred_of result.now.preds) }
+    ensures sound { AreSound (map pred_of result.now.preds) }
 {
     ready.compiled.table()
 }

@@ -16,7 +16,7 @@ ghost use Rattle.ln_top.specs.Said.{count, line};
 ghost use Rattle.ln_top.specs.Steps.{Given};
 
 use crate::factors::{Factors, Room};
-use crate::gather::{PIECE, both, end_of, put_piece};
+use crate::gather::{PIECE, end_of, put_piece};
 use crate::line::{add_byte, add_decider, add_sign, add_stop};
 use crate::prepare::{Ready, one_text, product_factors};
 use crate::put::put_rest;
@@ -162,7 +162,7 @@ fn put_records<C: Console>(
         }
         match rows.next_row(factors.pred(), &mut row) {
             Ok(Some(read)) => match take_record(alloc, factors, room, read, &row, text) {
-                Ok(right) => good = both(good, right),
+                Ok(right) => good &= right,
                 Err(early) => return Err(early),
             },
             Ok(None) => return Ok(good),

@@ -14,7 +14,7 @@ ghost use Rattle.ln_top.specs.Target.{IsGivenBy, IsInRange, IsReadFor, pred_in};
 ghost use Rattle.ln_top.specs.Watching.{watching};
 ghost use Rattle.ln_watch.specs.Panel.{last_lines, states_of};
 
-use crate::gather::{PIECE, both, end_of, put_piece};
+use crate::gather::{PIECE, end_of, put_piece};
 use crate::line::{LINE_ROOM, add_line};
 use crate::panel::Panel;
 use crate::prepare::{Ready, one_target, one_text};
@@ -147,7 +147,7 @@ fn put_records<C: Console>(
         }
         match rows.next_row(target.pred(), &mut row) {
             Ok(Some(read)) => match take_record(alloc, con, target, s, read, &row, text, viewers) {
-                Ok(right) => good = both(good, right),
+                Ok(right) => good &= right,
                 Err(early) => return Err(early),
             },
             Ok(None) => return Ok(good),

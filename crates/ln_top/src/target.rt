@@ -10,7 +10,6 @@ ghost use Rattle.ln_top.specs.Run.{HeaderIs};
 ghost use Rattle.ln_top.specs.Target.{Belongs, IsInRange, pred_in, row_in};
 
 use crate::graded::graded_program;
-use crate::listable::kept;
 use ln_base::NoMemory;
 use ln_code::{Program, Row, Scratch, Verdict, run_row};
 use ln_compile::Checked;
@@ -67,7 +66,8 @@ impl<'a> Target<'a> {
         ensures rank { IfOk result (λ t. t.rank ≡ BySmallest) }
     {
         let program = c.program(alloc, i)?;
-        let _kept = kept(&program);
+        // The contract of `blocks` states that the program follows the rules.
+        let _blocks = program.blocks();
         Ok(Target {
             table: c.table(),
             pred: &c.table().preds.as_slice()[i],
@@ -86,7 +86,8 @@ impl<'a> Target<'a> {
         ensures rank { IfOk result (λ t. t.rank ≡ ByDegree) }
     {
         let program = graded_program(alloc, c, i)?;
-        let _kept = kept(&program);
+        // The contract of `blocks` states that the program follows the rules.
+        let _blocks = program.blocks();
         Ok(Target {
             table: c.table(),
             pred: &c.table().preds.as_slice()[i],

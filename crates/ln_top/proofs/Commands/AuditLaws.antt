@@ -2,7 +2,7 @@
 use Rattle.std.proofs.Common.{◌≡◌, ◌≤◌, ℕ, zero, suc, arith, map, List, [], ◌∷◌, length, refl, ap, sym, ◌∙◌, subst, Option, Some, Result, Err}
 use Rattle.std.specs.Prelude.{slice_get, slice_index_or}
 use Rattle.std.proofs.lemmas.Option.{none-some, same_Some}
-use Rattle.ln_verify.specs.Accepted.{AreAccepted, IsAccepted}
+use Rattle.ln_stage.specs.Sound.{AreSound, IsSound}
 use Rattle.ln_top.specs.declared.words.Command.TheVariants as command
 use Rattle.ln_base.specs.Outside.{Shown}
 use Rattle.ln_algebra.specs.Tree.{InputsBelow, Tree}
@@ -46,6 +46,7 @@ use Rattle.ln_top.specs.Said.{Count, Said, count, whole}
 use Rattle.ln_top.specs.Steps.{Given}
 use Rattle.ln_top.specs.Work.{IsLawful, IsWorkEnd}
 use Rattle.ln_top.specs.Work as kind_of
+use Rattle.ln_top.proofs.Gathering.Loops.{Streams, faults_in}
 use Rattle.ln_top.proofs.Commands.RunLaws.{tail_same}
 use Rattle.ln_top.proofs.Steps.Carry.{text_carried, told_carried}
 use Rattle.ln_top.proofs.Steps.Likeness.{columns_like}
@@ -70,13 +71,24 @@ module _ (g : Given) (p q : PredOf) (names others : List (List ℕ)) (rs ss : Re
   pub same_trace : t ≡ u
   same_trace = ap (λ (xs : List (List ℕ)). elim xs [ [] ↦ t | x ∷ rest ↦ elim rest [ [] ↦ t | y ∷ more ↦ y ] ]) texts
 
+-- a predicate with the names of its columns, records, and the bytes of a trace
+record Judging : Type 0 where
+  pred : PredOf
+  names : List (List ℕ)
+  records : Records
+  trace : List ℕ
+
+abbrev judging : PredOf → List (List ℕ) → Records → List ℕ → Judging
+judging p names records trace = record { pred = p; names = names; records = records; trace = trace }
+
 -- the header is right or wrong
-wrong_right : {P : Type 0} (g : Given) (p q : PredOf) (names others : List (List ℕ)) (rs rest : Records) (t u : List ℕ)
-    → HasTrace g p names rs t → IsWrongHeader names rs → HasTrace g q others (others ∷ rest) u → P
-wrong_right g p q names others rs rest t u h w k =
-    let wrong : IsWrongHeader names (others ∷ rest) = subst (IsWrongHeader names)
-    (same_records g p q names others rs (others ∷ rest) t u h k) w in
-    absurd (wrong (sym (same_names g p q names others rs (others ∷ rest) t u h k)))
+wrong_right : {P : Type 0} (g : Given) (x y : Judging) → HasTrace g x.pred x.names x.records x.trace → IsWrongHeader x.names x.records
+    → HasTrace g y.pred y.names (y.names ∷ y.records) y.trace → P
+wrong_right g x y h w k =
+    let ys = y.names ∷ y.records in
+    let wrong : IsWrongHeader x.names ys = subst (IsWrongHeader x.names)
+    (same_records g x.pred y.pred x.names y.names x.records ys x.trace y.trace h k) w in
+    absurd (wrong (sym (same_names g x.pred y.pred x.names y.names x.records ys x.trace y.trace h k)))
 
 -- ---- one output
 -- a trace isn't agreed and wrong
@@ -118,14 +130,18 @@ module _ (g : Given) (p q : PredOf) (names others : List (List ℕ)) (rs ss : Re
 -- what it requires is one
 pub one_said : (g : Given) (a b : Said) → AuditSaid g a → AuditSaid g b → a ≡ b
 one_said g a b (audit.header p names rs t h x) (audit.header q others ss u k y) = refl
-one_said g a b (audit.header p names rs t h x) (audit.agreed q others ss u k y) = wrong_right g p q names others rs ss t u h x k
-one_said g a b (audit.header p names rs t h x) (audit.wrong q others ss u n k y) = wrong_right g p q names others rs ss t u h x k
-one_said g a b (audit.agreed p names rs t h x) (audit.header q others ss u k y) = wrong_right g q p others names ss rs u t k y h
+one_said g a b (audit.header p names rs t h x) (audit.agreed q others ss u k y) =
+    wrong_right g (judging p names rs t) (judging q others ss u) h x k
+one_said g a b (audit.header p names rs t h x) (audit.wrong q others ss u n k y) =
+    wrong_right g (judging p names rs t) (judging q others ss u) h x k
+one_said g a b (audit.agreed p names rs t h x) (audit.header q others ss u k y) =
+    wrong_right g (judging q others ss u) (judging p names rs t) k y h
 one_said g a b (audit.agreed p names rs t h x) (audit.agreed q others ss u k y) =
     ap (whole Done) (same_count g p q names others rs ss t u h k)
 one_said g a b (audit.agreed p names rs t h x) (audit.wrong q others ss u n k y) =
     absurd (right_wrong q ss u n (moved_right g p q names others rs ss t u h k x) y)
-one_said g a b (audit.wrong p names rs t m h x) (audit.header q others ss u k y) = wrong_right g q p others names ss rs u t k y h
+one_said g a b (audit.wrong p names rs t m h x) (audit.header q others ss u k y) =
+    wrong_right g (judging q others ss u) (judging p names rs t) k y h
 one_said g a b (audit.wrong p names rs t m h x) (audit.agreed q others ss u k y) =
     absurd (right_wrong q ss u m y (moved_wrong g p q names others rs ss t u h k m x))
 one_said g a b (audit.wrong p names rs t m h x) (audit.wrong q others ss u n k y) =
@@ -139,13 +155,17 @@ tells boxes g a (audit.wrong p names rs t m h x) = audit.wrong p names rs t m h 
 
 one : (g : Given) (a b : End) → AuditEnds g a → AuditEnds g b → a ≡ b
 one g a b (audit.header p names rs t h x) (audit.header q others ss u k y) = refl
-one g a b (audit.header p names rs t h x) (audit.agreed q others ss u k y) = wrong_right g p q names others rs ss t u h x k
-one g a b (audit.header p names rs t h x) (audit.wrong q others ss u n k y) = wrong_right g p q names others rs ss t u h x k
-one g a b (audit.agreed p names rs t h x) (audit.header q others ss u k y) = wrong_right g q p others names ss rs u t k y h
+one g a b (audit.header p names rs t h x) (audit.agreed q others ss u k y) =
+    wrong_right g (judging p names rs t) (judging q others ss u) h x k
+one g a b (audit.header p names rs t h x) (audit.wrong q others ss u n k y) =
+    wrong_right g (judging p names rs t) (judging q others ss u) h x k
+one g a b (audit.agreed p names rs t h x) (audit.header q others ss u k y) =
+    wrong_right g (judging q others ss u) (judging p names rs t) k y h
 one g a b (audit.agreed p names rs t h x) (audit.agreed q others ss u k y) = refl
 one g a b (audit.agreed p names rs t h x) (audit.wrong q others ss u n k y) =
     absurd (right_wrong q ss u n (moved_right g p q names others rs ss t u h k x) y)
-one g a b (audit.wrong p names rs t m h x) (audit.header q others ss u k y) = wrong_right g q p others names ss rs u t k y h
+one g a b (audit.wrong p names rs t m h x) (audit.header q others ss u k y) =
+    wrong_right g (judging q others ss u) (judging p names rs t) k y h
 one g a b (audit.wrong p names rs t m h x) (audit.agreed q others ss u k y) =
     absurd (right_wrong q ss u m y (moved_wrong g p q names others rs ss t u h k m x))
 one g a b (audit.wrong p names rs t m h x) (audit.wrong q others ss u n k y) = refl
@@ -155,6 +175,7 @@ kind g e (audit.header p names rs t h x) = kind_of.rows
 kind g e (audit.agreed p names rs t h x) = kind_of.done
 kind g e (audit.wrong p names rs t m h x) = kind_of.invalid
 
+-- the laws of a work hold for `audit`
 pub lawful : IsLawful (λ boxes. AuditSaid) AuditEnds
 lawful = record { tells = tells; one = one; kind = kind }
 
@@ -172,19 +193,24 @@ put_carried : (g : Given) (end : End) (text : List ℕ) (puts : Count) (result :
 put_carried g end text puts result was now o (puts_it s) = text_carried (AuditSaid g) NoPart ⊥ ⊥ puts end text result was now o s
 put_carried g end text puts result was now o (stops_before q e n) = carried.short q (carried.nothing n) e
 
-pub agreed_carried : (g : Given) (p : PredOf) (names : List (List ℕ)) (records : Records) (trace : List ℕ) (n : ℕ) (puts : Count)
-    (result : Result End Early) (was now : Option Shown) → HasTrace g p names (names ∷ records) trace → IsAuditOf p records trace (Agreed n)
-    → PutsOrStops (agreed_text n) Done puts result was now → CarriesOut (AuditSaid g) NoPart ⊥ ⊥ puts result was now
-agreed_carried g p names records trace n puts result was now h (r, e) s =
-    put_carried g Done (agreed_text n) puts result was now
+-- where the trace is agreed, writing the line `agreed N` carries out what is required
+pub agreed_carried : {g : Given} {p : PredOf} {names : List (List ℕ)} {records : Records} {trace : List ℕ} {n : ℕ} {result : Result End Early}
+    {was now : Streams} → HasTrace g p names (names ∷ records) trace → IsAuditOf p records trace (Agreed n)
+    → PutsOrStops (agreed_text n) Done (faults_in was now) result was.shown now.shown
+    → CarriesOut (AuditSaid g) NoPart ⊥ ⊥ (faults_in was now) result was.shown now.shown
+agreed_carried {g = g} {p = p} {names = names} {records = records} {trace = trace} {n = n} {was = was} {now = now} h (r, e) s =
+    put_carried g Done (agreed_text n) (faults_in was now) _ was.shown now.shown
     (subst (λ (k : ℕ). AuditSaid g (whole Done (agreed_text k))) (sym e) (audit.agreed p names records trace h r)) s
 
-pub wrong_carried : (g : Given) (p : PredOf) (names : List (List ℕ)) (records : Records) (trace : List ℕ) (at : ℕ) (puts : Count)
-    (result : Result End Early) (was now : Option Shown) → HasTrace g p names (names ∷ records) trace → IsAuditOf p records trace (Wrong at)
-    → PutsOrStops (wrong_text at) Invalid puts result was now → CarriesOut (AuditSaid g) NoPart ⊥ ⊥ puts result was now
-wrong_carried g p names records trace at puts result was now h r s =
-    put_carried g Invalid (wrong_text at) puts result was now (audit.wrong p names records trace at h r) s
+-- where the trace is wrong, writing the line `wrong N` carries out what is required
+pub wrong_carried : {g : Given} {p : PredOf} {names : List (List ℕ)} {records : Records} {trace : List ℕ} {at : ℕ} {result : Result End Early}
+    {was now : Streams} → HasTrace g p names (names ∷ records) trace → IsAuditOf p records trace (Wrong at)
+    → PutsOrStops (wrong_text at) Invalid (faults_in was now) result was.shown now.shown
+    → CarriesOut (AuditSaid g) NoPart ⊥ ⊥ (faults_in was now) result was.shown now.shown
+wrong_carried {g = g} {p = p} {names = names} {records = records} {trace = trace} {at = at} {was = was} {now = now} h r s =
+    put_carried g Invalid (wrong_text at) (faults_in was now) _ was.shown now.shown (audit.wrong p names records trace at h r) s
 
+-- an allocation that fails before anything is written leaves no part
 pub memory_carried : (g : Given) (n : ℕ) (was : Option Shown) → CarriesOut (AuditSaid g) NoPart ⊥ ⊥ (count n n) (Err Memory) was was
 memory_carried g n was = carried.short refl (carried.nothing refl) refl
 
@@ -246,8 +272,8 @@ one_name n t f =
     let b : n ≤ 1 = f.most in
     omega (arith, a, b)
 
--- each predicate of an accepted source is accepted
-pub accepted_in : (ps : List Pred) (k : ℕ) (p : Pred) → AreAccepted (map pred_of ps) → slice_get ps k ≡ Some p → IsAccepted (pred_of p)
-accepted_in [] k p a e = absurd (none-some p e)
-accepted_in (q ∷ ps) zero p a e = subst (λ (r : Pred). IsAccepted (pred_of r)) (same_Some q p e) a.0
-accepted_in (q ∷ ps) (suc k) p a e = accepted_in ps k p a.1 e
+-- each predicate of an accepted source has no fault
+pub sound_in : (ps : List Pred) (k : ℕ) (p : Pred) → AreSound (map pred_of ps) → slice_get ps k ≡ Some p → IsSound (pred_of p)
+sound_in [] k p a e = absurd (none-some p e)
+sound_in (q ∷ ps) zero p a e = subst (λ (r : Pred). IsSound (pred_of r)) (same_Some q p e) a.0
+sound_in (q ∷ ps) (suc k) p a e = sound_in ps k p a.1 e

@@ -30,9 +30,11 @@ count_behind (q ∷ ps) p n (more q0 ps0 m texts d a) c =
     (sym (append_assoc (line (count_text q m)) texts (line (count_text p n))))
     (more q (ps ++ p ∷ []) m (texts ++ line (count_text p n)) d (count_behind ps p n a c))
 
+-- the lines in `counts` begin with none
 pub counts_start : (ps : List Pred) → AreCounts (map pred_of (take 0 ps)) []
 counts_start ps = none
 
+-- the step of `counts`: the line of the next predicate is appended
 pub counts_more : (ps : List Pred) (i : ℕ) (p : Pred) (n : ℕ) (texts new : List ℕ) → i < length ps → p ≡ get_or ps i p
     → AreCounts (map pred_of (take i ps)) texts → IsStageCountAt (map pred_of ps) i n
     → new ≡ texts ++ line (count_text (pred_of p) n)
@@ -62,5 +64,6 @@ one g a b done done = refl
 kind : (g : Given) (e : End) → CheckEnds g e → IsWorkEnd e
 kind g e done = kind_of.done
 
+-- the laws of a work hold for `check`
 pub lawful : IsLawful (λ boxes. CheckSaid) CheckEnds
 lawful = record { tells = λ boxes. tells; one = one; kind = kind }

@@ -90,6 +90,7 @@ one_three t p a b h k =
     let same : h.kind ≡ k.kind = same_kind h.kind k.kind h.first h.second h.third k.first k.second k.third (sym h.args ∙ k.args) in
     same_Some a b (sym h.there ∙ ap (slice_get t.sites) same ∙ k.there)
 
+-- two ways to see what is given have one predicate
 pub same_pred : (g : Given) (p q : PredOf) (a b : SiteOf) → HasType g p a → HasType g q b → p ≡ q
 same_pred g p q a b h k = head_pred p q [] [] (sym h.pred ∙ k.pred)
 
@@ -151,10 +152,12 @@ one_outcome g p q a b rs ss o r h k x y =
     let x2 = subst (λ (zs : Records). ReadsPoints b zs o) (same_records g p q a b rs ss h k) x1 in
     one_points b ss o r x2 y
 
+-- a points file is read as one list of points
 pub one_read : (g : Given) (p q : PredOf) (a b : SiteOf) (rs ss : Records) (ps qs : List PointOf) → HasPoints g p a rs
     → HasPoints g q b ss → ReadsPoints a rs (gives ps) → ReadsPoints b ss (gives qs) → ps ≡ qs
 one_read g p q a b rs ss ps qs h k x y = ap (value_or ps) (one_outcome g p q a b rs ss (gives ps) (gives qs) h k x y)
 
+-- a points file doesn't both stop the command and have points
 pub never_both : {P : Type 0} (g : Given) (p q : PredOf) (a b : SiteOf) (rs ss : Records) (why : Why) (qs : List PointOf)
     → HasPoints g p a rs → HasPoints g q b ss → ReadsPoints a rs (stops why) → ReadsPoints b ss (gives qs) → P
 never_both g p q a b rs ss why qs h k x y =
@@ -167,6 +170,7 @@ one_text p q ps qs s t e f x y =
     let x2 = subst (λ (rs : List PointOf). AreEdgesOf q rs s) f x1 in
     lines-one (Edge q.vars (root_of q) qs) (edge_line qs) s t x2 y
 
+-- the output that `edges` requires is one
 pub one_said : (g : Given) (a b : Said) → EdgesSaid g a → EdgesSaid g b → a ≡ b
 one_said g a b (edges.stopped p s rs why h x) (edges.stopped q t ss other k y) =
     ap said_of (ap (why_or why) (one_outcome g p q s t rs ss (stops why) (stops other) h k x y))
@@ -198,6 +202,7 @@ kind : (g : Given) (e : End) → EdgesEnds g e → IsWorkEnd e
 kind g e (edges.stopped p s rs why h x f) = subst IsWorkEnd (sym f) (kind_stopped s rs (stops why) why x refl)
 kind g e (edges.done p s rs ps h x f) = subst IsWorkEnd (sym f) kind_of.done
 
+-- the laws of a work hold for `edges`
 pub lawful : IsLawful (λ boxes. EdgesSaid) EdgesEnds
 lawful = record { tells = λ boxes. ends_so; one = one; kind = kind }
 
@@ -218,7 +223,7 @@ none_missing type rs o (edges.points xs ps f k i) h = absurd h
 pub stop_carried : (g : Given) (s : Stop) (puts : Count) (result : Result End Early) (was now : Option Shown) → StopsPoints g s
     → Says s puts result was now → CarriesOut (EdgesSaid g) NoPart ⊥ ⊥ puts result was now
 stop_carried g s puts result was now h x =
-    says_carried (ReadsPoints h.type h.records) s (EdgesSaid g) NoPart ⊥ ⊥ puts result was now
+    says_carried (ReadsPoints h.type h.records) s (record { owes = EdgesSaid g; part = NoPart; lacks = ⊥; reads = ⊥ }) puts result was now
     (λ why o. edges.stopped h.pred h.type h.records why h.has o) (λ m. none_missing h.type h.records missing m tt) h.halts x
 
 -- the lines were written as a whole text
@@ -348,6 +353,7 @@ no_param args x h i e =
     let t = three_args (map arg_of args) h in
     none-some t.kind (e ∙ ap type_of (first_is args x t.first t.rest t.is i) ∙ t.of)
 
+-- a predicate of three sites has an argument
 pub some_arg : (args : List Arg) → is_three (map arg_of args) ≡ true → 0 < length args
 some_arg [] h = absurd (true≢false (sym h))
 some_arg (x ∷ args) h = omega arith
@@ -377,6 +383,7 @@ first_within sites params k a b c h =
     below k sites (and_parts (nat_lt k sites)
     (list_all (is_one_of sites params) (SiteArg b k ∷ SiteArg c k ∷ [])) h).0
 
+-- the type of the three sites of a table's predicate is one of the table's
 pub type_within : (t : Table) (i : ℕ) (p : Pred) (k : ℕ) → slice_get t.preds i ≡ Some p → AreOfType k (map arg_of p.args)
     → k < length t.sites
 type_within t i p k e (a, b, c, are) =
@@ -407,6 +414,7 @@ type_given r g p k s stands l e (a, b, c, are) f = record {
   };
 }
 
+-- a site type of a table has at most 32 coordinates
 pub type_few : (t : Table) (k : ℕ) (s : Site) → slice_get t.sites k ≡ Some s → length s.coords ≤ 32
 type_few t k s e =
     let parts = table_parts (view t) t.whole in
@@ -435,6 +443,7 @@ pub points_stop : (g : Given) (s : Site) (t : IsTypeOf g (site_of s)) (bytes : L
 points_stop g s t bytes records stop e r h =
     record { pred = t.pred; type = site_of s; records = records; has = has_points g (site_of s) t bytes records e r; halts = h }
 
+-- a wrong header stops the command
 pub header_stops : (s : Site) (old : Records) → IsWrongHeader (site_columns s.name (Some s)) old
     → Halts (ReadsPoints (site_of s) old) ⊥ (stop.Tell Header)
 header_stops s old w = tells Header (edges.wrong (subst (λ (names : List (List ℕ)). IsWrongHeader names old) (names_like s) w))
@@ -445,10 +454,12 @@ pub points_found : (type : SiteOf) (all rest : Records) (points : List code_poin
     → ReadsPoints type all (gives (map (point_of (length type.coords)) points))
 points_found type all rest points e l a = edges.points rest (map (point_of (length type.coords)) points) e l a
 
+-- more than 256 records after the header stop the command
 pub many_found : (type : SiteOf) (all rest : Records) → all ≡ point_names type ∷ rest → 256 < length rest
     → Halts (ReadsPoints type all) ⊥ (stop.Tell Many)
 many_found type all rest e l = tells Many (edges.many rest e l)
 
+-- the first record that is no point stops the command, with its number
 pub fault_found : (type : SiteOf) (all rest : Records) (n : ℕ) → all ≡ point_names type ∷ rest → length rest ≤ 256
     → IsPointFault type.coords rest n → Halts (ReadsPoints type all) ⊥ (stop.Tell (Point n))
 fault_found type all rest n e l f = tells (Point n) (edges.fault rest n e l f)

@@ -159,5 +159,6 @@ one g a b done done = refl
 kind : (g : Given) (e : End) → EmitEnds g e → IsWorkEnd e
 kind g e done = kind_of.done
 
+-- the laws of a work hold for `emit`
 pub lawful : IsLawful (λ boxes. EmitSaid) EmitEnds
 lawful = record { tells = λ boxes. tells; one = one; kind = kind }

@@ -25,7 +25,7 @@ use Rattle.ln_top.specs.Said.{Said, Count, count}
 use Rattle.ln_top.specs.Steps.{Given}
 use Rattle.ln_top.specs.Line.{is_row}
 use Rattle.ln_top.specs.Lines as l
-use Rattle.ln_top.specs.Lines.{Lines, Ran, Takes, all_good, took, left_off}
+use Rattle.ln_top.specs.Lines.{Lines, Takes, all_good, took, left_off}
 use Rattle.ln_top.specs.Carried as carried
 use Rattle.ln_top.specs.Carried.{CarriesOut}
 use Rattle.ln_top.specs.Work.{IsLawful}
@@ -37,7 +37,8 @@ use Rattle.ln_top.specs.Explain.{ExplainPart, ExplainRest, ExplainRestPart, Expl
 use Rattle.ln_top.proofs.Steps.Carry.{told_carried}
 use Rattle.ln_top.proofs.Gathering.HeadCarry.{IsHeaded}
 use Rattle.ln_top.proofs.Gathering.LinesLaws.{both_nothing, lines_have, no_last, wrote_nothing}
-use Rattle.ln_top.proofs.Gathering.LinesCarry.{IsByLines, early_carried, end_carried}
+use Rattle.ln_top.proofs.Gathering.Loops.{Streams}
+use Rattle.ln_top.proofs.Gathering.LinesCarry.{Task, IsByLines, HasRun, IsCarriedOut, early_carried, end_carried}
 use Rattle.ln_top.proofs.Commands.RunLaws as run_laws
 
 -- the records of the predicate that is run
@@ -73,6 +74,7 @@ takes_all p seen number fields right held grown n was e s =
       counted = refl;
     }) (ap Ok s.right_is) s.text_is (sym (both_nothing was))
 
+-- an allocation failed, and the record's lines were given up
 pub takes_none : (p : PredOf) (seen : ℕ) (fields : List (List ℕ)) (held grown : List ℕ) (n : ℕ) (was : Option Shown) → grown ≡ held
     → Takes (ExplainStep p) (is_row p) seen fields (count n n) (Err Memory) held grown was was (seen + 1)
 takes_none p seen fields held grown n was e = left_off refl refl e refl
@@ -120,10 +122,21 @@ module _ (t : TargetOf) (g : Given) (given : IsGivenBy g t) (told : AreTold (pre
       (subst (λ (x : List ℕ). ExplainRest g (record { end = end; out = out; err = x })) (sym (append-nil err ∙ none))
       (explain.ran (pred_in t) t.names records out z h d1))
 
+  -- after the first line, lines for each record
+  abbrev task : Records → Task ℕ (List (List ℕ))
+  task records = record {
+    work = record { step = ExplainStep (pred_in t); good = is_row (pred_in t) };
+    last_out = no_last;
+    last_err = no_last;
+    ends = end_of;
+    state = 0;
+    records = records;
+    owes = ExplainRest g;
+    part = ExplainRestPart g;
+  }
+
   -- what it requires after the first line is by lines
-  pub by_lines : (records : Records) → HasRecords g (pred_in t) t.names (t.names ∷ records)
-      → IsByLines (ExplainStep (pred_in t)) no_last no_last (end_of (all_good (is_row (pred_in t)) records)) 0 records
-      (ExplainRest g) (ExplainRestPart g)
+  pub by_lines : (records : Records) → HasRecords g (pred_in t) t.names (t.names ∷ records) → IsByLines (task records)
   by_lines records h = record { has = has; whole = whole records h; first = first }
     where
       first : (done left : Records) (out err : List ℕ) (z : ℕ) → records ≡ done ++ left
@@ -133,8 +146,13 @@ module _ (t : TargetOf) (g : Given) (given : IsGivenBy g t) (told : AreTold (pre
           (subst (λ (rs : Records). HasRecords g (pred_in t) t.names (t.names ∷ rs)) e h) d refl
 
   -- the first line stands before it
-  pub headed : (records : Records) → HasRecords g (pred_in t) t.names (t.names ∷ records)
-      → IsHeaded first_line (ExplainSaid g) (ExplainRest g) (ExplainPart g) (ExplainRestPart g)
+  pub headed : (records : Records) → HasRecords g (pred_in t) t.names (t.names ∷ records) → IsHeaded (record {
+    head = first_line;
+    owes = ExplainSaid g;
+    rest = ExplainRest g;
+    part = ExplainPart g;
+    more = ExplainRestPart g;
+  })
   headed records h =
       let all = lines_have (ExplainStep (pred_in t)) has 0 records in record {
         whole = λ said r. r;
@@ -149,28 +167,22 @@ module _ (t : TargetOf) (g : Given) (given : IsGivenBy g t) (told : AreTold (pre
       }
 
   -- the lines of all records stand, or the work ended early
-  pub ends_carried : (records : Records) (right : Bool) (a b z : ℕ) (was now : Option Shown)
-      → HasRecords g (pred_in t) t.names (t.names ∷ records)
-      → Ran (ExplainStep (pred_in t)) (is_row (pred_in t)) 0 records (count a b) (Ok right) was now z
-      → CarriesOut (ExplainRest g) (ExplainRestPart g) ⊥ ⊥ (count a b) (Ok (end_of right)) was now
-  ends_carried records right a b z was now h r =
-      end_carried (ExplainStep (pred_in t)) (is_row (pred_in t)) no_last no_last end_of 0 z records (ExplainRest g) (ExplainRestPart g)
-      right a b b was now now (by_lines records h) r (wrote_nothing b now now refl)
+  pub ends_carried : {records : Records} {right : Bool} {z : ℕ} {was now : Streams}
+      → HasRecords g (pred_in t) t.names (t.names ∷ records) → HasRun (task records) (Ok right) z was now
+      → IsCarriedOut (task records) (Ok (end_of right)) was now
+  ends_carried {records = records} {now = now} h r = end_carried (by_lines records h) r (wrote_nothing now.faults now.shown now.shown refl)
 
-  pub stops_carried : (records : Records) (early : Early) (puts : Count) (z : ℕ) (was now : Option Shown)
-      → HasRecords g (pred_in t) t.names (t.names ∷ records)
-      → Ran (ExplainStep (pred_in t)) (is_row (pred_in t)) 0 records puts (Err early) was now z
-      → CarriesOut (ExplainRest g) (ExplainRestPart g) ⊥ ⊥ puts (Err early) was now
-  stops_carried records early puts z was now h r =
-      early_carried (ExplainStep (pred_in t)) (is_row (pred_in t)) no_last no_last
-      (end_of (all_good (is_row (pred_in t)) records)) 0 z records (ExplainRest g) (ExplainRestPart g) early puts was now
-      (by_lines records h) r
+  pub stops_carried : {records : Records} {early : Early} {z : ℕ} {was now : Streams}
+      → HasRecords g (pred_in t) t.names (t.names ∷ records) → HasRun (task records) (Err early) z was now
+      → IsCarriedOut (task records) (Err early) was now
+  stops_carried {records = records} h r = early_carried (by_lines records h) r
 
 -- ---- where it ends
 tells : (boxes : List State) (g : Given) (a : Said) → ExplainSaid g a → RunEnds g a.end
 tells boxes g a (explain.header p names records h x) = run.wrong p names records h x
 tells boxes g a (explain.ran p names records out seen h x) = run_laws.ends_by p names records g h
 
+-- the laws of a work hold for `explain`
 pub lawful : IsLawful (λ boxes. ExplainSaid) RunEnds
 lawful = record { tells = tells; one = run_laws.lawful.one; kind = run_laws.lawful.kind }
 

@@ -166,6 +166,7 @@ row-list q part fields row b read =
       row-stages BySmallest q.shape row o.0 (root_of (pred_of q)) (carried.vectors part (list_of part o.0)) range o.1 stages1,
     )
 
+-- each row of a predicate without a fault, with a program that has its verdicts, has lines that explain it
 pub are_told : (q : Pred) (part : Part) → IsSound (pred_of q) → Belongs BySmallest q part → AreTold (pred_of q)
 are_told q part sound b = λ seen fields row read.
     let normal = tree-normal (length q.shape.vars) (root_of (pred_of q)) (light_of q sound) in
@@ -183,6 +184,7 @@ numbered_sound table (i ∷ is) p rest s a = at_sound table i p s a.0
     at_sound (x ∷ ps) zero r t e = subst IsSound (same_Some x r e) t.0
     at_sound (x ∷ ps) (suc k) r t e = at_sound ps k r t.1 e
 
+-- the predicate that is run has no fault, where none of the source has
 pub sound_pred : (r : Ready) (g : Given) (t : TargetOf) → StandsFor r g → AreSound (map pred_of r.compiled.table.preds) → IsGivenBy g t
     → IsSound (pred_in t)
 sound_pred r g t s a h =

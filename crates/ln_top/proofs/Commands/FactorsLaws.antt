@@ -46,6 +46,7 @@ there_before [] ys k x e = absurd (none-some x e)
 there_before (y ∷ xs) ys zero x e = e
 there_before (y ∷ xs) ys (suc k) x e = there_before xs ys k x e
 
+-- an appended element is at the place after all others
 pub there_last : {A : Type 0} (xs : List A) (x : A) → slice_get (xs ++ x ∷ []) (length xs) ≡ Some x
 there_last [] x = refl
 there_last (y ∷ xs) x = there_last xs x
@@ -67,6 +68,7 @@ stand_more ns [] (j ∷ is) k i s e = absurd s
 stand_more ns (l ∷ ks) [] k i s e = absurd s
 stand_more ns (l ∷ ks) (j ∷ is) k i s e = (s.0, stand_more ns ks is k i s.1 e)
 
+-- numbers at their places stay there where more are appended
 pub stand_grown : (ns ms ks is : List ℕ) → StandAt ns ks is → StandAt (ns ++ ms) ks is
 stand_grown ns ms [] [] s = tt
 stand_grown ns ms [] (j ∷ is) s = absurd s
@@ -184,6 +186,7 @@ names_new table d (j ∷ ns) (x ∷ cs) i c a n m =
     (sym a.0.carries.name ∙ e ∙ m.carries.name))
     (names_new table d ns cs i c a.1 (All-tail (λ (k : ℕ). k ≢ i) j ns n) m)
 
+-- a program of a table that isn't made yet has a name that none of those made has
 pub new_name : (t : Table) (ns : List ℕ) (cs : List Part) (i : ℕ) (c : Part) → AreMade (map pred_of t.preds) ns cs
     → All (λ j. j ≢ i) ns → IsMadeOf (map pred_of t.preds) i c → All (λ d. name_bytes d.shape.name ≢ name_bytes c.shape.name) cs
 new_name t ns cs i c a n m =
@@ -250,6 +253,7 @@ over_programs sites vars cs (i ∷ ks) (p ∷ ps) a h zero part f =
 over_programs sites vars cs (i ∷ ks) (p ∷ ps) a h (suc k) part f =
     over_programs sites vars cs ks ps a.1 h.1 k part (record { place = f.place; named = f.named; there = f.there })
 
+-- two or more are one or more
 pub some_of_two : (n : ℕ) → 2 ≤ n → 1 ≤ n
 some_of_two n h = omega arith
 
@@ -313,6 +317,7 @@ pub record AreMadeSoFar (programs : List Part) (which : List ℕ) (scratches : L
   pub size : length scratches ≡ count
   pub made : (k : ℕ) (p : Part) (s : Scratch) → IsFactor programs which k p → slice_get scratches k ≡ Some s → MadeFor p s
 
+-- the step of `scratches`: one more, made for the program of the next factor
 pub one_more_made : (programs : List Part) (which : List ℕ) (ss : List Scratch) (s : Scratch) (n i : ℕ) (x : Part)
     → AreMadeSoFar programs which ss n → slice_get which n ≡ Some i → slice_get programs i ≡ Some x → MadeFor x s
     → AreMadeSoFar programs which (ss ++ s ∷ []) (n + 1)

@@ -21,20 +21,20 @@ use Rattle.ln_top.specs.declared.status.End.TheVariants.{Done}
 use Rattle.ln_top.specs.declared.status.Early.{Early}
 use Rattle.ln_top.specs.declared.status.Early.TheVariants.{Write, Memory}
 use Rattle.ln_top.specs.Said.{Said, Count, whole}
-use Rattle.ln_top.specs.Said as said
 use Rattle.ln_top.specs.Steps.{Given}
 use Rattle.ln_top.specs.Carried as c
 use Rattle.ln_top.specs.Carried.{CarriesOut, NoPart}
 use Rattle.ln_top.specs.GenRow.{words, past}
 use Rattle.ln_top.specs.Gen.{Draw, draw, drawn, draws, seeded, GenStep, GenSaid, made, GenEnds, done}
 use Rattle.ln_top.specs.Lines as l
-use Rattle.ln_top.specs.Lines.{Lines, PutsAll, PutsOne, Wrote, every}
+use Rattle.ln_top.specs.Lines.{Lines, PutsOne, Wrote}
 use Rattle.ln_top.specs.Target.{Belongs, TargetOf, pred_in}
 use Rattle.ln_top.specs.Work.{IsLawful, IsWorkEnd}
 use Rattle.ln_top.specs.Work as kind_of
 use Rattle.ln_top.proofs.Commands.TargetLaws.{owed_there}
-use Rattle.ln_top.proofs.Gathering.LinesLaws.{Running, running_none, no_last, SameLines, ok_err, memory_write}
-use Rattle.ln_top.proofs.Gathering.LinesCarry.{IsByLines, early_carried, end_carried, close_carried}
+use Rattle.ln_top.proofs.Gathering.Loops.{Written, StepTo, Streams, faults_in, each_good}
+use Rattle.ln_top.proofs.Gathering.LinesLaws.{Writing, running_none, no_last, SameLines, ok_err, memory_write}
+use Rattle.ln_top.proofs.Gathering.LinesCarry.{Task, IsByLines, HasRun, EndsWith, early_carried, end_carried, close_carried}
 use Rattle.ln_top.proofs.Gathering.MadeRangeLemmas.{words_in_range, words_length}
 use Rattle.ln_top.proofs.Gathering.WatchingLaws.{lines_alike, left_alike}
 
@@ -46,14 +46,15 @@ draws_more k n m vars g h e =
     let same : m ≡ suc n = omega (arith, e) in
     rw (one, same) refl
 
+-- after the last row none remains
 pub draws_none : (k n : ℕ) (vars : List VarInfo) (g : Lcg) → k ≤ n → draws (k - n) n vars g ≡ []
 draws_none k n vars g h = let none : k - n ≡ 0 = omega (arith, h) in rw none refl
 
 -- no row has been made
-pub none_made : (p : PredOf) (boxes : List State) (k : ℕ) (vars : List VarInfo) (g : Lcg) (was : Option Shown) (f : ℕ)
-    → Running (GenStep p) every boxes (draws k 0 vars g) (draws (k - 0) 0 vars g) true [] was was boxes f f
-none_made p boxes k vars g was f =
-    let same : k - 0 ≡ k = omega arith in rw same (running_none (GenStep p) every boxes (draws k 0 vars g) [] was f refl)
+pub none_made : (p : PredOf) (boxes : List State) (k : ℕ) (vars : List VarInfo) (g : Lcg) (streams : Streams)
+    → Writing (GenStep p) (record { state = boxes; left = draws k 0 vars g; streams = streams })
+    (record { state = boxes; left = draws (k - 0) 0 vars g; streams = streams })
+none_made p boxes k vars g streams = let same : k - 0 ≡ k = omega arith in rw same (running_none refl)
 
 -- a row that is made is in range
 drawn_in_range : (p : Pred) (d : Draw) → InRange p.shape.sites p.shape.vars (drawn p.shape.vars d)
@@ -61,16 +62,27 @@ drawn_in_range p d =
     words_in_range d.number p.shape.sites p.shape.vars (words (length (columns p.shape.vars)) d.from) p.shape.kept
     (words_length (length (columns p.shape.vars)) d.from)
 
+-- a row in memory is the one that is drawn, and a verdict is the one that it requires
+pub record IsDrawn (p : Pred) (d : Draw) (r : code.Row) (v : Verdict) : Type 0 where
+  pub row : row_of p.shape.sites p.shape.vars r ≡ drawn p.shape.vars d
+  pub due : IsDue (pred_of p) (row_of p.shape.sites p.shape.vars r) v
+
 -- the verdict that it requires was shown to the watchers
-pub row_put : (p : Pred) (n : ℕ) (g : Lcg) (r : code.Row) (v : Verdict) (boxes z : List State) (puts : Count) (all : Bool)
-    (was now : Option Shown) → row_of p.shape.sites p.shape.vars r ≡ drawn p.shape.vars (draw n g)
-    → IsDue (pred_of p) (row_of p.shape.sites p.shape.vars r) v → Wrote (lines_at n v boxes) [] puts all was now
-    → (all ≡ true → z ≡ left_after n v boxes) → PutsOne (GenStep (pred_of p)) boxes (draw n g) puts all was now z
-row_put p n g r v boxes z puts all was now e due w s = record {
-  out = lines_at n v boxes;
+pub row_put : {p : Pred} {d : Draw} {r : code.Row} {v : Verdict} {boxes z : List State} {all : Bool} {was now : Streams}
+    → IsDrawn p d r v → Wrote (lines_at d.number v boxes) [] (faults_in was now) all was.shown now.shown
+    → (all ≡ true → z ≡ left_after d.number v boxes)
+    → PutsOne (GenStep (pred_of p)) boxes d (faults_in was now) all was.shown now.shown z
+row_put {p = p} {d = d} {v = v} {boxes = boxes} i w s = record {
+  out = lines_at d.number v boxes;
   err = [];
-  left = left_after n v boxes;
-  stepped = record { verdict = v; due = subst (λ (row : Row). IsDue (pred_of p) row v) e due; told = refl; silent = refl; left = refl };
+  left = left_after d.number v boxes;
+  stepped = record {
+    verdict = v;
+    due = subst (λ (row : Row). IsDue (pred_of p) row v) i.row i.due;
+    told = refl;
+    silent = refl;
+    left = refl;
+  };
   wrote = w;
   stays = s;
 }
@@ -110,48 +122,56 @@ module _ (t : TargetOf) (rank : t.rank ≡ BySmallest) (belongs : Belongs t.rank
         subst (λ x. GenSaid seed count boxes g (record { end = Done; out = out ++ last_lines z; err = x }))
         (sym (ap (λ x. x ++ []) s)) (made (pred_in t) out z e (subst (λ x. Lines (GenStep (pred_in t)) boxes rows out x z) s d))
 
+    -- the lines of the watchers for each row, and at the end those of the ones that remain
+    abbrev task : Task (List State) Draw
+    task = record {
+      work = each_good (GenStep (pred_in t));
+      last_out = last_lines;
+      last_err = no_last;
+      ends = λ b. Done;
+      state = boxes;
+      records = rows;
+      owes = GenSaid seed count boxes g;
+      part = AnyPart;
+    }
+
     -- what it requires is by lines
-    by_lines : IsByLines (GenStep (pred_in t)) last_lines no_last Done boxes rows (GenSaid seed count boxes g) AnyPart
+    by_lines : IsByLines task
     by_lines = record { has = has; whole = said_whole; first = λ done left out err z q d. tt }
 
+    -- what is carried out without a part that may be left
+    abbrev IsDone : Result End Early → Streams → Streams → Type 0
+    IsDone result was now = CarriesOut (GenSaid seed count boxes g) NoPart ⊥ ⊥ (faults_in was now) result was.shown now.shown
+
     -- a write of a row's lines failed
-    pub rows_cut : (z : List State) (puts : Count) (was now : Option Shown)
-        → PutsAll (GenStep (pred_in t)) boxes rows puts false was now z
-        → CarriesOut (GenSaid seed count boxes g) NoPart ⊥ ⊥ puts (Err Write) was now
-    rows_cut z puts was now r =
-        no_part (GenSaid seed count boxes g) puts (Err Write) was now (λ x. memory_write (sym x))
-        (early_carried (GenStep (pred_in t)) every last_lines no_last Done boxes z rows
-        (GenSaid seed count boxes g) AnyPart Write puts was now by_lines r)
+    pub rows_cut : {z : List State} {was now : Streams} → HasRun task (Err Write) z was now → IsDone (Err Write) was now
+    rows_cut {was = was} {now = now} r =
+        no_part (GenSaid seed count boxes g) (faults_in was now) (Err Write) was.shown now.shown (λ x. memory_write (sym x))
+        (early_carried by_lines r)
 
     -- one of the last lines failed
-    pub close_cut : (z : List State) (a b d : ℕ) (was mid now : Option Shown)
-        → PutsAll (GenStep (pred_in t)) boxes rows (said.count a b) true was mid z
-        → Wrote (last_lines z) [] (said.count b d) false mid now
-        → CarriesOut (GenSaid seed count boxes g) NoPart ⊥ ⊥ (said.count a d) (Err Write) was now
-    close_cut z a b d was mid now r w =
-        no_part (GenSaid seed count boxes g) (said.count a d) (Err Write) was now (λ x. memory_write (sym x))
-        (close_carried (GenStep (pred_in t)) every last_lines no_last Done boxes z rows
-        (GenSaid seed count boxes g) AnyPart true a b d was mid now by_lines r w)
+    pub close_cut : {z : List State} {was mid now : Streams} → HasRun task (Ok true) z was mid → EndsWith task false z mid now
+        → IsDone (Err Write) was now
+    close_cut {was = was} {now = now} r w =
+        no_part (GenSaid seed count boxes g) (faults_in was now) (Err Write) was.shown now.shown (λ x. memory_write (sym x))
+        (close_carried by_lines r w)
 
     -- all lines stand
-    pub all_put : (z : List State) (a b d : ℕ) (was mid now : Option Shown)
-        → PutsAll (GenStep (pred_in t)) boxes rows (said.count a b) true was mid z
-        → Wrote (last_lines z) [] (said.count b d) true mid now
-        → CarriesOut (GenSaid seed count boxes g) NoPart ⊥ ⊥ (said.count a d) (Ok Done) was now
-    all_put z a b d was mid now r w =
-        no_part (GenSaid seed count boxes g) (said.count a d) (Ok Done) was now (λ x. ok_err x)
-        (end_carried (GenStep (pred_in t)) every last_lines no_last (λ b. Done) boxes z rows
-        (GenSaid seed count boxes g) AnyPart true a b d was mid now by_lines r w)
+    pub all_put : {z : List State} {was mid now : Streams} → HasRun task (Ok true) z was mid → EndsWith task true z mid now
+        → IsDone (Ok Done) was now
+    all_put {was = was} {now = now} r w =
+        no_part (GenSaid seed count boxes g) (faults_in was now) (Ok Done) was.shown now.shown (λ x. ok_err x)
+        (end_carried by_lines r w)
 
 -- the step of a row is one
-pub one_step : (q : Pred) (s : List State) (d : Draw) (o e out err : List ℕ) (y z : List State) → GenStep (pred_of q) s d o e y
-    → GenStep (pred_of q) s d out err z → SameLines o e out err y z
-one_step q s d o e out err y z a b =
-    let same = one_due q.shape (pred_of q) (drawn q.shape.vars d) a.verdict b.verdict refl refl (drawn_in_range q d) a.due b.due in
+pub one_step : (q : Pred) (s : List State) (d : Draw) (a b : Written (List State)) → StepTo (GenStep (pred_of q)) s d a
+    → StepTo (GenStep (pred_of q)) s d b → SameLines a b
+one_step q s d a b x y =
+    let same = one_due q.shape (pred_of q) (drawn q.shape.vars d) x.verdict y.verdict refl refl (drawn_in_range q d) x.due y.due in
     record {
-      outs = a.told ∙ lines_alike d.number a.verdict b.verdict s same.sign same.by ∙ sym b.told;
-      errs = a.silent ∙ sym b.silent;
-      lefts = a.left ∙ left_alike d.number a.verdict b.verdict s same.sign same.by ∙ sym b.left;
+      outs = x.told ∙ lines_alike d.number x.verdict y.verdict s same.sign same.by ∙ sym y.told;
+      errs = x.silent ∙ sym y.silent;
+      lefts = x.left ∙ left_alike d.number x.verdict y.verdict s same.sign same.by ∙ sym y.left;
     }
 
 tells : (seed count : ℕ) (boxes : List State) (g : Given) (a : Said) → GenSaid seed count boxes g a → GenEnds g a.end
@@ -163,5 +183,6 @@ one g a b done done = refl
 kind : (g : Given) (e : End) → GenEnds g e → IsWorkEnd e
 kind g e done = kind_of.done
 
+-- the laws of a work hold for `gen`
 pub lawful : (seed count : ℕ) → IsLawful (GenSaid seed count) GenEnds
 lawful seed count = record { tells = tells seed count; one = one; kind = kind }

@@ -81,23 +81,27 @@ module _ (preds : List Pred) (i : ℕ) (q : Pred) (f : Sparse) (at : slice_get p
 some_is : (i j : ℕ) → Some i ≡ Some j → i ≡ j
 some_is i j e = same_Some i j e
 
+-- where the predicate with the first number has few stages, the first named one has
 pub first_few : (table : List PredOf) (numbers : List ℕ) (i : ℕ) (preds : List PredOf) → Some i ≡ slice_get numbers 0
     → ((p : PredOf) → slice_get table i ≡ Some p → HasFewGraded p) → AreNumbered table numbers preds → FirstHasFew preds
 first_few table [] i preds e h n = absurd (none-some i (sym e))
 first_few table (j ∷ js) i [] e h n = absurd n
 first_few table (j ∷ js) i (p ∷ ps) e h n = h p (subst (λ k. slice_get table k ≡ Some p) (sym (some_is i j e)) n.0)
 
+-- where the predicate with the first number has too many stages, the first named one has
 pub first_many : (table : List PredOf) (numbers : List ℕ) (i : ℕ) (preds : List PredOf) → Some i ≡ slice_get numbers 0
     → ((p : PredOf) → slice_get table i ≡ Some p → HasFewGraded p → ⊥) → AreNumbered table numbers preds → FirstHasFew preds → ⊥
 first_many table [] i preds e h n f = absurd (none-some i (sym e))
 first_many table (j ∷ js) i [] e h n f = absurd n
 first_many table (j ∷ js) i (p ∷ ps) e h n f = h p (subst (λ k. slice_get table k ≡ Some p) (sym (some_is i j e)) n.0) f
 
+-- where there is no number, no predicate is named, and so none with too many stages
 pub few_none : (table : List PredOf) (is : List ℕ) (preds : List PredOf) → None ≡ slice_get is 0 → AreNumbered table is preds → FirstHasFew preds
 few_none table is [] e n = tt
 few_none table [] (p ∷ ps) e n = absurd n
 few_none table (i ∷ is) (p ∷ ps) e n = absurd (none-some i e)
 
+-- where there is no number, the objection is to the shape
 pub none_objects : (table : List PredOf) (is : List ℕ) (preds : List PredOf) (bytes : List ℕ) → None ≡ slice_get is 0 → AreNumbered table is preds
     → why.Shape ≡ objection Graded bytes preds
 none_objects table is [] bytes e n = refl

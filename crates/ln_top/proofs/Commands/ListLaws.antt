@@ -1,7 +1,7 @@
 -- `list`: what it requires is carried out by a whole text, and where it ends.
 use Rattle.std.proofs.Common.{◌≡◌, ℕ, ◌+◌, ◌<◌, ◌≤◌, List, [], ◌∷◌, ◌++◌, length, take, map, refl, ap, sym, subst, arith, Option}
 use Rattle.std.proofs.lemmas.List.{length-map, take_all}
-use Rattle.std.specs.Prelude.{Result}
+use Rattle.std.specs.Prelude.{IfOk, Result, Ok, Err}
 use Rattle.ln_base.specs.Outside.{Shown}
 use Rattle.ln_tree.specs.declared.pred.Pred.{Pred}
 use Rattle.ln_tree.specs.Table.{PredOf, pred_of}
@@ -11,7 +11,7 @@ use Rattle.ln_compile.specs.Compiled.{AreProgramsOf, IsProgramAt}
 use Rattle.ln_compile.proofs.Making.BuildingLemmas.{program-more}
 use Rattle.ln_cemit.specs.Emitted.{AreKept}
 use Rattle.ln_cert.specs.Listing.{ListText}
-use Rattle.ln_cert.specs.Written.{listing_of}
+use Rattle.ln_cert.specs.Written.{IsListable, listing_of}
 use Rattle.ln_top.specs.declared.status.End.{End}
 use Rattle.ln_top.specs.declared.status.End.TheVariants.{Done}
 use Rattle.ln_top.specs.declared.status.Early.{Early}
@@ -22,7 +22,7 @@ use Rattle.ln_top.specs.Work.{IsLawful, IsWorkEnd}
 use Rattle.ln_top.specs.Work as kind_of
 use Rattle.ln_top.specs.Carried.{CarriesOut, NoPart, PutsText}
 use Rattle.ln_top.specs.Ready.{StandsFor}
-use Rattle.ln_top.specs.Listing.{AreListable, IsListable, IsListingOf, IsListingOfFirst, ListSaid, listed, ListEnds, done}
+use Rattle.ln_top.specs.Listing.{AreListable, IsListingOf, IsListingOfFirst, ListSaid, listed, ListEnds, done}
 use Rattle.ln_top.proofs.Steps.Carry.{text_carried}
 use Rattle.ln_top.proofs.Theorem.GoodLines.{listing_is}
 
@@ -33,6 +33,11 @@ listable_more (d ∷ cs) c l h = (l.0, listable_more cs c l.1 h)
 kept_more : (cs : List Part) (c : Part) → AreKept cs → IsProgram c → AreKept (cs ++ c ∷ [])
 kept_more [] c k h = (h, tt)
 kept_more (d ∷ cs) c k h = (k.0, kept_more cs c k.1 h)
+
+-- what follows from two facts on the value of a result
+pub then_both : {T E : Type 0} (r : Result T E) (P Q R : T → Type 0) → ((x : T) → P x → Q x → R x) → IfOk r P → IfOk r Q → IfOk r R
+then_both (Ok x) P Q R f p q = f x p q
+then_both (Err e) P Q R f p q = tt
 
 -- the listing of no program
 pub begun : (preds : List PredOf) (text : List ℕ) → ListText text 2 (listing_of []) → IsListingOfFirst preds 0 text
@@ -75,5 +80,6 @@ one g a b done done = refl
 kind : (g : Given) (e : End) → ListEnds g e → IsWorkEnd e
 kind g e done = kind_of.done
 
+-- the laws of a work hold for `list`
 pub lawful : IsLawful (λ boxes. ListSaid) ListEnds
 lawful = record { tells = λ boxes. tells; one = one; kind = kind }

@@ -36,7 +36,7 @@ use Rattle.ln_top.specs.Said.{Said, Count, count, line}
 use Rattle.ln_top.specs.Steps.{Given}
 use Rattle.ln_top.specs.Line.{is_read, is_row, is_said}
 use Rattle.ln_top.specs.Lines as l
-use Rattle.ln_top.specs.Lines.{Lines, Ran, Takes, all_good, took, left_off}
+use Rattle.ln_top.specs.Lines.{Lines, Takes, all_good, took, left_off}
 use Rattle.ln_top.specs.Carried as carried
 use Rattle.ln_top.specs.Carried.{CarriesOut}
 use Rattle.ln_top.specs.Work.{IsLawful}
@@ -49,7 +49,8 @@ use Rattle.ln_top.specs.Product.{product_text, with_verdicts}
 use Rattle.ln_top.proofs.Steps.Carry.{told_carried}
 use Rattle.ln_top.proofs.Steps.FindLaws.{there_at}
 use Rattle.ln_top.proofs.Gathering.LinesLaws.{no_last, both_nothing, wrote_nothing}
-use Rattle.ln_top.proofs.Gathering.LinesCarry.{IsByLines, early_carried, end_carried}
+use Rattle.ln_top.proofs.Gathering.Loops.{Streams}
+use Rattle.ln_top.proofs.Gathering.LinesCarry.{Task, IsByLines, HasRun, IsCarriedOut, early_carried, end_carried}
 use Rattle.ln_top.proofs.Commands.RunLaws as run_laws
 
 -- ---- verdicts
@@ -117,12 +118,12 @@ take_front zero (x ∷ xs) ys e = absurd (omega (arith, e))
 take_front (suc n) [] ys e = absurd (omega (arith, e))
 take_front (suc n) (x ∷ xs) ys e = ap (λ (zs : List Verdict). x ∷ zs) (take_front n xs ys (omega (arith, e)))
 
-pub due_for : (t : FactorsOf) (programs : List Part) (which : List ℕ) (r : code.Row) (vs shown : List Verdict) → AreFactors t
-    → programs ≡ t.programs → which ≡ t.which → IsInRangeOf t.pred r → AreVerdicts programs which r vs → shown ≡ vs
+-- the verdicts of the factors' programs on a row in range are those that it requires of the factors
+pub due_for : (t : FactorsOf) (which : List ℕ) (r : code.Row) (vs shown : List Verdict) → AreFactors t → which ≡ t.which
+    → IsInRangeOf t.pred r → AreVerdicts t.programs which r vs → shown ≡ vs
     → (ps : List PredOf) → AreProgramsAt t.programs t.which ps → AreDue ps (row_of t.pred.shape.sites t.pred.shape.vars r) shown
-due_for t programs which r vs shown f e w range ve same ps a =
-    let there : AreVerdicts t.programs t.which r vs = subst (λ (ks : List ℕ). AreVerdicts t.programs ks r vs) w
-    (subst (λ (cs : List Part). AreVerdicts cs which r vs) e ve) in
+due_for t which r vs shown f w range ve same ps a =
+    let there : AreVerdicts t.programs t.which r vs = subst (λ (ks : List ℕ). AreVerdicts t.programs ks r vs) w ve in
     subst (λ (us : List Verdict). AreDue ps (row_of t.pred.shape.sites t.pred.shape.vars r) us) (sym same)
     (due_all t.pred.shape.sites t.pred.shape.vars t.programs f.kept r t.which ps vs f.over there range f.places a)
 
@@ -168,14 +169,15 @@ said_right p ps fields vs (Err x) (refused_ _ read) = sym (ap is_read read)
 
 -- a record was taken, or its line was given up
 pub takes_all : (t : FactorsOf) (ps : List PredOf) (fields : List (List ℕ)) (vs : List Verdict) (said : Result Sign RowStop)
-    (right : Bool) (held grown : List ℕ) (n : ℕ) (was : Option Shown) → SaysProduct (pred_of t.pred) ps fields (with_verdicts vs said)
+    (right : Bool) (held grown : List ℕ) (at : Streams) → SaysProduct (pred_of t.pred) ps fields (with_verdicts vs said)
     → grown ≡ held ++ line (product_text t.names (with_verdicts vs said)) → right ≡ is_said said
-    → Takes (StepOf t ps) (is_row (pred_of t.pred)) tt fields (count n n) (Ok right) held grown was was tt
-takes_all t ps fields vs said right held grown n was s g r =
+    → Takes (StepOf t ps) (is_row (pred_of t.pred)) tt fields (count at.faults at.faults) (Ok right) held grown at.shown at.shown tt
+takes_all t ps fields vs said right held grown at s g r =
     took (line (product_text t.names (with_verdicts vs said))) [] refl
     (record { said = with_verdicts vs said; says = s; line_is = refl; none = refl })
-    (ap Ok (r ∙ said_right (pred_of t.pred) ps fields vs said s)) g (sym (both_nothing was))
+    (ap Ok (r ∙ said_right (pred_of t.pred) ps fields vs said s)) g (sym (both_nothing at.shown))
 
+-- an allocation failed, and the record's line was given up
 pub takes_none : (t : FactorsOf) (ps : List PredOf) (fields : List (List ℕ)) (held grown : List ℕ) (n : ℕ) (was : Option Shown)
     → grown ≡ held → Takes (StepOf t ps) (is_row (pred_of t.pred)) tt fields (count n n) (Err Memory) held grown was was tt
 takes_none t ps fields held grown n was e = left_off refl refl e refl
@@ -211,10 +213,21 @@ module _ (t : FactorsOf) (fits : AreFactors t) (g : Given) (given : AreGivenBy g
         record { said = Err x; says = refused_ x e; line_is = refl; none = refl },
       )
 
+  -- a line for each record
+  abbrev task : Records → Task (Unit {0}) (List (List ℕ))
+  task records = record {
+    work = record { step = StepOf t g.preds; good = is_row (pred_of t.pred) };
+    last_out = no_last;
+    last_err = no_last;
+    ends = end_of;
+    state = tt;
+    records = records;
+    owes = ProductSaid g;
+    part = ProductPart g;
+  }
+
   -- what it requires is by lines
-  pub by_lines : (records : Records) → HasRecords g (pred_of t.pred) t.names (t.names ∷ records)
-      → IsByLines (StepOf t g.preds) no_last no_last (end_of (all_good (is_row (pred_of t.pred)) records)) tt records
-      (ProductSaid g) (ProductPart g)
+  pub by_lines : (records : Records) → HasRecords g (pred_of t.pred) t.names (t.names ∷ records) → IsByLines (task records)
   by_lines records h = record { has = has; whole = whole; first = first }
     where
       whole : (out err : List ℕ) (z : Unit {0}) → Lines (StepOf t g.preds) tt records out err z
@@ -235,27 +248,19 @@ module _ (t : FactorsOf) (fits : AreFactors t) (g : Given) (given : AreGivenBy g
           (subst (λ (rs : Records). HasRecords g (pred_of t.pred) t.names (t.names ∷ rs)) e h) d
 
   -- the lines of all records stand, or the work ended early
-  pub ends_carried : (records : Records) (right : Bool) (a b : ℕ) (was now : Option Shown)
-      → HasRecords g (pred_of t.pred) t.names (t.names ∷ records)
-      → Ran (StepOf t g.preds) (is_row (pred_of t.pred)) tt records (count a b) (Ok right) was now tt
-      → CarriesOut (ProductSaid g) (ProductPart g) ⊥ ⊥ (count a b) (Ok (end_of right)) was now
-  ends_carried records right a b was now h r =
-      end_carried (StepOf t g.preds) (is_row (pred_of t.pred)) no_last no_last end_of tt tt records (ProductSaid g) (ProductPart g)
-      right a b b was now now (by_lines records h) r (wrote_nothing b now now refl)
+  pub ends_carried : {records : Records} {right : Bool} {was now : Streams} → HasRecords g (pred_of t.pred) t.names (t.names ∷ records)
+      → HasRun (task records) (Ok right) tt was now → IsCarriedOut (task records) (Ok (end_of right)) was now
+  ends_carried {records = records} {now = now} h r = end_carried (by_lines records h) r (wrote_nothing now.faults now.shown now.shown refl)
 
-  pub stops_carried : (records : Records) (early : Early) (puts : Count) (was now : Option Shown)
-      → HasRecords g (pred_of t.pred) t.names (t.names ∷ records)
-      → Ran (StepOf t g.preds) (is_row (pred_of t.pred)) tt records puts (Err early) was now tt
-      → CarriesOut (ProductSaid g) (ProductPart g) ⊥ ⊥ puts (Err early) was now
-  stops_carried records early puts was now h r =
-      early_carried (StepOf t g.preds) (is_row (pred_of t.pred)) no_last no_last
-      (end_of (all_good (is_row (pred_of t.pred)) records)) tt tt records (ProductSaid g) (ProductPart g) early puts was now
-      (by_lines records h) r
+  pub stops_carried : {records : Records} {early : Early} {was now : Streams} → HasRecords g (pred_of t.pred) t.names (t.names ∷ records)
+      → HasRun (task records) (Err early) tt was now → IsCarriedOut (task records) (Err early) was now
+  stops_carried {records = records} h r = early_carried (by_lines records h) r
 
 -- ---- where it ends
 tells : (boxes : List State) (g : Given) (a : Said) → ProductSaid g a → RunEnds g a.end
 tells boxes g a (product.header p names records h x) = run.wrong p names records h x
 tells boxes g a (product.ran p names records out h x) = run_laws.ends_by p names records g h
 
+-- the laws of a work hold for `product`
 pub lawful : IsLawful (λ boxes. ProductSaid) RunEnds
 lawful = record { tells = tells; one = run_laws.lawful.one; kind = run_laws.lawful.kind }

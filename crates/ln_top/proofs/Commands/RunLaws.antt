@@ -36,7 +36,8 @@ use Rattle.ln_top.proofs.Commands.TargetLaws.{owed_there}
 use Rattle.ln_top.specs.Watching.{Watching, watching, next_lines, next, last_of}
 use Rattle.ln_top.proofs.Gathering.LinesLaws.{no_last, wrote_all, broke_off}
 use Rattle.ln_top.proofs.Commands.SaysLaws.{said_row}
-use Rattle.ln_top.proofs.Gathering.LinesCarry.{IsByLines}
+use Rattle.ln_top.proofs.Gathering.Loops.{Work, Streams, Point, faults_in, TakesTo}
+use Rattle.ln_top.proofs.Gathering.LinesCarry.{IsByLines, Task}
 
 -- what stands ready for this has these records
 pub has_records : (g : Given) (t : TargetOf) (rows : List ℕ) (records : Records) → IsGivenBy g t → g.texts ≡ rows ∷ []
@@ -51,12 +52,13 @@ header_is names [] new false h w = tt
 header_is names (first ∷ rest) new false h w = λ e. w refl rest (ap (λ (f : List (List ℕ)). f ∷ rest) e)
 
 -- the header is wrong
-pub header_carried : (rank : Rank) (boxes : List State) (g : Given) (p : PredOf) (names : List (List ℕ)) (records : Records) (puts : Count)
-    (result : Result End Early) (was now : Option Shown) → HasRecords g p names records → IsWrongHeader names records
-    → carried.Says (stop.Tell Header) puts result was now
-    → CarriesOut (RunSaid rank boxes g) (RunPart rank boxes g) ⊥ ⊥ puts result was now
-header_carried rank boxes g p names records puts result was now h w s =
-    told_carried (RunSaid rank boxes g) (RunPart rank boxes g) ⊥ ⊥ puts Header result was now (run.header p names records h w) s
+pub header_carried : (rank : Rank) (boxes : List State) (g : Given) (p : PredOf) (names : List (List ℕ)) (records : Records)
+    (result : Result End Early) (was now : Streams) → HasRecords g p names records → IsWrongHeader names records
+    → carried.Says (stop.Tell Header) (faults_in was now) result was.shown now.shown
+    → CarriesOut (RunSaid rank boxes g) (RunPart rank boxes g) ⊥ ⊥ (faults_in was now) result was.shown now.shown
+header_carried rank boxes g p names records result was now h w s =
+    told_carried (RunSaid rank boxes g) (RunPart rank boxes g) ⊥ ⊥ (faults_in was now) Header result was.shown now.shown
+    (run.header p names records h w) s
 
 -- each record has a line
 module _ (t : TargetOf) (belongs : Belongs t.rank t.pred t.program) where
@@ -74,10 +76,22 @@ module _ (t : TargetOf) (belongs : Belongs t.rank t.pred t.program) where
   has : (s : Watching) (fields : List (List ℕ)) → (out : List ℕ) × (err : List ℕ) × (z : Watching) × StepOf t s fields out err z
   has s fields = let l = line_there fields in (l.0, next_lines l.1.said s, next l.1.said s, record { line = l.1; told = refl; left = refl })
 
+  -- a line for each record, and at the end the lines of the watchers that remain
+  abbrev task : List State → Given → Records → Task Watching (List (List ℕ))
+  task boxes g records = record {
+    work = record { step = StepOf t; good = is_row (pred_in t) };
+    last_out = no_last;
+    last_err = last_of;
+    ends = end_of;
+    state = watching 0 boxes;
+    records = records;
+    owes = RunSaid t.rank boxes g;
+    part = RunPart t.rank boxes g;
+  }
+
   -- what it requires is by lines
   pub by_lines : (boxes : List State) (g : Given) (records : Records) → HasRecords g (pred_in t) t.names (t.names ∷ records)
-      → IsByLines (StepOf t) no_last last_of (end_of (all_good (is_row (pred_in t)) records))
-      (watching 0 boxes) records (RunSaid t.rank boxes g) (RunPart t.rank boxes g)
+      → IsByLines (task boxes g records)
   by_lines boxes g records h = record {
     has = has;
     whole = λ out err z d.
@@ -91,28 +105,40 @@ module _ (t : TargetOf) (belongs : Belongs t.rank t.pred t.program) where
         run.first (pred_in t) t.names done left z (subst (λ (rs : Records). HasRecords g (pred_in t) t.names (t.names ∷ rs)) e h) d;
   }
 
--- a record was taken, or a write was cut off, or its line allocated
-pub takes_all : (rank : Rank) (p : PredOf) (names fields : List (List ℕ)) (w z : Watching) (said : Result Verdict RowStop) (right : Bool)
-    (held grown : List ℕ) (a b : ℕ) (was now : Option Shown)
-    → of_record.Says rank p fields said → grown ≡ held ++ line (said_text names said)
-    → Wrote [] (next_lines said w) (count a b) true was now → z ≡ next said w → right ≡ is_said said
-    → Takes (RunStep rank p names) (is_row p) w fields (count a b) (Ok right) held grown was now z
-takes_all rank p names fields w z said right held grown a b was now s g h l r =
-    let e = wrote_all [] (next_lines said w) (count a b) was now h in
-    took (line (said_text names said)) (next_lines said w) e.0
-    (record { line = record { said = said; says = s; is = refl }; told = refl; left = l })
-    (ap Ok (said_row rank p fields said right s r)) g e.1
+-- the work of one predicate on records
+abbrev run_work : Rank → PredOf → List (List ℕ) → Work Watching (List (List ℕ))
+run_work rank p names = record { step = RunStep rank p names; good = is_row p }
 
-pub takes_cut : (rank : Rank) (p : PredOf) (names fields : List (List ℕ)) (w z : Watching) (said : Result Verdict RowStop)
-    (held grown : List ℕ) (a b : ℕ) (was now : Option Shown)
-    → of_record.Says rank p fields said → grown ≡ held ++ line (said_text names said)
-    → Wrote [] (next_lines said w) (count a b) false was now
-    → Takes (RunStep rank p names) (is_row p) w fields (count a b) (Err Write) held grown was now z
-takes_cut rank p names fields w z said held grown a b was now s g h =
-    let e = broke_off [] (next_lines said w) (count a b) was now h in
-    tore (line (said_text names said)) (next_lines said w) (next said w)
-    (record { line = record { said = said; says = s; is = refl }; told = refl; left = refl }) e.0 refl e.1
+-- what is said of a record is right, and its line was added to the held bytes
+pub record AddsLine (rank : Rank) (p : PredOf) (names fields : List (List ℕ)) (said : Result Verdict RowStop) (held grown : List ℕ) : Type 0 where
+  pub says : of_record.Says rank p fields said
+  pub grows : grown ≡ held ++ line (said_text names said)
 
+-- the lines of the watchers on what is said of a record were written, or cut off
+abbrev ShowsTo : Result Verdict RowStop → Bool → Point Watching → Point Watching → Type 0
+ShowsTo said done from to =
+    Wrote [] (next_lines said from.state) (faults_in from.streams to.streams) done from.streams.shown to.streams.shown
+
+-- a record was taken
+pub takes_all : (rank : Rank) (p : PredOf) (names : List (List ℕ)) {fields : List (List ℕ)} {said : Result Verdict RowStop}
+    {right : Bool} {from to : Point Watching} → AddsLine rank p names fields said from.held to.held → ShowsTo said true from to
+    → to.state ≡ next said from.state → right ≡ is_said said → TakesTo (run_work rank p names) fields (Ok right) from to
+takes_all rank p names {fields = fields} {said = said} {right = right} {from = from} {to = to} a h l r =
+    let e = wrote_all [] (next_lines said from.state) (faults_in from.streams to.streams) from.streams.shown to.streams.shown h in
+    took (line (said_text names said)) (next_lines said from.state) e.0
+    (record { line = record { said = said; says = a.says; is = refl }; told = refl; left = l })
+    (ap Ok (said_row rank p fields said right a.says r)) a.grows e.1
+
+-- the write of the watchers' lines for a record was cut off
+pub takes_cut : (rank : Rank) (p : PredOf) (names : List (List ℕ)) {fields : List (List ℕ)} {said : Result Verdict RowStop}
+    {from to : Point Watching} → AddsLine rank p names fields said from.held to.held → ShowsTo said false from to
+    → TakesTo (run_work rank p names) fields (Err Write) from to
+takes_cut rank p names {said = said} {from = from} {to = to} a h =
+    let e = broke_off [] (next_lines said from.state) (faults_in from.streams to.streams) from.streams.shown to.streams.shown h in
+    tore (line (said_text names said)) (next_lines said from.state) (next said from.state)
+    (record { line = record { said = said; says = a.says; is = refl }; told = refl; left = refl }) e.0 refl e.1
+
+-- an allocation failed, and the record's line was given up
 pub takes_none : (rank : Rank) (p : PredOf) (names fields : List (List ℕ)) (w z : Watching) (held grown : List ℕ) (a : ℕ)
     (was : Option Shown) → grown ≡ held
     → Takes (RunStep rank p names) (is_row p) w fields (count a a) (Err Memory) held grown was was z
@@ -216,18 +242,43 @@ pub same_pred : (g : Given) (p q : PredOf) (names others : List (List ℕ)) (rs 
     → HasRecords g q others ss → p ≡ q
 same_pred g p q names others rs ss h k = ap (λ (xs : List PredOf). elim xs [ [] ↦ p | x ∷ rest ↦ x ]) (sym h.pred ∙ k.pred)
 
+-- two ways to see what is given have the same names of columns
 pub same_names : (g : Given) (p q : PredOf) (names others : List (List ℕ)) (rs ss : Records) → HasRecords g p names rs
     → HasRecords g q others ss → names ≡ others
 same_names g p q names others rs ss h k = h.columns ∙ ap (columns_of g.table) (same_pred g p q names others rs ss h k) ∙ sym k.columns
 
+-- two ways to see what is given have the same records
 pub same_records : (g : Given) (p q : PredOf) (names others : List (List ℕ)) (rs ss : Records) → HasRecords g p names rs
     → HasRecords g q others ss → rs ≡ ss
 same_records g p q names others rs ss h k =
     sym h.are ∙ ap records_in (ap (λ (xs : List (List ℕ)). elim xs [ [] ↦ h.rows | x ∷ rest ↦ x ])
     (sym h.text ∙ k.text)) ∙ k.are
 
+-- equal lists of records are equal after their first records
 pub tail_same : {x y : List (List ℕ)} {xs ys : Records} → x ∷ xs ≡ y ∷ ys → xs ≡ ys
 tail_same {xs = xs} e = ap (λ (zs : Records). elim zs [ [] ↦ xs | z ∷ rest ↦ rest ]) e
+
+-- a predicate with the names of its columns, and the records after the right header
+pub record Sheet : Type 0 where
+  pub pred : PredOf
+  pub names : List (List ℕ)
+  pub records : Records
+
+abbrev pub sheet : PredOf → List (List ℕ) → Records → Sheet
+sheet p names records = record { pred = p; names = names; records = records }
+
+-- what is given has this predicate and these records
+abbrev pub HasSheet : Given → Sheet → Type 0
+HasSheet g x = HasRecords g x.pred x.names (x.names ∷ x.records)
+
+-- two ways to see what is given have the same predicate, names and records
+pub same_sheet : (g : Given) (x y : Sheet) → HasSheet g x → HasSheet g y → x ≡ y
+same_sheet g x y h k =
+    let xs = x.names ∷ x.records in
+    let ys = y.names ∷ y.records in
+    ap (λ (p : PredOf). sheet p x.names x.records) (same_pred g x.pred y.pred x.names y.names xs ys h k)
+    ∙ ap (λ (names : List (List ℕ)). sheet y.pred names x.records) (same_names g x.pred y.pred x.names y.names xs ys h k)
+    ∙ ap (λ (rs : Records). sheet y.pred y.names rs) (tail_same (same_records g x.pred y.pred x.names y.names xs ys h k))
 
 -- the header is right or wrong
 pub wrong_right : {P : Type 0} (g : Given) (p q : PredOf) (names others : List (List ℕ)) (rs rest : Records)
@@ -264,9 +315,11 @@ kind g e (run.done p names rs h x) = kind_of.done
 kind g e (run.wrong p names rs h x) = kind_of.rows
 kind g e (run.refused p names bs as' fields h x) = kind_of.rows
 
+-- the laws of a work hold for `run`
 pub lawful : IsLawful (RunSaid BySmallest) RunEnds
 lawful = record { tells = tells BySmallest; one = one; kind = kind }
 
+-- the laws of a work hold for `graded`
 pub lawful_graded : IsLawful (λ boxes. RunSaid ByDegree []) RunEnds
 lawful_graded = record { tells = λ boxes g a o. tells ByDegree [] g a o; one = one; kind = kind }
 

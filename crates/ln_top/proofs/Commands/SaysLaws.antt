@@ -19,6 +19,7 @@ pub read_as : {T : Type 0} (sites : ℕ) (vars : List VarInfo) (fields : List (L
 read_as {T = T} sites vars fields read u r e h =
     let k = subst (λ (o : Result T RowStop). IsReadAs sites vars fields o r) e h in (k.ok, k.in_range)
 
+-- a record that was refused has the fault that was returned
 pub read_not : {T : Type 0} (sites : ℕ) (vars : List VarInfo) (fields : List (List ℕ)) (read : Result T RowStop)
     (stop : RowStop) (r : code.Row) → read ≡ Err stop → IsReadAs sites vars fields read r
     → read_row sites vars fields ≡ Err stop

@@ -98,6 +98,7 @@ kind : (g : Given) (e : End) → VerifyEnds g e → IsWorkEnd e
 kind g e (done h) = kind_of.done
 kind g e (faulty n h) = kind_of.invalid
 
+-- the laws of a work hold for `verify`
 pub lawful : IsLawful (λ boxes. VerifySaid) VerifyEnds
 lawful = record { tells = λ boxes. tells; one = one; kind = kind }
 
@@ -111,6 +112,7 @@ text_valid g bytes ps e q h = record {
   valid = subst (λ (x : List PredOf). IsValidFor x h.listing) q h.valid;
 }
 
+-- a fault that was found in the bytes of the file is the fault of what is given
 pub text_fault : (g : Given) (bytes : List ℕ) (ps : List PredOf) (at : ℕ) → g.texts ≡ bytes ∷ [] → ps ≡ g.table.preds
     → IsTextFaultFor ps bytes at → HasFault g at
 text_fault g bytes ps at e q (of_text.form f) = form bytes e f
@@ -126,12 +128,14 @@ none_of g (Some at) n h = absurd (n at refl)
 some_of : (g : Given) (o : Option ℕ) (at : ℕ) → o ≡ Some at → MatchOption o (HasValid g) (λ k. HasFault g k) → HasFault g at
 some_of g o at e h = subst (λ (x : Option ℕ). MatchOption x (HasValid g) (λ k. HasFault g k)) e h
 
+-- where no fault was found, writing the line `valid` carries out what is required
 pub valid_carried : (g : Given) (o : Option ℕ) (puts : Count) (result : Result End Early) (was now : Option Shown)
     → ((at : ℕ) → o ≡ Some at → ⊥) → MatchOption o (HasValid g) (λ at. HasFault g at)
     → PutsText (line (codes "valid")) Done puts result was now → CarriesOut (VerifySaid g) NoPart ⊥ ⊥ puts result was now
 valid_carried g o puts result was now n h p =
     text_carried (VerifySaid g) NoPart ⊥ ⊥ puts Done (line (codes "valid")) result was now (valid (none_of g o n h)) p
 
+-- where a fault was found, writing the line `invalid LINE` carries out what is required
 pub fault_carried : (g : Given) (o : Option ℕ) (at : ℕ) (text : List ℕ) (puts : Count) (result : Result End Early)
     (was now : Option Shown) → o ≡ Some at → MatchOption o (HasValid g) (λ k. HasFault g k)
     → text ≡ line (codes "invalid " ++ decimal at) → PutsText text Invalid puts result was now

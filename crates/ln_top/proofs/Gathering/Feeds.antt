@@ -76,11 +76,13 @@ above [] e = tt
 above (b ∷ bs) e =
     (other b (and_left (nat_lt 10 b) (every (nat_lt 10) bs) e), above bs (and_right (nat_lt 10 b) (every (nat_lt 10) bs) e))
 
+-- the text of a sign has no line feed
 pub sign_feed : (s : Sign) → NoFeed (sign_text s)
 sign_feed Minus = above (codes "-") refl
 sign_feed Zero = above (codes "0") refl
 sign_feed Plus = above (codes "+") refl
 
+-- the text of a decider has no line feed
 pub decider_feed : (by : By) → NoFeed (decider_text by)
 decider_feed Filter = above (codes "F") refl
 decider_feed (Stage place) = decimal_feed place
@@ -154,6 +156,7 @@ nth [] k f = tt
 nth (n ∷ ns) zero f = f.0
 nth (n ∷ ns) (suc k) f = nth ns k f.1
 
+-- the text of a refused record has no line feed where the names of the columns have none
 pub stop_feed : (names : List (List ℕ)) (s : RowStop) → HaveNoFeed names → NoFeed (stop_text names s)
 stop_feed names Fields f = above (codes "! fields") refl
 stop_feed names (Number k) f = behind (codes "! number ") (slice_index_or names k []) (above (codes "! number ") refl) (nth names k f)

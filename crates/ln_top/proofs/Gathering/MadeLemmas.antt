@@ -35,15 +35,44 @@ front_value : {n : ℕ} {all : List Column} {first : Lcg} {site : ℕ} {i : VarI
     → Front n all first site cs (pcg64 g).1 index (value ++ variable_by n i (pcg64 g).0 ∷ [])
 front_value f = record { indices = f.indices; values = rw append_assoc f.values; past = f.past }
 
--- how far the variables have been made in the arrays of a row
-pub record Filled (n : ℕ) (vars : List VarInfo) (first : Lcg) (v site : ℕ) (g : Lcg) (index value : List ℤ) : Type 0 where
-  pub front : Front n (columns vars) first site (columns (drop v vars)) g (take site index) (take v value)
-  pub size : v + site + length (columns (drop v vars)) ≡ length (columns vars)
-  pub within : v ≤ length vars
-  pub index_zero : (k : ℕ) → site ≤ k → get_or index k (pos 0) ≡ pos 0
-  pub value_zero : (k : ℕ) → v ≤ k → get_or value k (pos 0) ≡ pos 0
-  pub index_size : length index ≡ 5
-  pub value_size : length value ≡ 168
+-- the row that is made: its number, the variables, and the generator before it
+pub record Making : Type 0 where
+  pub number : ℕ
+  pub vars : List VarInfo
+  pub first : Lcg
+
+-- how far it is made: how many variables and sites so far, the generator after them, and the arrays
+pub record Progress : Type 0 where
+  pub v : ℕ
+  pub site : ℕ
+  pub from : Lcg
+  pub index : List ℤ
+  pub value : List ℤ
+
+-- so many variables have been made in the arrays of a row
+pub record Filled (m : Making) (p : Progress) : Type 0 where
+  pub front : Front m.number (columns m.vars) m.first p.site (columns (drop p.v m.vars)) p.from (take p.site p.index) (take p.v p.value)
+  pub size : p.v + p.site + length (columns (drop p.v m.vars)) ≡ length (columns m.vars)
+  pub within : p.v ≤ length m.vars
+  pub index_zero : (k : ℕ) → p.site ≤ k → get_or p.index k (pos 0) ≡ pos 0
+  pub value_zero : (k : ℕ) → p.v ≤ k → get_or p.value k (pos 0) ≡ pos 0
+  pub index_size : length p.index ≡ 5
+  pub value_size : length p.value ≡ 168
+
+-- an index is that of a site by the next word, and a generator is the one after it
+pub record IsIndex (site : ℕ) (g : Lcg) (index : ℤ) (after : Lcg) : Type 0 where
+  pub is : index ≡ index_by site (pcg64 g).0
+  pub past : after ≡ (pcg64 g).1
+
+-- a value is that of a variable by the next word, and a generator is the one after it
+pub record IsValue (n : ℕ) (var : VarInfo) (g : Lcg) (value : ℤ) (after : Lcg) : Type 0 where
+  pub is : value ≡ variable_by n var (pcg64 g).0
+  pub past : after ≡ (pcg64 g).1
+
+-- variables and their sites fit in the arrays of a row
+pub record AreFew (vars : List VarInfo) : Type 0 where
+  pub vars_fit : length vars ≤ 168
+  pub sites_fit : length (columns vars) ≤ length vars + 5
 
 -- zeros alone
 zeros : (n k : ℕ) → get_or (replicate n (pos 0)) k (pos 0) ≡ pos 0
@@ -52,8 +81,13 @@ zeros (suc n) zero = refl
 zeros (suc n) (suc k) = zeros n k
 
 -- before any variable
-pub filled_none : (n : ℕ) (vars : List VarInfo) (first : Lcg)
-    → Filled n vars first 0 0 first (replicate 5 (pos 0)) (replicate 168 (pos 0))
+pub filled_none : (n : ℕ) (vars : List VarInfo) (first : Lcg) → Filled (record { number = n; vars = vars; first = first }) (record {
+  v = 0;
+  site = 0;
+  from = first;
+  index = replicate 5 (pos 0);
+  value = replicate 168 (pos 0);
+})
 filled_none n vars first = record {
   front = record { indices = refl; values = refl; past = refl };
   size = omega arith;
@@ -65,72 +99,72 @@ filled_none n vars first = record {
 }
 
 -- there is a place for the index of a site
-pub site_fits : {n : ℕ} {vars : List VarInfo} {first : Lcg} {v site : ℕ} {g : Lcg} {index value : List ℤ}
-    → Filled n vars first v site g index value → v < length vars → starts_site (var_at vars v) ≡ true
-    → length (columns vars) ≤ length vars + 5 → site < 5
-site_fits {vars = vars} {v = v} f h e few =
-    let here = ap length (at_site vars v h e) in
-    omega (arith, f.size, here, columns_at_least (drop (suc v) vars), length-drop (suc v) vars, few)
+pub site_fits : {m : Making} {p : Progress} → Filled m p → p.v < length m.vars → starts_site (var_at m.vars p.v) ≡ true
+    → length (columns m.vars) ≤ length m.vars + 5 → p.site < 5
+site_fits {m = m} {p = p} f h e few =
+    let here = ap length (at_site m.vars p.v h e) in
+    omega (arith, f.size, here, columns_at_least (drop (suc p.v) m.vars), length-drop (suc p.v) m.vars, few)
 
 -- one more site
-pub filled_site : {n : ℕ} {vars : List VarInfo} {first : Lcg} {v site : ℕ} {g : Lcg} {index value : List ℤ} (z y : ℤ)
-    (one two : Lcg) → Filled n vars first v site g index value → v < length vars → starts_site (var_at vars v) ≡ true
-    → length vars ≤ 168 → length (columns vars) ≤ length vars + 5
-    → z ≡ index_by site (pcg64 g).0 → one ≡ (pcg64 g).1 → y ≡ variable_by n (var_at vars v) (pcg64 one).0
-    → two ≡ (pcg64 one).1
-    → Filled n vars first (v + 1) (site + 1) two (set index site z) (set value v y)
-filled_site {n = n} {vars = vars} {first = first} {v = v} {site = site} {g = g} {index = index} {value = value} z y one two f h e
-    few five iz io iy it =
-    let cols = at_site vars v h e in
+pub filled_site : {m : Making} {p : Progress} {z y : ℤ} {one two : Lcg} → Filled m p → p.v < length m.vars
+    → starts_site (var_at m.vars p.v) ≡ true → AreFew m.vars → IsIndex p.site p.from z one
+    → IsValue m.number (var_at m.vars p.v) one y two
+    → Filled m (record { v = p.v + 1; site = p.site + 1; from = two; index = set p.index p.site z; value = set p.value p.v y })
+filled_site {m = m} {p = p} {z = z} {y = y} f h e few i w =
+    let v = p.v in
+    let site = p.site in
+    let cols = at_site m.vars v h e in
     let here = ap length cols in
-    let fits : site < 5 = site_fits f h e five in
-    let in_index : site < length index = omega (arith, f.index_size, fits) in
-    let in_value : v < length value = omega (arith, f.value_size, few, h) in
-    let start : Front n (columns vars) first site (SiteIndex ∷ Variable (var_at vars v) ∷ columns (drop (suc v) vars)) g
-    (take site index) (take v value) = rw cols at f.front in
+    let fits : site < 5 = site_fits f h e few.sites_fit in
+    let in_index : site < length p.index = omega (arith, f.index_size, fits) in
+    let in_value : v < length p.value = omega (arith, f.value_size, few.vars_fit, h) in
+    let start : Front m.number (columns m.vars) m.first site (SiteIndex ∷ Variable (var_at m.vars v) ∷ columns (drop (suc v) m.vars))
+    p.from (take site p.index) (take v p.value) = rw cols at f.front in
     let mid = front_index start in
     let end = front_value mid in
     record {
-      front = rw (take_more_set index site z in_index, take_more_set value v y in_value, add-one site, add-one v, it, iy, io, iz) end;
+      front = rw (take_more_set p.index site z in_index, take_more_set p.value v y in_value, add-one site, add-one v, w.past, w.is, i.past, i.is) end;
       size = rw (add-one v) (omega (arith, f.size, here));
       within = omega (arith, h);
       index_zero = λ k l. let ne : k ≢ site = omega arith in rw get_or-set_other (f.index_zero k (omega arith));
       value_zero = λ k l. let ne : k ≢ v = omega arith in rw get_or-set_other (f.value_zero k (omega arith));
-      index_size = length-set index site z ∙ f.index_size;
-      value_size = length-set value v y ∙ f.value_size;
+      index_size = length-set p.index site z ∙ f.index_size;
+      value_size = length-set p.value v y ∙ f.value_size;
     }
 
 -- one more variable that begins no site
-pub filled_other : {n : ℕ} {vars : List VarInfo} {first : Lcg} {v site : ℕ} {g : Lcg} {index value : List ℤ} (y : ℤ)
-    (two : Lcg) → Filled n vars first v site g index value → v < length vars → starts_site (var_at vars v) ≡ false
-    → length vars ≤ 168 → y ≡ variable_by n (var_at vars v) (pcg64 g).0 → two ≡ (pcg64 g).1
-    → Filled n vars first (v + 1) site two index (set value v y)
-filled_other {n = n} {vars = vars} {first = first} {v = v} {site = site} {g = g} {index = index} {value = value} y two f h e few iy it =
-    let cols = at_other vars v h e in
+pub filled_other : {m : Making} {p : Progress} {y : ℤ} {two : Lcg} → Filled m p → p.v < length m.vars
+    → starts_site (var_at m.vars p.v) ≡ false → length m.vars ≤ 168 → IsValue m.number (var_at m.vars p.v) p.from y two
+    → Filled m (record { v = p.v + 1; site = p.site; from = two; index = p.index; value = set p.value p.v y })
+filled_other {m = m} {p = p} {y = y} f h e few w =
+    let v = p.v in
+    let site = p.site in
+    let cols = at_other m.vars v h e in
     let here = ap length cols in
-    let in_value : v < length value = omega (arith, f.value_size, few, h) in
-    let start : Front n (columns vars) first site (Variable (var_at vars v) ∷ columns (drop (suc v) vars)) g (take site index)
-    (take v value) = rw cols at f.front in
+    let in_value : v < length p.value = omega (arith, f.value_size, few, h) in
+    let start : Front m.number (columns m.vars) m.first site (Variable (var_at m.vars v) ∷ columns (drop (suc v) m.vars)) p.from
+    (take site p.index) (take v p.value) = rw cols at f.front in
     let end = front_value start in
     record {
-      front = rw (take_more_set value v y in_value, add-one v, it, iy) end;
+      front = rw (take_more_set p.value v y in_value, add-one v, w.past, w.is) end;
       size = rw (add-one v) (omega (arith, f.size, here));
       within = omega (arith, h);
       index_zero = λ k l. f.index_zero k l;
       value_zero = λ k l. let ne : k ≢ v = omega arith in rw get_or-set_other (f.value_zero k (omega arith));
       index_size = f.index_size;
-      value_size = length-set value v y ∙ f.value_size;
+      value_size = length-set p.value v y ∙ f.value_size;
     }
 
 -- after the last variable
-pub filled_all : {n : ℕ} {vars : List VarInfo} {first : Lcg} {v site : ℕ} {g : Lcg} {r : Row}
-    → Filled n vars first v site g r.index r.values → length vars ≤ v
-    → IsMade n vars first r × (g ≡ past (length (columns vars)) first)
-filled_all {n = n} {vars = vars} {first = first} {v = v} {site = site} {g = g} {r = r} f h =
+pub filled_all : {m : Making} {v site : ℕ} {g : Lcg} {r : Row}
+    → Filled m (record { v = v; site = site; from = g; index = r.index; value = r.values }) → length m.vars ≤ v
+    → IsMade m.number m.vars m.first r × (g ≡ past (length (columns m.vars)) m.first)
+filled_all {m = m} {v = v} {site = site} {r = r} f h =
+    let vars = m.vars in
     let all : v ≡ length vars = omega (arith, f.within, h) in
     let none : drop v vars ≡ [] = rw (all, drop_all (length vars) vars (omega arith)) refl in
     let sites : length (columns vars) - length vars ≡ site = omega (arith, ap (λ l. length (columns l)) none, f.size, all) in
-    let made : IsMade n vars first r = record {
+    let made : IsMade m.number vars m.first r = record {
       index = rw sites (sym (append-nil (take site r.index)) ∙ rw none at f.front.indices);
       values = rw (← all) (sym (append-nil (take v r.values)) ∙ rw none at f.front.values);
       zeros = record { index = rw sites f.index_zero; values = rw (← all) f.value_zero };

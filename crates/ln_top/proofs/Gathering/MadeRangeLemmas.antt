@@ -67,11 +67,13 @@ in_order_of lo hi q = grind (arith, ints, q)
 above_of : (lo low : ℤ) → int_lt (neg_ℤ (pos (2 ^ 63))) lo ≡ true → lo ≤ℤ low → neg_ℤ (pos (2 ^ 63)) <ℤ low
 above_of lo low q h = grind (arith, ints, q, h)
 
+-- the ends between which a variable's value lies on row n are in order
 pub ends_in_order : (n : ℕ) (i : VarInfo) → has_range i ≡ true → low_end n i.lo i.hi ≤ℤ high_end n i.lo i.hi
 ends_in_order n i h =
     let p = and_parts (not (int_lt i.hi i.lo)) (int_lt (neg_ℤ (pos (2 ^ 63))) i.lo) h in
     (are_ends n i.lo i.hi (in_order_of i.lo i.hi p.0)).order
 
+-- the low end of a variable on row n is above -2^63
 pub low_above : (n : ℕ) (i : VarInfo) → has_range i ≡ true → neg_ℤ (pos (2 ^ 63)) <ℤ low_end n i.lo i.hi
 low_above n i h =
     let p = and_parts (not (int_lt i.hi i.lo)) (int_lt (neg_ℤ (pos (2 ^ 63))) i.lo) h in
@@ -82,11 +84,13 @@ pub width_fits : (lo hi : ℤ) (d : ℕ) → neg_ℤ (pos (2 ^ 63)) <ℤ lo → 
     → d + 1 < 2 ^ 64
 width_fits lo hi d l h b e = grind (arith, ints, l, h, b, e)
 
+-- in `between` the sum of the low end and the offset fits 128 bits
 pub sum_fits : (lo : ℤ) (w d : ℕ) → SFits w64 lo → d + 1 < 2 ^ 64 → SFits w128 (lo +ℤ pos (w % (d + 1)))
 sum_fits lo w d a h = go (w % (d + 1)) (omega (arith, h)) where
   go : (r : ℕ) → r < 2 ^ 64 → SFits w128 (lo +ℤ pos r)
   go r k = grind (arith, ints, a, k)
 
+-- in `between` the value fits 64 bits, as both ends do
 pub value_fits : (lo hi : ℤ) (w d : ℕ) → lo ≤ℤ hi → SFits w64 lo → SFits w64 hi → d ≡ unsigned_abs (hi -ℤ lo)
     → SFits w64 (lo +ℤ pos (w % (d + 1)))
 value_fits lo hi w d h a b e = rw e (go (value_by lo hi w) (value_between lo hi w h)) where
@@ -234,12 +238,14 @@ made_is n sites vars g r laid m =
     let i : take sites r.index ≡ indices_by 0 (columns vars) (words (length (columns vars)) g) = rw e at m.index in
     rw (i, m.values) refl
 
+-- a row that is made is in range
 pub made_in_range : (n sites : ℕ) (vars : List VarInfo) (g : Lcg) (r : code.Row) → is_laid_out sites vars ≡ true
     → IsMade n vars g r → InRange sites vars (row_of sites vars r)
 made_in_range n sites vars g r laid m =
     rw (made_is n sites vars g r laid m) (words_in_range n sites vars (words (length (columns vars)) g) laid
     (words_length (length (columns vars)) g))
 
+-- the places of a made row past its sites and its variables are 0
 pub zero_past : (n sites : ℕ) (vars : List VarInfo) (g : Lcg) (r : code.Row) → is_laid_out sites vars ≡ true
     → IsMade n vars g r → IsZeroPast sites (length vars) r
 zero_past n sites vars g r laid m =

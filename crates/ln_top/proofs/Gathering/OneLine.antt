@@ -61,6 +61,7 @@ says_one rank p names fields (refused_ s f) (due r v e d) = absurd (not_both r s
 says_one rank p names fields (refused_ s e) (refused_ t f) =
     ap (λ (z : RowStop). said_text names (Err z)) (same_stop s t (read_row p.shape.sites p.shape.vars fields) e f)
 
+-- a record has one line
 pub one_line : (rank : Rank) (p : Pred) (names fields : List (List ℕ)) (a b : List ℕ) → IsLineOf rank (pred_of p) names fields a
     → IsLineOf rank (pred_of p) names fields b → a ≡ b
 one_line rank p names fields a b l k = l.is ∙ ap line (says_one rank p names fields l.says k.says) ∙ sym k.is

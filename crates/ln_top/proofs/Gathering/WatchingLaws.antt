@@ -38,6 +38,7 @@ state_alike : (row : ℕ) (v u : Verdict) (s : State) → v.sign ≡ u.sign → 
     → state_after row v s ≡ state_after row u s
 state_alike row v u s e f = ap (λ (t : List ℕ). record { kind = s.kind; tally = t }) (tally_alike s.kind s.tally row v u e f)
 
+-- verdicts with the same sign and decider have the same lines
 pub lines_alike : (row : ℕ) (v u : Verdict) (boxes : List State) → v.sign ≡ u.sign → v.by ≡ u.by
     → lines_at row v boxes ≡ lines_at row u boxes
 lines_alike row v u [] e f = refl
@@ -46,6 +47,7 @@ lines_alike row v u (s ∷ ss) e f =
     ∙ ap (λ t. said_of (answer row u s) t ++ lines_at row v ss) (state_alike row v u s e f)
     ∙ ap (λ t. said_of (answer row u s) (state_after row u s) ++ t) (lines_alike row v u ss e f)
 
+-- after verdicts with the same sign and decider the same watchers remain
 pub left_alike : (row : ℕ) (v u : Verdict) (boxes : List State) → v.sign ≡ u.sign → v.by ≡ u.by
     → left_after row v boxes ≡ left_after row u boxes
 left_alike row v u [] e f = refl
@@ -54,9 +56,11 @@ left_alike row v u (s ∷ ss) e f =
     ∙ ap (λ t. left_of (answer row u s) t ++ left_after row v ss) (state_alike row v u s e f)
     ∙ ap (λ t. left_of (answer row u s) (state_after row u s) ++ t) (left_alike row v u ss e f)
 
+-- for the next record, verdicts with the same sign and decider have the same lines
 pub alike_lines : (v u : Verdict) (w : Watching) → v.sign ≡ u.sign → v.by ≡ u.by → next_lines (Ok v) w ≡ next_lines (Ok u) w
 alike_lines v u w e f = lines_alike (counted w.seen) v u w.boxes e f
 
+-- after the next record, verdicts with the same sign and decider leave the same watchers
 pub alike_next : (v u : Verdict) (w : Watching) → v.sign ≡ u.sign → v.by ≡ u.by → next (Ok v) w ≡ next (Ok u) w
 alike_next v u w e f = ap (watching (counted w.seen)) (left_alike (counted w.seen) v u w.boxes e f)
 
@@ -65,6 +69,7 @@ pub none_told : (row : ℕ) (said : Result Verdict RowStop) (boxes : List State)
 none_told row (Ok v) boxes e = ap (lines_at row v) e
 none_told row (Err stop) boxes e = refl
 
+-- without watchers none remains after a record
 pub none_left : (row : ℕ) (said : Result Verdict RowStop) (boxes : List State) → boxes ≡ [] → left_on row said boxes ≡ []
 none_left row (Ok v) boxes e = ap (left_after row v) e
 none_left row (Err stop) boxes e = e
@@ -89,6 +94,7 @@ pub put_on : (port : Port) (text : List ℕ) (puts : Count) (was now : Option Sh
 put_on Out text puts was now q e = wrote q refl (e ∙ out_alone text was)
 put_on ErrPort text puts was now q e = wrote q refl (e ∙ err_alone text was)
 
+-- the write of a text to a stream failed, so the text was cut off
 pub cut_on : (port : Port) (text : List ℕ) (puts : Count) (was now : Option Shown) → Rises puts → FailsAfter port text was now
     → WroteOn port text puts false was now
 cut_on Out text puts was now p f =
@@ -108,6 +114,7 @@ cut_on ErrPort text puts was now p f =
       shown = f.shown ∙ err_alone (take f.n text) was;
     })
 
+-- a write failed while a verdict was shown, so the lines for it were cut off
 pub show_cut : (row : ℕ) (v : Verdict) (boxes left : List State) (port : Port) (puts : Count) (was now : Option Shown)
     → Rises puts → StopsAt row v boxes left port was now → WroteOn port (lines_at row v boxes) puts false was now
 show_cut row v boxes left port puts was now p h =
@@ -120,15 +127,18 @@ pub shown_lines : (said : Result Verdict RowStop) (v : Verdict) (w : Watching) (
 shown_lines said v w row puts all was now e r h =
     subst (λ s. Wrote [] (next_lines s w) puts all was now) (sym e) (subst (λ n. Wrote [] (lines_at n v w.boxes) puts all was now) r h)
 
+-- the watchers that remain after a verdict was shown are those required
 pub shown_left : (said : Result Verdict RowStop) (v : Verdict) (w : Watching) (row : ℕ) (boxes : List State) → said ≡ Ok v
     → row ≡ counted w.seen → boxes ≡ left_after row v w.boxes → watching row boxes ≡ next said w
 shown_left said v w row boxes e r h =
     ap (watching row) h ∙ ap (λ n. watching n (left_after n v w.boxes)) r ∙ ap (λ s. next s w) (sym e)
 
+-- for a refused record nothing is written
 pub hidden_lines : (said : Result Verdict RowStop) (stop : RowStop) (w : Watching) (k : ℕ) (was : Option Shown)
     → said ≡ Err stop → Wrote [] (next_lines said w) (count k k) true was was
 hidden_lines said stop w k was e = subst (λ s. Wrote [] (next_lines s w) (count k k) true was was) (sym e) (wrote_nothing k was was refl)
 
+-- after a refused record all watchers remain as they were
 pub hidden_left : (said : Result Verdict RowStop) (stop : RowStop) (w : Watching) (row : ℕ) → said ≡ Err stop
     → row ≡ counted w.seen → watching row w.boxes ≡ next said w
 hidden_left said stop w row e r = ap (λ n. watching n w.boxes) r ∙ ap (λ s. next s w) (sym e)

@@ -37,35 +37,48 @@ lift_part : {owes more : Said → Type 0} {part wide : List ℕ → List ℕ →
 lift_part f g (c.nothing e) = c.nothing e
 lift_part f g (c.of_part s out err p o a b e) = c.of_part s out err (g out err p) (f s o) a b e
 
+-- what a part of the program owes: what it may say, which part it may leave, that a file is missing, and that one wasn't read
+pub record Duty : Type 1 where
+  pub owes : Said → Type 0
+  pub part : List ℕ → List ℕ → Type 0
+  pub lacks : Type 0
+  pub reads : Type 0
+
+-- a duty is carried out
+abbrev pub IsCarriedOut : Duty → Count → Result End Early → Option Shown → Option Shown → Type 0
+IsCarriedOut d puts result was now = CarriesOut d.owes d.part d.lacks d.reads puts result was now
+
+-- a duty allows all that a narrower one does
+pub record IsWider (a b : Duty) : Type 0 where
+  pub owes : (s : Said) → a.owes s → b.owes s
+  pub part : (out err : List ℕ) → a.part out err → b.part out err
+  pub lacks : a.lacks → b.lacks
+  pub reads : a.reads → b.reads
+
 -- A wider requirement is carried out by what carries out a narrower one.
-pub lift : (owes more : Said → Type 0) (part wide : List ℕ → List ℕ → Type 0) (lacks gone reads seen : Type 0)
-    (puts : Count) (result : Result End Early) (was now : Option Shown)
-    → ((s : Said) → owes s → more s) → ((out err : List ℕ) → part out err → wide out err) → (lacks → gone)
-    → (reads → seen)
-    → CarriesOut owes part lacks reads puts result was now → CarriesOut more wide gone seen puts result was now
-lift owes more part wide lacks gone reads seen puts result was now f g h k (c.ended s q o r e) = c.ended s q (f s o) r e
-lift owes more part wide lacks gone reads seen puts result was now f g h k (c.unread q u r e) = c.unread q (both_ways k h u) r e
-lift owes more part wide lacks gone reads seen puts result was now f g h k (c.cut p l r) = c.cut p (lift_fronts f (both_ways k h) l) r
-lift owes more part wide lacks gone reads seen puts result was now f g h k (c.short q l r) = c.short q (lift_part f g l) r
+pub lift : {a b : Duty} {puts : Count} {result : Result End Early} {was now : Option Shown} → IsWider a b
+    → IsCarriedOut a puts result was now → IsCarriedOut b puts result was now
+lift w (c.ended s q o r e) = c.ended s q (w.owes s o) r e
+lift w (c.unread q u r e) = c.unread q (both_ways w.reads w.lacks u) r e
+lift w (c.cut p l r) = c.cut p (lift_fronts w.owes (both_ways w.reads w.lacks) l) r
+lift w (c.short q l r) = c.short q (lift_part w.owes w.part l) r
 
 -- A stop that was written is carried out where its steps require it.
-pub says_carried : {A : Type 0} (step : Outcome A → Type 0) (s : Stop) (owes : Said → Type 0)
-    (part : List ℕ → List ℕ → Type 0) (lacks reads : Type 0) (puts : Count) (result : Result End Early)
+pub says_carried : {A : Type 0} (step : Outcome A → Type 0) (s : Stop) (d : Duty) (puts : Count) (result : Result End Early)
     (was now : Option Shown)
-    → ((why : Why) → step (stops why) → owes (said_of why)) → (step missing → lacks) → Halts step reads s
-    → Says s puts result was now → CarriesOut owes part lacks reads puts result was now
-says_carried step s owes part lacks reads puts result was now f g (c.tells why h) (c.all q r e) = c.ended (said_of why) q (f why h) r e
-says_carried step s owes part lacks reads puts result was now f g (c.tells why h) (c.cut front p n i e r) =
+    → ((why : Why) → step (stops why) → d.owes (said_of why)) → (step missing → d.lacks) → Halts step d.reads s
+    → Says s puts result was now → IsCarriedOut d puts result was now
+says_carried step s d puts result was now f g (c.tells why h) (c.all q r e) = c.ended (said_of why) q (f why h) r e
+says_carried step s d puts result was now f g (c.tells why h) (c.cut front p n i e r) =
     c.cut p (c.of_owed (said_of why) [] front (f why h) (record { rest = []; is = refl }) i e) r
-says_carried step s owes part lacks reads puts result was now f g (c.unread u) (c.all q r e) = c.unread q (either g u) r e
-says_carried step s owes part lacks reads puts result was now f g (c.unread u) (c.cut front p n i e r) =
-    c.cut p (c.of_read front (either g u) i e) r
-says_carried step s owes part lacks reads puts result was now f g c.short (c.all q r e) = c.short q (c.nothing (e ∙ nothing_put was)) r
+says_carried step s d puts result was now f g (c.unread u) (c.all q r e) = c.unread q (either g u) r e
+says_carried step s d puts result was now f g (c.unread u) (c.cut front p n i e r) = c.cut p (c.of_read front (either g u) i e) r
+says_carried step s d puts result was now f g c.short (c.all q r e) = c.short q (c.nothing (e ∙ nothing_put was)) r
   where
     nothing_put : (was : Option Shown) → put_both [] [] was ≡ was
     nothing_put was = appended-nothing ErrPort (appended Out [] was) ∙ appended-nothing Out was
-says_carried step s owes part lacks reads puts result was now f g c.short (c.cut front p n i e r) = absurd (n refl)
-says_carried step s owes part lacks reads puts result was now f g h (c.short q n r e) = c.short q (c.nothing e) r
+says_carried step s d puts result was now f g c.short (c.cut front p n i e r) = absurd (n refl)
+says_carried step s d puts result was now f g h (c.short q n r e) = c.short q (c.nothing e) r
 
 -- A whole text that was written is carried out.
 pub text_carried : (owes : Said → Type 0) (part : List ℕ → List ℕ → Type 0) (lacks reads : Type 0) (puts : Count)
@@ -75,12 +88,15 @@ text_carried owes part lacks reads puts end text result was now o (c.all q r e) 
 text_carried owes part lacks reads puts end text result was now o (c.cut front p i e r) =
     c.cut p (c.of_owed (whole end text) front [] o i (record { rest = []; is = refl }) e) r
 
+-- the first n bytes of a text are a prefix of it
 pub front_of : (n : ℕ) (text : List ℕ) → IsFront text (take n text)
 front_of n text = record { rest = drop n text; is = sym (take-append-drop n text) }
 
+-- a text that is written to Out alone is on both streams that text and nothing
 pub out_alone : (text : List ℕ) (was : Option Shown) → appended Out text was ≡ put_both text [] was
 out_alone text was = sym (appended-nothing ErrPort (appended Out text was))
 
+-- a text that is written to Err alone is on both streams nothing and that text
 pub err_alone : (text : List ℕ) (was : Option Shown) → appended ErrPort text was ≡ put_both [] text was
 err_alone text was = ap (λ s. appended ErrPort text s) (sym (appended-nothing Out was))
 

@@ -28,16 +28,19 @@ value_or a (gives b) = b
 value_or a missing = a
 value_or a (stops why) = a
 
+-- the outcome is a value
 abbrev pub IsGiven : {A : Type 0} → Outcome A → Type 0
 IsGiven (gives a) = Unit {0}
 IsGiven missing = ⊥
 IsGiven (stops why) = ⊥
 
+-- the outcome is a stop
 abbrev pub IsStop : {A : Type 0} → Outcome A → Type 0
 IsStop (gives a) = ⊥
 IsStop missing = ⊥
 IsStop (stops why) = Unit {0}
 
+-- why an outcome stops, or another reason
 abbrev pub why_or : {A : Type 0} → Why → Outcome A → Why
 why_or w (gives b) = w
 why_or w missing = w
@@ -47,6 +50,7 @@ abbrev IsTrueHere : Bool → Type 0
 IsTrueHere true = Unit {0}
 IsTrueHere false = ⊥
 
+-- true isn't false
 pub true_false : true ≡ false → ⊥
 true_false e = subst IsTrueHere e tt
 
@@ -72,6 +76,7 @@ one_each step f (a ∷ rest) =
     one_then (step a) (λ b. Then (Each step rest) (λ bs. Gives (b ∷ bs))) (f a)
     (λ b. one_then (Each step rest) (λ bs. Gives (b ∷ bs)) (one_each step f rest) (λ bs. one_gives (b ∷ bs)))
 
+-- equal options that are Some have equal values
 pub some_same : {A : Type 0} (a b : A) → Some a ≡ Some b → a ≡ b
 some_same a b e = ap (λ o. elim o [ Some x ↦ x | None ↦ a ]) e
 
@@ -138,6 +143,7 @@ before done (stops why) = stops why
 abbrev pub Behind : {A B : Type 0} → (A → Outcome B → Type 0) → List A → List A → List B → Type 0
 Behind {A} {B} step all left done = (o : Outcome (List B)) → Each step left o → Each step all (before done o)
 
+-- before the first member there is no value
 pub behind_none : {A B : Type 0} (step : A → Outcome B → Type 0) (all : List A) → Behind step all all []
 behind_none step all (gives bs) e = e
 behind_none step all missing e = e
@@ -155,12 +161,16 @@ each_one step a rest b s (gives bs) e = goes b s (goes bs e refl)
 each_one step a rest b s missing e = goes b s (lacks e)
 each_one step a rest b s (stops why) e = goes b s (stopped why e)
 
-pub behind_more : {A B : Type 0} (step : A → Outcome B → Type 0) (all left rest : List A) (done more : List B) (a : A) (b : B)
-    → Behind step all left done → left ≡ a ∷ rest → step a (gives b) → more ≡ done ++ b ∷ []
-    → Behind step all rest more
-behind_more step all left rest done more a b h l s m =
-    λ o e. subst (λ p. Each step all p) (before_one done b o ∙ ap (λ d. before d o) (sym m))
-    (h (before (b ∷ []) o) (subst (λ xs. Each step xs (before (b ∷ []) o)) (sym l) (each_one step a rest b s o e)))
+-- the next member is at hand
+pub behind_at : {A B : Type 0} (step : A → Outcome B → Type 0) (all left rest : List A) (done : List B) (a : A)
+    → Behind step all left done → left ≡ a ∷ rest → Behind step all (a ∷ rest) done
+behind_at step all left rest done a h l = subst (λ xs. Behind step all xs done) l h
+
+-- one more member has its value
+pub behind_more : {A B : Type 0} (step : A → Outcome B → Type 0) (all rest : List A) (done : List B) (a : A) (b : B)
+    → Behind step all (a ∷ rest) done → step a (gives b) → Behind step all rest (done ++ b ∷ [])
+behind_more step all rest done a b h s =
+    λ o e. subst (λ p. Each step all p) (before_one done b o) (h (before (b ∷ []) o) (each_one step a rest b s o e))
 
 -- nothing remains: the whole has these values
 pub behind_all : {A B : Type 0} (step : A → Outcome B → Type 0) (all left : List A) (done : List B)

@@ -56,6 +56,7 @@ number_named name ps i p e f =
     let test = λ (q : Pred). bytes_eq (name_bytes q.name) name in
     found_by test ps ∙ ap (slice_get ps) (sym (some_position test ps i e).0) ∙ f
 
+-- a place below the length of a list has an element
 pub there_at : {A : Type 0} (xs : List A) (i : ℕ) → i < length xs → (x : A) × (slice_get xs i ≡ Some x)
 there_at [] i l = absurd (omega (arith, l))
 there_at (x ∷ xs) zero l = (x, refl)

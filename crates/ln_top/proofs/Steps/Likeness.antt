@@ -51,6 +51,7 @@ named_if : (b : Bool) (p : Pred) (o : Option Pred) (v : Option PredOf) → optio
 named_if true p o v e = refl
 named_if false p o v e = e
 
+-- the first predicate of a name in memory stands for the first of that name in what the table stands for
 pub named_like : (name : List ℕ) (ps : List Pred) → option_map pred_of (named_in name ps) ≡ named name (map pred_of ps)
 named_like name [] = refl
 named_like name (p ∷ ps) =

@@ -42,11 +42,12 @@ use Rattle.ln_top.specs.Work.{AreOneValued, IsOneValued, WorkOwes}
 use Rattle.ln_top.specs.Answer.{PlanOwes, stopped, worked, Answer, usage, planned}
 use Rattle.ln_top.proofs.Steps.Chain.{value_or, one_prepares}
 use Rattle.ln_top.proofs.Steps.Likeness.{named_in, named_like}
+use Rattle.ln_top.proofs.Gathering.Loops.{Written, StepTo, LinesTo}
 use Rattle.ln_top.proofs.Gathering.LinesLaws.{one_lines, SameLines}
 use Rattle.ln_top.proofs.Gathering.OneLine.{one_line, one_counts, says_alike}
 use Rattle.ln_top.proofs.Gathering.OneProduct.{one_product}
 use Rattle.ln_top.proofs.Commands.FactorsLaws.{IsOver, alike_over}
-use Rattle.ln_top.proofs.Commands.RunLaws.{same_pred, same_names, same_records, tail_same, wrong_right}
+use Rattle.ln_top.proofs.Commands.RunLaws.{same_pred, same_records, tail_same, wrong_right, Sheet, sheet, same_sheet}
 use Rattle.ln_top.proofs.Commands.EdgesLaws as edges_laws
 use Rattle.ln_top.proofs.Commands.ExplainLaws.{rows_differ}
 use Rattle.ln_top.proofs.Commands.AuditLaws as audit_laws
@@ -75,6 +76,7 @@ found_each table [] preds h = subst (AreFound table) (sym (ap (value_or preds) h
 found_each table (n ∷ ns) preds (step.goes p f (step.goes ps g h)) =
     subst (AreFound table) (sym (ap (value_or preds) h)) ((n, found_of table n p f), found_each table ns ps g)
 
+-- a source that compiles to a table is accepted with it
 pub accepted_of : (bytes : List ℕ) (t : TableOf) → Compiles bytes (gives t) → IsAccepted bytes t
 accepted_of bytes t (step.accepted _ a) = a
 
@@ -126,6 +128,7 @@ by_named : (ps : List Pred) (name : List ℕ) (p : PredOf) (o : Option Pred) →
 by_named ps name p None e = absurd (none-some p e)
 by_named ps name p (Some q) e = (q, same_Some (pred_of q) p e)
 
+-- the first of the given predicates is in memory
 pub in_memory : (g : Given) (p : PredOf) (rest : List PredOf) → IsGrounded g → g.preds ≡ p ∷ rest
     → (q : Pred) × (pred_of q ≡ p)
 in_memory g p rest h e =
@@ -141,31 +144,31 @@ check_one g h a b (counted x c) (counted y d) =
     ap (whole Done) (one_counts h.table.preds (subst (λ ps. AreCounts ps x) preds c) (subst (λ ps. AreCounts ps y) preds d))
 
 -- and so does `run`
-one_step : (rank : Rank) (q : Pred) (names : List (List ℕ)) (w : Watching) (fields : List (List ℕ)) (o e out err : List ℕ) (y z : Watching)
-    → RunStep rank (pred_of q) names w fields o e y → RunStep rank (pred_of q) names w fields out err z → SameLines o e out err y z
-one_step rank q names w fields o e out err y z s t =
+one_step : (rank : Rank) (q : Pred) (names : List (List ℕ)) (w : Watching) (fields : List (List ℕ)) (a b : Written Watching)
+    → StepTo (RunStep rank (pred_of q) names) w fields a → StepTo (RunStep rank (pred_of q) names) w fields b → SameLines a b
+one_step rank q names w fields a b s t =
     let same = says_alike rank q fields s.line.says t.line.says w in
     record {
-      outs = one_line rank q names fields o out s.line t.line;
+      outs = one_line rank q names fields a.out b.out s.line t.line;
       errs = s.told ∙ same.0 ∙ sym t.told;
       lefts = s.left ∙ same.1 ∙ sym t.left;
     }
 
-abbrev ran_said : PredOf → Records → List ℕ → List ℕ → Watching → Said
-ran_said p records out err z = record { end = end_of (all_good (is_row p) records); out = out; err = err ++ last_of z }
+-- what is said of records that come to this
+abbrev ran_said : Sheet → Written Watching → Said
+ran_said x a = record { end = end_of (all_good (is_row x.pred) x.records); out = a.out; err = a.err ++ last_of a.left }
 
-run_same : (rank : Rank) (boxes : List State) (q : Pred) (p r : PredOf) (names others : List (List ℕ)) (rs ss : Records)
-    (o e out err : List ℕ) (m z : Watching) → pred_of q ≡ r → p ≡ r → names ≡ others → rs ≡ ss
-    → Lines (RunStep rank p names) (watching 0 boxes) rs o e m → Lines (RunStep rank r others) (watching 0 boxes) ss out err z
-    → ran_said p rs o e m ≡ ran_said r ss out err z
-run_same rank boxes q p r names others rs ss o e out err m z i f n l x y =
-    let x1 = subst (λ t. Lines (RunStep rank t names) (watching 0 boxes) rs o e m) (f ∙ sym i) x in
-    let x2 = subst (λ (ns : List (List ℕ)). Lines (RunStep rank (pred_of q) ns) (watching 0 boxes) rs o e m) n x1 in
-    let x3 = subst (λ (zs : Records). Lines (RunStep rank (pred_of q) others) (watching 0 boxes) zs o e m) l x2 in
-    let y1 = subst (λ t. Lines (RunStep rank t others) (watching 0 boxes) ss out err z) (sym i) y in
-    let same = one_lines (RunStep rank (pred_of q) others) (one_step rank q others) (watching 0 boxes) ss o e out err m z x3 y1 in
-    ap (λ t. ran_said t rs o e m) f ∙ ap (λ (zs : Records). ran_said r zs o e m) l ∙ ap (λ t. ran_said r ss t e m) same.outs
-    ∙ ap (λ t. ran_said r ss out t m) same.errs ∙ ap (ran_said r ss out err) same.lefts
+run_same : (rank : Rank) (boxes : List State) (q : Pred) (x y : Sheet) (a b : Written Watching) → pred_of q ≡ y.pred → x ≡ y
+    → LinesTo (RunStep rank x.pred x.names) (watching 0 boxes) x.records a
+    → LinesTo (RunStep rank y.pred y.names) (watching 0 boxes) y.records b → ran_said x a ≡ ran_said y b
+run_same rank boxes q x y a b i e l k =
+    let l1 = subst (λ (t : Sheet). LinesTo (RunStep rank t.pred t.names) (watching 0 boxes) t.records a) e l in
+    let l2 = subst (λ (t : PredOf). LinesTo (RunStep rank t y.names) (watching 0 boxes) y.records a) (sym i) l1 in
+    let k2 = subst (λ (t : PredOf). LinesTo (RunStep rank t y.names) (watching 0 boxes) y.records b) (sym i) k in
+    let same = one_lines (RunStep rank (pred_of q) y.names) (one_step rank q y.names) (watching 0 boxes) y.records a b l2 k2 in
+    ap (λ (t : Sheet). ran_said t a) e ∙ ap (λ (t : List ℕ). ran_said y (record { out = t; err = a.err; left = a.left })) same.outs
+    ∙ ap (λ (t : List ℕ). ran_said y (record { out = b.out; err = t; left = a.left })) same.errs
+    ∙ ap (λ (t : Watching). ran_said y (record { out = b.out; err = b.err; left = t })) same.lefts
 
 run_one : (rank : Rank) (boxes : List State) (g : Given) → IsGrounded g → (a b : Said) → RunSaid rank boxes g a → RunSaid rank boxes g b → a ≡ b
 run_one rank boxes g i a b (run.header p names rs h x) (run.header q others ss k y) = refl
@@ -173,51 +176,51 @@ run_one rank boxes g i a b (run.header p names rs h x) (run.ran q others ss out 
 run_one rank boxes g i a b (run.ran p names rs out err z h x) (run.header q others ss k y) = wrong_right g q p others names ss rs k y h
 run_one rank boxes g i a b (run.ran p names rs o e m h x) (run.ran r others ss out err z k y) =
     let q = in_memory g r k.others i k.pred in
-    run_same rank boxes q.0 p r names others rs ss o e out err m z q.1 (same_pred g p r names others (names ∷ rs) (others ∷ ss) h k)
-    (same_names g p r names others (names ∷ rs) (others ∷ ss) h k)
-    (tail_same (same_records g p r names others (names ∷ rs) (others ∷ ss) h k)) x y
+    let s = sheet p names rs in
+    let t = sheet r others ss in
+    run_same rank boxes q.0 s t (record { out = o; err = e; left = m }) (record { out = out; err = err; left = z }) q.1 (same_sheet g s t h k)
+    x y
 
 -- and so does `gen`
-gen_same : (seed count : ℕ) (boxes : List State) (q : Pred) (p r : PredOf) (o out : List ℕ) (y z : List State)
-    → pred_of q ≡ r → p ≡ r → Lines (GenStep p) boxes (draws count 0 p.vars (seeded seed)) o [] y
-    → Lines (GenStep r) boxes (draws count 0 r.vars (seeded seed)) out [] z
-    → whole Done (o ++ last_lines y) ≡ whole Done (out ++ last_lines z)
-gen_same seed count boxes q p r o out y z i f x k =
-    let x1 = subst (λ (t : PredOf). Lines (GenStep t) boxes (draws count 0 t.vars (seeded seed)) o [] y) (f ∙ sym i) x in
-    let k1 = subst (λ (t : PredOf). Lines (GenStep t) boxes (draws count 0 t.vars (seeded seed)) out [] z) (sym i) k in
-    let same = one_lines (GenStep (pred_of q)) (gen_laws.one_step q) boxes
-    (draws count 0 q.shape.vars (seeded seed)) o [] out [] y z x1 k1 in
-    ap (λ t. whole Done (t ++ last_lines y)) same.outs ∙ ap (λ t. whole Done (out ++ last_lines t)) same.lefts
+gen_same : (seed count : ℕ) (boxes : List State) (q : Pred) (p r : PredOf) (a b : Written (List State)) → pred_of q ≡ r → p ≡ r
+    → LinesTo (GenStep p) boxes (draws count 0 p.vars (seeded seed)) a
+    → LinesTo (GenStep r) boxes (draws count 0 r.vars (seeded seed)) b
+    → whole Done (a.out ++ last_lines a.left) ≡ whole Done (b.out ++ last_lines b.left)
+gen_same seed count boxes q p r a b i f x k =
+    let x1 = subst (λ (t : PredOf). LinesTo (GenStep t) boxes (draws count 0 t.vars (seeded seed)) a) (f ∙ sym i) x in
+    let k1 = subst (λ (t : PredOf). LinesTo (GenStep t) boxes (draws count 0 t.vars (seeded seed)) b) (sym i) k in
+    let same = one_lines (GenStep (pred_of q)) (gen_laws.one_step q) boxes (draws count 0 q.shape.vars (seeded seed)) a b x1 k1 in
+    ap (λ t. whole Done (t ++ last_lines a.left)) same.outs ∙ ap (λ t. whole Done (b.out ++ last_lines t)) same.lefts
 
 gen_one : (seed count : ℕ) (boxes : List State) (g : Given) → IsGrounded g → (a b : Said) → GenSaid seed count boxes g a
     → GenSaid seed count boxes g b → a ≡ b
 gen_one seed count boxes g i a b (made p o y e x) (made r out z f k) =
     let q = in_memory g r [] i f in
-    gen_same seed count boxes q.0 p r o out y z q.1 (ap (λ (xs : List PredOf). elim xs [ [] ↦ p | t ∷ rest ↦ t ]) (sym e ∙ f)) x k
+    gen_same seed count boxes q.0 p r (record { out = o; err = []; left = y }) (record { out = out; err = []; left = z }) q.1
+    (ap (λ (xs : List PredOf). elim xs [ [] ↦ p | t ∷ rest ↦ t ]) (sym e ∙ f)) x k
 
 -- and so does `product`
 product_step : (q : Pred) (ps : List PredOf) → Every (IsOver q.shape.sites q.shape.vars) ps → (names : List (List ℕ)) (w : Unit {0})
-    (fields : List (List ℕ)) (o e out err : List ℕ) (y z : Unit {0}) → ProductStep (pred_of q) ps names w fields o e y
-    → ProductStep (pred_of q) ps names w fields out err z → SameLines o e out err y z
-product_step q ps over names w fields o e out err y z s t =
-    let same = one_product q ps over names fields o out e err w w y z s t in
+    (fields : List (List ℕ)) (a b : Written (Unit {0})) → StepTo (ProductStep (pred_of q) ps names) w fields a
+    → StepTo (ProductStep (pred_of q) ps names) w fields b → SameLines a b
+product_step q ps over names w fields a b s t =
+    let same = one_product q ps over names fields a.out b.out a.err b.err w w a.left b.left s t in
     record { outs = same.0; errs = same.1; lefts = refl }
 
-abbrev product_said : PredOf → Records → List ℕ → Said
-product_said p records out = record { end = end_of (all_good (is_row p) records); out = out; err = [] }
+abbrev product_said : Sheet → List ℕ → Said
+product_said x out = record { end = end_of (all_good (is_row x.pred) x.records); out = out; err = [] }
 
-product_same : (q : Pred) (p r : PredOf) (ps : List PredOf) (names others : List (List ℕ)) (rs ss : Records) (o out : List ℕ)
-    → Every (IsOver r.sites r.vars) ps → pred_of q ≡ r → p ≡ r → names ≡ others → rs ≡ ss
-    → Lines (ProductStep p ps names) tt rs o [] tt → Lines (ProductStep r ps others) tt ss out [] tt
-    → product_said p rs o ≡ product_said r ss out
-product_same q p r ps names others rs ss o out over i f n l x y =
+product_same : (q : Pred) (ps : List PredOf) (x y : Sheet) (o out : List ℕ) → Every (IsOver y.pred.sites y.pred.vars) ps
+    → pred_of q ≡ y.pred → x ≡ y → Lines (ProductStep x.pred ps x.names) tt x.records o [] tt
+    → Lines (ProductStep y.pred ps y.names) tt y.records out [] tt → product_said x o ≡ product_said y out
+product_same q ps x y o out over i e l k =
     let over1 = subst (λ (t : PredOf). Every (IsOver t.sites t.vars) ps) (sym i) over in
-    let x1 = subst (λ t. Lines (ProductStep t ps names) tt rs o [] tt) (f ∙ sym i) x in
-    let x2 = subst (λ (ns : List (List ℕ)). Lines (ProductStep (pred_of q) ps ns) tt rs o [] tt) n x1 in
-    let x3 = subst (λ (zs : Records). Lines (ProductStep (pred_of q) ps others) tt zs o [] tt) l x2 in
-    let y1 = subst (λ t. Lines (ProductStep t ps others) tt ss out [] tt) (sym i) y in
-    let same = one_lines (ProductStep (pred_of q) ps others) (product_step q ps over1 others) tt ss o [] out [] tt tt x3 y1 in
-    ap (λ t. product_said t rs o) f ∙ ap (λ (zs : Records). product_said r zs o) l ∙ ap (product_said r ss) same.outs
+    let l1 = subst (λ (t : Sheet). Lines (ProductStep t.pred ps t.names) tt t.records o [] tt) e l in
+    let l2 = subst (λ (t : PredOf). Lines (ProductStep t ps y.names) tt y.records o [] tt) (sym i) l1 in
+    let k2 = subst (λ (t : PredOf). Lines (ProductStep t ps y.names) tt y.records out [] tt) (sym i) k in
+    let same = one_lines (ProductStep (pred_of q) ps y.names) (product_step q ps over1 y.names) tt y.records
+    (record { out = o; err = []; left = tt }) (record { out = out; err = []; left = tt }) l2 k2 in
+    ap (λ (t : Sheet). product_said t o) e ∙ ap (product_said y) same.outs
 
 product_one : (g : Given) → IsGrounded g → are_alike g.preds ≡ true → (a b : Said) → ProductSaid g a → ProductSaid g b → a ≡ b
 product_one g i v a b (product.header p names rs h x) (product.header q others ss k y) = refl
@@ -225,19 +228,19 @@ product_one g i v a b (product.header p names rs h x) (product.ran q others ss o
 product_one g i v a b (product.ran p names rs out h x) (product.header q others ss k y) = wrong_right g q p others names ss rs k y h
 product_one g i v a b (product.ran p names rs o h x) (product.ran r others ss out k y) =
     let q = in_memory g r k.others i k.pred in
-    product_same q.0 p r g.preds names others rs ss o out
-    (subst (Every (IsOver r.sites r.vars)) (sym k.pred) (all_over g i v r k.others k.pred)) q.1
-    (same_pred g p r names others (names ∷ rs) (others ∷ ss) h k) (same_names g p r names others (names ∷ rs) (others ∷ ss) h k)
-    (tail_same (same_records g p r names others (names ∷ rs) (others ∷ ss) h k)) x y
+    let s = sheet p names rs in
+    let t = sheet r others ss in
+    product_same q.0 g.preds s t o out (subst (Every (IsOver r.sites r.vars)) (sym k.pred) (all_over g i v r k.others k.pred)) q.1
+    (same_sheet g s t h k) x y
 
 -- `explain` writes one text
-explain_step : (q : Pred) (s : ℕ) (fields : List (List ℕ)) (o e out err : List ℕ) (y z : ℕ) → ExplainStep (pred_of q) s fields o e y
-    → ExplainStep (pred_of q) s fields out err z → SameLines o e out err y z
-explain_step q s fields o e out err y z a b = record {
-  outs = a.text_is ∙ ap text_of_lines (explains-one (subject_of (pred_of q)) (s + 1) fields (rows_differ q) a.lines b.lines a.explains b.explains)
-      ∙ sym b.text_is;
-  errs = a.none ∙ sym b.none;
-  lefts = a.counted ∙ sym b.counted;
+explain_step : (q : Pred) (s : ℕ) (fields : List (List ℕ)) (a b : Written ℕ) → StepTo (ExplainStep (pred_of q)) s fields a
+    → StepTo (ExplainStep (pred_of q)) s fields b → SameLines a b
+explain_step q s fields a b x y = record {
+  outs = x.text_is ∙ ap text_of_lines (explains-one (subject_of (pred_of q)) (s + 1) fields (rows_differ q) x.lines y.lines x.explains y.explains)
+      ∙ sym y.text_is;
+  errs = x.none ∙ sym y.none;
+  lefts = x.counted ∙ sym y.counted;
 }
 
 explain_one : (g : Given) → IsGrounded g → (a b : Said) → ExplainSaid g a → ExplainSaid g b → a ≡ b
@@ -251,7 +254,8 @@ explain_one g i a b (explain.ran p names rs o m h x) (explain.ran r others ss ou
     let x1 = subst (λ (t : PredOf). Lines (ExplainStep t) 0 rs o [] m) f x in
     let x2 = subst (λ (zs : Records). Lines (ExplainStep (pred_of q.0)) 0 zs o [] m) l x1 in
     let y1 = subst (λ (t : PredOf). Lines (ExplainStep t) 0 ss out [] n) (sym q.1) y in
-    let same = one_lines (ExplainStep (pred_of q.0)) (explain_step q.0) 0 ss o [] out [] m n x2 y1 in
+    let same = one_lines (ExplainStep (pred_of q.0)) (explain_step q.0) 0 ss (record { out = o; err = []; left = m })
+    (record { out = out; err = []; left = n }) x2 y1 in
     let ends : end_of (all_good (is_row p) rs) ≡ end_of (all_good (is_row r) ss) =
     ap (λ (zs : Records). end_of (all_good (is_row p) zs)) l
     ∙ ap (λ (t : PredOf). end_of (all_good (is_row t) ss)) (same_pred g p r names others (names ∷ rs) (others ∷ ss) h k) in

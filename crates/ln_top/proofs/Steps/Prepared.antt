@@ -20,9 +20,10 @@ use Rattle.ln_top.specs.Steps.{Outcome, stops, missing, gives, Then, stopped, la
 use Rattle.ln_top.specs.Steps.{found, none, Compiles, Suits, suited, unsuited, Prepares, most_source, most_file}
 use Rattle.ln_top.specs.Carried.{Halts, tells, unread, short}
 use Rattle.ln_top.specs.Ready.{AreNumbered, HasNumbers, IsReady}
-use Rattle.ln_top.proofs.Steps.Chain.{Behind, behind_none, behind_more, behind_all}
+use Rattle.ln_top.proofs.Steps.Chain.{Behind, behind_none, behind_at, behind_more, behind_all}
 use Rattle.ln_top.proofs.Steps.FindLaws.{found_at, none_at, within_at, same_at}
 
+-- what stops the first step stops the chain
 pub halts_first : {A B : Type 0} (first : Outcome A → Type 0) (next : A → Outcome B → Type 0) (r q : Type 0) (s : Stop)
     → Halts first r s → (r → q) → Halts (Then first next) q s
 halts_first first next r q s (tells why h) f = tells why (stopped why h)
@@ -30,6 +31,7 @@ halts_first first next r q s (unread (inl u)) f = unread (inl (f u))
 halts_first first next r q s (unread (inr u)) f = unread (inr (lacks u))
 halts_first first next r q s short f = short
 
+-- where the first step has a value, what stops the next one stops the chain
 pub halts_next : {A B : Type 0} (first : Outcome A → Type 0) (next : A → Outcome B → Type 0) (a : A) (r q : Type 0) (s : Stop)
     → first (gives a) → Halts (next a) r s → (r → q) → Halts (Then first next) q s
 halts_next first next a r q s g (tells why h) f = tells why (goes a g h)
@@ -37,15 +39,20 @@ halts_next first next a r q s g (unread (inl u)) f = unread (inl (f u))
 halts_next first next a r q s g (unread (inr u)) f = unread (inr (goes a g u))
 halts_next first next a r q s g short f = short
 
-pub halts_behind : {A B : Type 0} (step : A → Outcome B → Type 0) (all left rest : List A) (done : List B) (a : A)
-    (r q : Type 0) (s : Stop) → Behind step all left done → left ≡ a ∷ rest → Halts (step a) r s → (r → q)
-    → Halts (Each step all) q s
-halts_behind step all left rest done a r q s b l (tells why h) f =
-    tells why (b (stops why) (subst (λ xs. Each step xs (stops why)) (sym l) (stopped why h)))
-halts_behind step all left rest done a r q s b l (unread (inl u)) f = unread (inl (f u))
-halts_behind step all left rest done a r q s b l (unread (inr u)) f =
-    unread (inr (b missing (subst (λ xs. Each step xs missing) (sym l) (lacks u))))
-halts_behind step all left rest done a r q s b l short f = short
+-- what stops the step of the next member stops the steps of the whole list
+pub halts_behind : {A B : Type 0} (step : A → Outcome B → Type 0) (all rest : List A) (done : List B) (a : A) (r : Type 0) (s : Stop)
+    → Behind step all (a ∷ rest) done → Halts (step a) r s → Halts (Each step all) r s
+halts_behind step all rest done a r s b (tells why h) = tells why (b (stops why) (stopped why h))
+halts_behind step all rest done a r s b (unread (inl u)) = unread (inl u)
+halts_behind step all rest done a r s b (unread (inr u)) = unread (inr (b missing (lacks u)))
+halts_behind step all rest done a r s b short = short
+
+-- the same, where a fault of reading in this step is one in all of them
+pub halts_wider : {A : Type 0} (step : Outcome A → Type 0) (r q : Type 0) (s : Stop) → Halts step r s → (r → q) → Halts step q s
+halts_wider step r q s (tells why h) f = tells why h
+halts_wider step r q s (unread (inl u)) f = unread (inl (f u))
+halts_wider step r q s (unread (inr u)) f = unread (inr u)
+halts_wider step r q s short f = short
 
 -- one more number
 pub numbered_more : (table : List PredOf) (is : List ℕ) (ps : List PredOf) (more : List ℕ) (i : ℕ) (p : PredOf)
@@ -59,12 +66,14 @@ numbered_more table is ps more i p h e m = subst (λ js. AreNumbered table js (p
     go (j ∷ js) [] h = absurd h
     go (j ∷ js) (q ∷ qs) h = (h.0, go js qs h.1)
 
+-- the step of a file that was read within its limit comes to its bytes
 pub read_there : (told : Option Shelf) (limit : ℕ) (name bytes : List ℕ)
     → IfSome told (λ shelf. bytes_of name shelf ≡ Some bytes) → length bytes ≤ limit
     → Reads told limit name (gives bytes)
 read_there None limit name bytes e l = there bytes tt l
 read_there (Some shelf) limit name bytes e l = there bytes e l
 
+-- a fault of reading, or a file that is missing, stops the step
 pub read_fault : (told : Option Shelf) (limit : ℕ) (name : List ℕ) (r : Type 0) → r ⊎ IsAbsent name told
     → Halts (Reads told limit name) r stop.Read
 read_fault told limit name r (inl u) = unread (inl u)
@@ -75,6 +84,7 @@ long_told : (o : Option (List ℕ)) (limit : ℕ) → IfSome o (λ bytes. limit 
 long_told None limit l n = absurd (n refl)
 long_told (Some bytes) limit l n = (bytes, refl, l)
 
+-- a file with more bytes than its limit stops the step
 pub read_long : (told : Option Shelf) (limit : ℕ) (name : List ℕ) (r : Type 0)
     → IfSome told (λ shelf. IfSome (bytes_of name shelf) (λ bytes. limit < length bytes)) → (IsAbsent name told → ⊥)
     → Halts (Reads told limit name) r (stop.Tell TooLong)
@@ -87,9 +97,11 @@ pub record Looking (table : List PredOf) (names left : List (List ℕ)) (numbers
   pub behind : Behind (Finds table) names left preds
   pub numbered : AreNumbered table numbers preds
 
+-- the loop in `numbers` begins with no name found
 pub looking_none : (table : List PredOf) (names : List (List ℕ)) → Looking table names names []
 looking_none table names = record { preds = []; behind = behind_none (Finds table) names; numbered = tt }
 
+-- the step of `numbers`: the next name was found, at its number
 pub looking_more : (ps : List Pred) (names left rest : List (List ℕ)) (numbers more : List ℕ) (name : List ℕ) (i : ℕ)
     → Looking (map pred_of ps) names left numbers → left ≡ name ∷ rest → number_of name ps ≡ Some i
     → more ≡ numbers ++ i ∷ [] → Looking (map pred_of ps) names rest more
@@ -97,11 +109,12 @@ looking_more ps names left rest numbers more name i s l e m =
     let p = found_at name ps i e in
     record {
       preds = s.preds ++ p.0 ∷ [];
-      behind = behind_more (Finds (map pred_of ps)) names left rest s.preds
-          (s.preds ++ p.0 ∷ []) name p.0 s.behind l (found p.0 p.2) refl;
+      behind = behind_more (Finds (map pred_of ps)) names rest s.preds name p.0
+          (behind_at (Finds (map pred_of ps)) names left rest s.preds name s.behind l) (found p.0 p.2);
       numbered = numbered_more (map pred_of ps) numbers s.preds more i p.0 s.numbered p.1 m;
     }
 
+-- the end of the loop in `numbers`: all names were found
 pub looking_all : (table : List PredOf) (names left : List (List ℕ)) (numbers : List ℕ) → Looking table names left numbers
     → left ≡ [] → HasNumbers table names numbers
 looking_all table names left numbers s l = record {
@@ -115,14 +128,15 @@ pub looking_stops : (ps : List Pred) (names left rest : List (List ℕ)) (number
     → Looking (map pred_of ps) names left numbers → left ≡ name ∷ rest → number_of name ps ≡ None
     → Halts (Each (Finds (map pred_of ps)) names) ⊥ (stop.Tell NoPredicate)
 looking_stops ps names left rest numbers name s l n =
-    halts_behind (Finds (map pred_of ps)) names left rest s.preds name ⊥ ⊥ (stop.Tell NoPredicate) s.behind l
-    (tells NoPredicate (none (none_at name ps n))) (λ x. x)
+    halts_behind (Finds (map pred_of ps)) names rest s.preds name ⊥ (stop.Tell NoPredicate)
+    (behind_at (Finds (map pred_of ps)) names left rest s.preds name s.behind l) (tells NoPredicate (none (none_at name ps n)))
 
 -- what remains at a place, one step on
 pub left_more : {A : Type 0} (f : A → List ℕ) (xs : List A) (i : ℕ) (x : A) → i < length xs → x ≡ get_or xs i x
     → map f (drop i xs) ≡ f x ∷ map f (drop (i + 1) xs)
 left_more f xs i x l e = ap (map f) (drop_more xs i x l) ∙ ap (λ y. f y ∷ map f (drop (i + 1) xs)) (sym e)
 
+-- at the end of a list nothing remains
 pub left_none : {A : Type 0} (f : A → List ℕ) (xs : List A) (i : ℕ) → length xs ≤ i → map f (drop i xs) ≡ []
 left_none f xs i l = ap (map f) (drop_all i xs l)
 
@@ -130,6 +144,7 @@ left_none f xs i l = ap (map f) (drop_all i xs l)
 pub rose_same : (a b c : ℕ) → b ≡ a → Rose b c → Rose a c
 rose_same a b c e r = subst (λ k. Rose k c) e r
 
+-- mapping a list with one more element appends the image of that element
 pub map_behind : {A : Type 0} (f : A → List ℕ) (xs ys : List A) (x : A) → ys ≡ xs ++ x ∷ []
     → map f ys ≡ map f xs ++ f x ∷ []
 map_behind {A = A} f xs ys x e = ap (map f) e ∙ go xs
@@ -143,20 +158,24 @@ pub file_stops : (plan : Plan) (told : Option Shelf) (r : Type 0) (s : Stop) →
     → Halts (Prepares plan told) r s
 file_stops plan told r s h = halts_first _ _ r r s h (λ x. x)
 
+-- what stops the compiler stops the plan
 pub compiler_stops : (plan : Plan) (told : Option Shelf) (bytes : List ℕ) (r : Type 0) (s : Stop)
     → Reads told most_source plan.source (gives bytes) → Halts (Compiles bytes) ⊥ s → Halts (Prepares plan told) r s
 compiler_stops plan told bytes r s a h = halts_next _ _ bytes r r s a (halts_first _ _ ⊥ r s h (λ x. absurd x)) (λ x. x)
 
+-- what stops the search for the names stops the plan
 pub names_stop : (plan : Plan) (told : Option Shelf) (bytes : List ℕ) (table : TableOf) (r : Type 0) (s : Stop)
     → Reads told most_source plan.source (gives bytes) → Compiles bytes (gives table)
     → Halts (Each (Finds table.preds) plan.names) ⊥ s → Halts (Prepares plan told) r s
 names_stop plan told bytes table r s a c h =
     halts_next _ _ bytes r r s a (halts_next _ _ table r r s c (halts_first _ _ ⊥ r s h (λ x. absurd x)) (λ x. x)) (λ x. x)
 
+-- predicates that don't suit a command stop it with its objection
 pub objects : (c : Command) (bytes : List ℕ) (preds : List PredOf) → (Asks c preds → ⊥)
     → Halts (Suits c bytes preds) ⊥ (stop.Tell (objection c bytes preds))
 objects c bytes preds o = tells _ (unsuited o)
 
+-- what stops the test whether the predicates suit stops the plan
 pub suits_stop : (plan : Plan) (told : Option Shelf) (bytes : List ℕ) (table : TableOf) (preds : List PredOf) (r : Type 0) (s : Stop)
     → Reads told most_source plan.source (gives bytes) → Compiles bytes (gives table)
     → Each (Finds table.preds) plan.names (gives preds) → Halts (Suits plan.command bytes preds) ⊥ s
@@ -165,13 +184,14 @@ suits_stop plan told bytes table preds r s a c n h =
     halts_next _ _ bytes r r s a (halts_next _ _ table r r s c (halts_next _ _ preds r r s n
     (halts_first _ _ ⊥ r s h (λ x. absurd x)) (λ x. x)) (λ x. x)) (λ x. x)
 
-pub files_stop : (plan : Plan) (told : Option Shelf) (bytes : List ℕ) (table : TableOf) (preds : List PredOf) (r q : Type 0)
+-- what stops the reading of the further files stops the plan
+pub files_stop : (plan : Plan) (told : Option Shelf) (bytes : List ℕ) (table : TableOf) (preds : List PredOf) (r : Type 0)
     (s : Stop) → Reads told most_source plan.source (gives bytes) → Compiles bytes (gives table)
     → Each (Finds table.preds) plan.names (gives preds) → Asks plan.command preds
-    → Halts (Each (Reads told most_file) plan.files) r s → (r → q) → Halts (Prepares plan told) q s
-files_stop plan told bytes table preds r q s a c n y h f =
-    halts_next _ _ bytes q q s a (halts_next _ _ table q q s c (halts_next _ _ preds q q s n (halts_next _ _ tt q q s (suited y)
-    (halts_first _ _ r q s h f) (λ x. x)) (λ x. x)) (λ x. x)) (λ x. x)
+    → Halts (Each (Reads told most_file) plan.files) r s → Halts (Prepares plan told) r s
+files_stop plan told bytes table preds r s a c n y h =
+    halts_next _ _ bytes r r s a (halts_next _ _ table r r s c (halts_next _ _ preds r r s n (halts_next _ _ tt r r s (suited y)
+    (halts_first _ _ r r s h (λ x. x)) (λ x. x)) (λ x. x)) (λ x. x)) (λ x. x)
 
 -- the numbers are within
 pub numbers_within : (ps : List Pred) (is : List ℕ) (preds : List PredOf) → AreNumbered (map pred_of ps) is preds
@@ -215,6 +235,7 @@ one_within ps (i ∷ []) [] h l = absurd h
 one_within ps (i ∷ []) (p ∷ rest) h l = within_at ps i p h.0
 one_within ps (i ∷ j ∷ rest) preds h l = absurd (omega (arith, l))
 
+-- where there is one number, its predicate is the only one given
 pub one_numbered : (ps : List Pred) (numbers : List ℕ) (preds : List PredOf) (p : Pred)
     → AreNumbered (map pred_of ps) numbers preds → length numbers ≡ 1 → slice_get ps (slice_index_or numbers 0 0) ≡ Some p
     → preds ≡ pred_of p ∷ []

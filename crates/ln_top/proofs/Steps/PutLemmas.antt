@@ -39,6 +39,7 @@ fails_behind port xs ys was between now e f =
       shown = f.shown ∙ rw (e, appended_twice, ← take-append-add xs ys f.n) refl;
     }
 
+-- where the second of two writes succeeds, the bytes of both are written
 pub puts_second : {T E : Type 0} (r : Result T E) (port : Port) (xs ys : List ℕ) (was between now : Option Shown)
     → between ≡ appended port xs was → OnOk r (now ≡ appended port ys between) → OnOk r (now ≡ appended port (xs ++ ys) was)
 puts_second (Ok x) port xs ys was between now e f = f ∙ rw (e, appended_twice) refl

@@ -32,7 +32,7 @@ use Rattle.ln_top.specs.Answer.{PlanOwes, stopped, worked, PlanPart, PlanLacks, 
 use Rattle.ln_top.specs.Call.{HasRisen, Keeps, call}
 use Rattle.ln_top.specs.Causes as cause
 use Rattle.ln_top.specs.Causes.{SaysLine, IsSettled, Answered, Ends, Yields, ExactlyWhere, EndsExactly}
-use Rattle.ln_top.proofs.Steps.Carry.{lift, says_carried, told_carried}
+use Rattle.ln_top.proofs.Steps.Carry.{Duty, lift, says_carried, told_carried}
 use Rattle.ln_top.proofs.Steps.Chain.{one_prepares}
 use Rattle.ln_top.proofs.Gathering.LinesLaws.{ok_err, ok_same}
 use Rattle.ln_top.proofs.Commands.CheckLaws as check_laws
@@ -46,22 +46,31 @@ use Rattle.ln_top.proofs.Commands.ExplainLaws as explain_laws
 use Rattle.ln_top.proofs.Commands.AuditLaws as audit_laws
 use Rattle.ln_top.proofs.Commands.GenLaws as gen_laws
 
+-- what a plan owes
+abbrev plan_duty : Plan → Option Shelf → List State → Type 0 → Duty
+plan_duty plan told boxes reads =
+    record { owes = PlanOwes plan told boxes; part = PlanPart plan told boxes; lacks = PlanLacks plan told; reads = reads }
+
 -- the work of a plan is carried out, or a stop of its steps was said
 pub work_carried : (plan : Plan) (told : Option Shelf) (boxes : List State) (g : Given) (reads : Type 0) (puts : Count)
     (result : Result End Early) (was now : Option Shown) → Prepares plan told (gives g)
     → CarriesOut (WorkOwes plan.command boxes g) (WorkPart plan.command boxes g) ⊥ ⊥ puts result was now
     → CarriesOut (PlanOwes plan told boxes) (PlanPart plan told boxes) (PlanLacks plan told) reads puts result was now
 work_carried plan told boxes g reads puts result was now p h =
-    lift (WorkOwes plan.command boxes g) (PlanOwes plan told boxes) (WorkPart plan.command boxes g) (PlanPart plan told boxes) ⊥
-    (PlanLacks plan told) ⊥ reads puts result was now
-    (λ s o. worked g p o) (λ out err q. record { given = g; ready = p; part = q }) (λ x. absurd x) (λ x. absurd x) h
+    lift {a = record { owes = WorkOwes plan.command boxes g; part = WorkPart plan.command boxes g; lacks = ⊥; reads = ⊥ }}
+    {b = plan_duty plan told boxes reads} (record {
+      owes = λ s o. worked g p o;
+      part = λ out err q. record { given = g; ready = p; part = q };
+      lacks = λ x. absurd x;
+      reads = λ x. absurd x;
+    }) h
 
+-- a plan that stops is carried out by the line of its stop
 pub stop_carried : (plan : Plan) (told : Option Shelf) (boxes : List State) (s : Stop) (reads : Type 0) (puts : Count)
     (result : Result End Early) (was now : Option Shown) → Halts (Prepares plan told) reads s → Says s puts result was now
     → CarriesOut (PlanOwes plan told boxes) (PlanPart plan told boxes) (PlanLacks plan told) reads puts result was now
 stop_carried plan told boxes s reads puts result was now h =
-    says_carried (Prepares plan told) s (PlanOwes plan told boxes) (PlanPart plan told boxes)
-    (PlanLacks plan told) reads puts result was now (λ why o. stopped why o) (λ x. x) h
+    says_carried (Prepares plan told) s (plan_duty plan told boxes reads) puts result was now (λ why o. stopped why o) (λ x. x) h
 
 -- the words are a plan, or no command
 pub plan_carried : (words : List (List ℕ)) (plan : Plan) (told : Option Shelf) (boxes : List State) (reads : Type 0)
@@ -69,11 +78,15 @@ pub plan_carried : (words : List (List ℕ)) (plan : Plan) (told : Option Shelf)
     → CarriesOut (PlanOwes plan told boxes) (PlanPart plan told boxes) (PlanLacks plan told) reads puts result was now
     → CarriesOut (Answer words told boxes) (Part words told boxes) (IsMissing words told) reads puts result was now
 plan_carried words plan told boxes reads puts result was now f h =
-    lift (PlanOwes plan told boxes) (Answer words told boxes) (PlanPart plan told boxes) (Part words told boxes)
-    (PlanLacks plan told) (IsMissing words told) reads reads puts result was now
-    (λ s o. planned plan f o) (λ out err q. record { plan = plan; form = f; part = q })
-    (λ l. record { plan = plan; form = f; lacks = l }) (λ x. x) h
+    lift {a = plan_duty plan told boxes reads}
+    {b = record { owes = Answer words told boxes; part = Part words told boxes; lacks = IsMissing words told; reads = reads }} (record {
+      owes = λ s o. planned plan f o;
+      part = λ out err q. record { plan = plan; form = f; part = q };
+      lacks = λ l. record { plan = plan; form = f; lacks = l };
+      reads = λ x. x;
+    }) h
 
+-- words that are no command are carried out by the usage line
 pub usage_carried : (words : List (List ℕ)) (told : Option Shelf) (boxes : List State) (reads : Type 0) (puts : Count)
     (result : Result End Early) (was now : Option Shown) → plan_of words ≡ None → Says (stop.Tell Usage) puts result was now
     → CarriesOut (Answer words told boxes) (Part words told boxes) (IsMissing words told) reads puts result was now
@@ -124,15 +137,19 @@ IsGives (stops why) = ⊥
 IsGives missing = ⊥
 IsGives (gives g) = Unit {0}
 
+-- a stop isn't a value
 pub stops_gives : {P : Type 0} {why : Why} {g : Given} → stops why ≡ gives g → P
 stops_gives e = absurd (stops_gives_any e)
 
+-- equal stops have the same reason
 pub same_why : {why v : Why} → (let o : Outcome Given = stops why in o ≡ stops v) → why ≡ v
 same_why {why = why} e = ap (λ o. elim o [ stops w ↦ w | missing ↦ why | gives g ↦ why ]) e
 
+-- equal outcomes that are values have equal values
 pub same_given : {g h : Given} → (let o : Outcome Given = gives g in o ≡ gives h) → g ≡ h
 same_given {g = g} e = ap (λ o. elim o [ stops w ↦ g | missing ↦ g | gives h ↦ h ]) e
 
+-- equal options that are Some have equal plans
 pub some_plan : {a b : Plan} → Some a ≡ Some b → a ≡ b
 some_plan {a = a} e = ap (λ o. elim o [ Some x ↦ x | None ↦ a ]) e
 
@@ -208,6 +225,7 @@ one_by words shelf a b (worked_by p g c e x m) (worked_by q k f h y n) =
     let m2 = subst (λ r. WorkEnds r.command g c) same m in
     (lawful q.command).one k c f (subst (λ i. WorkEnds q.command i c) (same_given (one_prepares q shelf _ _ x2 y)) m2) n
 
+-- words and files whose bytes are known have one end
 pub one_end : (words : List (List ℕ)) (shelf : Shelf) (a b : End) → Ends words (Some shelf) a → Ends words (Some shelf) b → a ≡ b
 one_end words shelf a b h k = one_by words shelf a b (by_cause words (Some shelf) a h) (by_cause words (Some shelf) b k)
 
@@ -251,6 +269,7 @@ back_and_forth (Err early.Read) = refl
 back_and_forth (Err early.Write) = refl
 back_and_forth (Err early.Memory) = refl
 
+-- results with the same status are equal
 pub one_status : (r q : Result End Early) → status_of r ≡ status_of q → r ≡ q
 one_status r q e = sym (back_and_forth r) ∙ ap back e ∙ back_and_forth q
 
@@ -305,6 +324,7 @@ exactly words shelf boxes reads puts r result was now e h =
     comes k (c.cut p l x) y = inr (inr (inr (e ∙ ap status_of x, counted_rose puts p)))
     comes k (c.short q l x) y = inr (inl (e ∙ ap status_of x))
 
+-- where it is known what the files contain, each status comes exactly where the steps end so
 pub exactly_told : (words : List (List ℕ)) (told : Option Shelf) (boxes : List State) (reads : Type 0) (puts : Count)
     (r : Result End Early) (result : Status) (was now : Option Shown) → result ≡ status_of r
     → Carried words told boxes reads puts r was now
@@ -330,6 +350,7 @@ clash : {r : Result End Early} {a b : Early} {P : Type 0} (F : Early → Type 0)
     → r ≡ Err b → P
 clash F f n x y = absurd (n (subst F (early_same (sym x ∙ y)) f))
 
+-- the status of a fault of reading has its cause, and the error line of such a fault was written alone
 pub read_cause : (words : List (List ℕ)) (told : Option Shelf) (boxes : List State) (reads : Type 0) (puts : Count)
     (r : Result End Early) (result : Status) (was now : Option Shown) → result ≡ status_of r
     → Carried words told boxes reads puts r was now → result ≡ status.Read
@@ -343,6 +364,7 @@ read_cause words told boxes reads puts r result was now e h x = go h (one_status
     go (c.cut p l x) y = clash is_read tt (λ z. z) y x
     go (c.short q l x) y = clash is_read tt (λ z. z) y x
 
+-- with the status of a failed write one fault was counted, and prefixes of what is required, or of the error line of reading, are written
 pub write_cause : (words : List (List ℕ)) (told : Option Shelf) (boxes : List State) (reads : Type 0) (puts : Count)
     (r : Result End Early) (result : Status) (was now : Option Shown) → result ≡ status_of r
     → Carried words told boxes reads puts r was now → result ≡ status.Write
@@ -356,6 +378,7 @@ write_cause words told boxes reads puts r result was now e h x = go h (one_statu
     go (c.cut p l x) y = (p, l)
     go (c.short q l x) y = clash is_write tt (λ z. z) y x
 
+-- with the status of a failed allocation nothing was written, or a part that may be left
 pub memory_leaves : (words : List (List ℕ)) (told : Option Shelf) (boxes : List State) (reads : Type 0) (puts : Count)
     (r : Result End Early) (result : Status) (was now : Option Shown) → result ≡ status_of r
     → Carried words told boxes reads puts r was now → result ≡ status.Memory
@@ -402,11 +425,11 @@ line_alone words told boxes e was now a (planned p f (stopped why x)) i s n = re
 line_alone words told boxes e was now a (planned p f (worked g x o)) i s n =
     absurd (n ((lawful p.command).kind g e (subst (WorkEnds p.command g) i ((lawful p.command).tells boxes g a o))))
 
+-- an end that no work has comes with its error line alone
 pub says_line : (words : List (List ℕ)) (told : Option Shelf) (boxes : List State) (reads : Type 0) (puts : Count)
-    (r : Result End Early) (result : Status) (was now : Option Shown) → result ≡ status_of r
-    → Carried words told boxes reads puts r was now → (e : End) → result ≡ end_status e → (IsWorkEnd e → ⊥)
-    → SaysLine e was now
-says_line words told boxes reads puts r result was now e h k x n = go h (one_status r (Ok k) (sym e ∙ x))
+    (r : Result End Early) (was now : Option Shown) → Carried words told boxes reads puts r was now → (e : End)
+    → status_of r ≡ end_status e → (IsWorkEnd e → ⊥) → SaysLine e was now
+says_line words told boxes reads puts r was now h k x n = go h (one_status r (Ok k) x)
   where
     go : Carried words told boxes reads puts r was now → r ≡ Ok k → SaysLine k was now
     go (c.ended a q o y s) z = line_alone words told boxes k was now a o (ok_same (sym y ∙ z)) s n
@@ -433,6 +456,7 @@ says_read s puts result was now e n m (c.all q r i) = n (r ∙ ap c.stop_result 
 says_read s puts result was now e n m (c.cut front p k f i r) = m r
 says_read s puts result was now e n m (c.short q k r i) = k e
 
+-- equal results that are Err have equal errors
 pub err_same : {T E : Type 0} {a b : E} → (let q : Result T E = Err a in q ≡ Err b) → a ≡ b
 err_same {a = a} e = ap (λ q. elim q [ Ok x ↦ a | Err y ↦ y ]) e
 
@@ -489,6 +513,7 @@ usage_alone : (words : List (List ℕ)) (told : Option Shelf) (boxes : List Stat
 usage_alone words told boxes a n (usage f) = refl
 usage_alone words told boxes a n (planned p f o) = absurd (none-some p (sym n ∙ f))
 
+-- the status of the usage comes exactly where the words are no command
 pub usage_where : (words : List (List ℕ)) (told : Option Shelf) (boxes : List State) (reads : Type 0) (puts : Count)
     (r : Result End Early) (result : Status) (was now : Option Shown) → result ≡ status_of r
     → Carried words told boxes reads puts r was now
@@ -524,7 +549,7 @@ keeps words told boxes reads puts r result was now e h q =
       ends = ends;
       usage = usage_where words told boxes (HasRisen reads) puts r result was now e h;
       complete = complete words told result (HasRisen reads) (HasRisen puts) ends;
-      line = says_line words told boxes (HasRisen reads) puts r result was now e h;
+      line = λ k x. says_line words told boxes (HasRisen reads) puts r was now h k (sym e ∙ x);
       read = read_cause words told boxes (HasRisen reads) puts r result was now e h;
       write = write_cause words told boxes (HasRisen reads) puts r result was now e h;
       memory = memory_leaves words told boxes (HasRisen reads) puts r result was now e h;

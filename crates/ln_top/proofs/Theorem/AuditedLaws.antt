@@ -46,6 +46,7 @@ right_there q p records trace i s r =
     subst (λ (x : PredOf). InputsBelow (length x.vars) (root_of x)) i (light_of q (subst IsSound (sym i) s)).inputs in
     record { lines = r.lines; text = r.text; right = agreed-right (subject_of p) records r.lines below differ r.agreed }
 
+-- so where `audit` is done, the trace tells the signs
 pub audited : (words : List (List ℕ)) (told : Option Shelf) (boxes : List State) (result : Status) (was now : Option Shown)
     → (IsSettled result → Answered (Answer words told boxes) result was now)
     → IfSome told (λ shelf. AgreedTracesTellSigns words shelf result)

@@ -54,6 +54,7 @@ pub record Told (p : PredOf) (seen : ℕ) (records : Records) (out : List ℕ) :
   pub are : AreExplained (subject_of p) (seen + 1) records lines
   pub text : out ≡ text_of_lines lines
 
+-- what is written for records, one after the other, is the text of lines that explain them
 pub all_told : (p : PredOf) (s z : ℕ) (records : Records) (out err : List ℕ) → Lines (ExplainStep p) s records out err z
     → Told p s records out
 all_told p s z [] out err (l.none _) = record { lines = []; are = refl; text = refl }

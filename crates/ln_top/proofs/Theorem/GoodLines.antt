@@ -68,6 +68,7 @@ carries_here : (p : PredOf) (part : Part) (o : IsProgramOf p part)
     → Carries BySmallest part (root_of p) (terms_of (length part.shape.vars) o.poly)
 carries_here p part o = subst (λ (n : ℕ). Carries BySmallest part (root_of p) (terms_of n o.poly)) (sym (ap length o.vars)) o.carries
 
+-- compiled programs that can be listed have good parts, and the listing of the programs is the lines of these
 pub goods : (ps : List PredOf) (parts : List Part) → AreProgramsOf ps parts → AreKept parts → AreListable parts → Goods ps parts
 goods [] [] a k l = record { subjects = []; those = tt; lines = refl; good = tt }
 goods [] (c ∷ cs) a k l = absurd a
@@ -100,6 +101,7 @@ entries_back : (n : ℕ) (xs : List Said) → parts_of (entries_from n xs) ≡ x
 entries_back n [] = refl
 entries_back n (x ∷ xs) = ap (λ z. x ∷ z) (entries_back (suc n) xs)
 
+-- the text of a listing of compiled programs is that of a valid listing whose parts have the verdicts that rows require
 pub listing_is : (ps : List PredOf) (parts : List Part) (bytes : List ℕ) → AreProgramsOf ps parts → AreKept parts
     → AreListable parts → ListText bytes 2 (listing_of parts) → IsListingOf ps bytes
 listing_is ps parts bytes a k l t =

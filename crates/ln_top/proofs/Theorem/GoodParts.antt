@@ -27,24 +27,27 @@ use Rattle.ln_code.specs.Part.{Code, FilterCode, Part, lines_of}
 use Rattle.ln_code.specs.Rules.{rules}
 use Rattle.ln_due.specs.Small.{AreSmall, BlockPushesSmall, FilterPushesSmall, PushesSmall, filter_tree, known_tree}
 use Rattle.ln_due.proofs.Parts.BlockLemmas.{some-same}
+use Rattle.ln_cert.specs.Written.{AreListableBlocks, IsListable, IsListableBlock}
 use Rattle.ln_verify.specs.BlockRules.{block_rules, deepest, triple_rules, version_2}
 use Rattle.ln_verify.specs.Good.{AreGood, AreNext, IsGoodFilter, IsGoodPart, IsGoodPiece}
 use Rattle.ln_verify.specs.Line.{IsNextList, Piece, Subject, Written, exps_of, filter_tree_of, fresh, named, tree_of}
 use Rattle.ln_verify.proofs.Judging.Put.{small-leads}
-use Rattle.ln_top.specs.Listing.{AreListableBlocks, IsListable, IsListableBlock}
 use Rattle.ln_top.proofs.Theorem.Room.{leaves, pushes-more, room-more, run-more}
 
 -- ---- what a listing states of a program
 abbrev pub piece_of : Code → Piece
 piece_of c = record { exps = c.exps; lines = lines_of c.ops c.pairs }
 
+-- the lines of a filter, where there is one
 abbrev pub lines_in : Option FilterCode → Option (List (Line Triple))
 lines_in None = None
 lines_in (Some f) = Some (lines_of f.ops f.triples)
 
+-- the filter, the blocks and the stage lists that a listing states of a program
 abbrev pub written_of : Part → Written
 written_of p = record { filter = lines_in p.filter; blocks = map piece_of p.blocks; lists = lists_of p }
 
+-- what a listing of a program is about: its name, its sites, its variables and a polynomial
 abbrev pub subject_of : Part → Sparse → Subject
 subject_of p f = record { name = name_bytes p.shape.name; sites = p.shape.sites; vars = p.shape.vars; poly = f }
 

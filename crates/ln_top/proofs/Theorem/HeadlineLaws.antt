@@ -164,6 +164,7 @@ found_sound name [] p s f = absurd (none-some p f)
 found_sound name (x ∷ ps) p s f =
     sound_if (λ q. bytes_eq q.name name) p x ps (bytes_eq x.name name) refl s.0 (found_sound name ps p s.1) f
 
+-- the first of the given predicates has no fault
 pub head_sound : (g : Given) (p : PredOf) (others : List PredOf) → IsGrounded g → g.preds ≡ p ∷ others → IsSound p
 head_sound g p others h e = let found = subst (AreFound g.table.preds) e h.found in found_sound found.0.0 g.table.preds p h.sound found.0.1
 

@@ -17,5 +17,6 @@ light_by p light =
     root-light (length p.shape.vars) two (closed_lets p.shape.vars (map formula p.lets)) (tree p.shape.vars (formula p.root))
     (pred-expands p.args p.shape.vars p.lets (length p.let_names) p.root p.kept light).1
 
+-- the expression of a predicate without a fault is light
 pub light_of : (p : Pred) → IsSound (pred_of p) → IsLight (length p.shape.vars) two (root_of (pred_of p))
 light_of p sound = light_by p sound.light

@@ -165,6 +165,7 @@ no_wide vars e row NoFilter v d b = absurd (not_by_filter vars e row 0 v d b)
 no_wide vars e row Decided v d b = d.wide
 no_wide vars e row Undecided v d b = absurd (not_by_filter vars e row 1 v d b)
 
+-- the machine of what a listing states of a compiled program has the verdicts that the predicate's rows require
 pub part_due : (p : PredOf) (part : Part) → IsProgram part → IsProgramOf p part → PartIsDue p (written_of part)
 part_due p part k o = record {
   shape = part.shape;

@@ -103,6 +103,7 @@ only-one [] v h = cc
 only-one (x ∷ []) v h = cc
 only-one (x ∷ (y ∷ rest)) v h = cc
 
+-- a run whose result is a value ends with that value alone on the stack
 pub leaves : {B V L : Type 0} (e : Engine B V L) (lines : List (Line B)) (l : L) (v : V)
     → next (run e lines (record { stack = []; locals = l })) (λ s. only s.stack) ≡ Some v → Leaves e lines l v
 leaves {V = V} {L = L} e lines l v h = go (run e lines (record { stack = []; locals = l })) refl h

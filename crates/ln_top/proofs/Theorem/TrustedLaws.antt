@@ -20,7 +20,6 @@ use Rattle.ln_top.specs.Verify.{HasValid, VerifySaid, valid, invalid}
 use Rattle.ln_top.specs.Work.{WorkOwes}
 use Rattle.ln_top.specs.Trusted.{TellsSigns, ValidTellsSigns}
 use Rattle.ln_top.proofs.Steps.OneAnswer.{IsGrounded, grounded}
-use Rattle.ln_top.proofs.Theorem.Accepting.{accepted_all}
 use Rattle.ln_top.proofs.Steps.TopLaws.{work_of_words}
 
 -- a listing that is valid has the signs
@@ -35,7 +34,7 @@ told_signs g i h =
       valid = over;
       signs =
           λ t q k p row e r. signs-told t.preds h.listing
-          (accepted_all (map pred_of t.preds) (subst AreSound (sym (ap (λ (x : TableOf). x.preds) q)) i.sound))
+          (subst AreSound (sym (ap (λ (x : TableOf). x.preds) q)) i.sound)
           (over t q) k p row e r;
     }
 

@@ -1,10 +1,9 @@
-use Rattle.ln_top.proofs.Commands.AuditLaws.{accepted_in, has_trace, one_name}
-use Rattle.ln_top.proofs.Theorem.Accepting.{accepted_all}
+use Rattle.ln_top.proofs.Commands.AuditLaws.{has_trace, one_name, sound_in}
 use Rattle.ln_top.proofs.audit.work.Goals as goal
 
 pub audit_records-requires-clause-accepted : goal.audit_records-requires-clause-accepted
 audit_records-requires-clause-accepted g c =
-    accepted_in c.args.ready.now.compiled.table.preds _ _ (accepted_all _ c.requires.stands.sound) c.named.ensures
+    sound_in c.args.ready.now.compiled.table.preds _ _ c.requires.stands.sound c.named.ensures
 
 pub returns : goal.returns
 returns g c = λ given s.

@@ -1,7 +1,5 @@
 use Rattle.std.proofs.Common.{subst}
 use Rattle.ln_algebra.specs.Orders.{Rank}
-use Rattle.ln_trace.specs.Text.{first_line}
-use Rattle.ln_top.specs.Explain.{ExplainPart, ExplainRest, ExplainRestPart, ExplainSaid}
 use Rattle.ln_top.specs.Target.{Belongs}
 use Rattle.ln_top.proofs.Commands.ExplainLaws.{headed}
 use Rattle.ln_top.proofs.Commands.ExplainedRows.{are_told}
@@ -16,14 +14,12 @@ pub returns-then-not-put_out : goal.returns-then-not-put_out
 returns-then-not-put_out g c = λ given b h.
     let belongs = subst (λ (rank : Rank). Belongs rank c.args.target.now.pred c.args.target.now.program) c.requires.smallest
     c.scratch.ensures.belongs in
-    head_cut first_line (ExplainSaid given) (ExplainRest given) (ExplainPart given) (ExplainRestPart given) _ _ _ _
-    (headed c.args.target.now given b (are_told c.args.target.now.pred c.args.target.now.program c.requires.sound belongs) _ h)
+    head_cut (headed c.args.target.now given b (are_told c.args.target.now.pred c.args.target.now.program c.requires.sound belongs) _ h)
     c.if-not-put_out.ensures
 
 pub returns : goal.returns
 returns g c = λ given b h.
     let belongs = subst (λ (rank : Rank). Belongs rank c.args.target.now.pred c.args.target.now.program) c.requires.smallest
     c.scratch.ensures.belongs in
-    head_carried first_line (ExplainSaid given) (ExplainRest given) (ExplainPart given) (ExplainRestPart given) _ _ _ _ _ _ _
-    (headed c.args.target.now given b (are_told c.args.target.now.pred c.args.target.now.program c.requires.sound belongs) _ h)
+    head_carried (headed c.args.target.now given b (are_told c.args.target.now.pred c.args.target.now.program c.requires.sound belongs) _ h)
     c.if-not-put_out.ensures (c.explain_rows.ensures given b h)

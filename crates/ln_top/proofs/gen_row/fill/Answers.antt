@@ -22,13 +22,13 @@ vars-preserved c =
           let fit : SFits w64 w.next_index.result = search rules in
           let fit2 : SFits w64 w.next_value.result = search rules in
           rw (w.row-is, w.site-is, w.g-is, to_z-of_z fit, to_z-of_z fit2)
-          (filled_site _ _ w.next_index.new.g _ c.vars.invariant c.vars-test.true
-          (sym w.if-starts_site.ensures) c.requires.few_vars c.requires.few_sites w.next_index.ensures.index
-          w.next_index.ensures.past w.next_value.ensures.value w.next_value.ensures.past)
+          (filled_site c.vars.invariant c.vars-test.true (sym w.if-starts_site.ensures)
+          (record { vars_fit = c.requires.few_vars; sites_fit = c.requires.few_sites })
+          (record { is = w.next_index.ensures.index; past = w.next_index.ensures.past })
+          (record { is = w.next_value.ensures.value; past = w.next_value.ensures.past }))
       | else-starts_site w ↦
           let fit : SFits w64 w.next_value-else-starts_site.result = search rules in
           rw (w.row-is, w.site-is, w.g-is, to_z-of_z fit)
-          (filled_other _ _ c.vars.invariant c.vars-test.true
-          (sym w.if-starts_site.ensures) c.requires.few_vars w.next_value-else-starts_site.ensures.value
-          w.next_value-else-starts_site.ensures.past)
+          (filled_other c.vars.invariant c.vars-test.true (sym w.if-starts_site.ensures) c.requires.few_vars
+          (record { is = w.next_value-else-starts_site.ensures.value; past = w.next_value-else-starts_site.ensures.past }))
     ]

@@ -4,14 +4,14 @@ use Rattle.ln_top.proofs.generate.put_made.Goals as goal
 pub returns-then-not-put_rows : goal.returns-then-not-put_rows
 returns-then-not-put_rows g c = λ given e.
     let ran = rw (c.new-panel.ensures, c.seed_from_u64-g.ensures) at c.if-not-put_rows.ensures in
-    rows_cut c.args.target.now c.requires.rank c.requires.belongs _ _ _ given e _ _ _ _ ran
+    rows_cut c.args.target.now c.requires.rank c.requires.belongs _ _ _ given e ran
 
 pub returns-then-not-close : goal.returns-then-not-close
 returns-then-not-close g c = λ given e.
     let ran = rw (c.new-panel.ensures, c.seed_from_u64-g.ensures) at c.if-not-put_rows.ensures in
-    close_cut c.args.target.now c.requires.rank c.requires.belongs _ _ _ given e _ _ _ _ _ _ _ ran c.if-not-close.ensures
+    close_cut c.args.target.now c.requires.rank c.requires.belongs _ _ _ given e ran c.if-not-close.ensures
 
 pub returns : goal.returns
 returns g c = λ given e.
     let ran = rw (c.new-panel.ensures, c.seed_from_u64-g.ensures) at c.if-not-put_rows.ensures in
-    all_put c.args.target.now c.requires.rank c.requires.belongs _ _ _ given e _ _ _ _ _ _ _ ran c.if-not-close.ensures
+    all_put c.args.target.now c.requires.rank c.requires.belongs _ _ _ given e ran c.if-not-close.ensures

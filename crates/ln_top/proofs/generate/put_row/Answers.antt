@@ -5,4 +5,4 @@ pub returns-clause-puts : goal.returns-clause-puts
 returns-clause-puts g c =
     let row = rw c.pred.ensures at c.gen_row-row.ensures.row in
     let due = rw c.requires.rank at c.verdict-v.ensures.due in
-    row_put c.args.target.now.pred c.args.n _ _ _ _ _ _ _ _ _ row due c.show.ensures.wrote c.show.ensures.left
+    row_put {p = c.args.target.now.pred} (record { row = row; due = due }) c.show.ensures.wrote c.show.ensures.left

@@ -1,5 +1,6 @@
 use Rattle.ln_top.specs.Plan.{with_bytes}
-use Rattle.ln_top.proofs.Steps.Prepared.{file_stops, compiler_stops, names_stop, suits_stop, files_stop, is_ready, numbers_within, rose_same}
+use Rattle.ln_top.proofs.Steps.Prepared.{file_stops, compiler_stops, names_stop, suits_stop, files_stop, is_ready, numbers_within}
+use Rattle.ln_top.proofs.Steps.Prepared.{halts_wider, rose_same}
 use Rattle.ln_top.proofs.prepare.prepare.Goals as goal
 
 pub returns-in-Err-clause-err : goal.returns-in-Err-clause-err
@@ -18,11 +19,11 @@ returns-in-Err-numbers-clause-err g c =
 pub returns-clause-err : goal.returns-clause-err
 returns-clause-err g c =
     let n = c.in-Ok-numbers.ensures.ok in
-    files_stop (with_bytes c.args.plan) (g.F.Files.told c.args.files.now) _ _ n.preds _ _ _ c.in-Ok.ensures.ok
+    files_stop (with_bytes c.args.plan) (g.F.Files.told c.args.files.now) _ _ n.preds _ _ c.in-Ok.ensures.ok
     (rw c.deref.ensures.value at c.in-Ok-compiled.ensures.ok) n.found
     ((rw c.deref-3.ensures.value at c.in-Ok-suited.ensures.ok) n.preds n.numbered)
-    (rw c.file.ensures.told at c.in-Err-texts.ensures.err)
-    (rose_same _ _ _ (c.file.ensures.quiet (λ e. let i = c.in-Ok.is in cc)))
+    (halts_wider _ _ _ _ (rw c.file.ensures.told at c.in-Err-texts.ensures.err)
+    (rose_same _ _ _ (c.file.ensures.quiet (λ e. let i = c.in-Ok.is in cc))))
 
 pub returns-in-Ok-texts-clause-ok : goal.returns-in-Ok-texts-clause-ok
 returns-in-Ok-texts-clause-ok g c =

@@ -1,5 +1,5 @@
 -- Answers to the goals of `short_text` in src/prepare.rt.
-use Rattle.ln_top.proofs.Theorem.Accepting.{one_short}
+use Rattle.ln_top.proofs.Theorem.Standing.{one_short}
 use Rattle.ln_top.proofs.prepare.short_text.Goals as goal
 
 pub returns-clause-short : goal.returns-clause-short

@@ -1,6 +1,5 @@
 -- Answers to the goals of `sound_table` in src/prepare.rt.
-use Rattle.ln_top.proofs.Theorem.Accepting.{accepted_all}
 use Rattle.ln_top.proofs.prepare.sound_table.Goals as goal
 
 pub returns-clause-sound : goal.returns-clause-sound
-returns-clause-sound c = rw c.table.ensures (accepted_all _ c.requires.sound)
+returns-clause-sound c = rw c.table.ensures c.requires.sound

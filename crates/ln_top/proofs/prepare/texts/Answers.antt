@@ -1,8 +1,8 @@
 use Rattle.std.proofs.Common.{string_bytes, rules}
 use Rattle.ln_top.specs.Steps.{Reads, most_file}
 use Rattle.ln_top.specs.Carried.{short}
-use Rattle.ln_top.proofs.Steps.Chain.{behind_more, behind_all}
-use Rattle.ln_top.proofs.Steps.Prepared.{halts_behind, left_more, left_none, rose_same, map_behind}
+use Rattle.ln_top.proofs.Steps.Chain.{behind_at, behind_more, behind_all}
+use Rattle.ln_top.proofs.Steps.Prepared.{halts_behind, halts_wider, left_more, left_none, rose_same, map_behind}
 use Rattle.ln_top.proofs.prepare.texts.Goals as goal
 
 pub returns-in_default-clause-err : goal.returns-in_default-clause-err
@@ -13,8 +13,9 @@ returns-in-Err-clause-err g c =
     let l = left_more string_bytes c.args.names.now c.names.name-index c.name-item.result c.names-test.true c.name-item.is in
     let told = c.names.invariant.0 in
     let stops = rw (c.as_str.ensures.value, told) at c.in-Err.ensures.err in
-    halts_behind (Reads (g.F.Files.told c.args.files.now) most_file) _ _ _ _ _ _ _ _ c.names.invariant.2 l stops
-    (rose_same _ _ _ c.names.invariant.1)
+    halts_behind (Reads (g.F.Files.told c.args.files.now) most_file) _ _ _ _ _ _
+    (behind_at (Reads (g.F.Files.told c.args.files.now) most_file) _ _ _ _ _ c.names.invariant.2 l)
+    (halts_wider _ _ _ _ stops (rose_same _ _ _ c.names.invariant.1))
 
 pub names-preserved : goal.names-preserved
 names-preserved g c =
@@ -23,8 +24,9 @@ names-preserved g c =
     let read = rw (c.as_str.ensures.value, told) at c.in-Ok.ensures.ok in (
       search rules,
       search rules,
-      behind_more (Reads (g.F.Files.told c.args.files.now) most_file) _ _ _ _ _ _ _ c.names.invariant.2 l
-          read (map_behind (λ t. t.items) c.names.texts.items c.push.new.self.items c.in-Ok.text (search rules)),
+      rw (map_behind (λ t. t.items) c.names.texts.items c.push.new.self.items c.in-Ok.text (search rules))
+          (behind_more (Reads (g.F.Files.told c.args.files.now) most_file) _ _ _ _ _
+          (behind_at (Reads (g.F.Files.told c.args.files.now) most_file) _ _ _ _ _ c.names.invariant.2 l) read),
       search rules,
     )
 

@@ -1,23 +1,14 @@
 use Rattle.std.proofs.Common.{refl, rules}
-use Rattle.ln_tree.specs.Table.{pred_of}
-use Rattle.ln_top.specs.Line.{is_row}
-use Rattle.ln_top.specs.Product.{StepOf}
 use Rattle.ln_top.proofs.Gathering.LinesLaws.{from_some}
 use Rattle.ln_top.proofs.Gathering.LinesLaws.{running_none, running_takes, running_stops, running_empties, running_breaks}
 use Rattle.ln_top.proofs.Gathering.LinesLaws.{running_all, running_gives_up}
 use Rattle.ln_top.proofs.product.put_records.Goals as goal
 
 pub rows-init : goal.rows-init
-rows-init g c = (
-  λ ps a. running_none (StepOf c.args.factors.now ps) (is_row (pred_of c.args.factors.now.pred)) tt _ _ _ _ c.requires.empty,
-  c.requires.room,
-  c.requires.space,
-)
+rows-init g c = (λ ps a. running_none c.requires.empty, c.requires.room, c.requires.space)
 
 pub returns-then-not-put_piece : goal.returns-then-not-put_piece
-returns-then-not-put_piece g c = λ ps a.
-    running_breaks (StepOf c.args.factors.now ps) (is_row (pred_of c.args.factors.now.pred)) _ _ _ _ _ _ _ _ _ _ _ _ _ _ _
-    (c.rows.invariant.0 ps a) c.if-not-put_piece.ensures.empties
+returns-then-not-put_piece g c = λ ps a. running_breaks (c.rows.invariant.0 ps a) c.if-not-put_piece.ensures.empties
 
 pub take_record-requires-clause-range : goal.take_record-requires-clause-range
 take_record-requires-clause-range g c =
@@ -27,32 +18,24 @@ take_record-requires-clause-range g c =
 pub returns-in-Ok-None : goal.returns-in-Ok-None
 returns-in-Ok-None g c = λ ps a.
     let ends = c.in-Ok-None.ensures.end (search rules) in
-    running_all (StepOf c.args.factors.now ps) (is_row (pred_of c.args.factors.now.pred)) _ _ _ _ _ _ _ _ _ _
-    (running_empties (StepOf c.args.factors.now ps) (is_row (pred_of c.args.factors.now.pred))
-    _ _ _ _ _ _ _ _ _ _ _ _ _ (c.rows.invariant.0 ps a) c.if-not-put_piece.ensures.empties) ends.0
+    running_all (running_empties (c.rows.invariant.0 ps a) c.if-not-put_piece.ensures.empties) ends.0
 
 pub returns-in-Err : goal.returns-in-Err
 returns-in-Err g c = λ ps a.
-    running_gives_up (StepOf c.args.factors.now ps) (is_row (pred_of c.args.factors.now.pred)) _ _ _ _ _ _ _ _ _ _ _ _
-    (running_empties (StepOf c.args.factors.now ps) (is_row (pred_of c.args.factors.now.pred))
-    _ _ _ _ _ _ _ _ _ _ _ _ _ (c.rows.invariant.0 ps a) c.if-not-put_piece.ensures.empties) refl
+    running_gives_up tt (running_empties (c.rows.invariant.0 ps a) c.if-not-put_piece.ensures.empties)
 
 pub returns-in-Err-take_record : goal.returns-in-Err-take_record
 returns-in-Err-take_record g c = λ ps a.
     let takes = from_some c.in-Ok-Some.field-0 c.in-Ok-Some.read _ (rw c.pred.ensures at c.in-Ok-Some.ensures.takes) (search rules) in
-    running_stops (StepOf c.args.factors.now ps) (is_row (pred_of c.args.factors.now.pred)) _ _ _ _ _ _ _ _ _ _ _ _ _ _ _ _ _ _
-    (running_empties (StepOf c.args.factors.now ps) (is_row (pred_of c.args.factors.now.pred))
-    _ _ _ _ _ _ _ _ _ _ _ _ _ (c.rows.invariant.0 ps a) c.if-not-put_piece.ensures.empties)
-    takes.1 (c.in-Err-take_record.ensures.takes takes.0 takes.2 ps a _ _) refl
+    running_stops (running_empties (c.rows.invariant.0 ps a) c.if-not-put_piece.ensures.empties)
+    takes.1 (c.in-Err-take_record.ensures.takes takes.0 takes.2 ps a _ _)
 
 pub rows-preserved : goal.rows-preserved
 rows-preserved g c =
     let takes = from_some c.in-Ok-Some.field-0 c.in-Ok-Some.read _ (rw c.pred.ensures at c.in-Ok-Some.ensures.takes) (search rules) in (
       λ ps a.
-          running_takes (StepOf c.args.factors.now ps) (is_row (pred_of c.args.factors.now.pred)) _ _ _ _ _ _ _ _ _ _ _ _ _ _ _ _ _ _
-          (running_empties (StepOf c.args.factors.now ps) (is_row (pred_of c.args.factors.now.pred))
-          _ _ _ _ _ _ _ _ _ _ _ _ _ (c.rows.invariant.0 ps a) c.if-not-put_piece.ensures.empties)
-          takes.1 (c.in-Ok.ensures.takes takes.0 takes.2 ps a _ _) c.both-good.ensures,
+          running_takes (running_empties (c.rows.invariant.0 ps a) c.if-not-put_piece.ensures.empties)
+          takes.1 (c.in-Ok.ensures.takes takes.0 takes.2 ps a _ _) refl,
       c.take_record.ensures.room,
       search rules,
     )

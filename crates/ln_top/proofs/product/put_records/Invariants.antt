@@ -10,8 +10,21 @@ use Rattle.ln_top.proofs.product.put_records.Given as goal
 abbrev pub invariant-rows : goal.invariant-rows
 invariant-rows g l =
     ((ps : List PredOf) → AreProgramsAt l.factors.programs l.factors.which ps
-    → Running (StepOf l.factors ps) (is_row (pred_of l.factors.pred)) tt l.initial.rows l.rows l.good l.text.items
-    (g.C.Console.shown l.initial.con) (g.C.Console.shown l.con) tt (g.C.Console.faults l.initial.con) (g.C.Console.faults l.con))
+    → Running (record { step = StepOf l.factors ps; good = is_row (pred_of l.factors.pred) })
+    (record {
+      state = tt;
+      left = l.initial.rows;
+      streams = record { shown = g.C.Console.shown l.initial.con; faults = g.C.Console.faults l.initial.con };
+    })
+    (record {
+      at = record {
+        state = tt;
+        held = l.text.items;
+        streams = record { shown = g.C.Console.shown l.con; faults = g.C.Console.faults l.con };
+      };
+      left = l.rows;
+      good = l.good;
+    }))
     × IsRoomFor l.factors l.room.scratches.items l.room.verdicts.items × (product_piece ≤ vec_capacity l.text)
 
 abbrev pub decreases-rows : goal.decreases-rows

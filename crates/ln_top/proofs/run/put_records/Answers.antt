@@ -1,23 +1,14 @@
 use Rattle.std.proofs.Common.{refl, rules}
-use Rattle.ln_top.specs.Target.{pred_in}
-use Rattle.ln_top.specs.Line.{is_row}
-use Rattle.ln_top.specs.Run.{StepOf}
 use Rattle.ln_top.proofs.Gathering.LinesLaws.{from_some}
 use Rattle.ln_top.proofs.Gathering.LinesLaws.{running_none, running_takes, running_stops, running_empties, running_breaks, running_gives_up}
 use Rattle.ln_top.proofs.Gathering.LinesLaws.{running_all}
 use Rattle.ln_top.proofs.run.put_records.Goals as goal
 
 pub rows-init : goal.rows-init
-rows-init g c = (
-  running_none (StepOf c.args.target.now) (is_row (pred_in c.args.target.now)) _ _ _ _ _ c.requires.empty,
-  c.requires.made,
-  c.requires.room,
-)
+rows-init g c = (running_none c.requires.empty, c.requires.made, c.requires.room)
 
 pub returns-then-not-put_piece : goal.returns-then-not-put_piece
-returns-then-not-put_piece g c =
-    running_breaks (StepOf c.args.target.now) (is_row (pred_in c.args.target.now)) _ _ _ _ _ _ _ _ _ _ _ _ _ _ _ c.rows.invariant.0
-    c.if-not-put_piece.ensures.empties
+returns-then-not-put_piece g c = running_breaks c.rows.invariant.0 c.if-not-put_piece.ensures.empties
 
 pub take_record-requires-clause-range : goal.take_record-requires-clause-range
 take_record-requires-clause-range g c =
@@ -26,30 +17,22 @@ take_record-requires-clause-range g c =
 pub returns-in-Ok-None : goal.returns-in-Ok-None
 returns-in-Ok-None g c =
     let ends = c.in-Ok-None.ensures.end (search rules) in
-    running_all (StepOf c.args.target.now) (is_row (pred_in c.args.target.now)) _ _ _ _ _ _ _ _ _ _
-    (running_empties (StepOf c.args.target.now) (is_row (pred_in c.args.target.now)) _ _ _ _ _ _ _ _ _ _ _ _ _ c.rows.invariant.0
-    c.if-not-put_piece.ensures.empties) ends.0
+    running_all (running_empties c.rows.invariant.0 c.if-not-put_piece.ensures.empties) ends.0
 
 pub returns-in-Err : goal.returns-in-Err
-returns-in-Err g c =
-    running_gives_up (StepOf c.args.target.now) (is_row (pred_in c.args.target.now)) _ _ _ _ _ _ _ _ _ _ _ _
-    (running_empties (StepOf c.args.target.now) (is_row (pred_in c.args.target.now)) _ _ _ _ _ _ _ _ _ _ _ _ _ c.rows.invariant.0
-    c.if-not-put_piece.ensures.empties) refl
+returns-in-Err g c = running_gives_up _ (running_empties c.rows.invariant.0 c.if-not-put_piece.ensures.empties)
 
 pub returns-in-Err-take_record : goal.returns-in-Err-take_record
 returns-in-Err-take_record g c =
     let takes = from_some c.in-Ok-Some.field-0 c.in-Ok-Some.read _ (rw c.pred.ensures at c.in-Ok-Some.ensures.takes) (search rules) in
-    running_stops (StepOf c.args.target.now) (is_row (pred_in c.args.target.now)) _ _ _ _ _ _ _ _ _ _ _ _ _ _ _ _ _ _
-    (running_empties (StepOf c.args.target.now) (is_row (pred_in c.args.target.now)) _ _ _ _ _ _ _ _ _ _ _ _ _ c.rows.invariant.0
-    c.if-not-put_piece.ensures.empties) takes.1 (c.in-Err-take_record.ensures.takes takes.0 takes.2) refl
+    running_stops (running_empties c.rows.invariant.0 c.if-not-put_piece.ensures.empties) takes.1
+    (c.in-Err-take_record.ensures.takes takes.0 takes.2)
 
 pub rows-preserved : goal.rows-preserved
 rows-preserved g c =
-    let takes = from_some c.in-Ok-Some.field-0 c.in-Ok-Some.read _ (rw c.pred.ensures at c.in-Ok-Some.ensures.takes) (search rules) in
-    let kept = running_empties (StepOf c.args.target.now)
-    (is_row (pred_in c.args.target.now)) _ _ _ _ _ _ _ _ _ _ _ _ _ c.rows.invariant.0 c.if-not-put_piece.ensures.empties in (
-      running_takes (StepOf c.args.target.now) (is_row (pred_in c.args.target.now)) _ _ _ _ _ _ _ _ _ _ _ _ _ _ _ _ _ _ kept takes.1
-          (c.in-Ok.ensures.takes takes.0 takes.2) c.both-good.ensures,
+    let takes = from_some c.in-Ok-Some.field-0 c.in-Ok-Some.read _ (rw c.pred.ensures at c.in-Ok-Some.ensures.takes) (search rules) in (
+      running_takes (running_empties c.rows.invariant.0 c.if-not-put_piece.ensures.empties) takes.1
+          (c.in-Ok.ensures.takes takes.0 takes.2) refl,
       c.take_record.ensures.made,
       search rules,
     )

@@ -11,13 +11,23 @@ use Rattle.ln_top.proofs.run.put_records.Given as goal
 
 abbrev pub invariant-rows : goal.invariant-rows
 invariant-rows g l =
-    Running (StepOf l.target) (is_row (pred_in l.target))
-    (watching l.initial.viewers.seen (states_of (λ b. (goal.Watch-dyn g (b.vtable, b.value)).kind_of b.value)
-    (λ b. (goal.Watch-dyn g (b.vtable, b.value)).tally_of b.value) l.initial.viewers.panel.watchers.items)) l.initial.rows
-    l.rows l.good l.text.items (g.C.Console.shown l.initial.con) (g.C.Console.shown l.con)
-    (watching l.viewers.seen (states_of (λ b. (goal.Watch-dyn g (b.vtable, b.value)).kind_of b.value)
-    (λ b. (goal.Watch-dyn g (b.vtable, b.value)).tally_of b.value) l.viewers.panel.watchers.items))
-    (g.C.Console.faults l.initial.con) (g.C.Console.faults l.con)
+    Running (record { step = StepOf l.target; good = is_row (pred_in l.target) })
+    (record {
+      state = watching l.initial.viewers.seen (states_of (λ b. (goal.Watch-dyn g (b.vtable, b.value)).kind_of b.value)
+          (λ b. (goal.Watch-dyn g (b.vtable, b.value)).tally_of b.value) l.initial.viewers.panel.watchers.items);
+      left = l.initial.rows;
+      streams = record { shown = g.C.Console.shown l.initial.con; faults = g.C.Console.faults l.initial.con };
+    })
+    (record {
+      at = record {
+        state = watching l.viewers.seen (states_of (λ b. (goal.Watch-dyn g (b.vtable, b.value)).kind_of b.value)
+            (λ b. (goal.Watch-dyn g (b.vtable, b.value)).tally_of b.value) l.viewers.panel.watchers.items);
+        held = l.text.items;
+        streams = record { shown = g.C.Console.shown l.con; faults = g.C.Console.faults l.con };
+      };
+      left = l.rows;
+      good = l.good;
+    })
     × MadeFor l.target.program l.s × (piece_room ≤ vec_capacity l.text)
 
 abbrev pub decreases-rows : goal.decreases-rows

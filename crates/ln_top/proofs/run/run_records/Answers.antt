@@ -11,4 +11,4 @@ returns-in-Ok-true g c = λ given h.
 
 pub returns-in-Ok-false : goal.returns-in-Ok-false
 returns-in-Ok-false g c = λ given h.
-    let wrong = rw c.in-Ok-false.field-0-test at c.in-Ok-false.ensures in header_carried _ _ given _ _ _ _ _ _ _ h wrong c.say.ensures
+    let wrong = rw c.in-Ok-false.field-0-test at c.in-Ok-false.ensures in header_carried _ _ given _ _ _ _ _ _ h wrong c.say.ensures

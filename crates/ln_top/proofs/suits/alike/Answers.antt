@@ -7,14 +7,24 @@ use Rattle.ln_top.proofs.suits.alike.Goals as goal
 
 pub returns-then-not-has_args : goal.returns-then-not-has_args
 returns-then-not-has_args c = λ ps num.
-    let t = test_is c.args.preds.now c.args.numbers.now ps _ c.each.i-index _ _ _ num c.in-Some.ensures.value c.index-preds-first.is
-    c.as_slice.ensures c.has_args.ensures c.each-test.true in
+    let t = test_is c.args.preds.now c.args.numbers.now ps c.each.i-index _ _ num (record {
+      number = _;
+      pred = _;
+      number_is = c.in-Some.ensures.value;
+      pred_is = c.index-preds-first.is;
+      args_are = c.as_slice.ensures;
+    }) c.has_args.ensures c.each-test.true in
     all_broken (like_first ps) ps c.each.i-index t.0 t.1 (t.2 ∙ c.if-not-has_args.true) (c.each.invariant ps num)
 
 pub each-preserved : goal.each-preserved
 each-preserved c = λ ps num.
-    let t = test_is c.args.preds.now c.args.numbers.now ps _ c.each.i-index _ _ _ num c.in-Some.ensures.value c.index-preds-first.is
-    c.as_slice.ensures c.has_args.ensures c.each-test.true in
+    let t = test_is c.args.preds.now c.args.numbers.now ps c.each.i-index _ _ num (record {
+      number = _;
+      pred = _;
+      number_is = c.in-Some.ensures.value;
+      pred_is = c.index-preds-first.is;
+      args_are = c.as_slice.ensures;
+    }) c.has_args.ensures c.each-test.true in
     all_on (like_first ps) ps c.each.i-index t.0 t.1 (t.2 ∙ c.if-not-has_args.false) (c.each.invariant ps num)
 
 pub returns : goal.returns

@@ -2,7 +2,7 @@ use Rattle.std.proofs.Common.{sym, ◌∙◌}
 use Rattle.std.specs.Prelude.{string_bytes}
 use Rattle.std.proofs.lemmas.List.{length-map}
 use Rattle.ln_top.specs.Plan.{with_bytes}
-use Rattle.ln_top.proofs.Theorem.Accepting.{ready_for}
+use Rattle.ln_top.proofs.Theorem.Standing.{ready_for}
 use Rattle.ln_top.proofs.Steps.TopLaws.{work_carried, stop_carried, says_read, err_same}
 use Rattle.ln_top.proofs.top.carry_plan.Goals as goal
 

@@ -8,6 +8,6 @@ product_row-requires-clause-row c =
 
 pub returns-clause-due : goal.returns-clause-due
 returns-clause-due c =
-    rw (← c.self.view_is) (due_for _ _ _ c.args.row.now c.product_row.new.out _ c.self.invariant refl c.as_slice.ensures.value
+    rw (← c.self.view_is) (due_for _ _ c.args.row.now c.product_row.new.out _ c.self.invariant c.as_slice.ensures.value
     (rw (← c.self.view_is) at c.requires.range) c.product_row.ensures.verdicts
     (take_front _ c.product_row.new.out _ (search rules)))

@@ -16,6 +16,6 @@ invariant_of-result c =
     let there = rw (c.as_slice.ensures, c.table-2.ensures) at c.index-as_slice-i.is in
     let read = slice_get_read c.args.c.now.table.preds (length c.args.c.now.table.preds) c.args.i _ refl c.requires.within there in
     record {
-      kept = c.kept-kept.ensures.kept;
+      kept = c.blocks-blocks.ensures.kept;
       answers = c.in_ok-program.ensures _ (slice_get-map pred_of c.args.c.now.table.preds _ ∙ ap (option_map pred_of) read);
     }
