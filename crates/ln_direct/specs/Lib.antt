@@ -1,0 +1,7 @@
+pub mod Parts
+pub mod Vectors
+pub mod Points
+pub mod Tables
+pub mod Table
+pub mod Rows
+pub mod Listing
