@@ -2,13 +2,10 @@
 use crate::spheres::CIRCLE;
 use crate::support::{Case, Faults, are_answered, is_answered, is_said, shelf};
 use ln_base::{MemFiles, NoMemory};
+use ln_sample::{ORIENT, SQUARES};
 use ln_top::Status;
 use std::alloc::Global;
 use std::test::Fail;
-
-const ORIENT: &str = "site point { x: -1000 .. 1000; y: -1000 .. 1000; }
-predicate orient(p: point, q: point, r: point) { sign (p.x - r.x)*(q.y - r.y) - (p.y - r.y)*(q.x - r.x); }
-";
 
 // The filter's error is 7.
 const WIDE: &str =
@@ -58,10 +55,6 @@ const WRITTEN: &str = "p,p.x,p.y,q,q.x,q.y,r,r.x,r.y\r
 -1,0,0,2,1,0,3,0,1\r
 1,99999999999999999999,0,2,1,0,3,0,1\r
 1,-0,007,2,1,0,3,0,1\r
-";
-
-const SQUARES: &str = "site num { t: -10 .. 10; }
-predicate s(a: num, b: num) { sign a.t^2 - b.t^2; }
 ";
 
 const SCALED: &str = "param c: 0 .. 5;

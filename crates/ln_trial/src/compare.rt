@@ -1,16 +1,15 @@
 //! Tests that compare what `run` and `graded` write for random predicates with the definition of the perturbed sign in
 //! either order of infinitesimals.
-mod definition;
 mod draw;
 mod filter;
 mod text;
 
-use crate::compare::definition::{Order, Part, Row, covered};
 use crate::compare::draw::Draw;
 use crate::compare::filter::decides;
 use crate::compare::text::{Column, Shape, put_header, put_record, repeats, source};
 use crate::support::are_answered;
 use ln_base::NoMemory;
+use ln_direct::{First, Order, Part, Row, covered};
 use ln_top::Status;
 use std::alloc::Global;
 use std::test::Fail;
@@ -71,7 +70,7 @@ predicate f(c: param, p: num, q: point, r: num)",
 };
 
 /// How many predicates were compared, and how many of them have equal parts; how many lines had a place above 0, or `0 -`; of how many
-/// predicates the lines differ in the two orders.
+/// predicates the lines differ in the two orders; how many rows or predicates are too large for the definition's program.
 #[derive(Drop)]
 struct Tally {
     predicates: u32,
@@ -79,6 +78,7 @@ struct Tally {
     perturbed: u32,
     undecided: u32,
     differ: u32,
+    too_large: u32,
 }
 
 // A random expression, and the vectors that it covers.
@@ -108,18 +108,26 @@ impl Tally {
         row: &Row,
         drawn: Drawn<'_>,
     ) -> Result<(), NoMemory> {
-        let Some((first, coefficient)) = row.first(alloc, order, drawn.parts)? else {
-            self.undecided = self.undecided.wrapping_add(1);
-            out.push_str("0 -\n")?;
-            return Ok(());
-        };
-        let sign = if coefficient > 0 { "+" } else { "-" };
-        if decides(alloc, drawn.parts, row)? {
-            out.push_str(sign)?;
-            out.push_str(" F\n")?;
-            return Ok(());
+        match row.first(alloc, order, drawn.parts)? {
+            First::At(first, coefficient) => {
+                let sign = if coefficient > 0 { "+" } else { "-" };
+                if decides(alloc, drawn.parts, row)? {
+                    out.push_str(sign)?;
+                    out.push_str(" F\n")?;
+                    return Ok(());
+                }
+                self.put_place(out, sign, row.place(order, drawn.covered, first))
+            }
+            First::Zero => {
+                self.undecided = self.undecided.wrapping_add(1);
+                out.push_str("0 -\n")?;
+                Ok(())
+            }
+            First::TooLarge => {
+                self.too_large = self.too_large.wrapping_add(1);
+                Ok(())
+            }
         }
-        self.put_place(out, sign, row.place(order, drawn.covered, first))
     }
 
     // Appends a rows file with a random row for each order of four sites, and the lines that the expression requires on them
@@ -143,9 +151,10 @@ impl Tally {
         Ok(())
     }
 
-    // Are there enough of each kind in 90 predicates?
+    // Are there enough of each kind in 90 predicates, and none too large?
     fn has_enough(&self) -> bool {
-        self.predicates >= 80
+        self.too_large == 0
+            && self.predicates >= 80
             && self.repeated >= 60
             && self.perturbed >= 1000
             && self.undecided >= 20
@@ -215,7 +224,9 @@ impl Tally {
     // The same of a random expression.
     fn compare(&mut self, alloc: Global, draw: &mut Draw, shape: &Shape) -> Result<bool, NoMemory> {
         let parts = draw.expression(alloc)?;
-        let covered = covered(alloc, &parts)?;
+        let Some(covered) = covered(alloc, &parts)? else {
+            return Ok(false);
+        };
         let drawn = Drawn {
             shape,
             parts: &parts,
@@ -246,6 +257,7 @@ fn are_compared(alloc: Global, seed: u64) -> Result<bool, NoMemory> {
         perturbed: 0,
         undecided: 0,
         differ: 0,
+        too_large: 0,
     };
     let same = tally.compare_all(alloc, seed, 30)?;
     Ok(same && tally.has_enough())

@@ -1,13 +1,10 @@
 //! Tests of what `edges` writes for points: the edges of hulls, worked out by hand, and the points files that it refuses.
 use crate::support::{Case, NO_FAULTS, are_answered, is_answered};
 use ln_base::NoMemory;
+use ln_sample::ORIENT;
 use ln_top::Status;
 use std::alloc::Global;
 use std::test::Fail;
-
-const ORIENT: &str = "site point { x: -1000 .. 1000; y: -1000 .. 1000; }
-predicate orient(p: point, q: point, r: point) { sign (p.x - r.x)*(q.y - r.y) - (p.y - r.y)*(q.x - r.x); }
-";
 
 // Predicates that aren't over three sites of one type, and one that is, with a range of its own.
 const SHAPES: &str = "site a { t: -9 .. 9; } site b { t: -9 .. 9; } param c: 0 .. 5;

@@ -3,13 +3,10 @@ use crate::support::{
     Case, Faults, NO_FAULTS, answered, are_answered, is_answered, shelf, three_boxes,
 };
 use ln_base::{MemConsole, NoMemory, Port};
+use ln_sample::ORIENT;
 use ln_top::Status;
 use std::alloc::Global;
 use std::test::Fail;
-
-const ORIENT: &str = "site point { x: -1000 .. 1000; y: -1000 .. 1000; }
-predicate orient(p: point, q: point, r: point) { sign (p.x - r.x)*(q.y - r.y) - (p.y - r.y)*(q.x - r.x); }
-";
 
 const ONE: &str = "p,p.x,p.y,q,q.x,q.y,r,r.x,r.y\n1,0,0,2,1,0,3,0,1\n";
 

@@ -2,13 +2,10 @@
 use crate::spheres::SPHERE;
 use crate::support::{Case, are_answered};
 use ln_base::NoMemory;
+use ln_sample::ORIENT;
 use ln_top::Status;
 use std::alloc::Global;
 use std::test::Fail;
-
-const ORIENT: &str = "site point { x: -1000 .. 1000; y: -1000 .. 1000; }
-predicate orient(p: point, q: point, r: point) { sign (p.x - r.x)*(q.y - r.y) - (p.y - r.y)*(q.x - r.x); }
-";
 
 const POINTS: &str = "param c: 0 .. 5; site point { x: -9 .. 9; y: -9 .. 9; }
 predicate cusp(p: point) { sign p.x^3 + p.y^2; }

@@ -4,17 +4,9 @@
 //!
 //! A change is the line where it begins, from 1, how many lines go there, the text that comes, and the line that fails.
 
-pub const SQUARES: &str = "site num { t: -10 .. 10; }
-predicate s(a: num, b: num) { sign a.t^2 - b.t^2; }
-";
-
-// The same over a range in which all powers are small.
+// The difference of two squares over a range in which all powers are small.
 pub const UNITS: &str = "site num { t: -1 .. 1; }
 predicate s(a: num, b: num) { sign a.t^2 - b.t^2; }
-";
-
-pub const ORIENT: &str = "site point { x: -1000 .. 1000; y: -1000 .. 1000; }
-predicate orient(p: point, q: point, r: point) { sign (p.x - r.x)*(q.y - r.y) - (p.y - r.y)*(q.x - r.x); }
 ";
 
 // A listing of the squares, version 1.

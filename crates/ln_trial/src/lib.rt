@@ -6,7 +6,8 @@
 //! and called, `rules` what `verify` writes for listings, most of them changed in one place, with their texts and lines in `judged`, `repeated`
 //! predicates whose equal parts are computed once, `spheres` rows of incircle and insphere whose lines are known from geometry, `graded` the order by
 //! total degree, `edges` what `edges` writes for clouds, `traces` what `explain` and `audit` write, `compare` random predicates against the definition
-//! of the perturbed sign, `many` long runs, of which no clause speaks. `verdicts` and `verified` call `run_row` and `verify` themselves.
+//! of the perturbed sign, `direct` worked values of the program of that definition, `many` long runs, of which no clause speaks.
+//! `verdicts` and `verified` call `run_row` and `verify` themselves.
 //!
 //! One function of `support` calls `lnc`, and the others call that: each caller of `lnc` takes the check long.
 #![tactic(auto)]
@@ -15,6 +16,8 @@
 mod commands;
 #[cfg(test)]
 mod compare;
+#[cfg(test)]
+mod direct;
 #[cfg(test)]
 mod edges;
 #[cfg(test)]

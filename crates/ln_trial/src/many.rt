@@ -1,16 +1,13 @@
-//! Runs of many records: each has its line, the ports are written a few times in all and not once a line, and each row is run once.
+//! Runs of many records: each has its line, the streams are written a few times in all and not once a line, and each row is run once.
 //! No clause of the program speaks of the second and the third.
 use crate::support::{answered, shelf};
-use crate::verdicts::{calls_of_runs, compiled};
+use crate::verdicts::calls_of_runs;
 use ln_base::{MemConsole, NoMemory, Port};
+use ln_sample::{ORIENT, compiled};
 use ln_top::Status;
 use std::alloc::Global;
 use std::test::Fail;
 use std::time::{CpuClock, Duration};
-
-const ORIENT: &str = "site point { x: -1000 .. 1000; y: -1000 .. 1000; }
-predicate orient(p: point, q: point, r: point) { sign (p.x - r.x)*(q.y - r.y) - (p.y - r.y)*(q.x - r.x); }
-";
 
 const RUN: &[&str] = &["run", "s.ln", "orient", "r.csv"];
 

@@ -3,14 +3,15 @@
 use crate::judged::{
     BOTH, BOUNDS, DELETED, DOUBLED, EXCHANGED, HIGH_POWER, HIGHER_POWER, MANY_TERMS, MORE_TERMS,
     NOUGHT, NOUGHT_BOUNDS, NOUGHT_RANGES, NUMBERS_OF_BOUNDS, NUMBERS_OF_RANGES, NUMBERS_OF_TURNS,
-    OPPOSITE, ORIENT, RANGES, RULES, RULES_OF_BOUNDS, RULES_OF_PARAMS, RULES_OF_RANGES, SCALED,
-    SCALED_BOUNDS, SQUARES, TURNS, UNITS,
+    OPPOSITE, RANGES, RULES, RULES_OF_BOUNDS, RULES_OF_PARAMS, RULES_OF_RANGES, SCALED,
+    SCALED_BOUNDS, TURNS, UNITS,
 };
 use crate::spheres::CIRCLE;
 use crate::support::{
     Case, Faults, NO_FAULTS, are_answered, is_answered, is_said, said_within, shelf,
 };
 use ln_base::{MemFiles, NoMemory, Port};
+use ln_sample::{ORIENT, SQUARES};
 use ln_top::Status;
 use std::alloc::Global;
 use std::test::Fail;

@@ -1,13 +1,10 @@
 //! Tests of what `explain` writes for rows, worked out by hand, and what `audit` writes for traces that were changed in one place.
 use crate::support::{Case, are_answered, is_said};
 use ln_base::{MemFiles, NoMemory};
+use ln_sample::ORIENT;
 use ln_top::Status;
 use std::alloc::Global;
 use std::test::Fail;
-
-const ORIENT: &str = "site point { x: -1000 .. 1000; y: -1000 .. 1000; }
-predicate orient(p: point, q: point, r: point) { sign (p.x - r.x)*(q.y - r.y) - (p.y - r.y)*(q.x - r.x); }
-";
 
 const SCALED: &str = "site a { t: -9 .. 9; } param c: 0 .. 5;
 predicate f(p: a, q: a, c: param) { sign c*p.t - c*q.t; }

@@ -3,28 +3,12 @@ ghost use Rattle.std.specs.Prelude.{◌≡◌, IfSome};
 
 use ln_base::{NoMemory, Sign};
 use ln_code::{By, Program, Row, Scratch, Verdict, run_row};
-use ln_compile::{Compiled, Refusal, compile};
+use ln_compile::Compiled;
 use ln_rows::Rows;
+use ln_sample::{ORIENT, compiled};
 use ln_tree::Pred;
 use std::alloc::Global;
 use std::test::Fail;
-
-const ORIENT: &str = "site point { x: -1000 .. 1000; y: -1000 .. 1000; }
-predicate orient(p: point, q: point, r: point) { sign (p.x - r.x)*(q.y - r.y) - (p.y - r.y)*(q.x - r.x); }
-";
-
-/// Returns a source, compiled; none where it is refused or too long.
-pub fn compiled(alloc: Global, source: &str) -> Result<Option<Compiled>, NoMemory> {
-    let bytes = source.as_bytes();
-    if bytes.len() > 1_048_576 {
-        return Ok(None);
-    }
-    match compile(alloc, bytes) {
-        Ok(c) => Ok(Some(c)),
-        Err(Refusal::NoMemory) => Err(NoMemory),
-        Err(_) => Ok(None),
-    }
-}
 
 // The predicate of a source and its program, where there is one.
 fn only(c: &Compiled) -> Option<(&Pred, &Program)>

@@ -2,13 +2,13 @@
 ghost use Rattle.std.specs.Prelude.{◌≤◌, length, map};
 ghost use Rattle.ln_tree.specs.Table.{pred_of};
 ghost use Rattle.ln_compile.specs.Accepted.{AreSound};
-ghost use Rattle.ln_verify.specs.Accepted.{AreAccepted};
 
-use crate::judged::{BOUNDS, ORIENT, RANGES, SQUARES, TURNS};
+use crate::judged::{BOUNDS, RANGES, TURNS};
 use crate::rules::changed;
 use ln_base::NoMemory;
 use ln_cert::{ListStop, Listing, read_listing};
 use ln_compile::{Checked, Refusal, check};
+use ln_sample::{ORIENT, SQUARES};
 use ln_tree::Table;
 use ln_verify::{Judged, verify};
 use std::alloc::Global;
@@ -29,7 +29,7 @@ fn listing_of(alloc: Global, text: &[u8]) -> Result<Option<Listing>, NoMemory> {
 // The table of an accepted source.
 fn accepted(c: &Checked) -> &Table
     requires { AreSound (map pred_of c.now.table.preds) }
-    ensures { AreAccepted (map pred_of result.now.preds) }
+    ensures { AreSound (map pred_of result.now.preds) }
 {
     c.table()
 }
@@ -64,7 +64,7 @@ fn first_failing(alloc: Global, source: &str, text: &[u8]) -> Result<Option<u32>
     }
 }
 
-// A source and a listing that is changed, from a line on so many lines to a text; and the first line that fails, 0 where none does.
+// A source and a listing that is changed, from a line on this many lines to a text; and the first line that fails, 0 where none does.
 type Want = (&'static str, &'static str, u32, u32, &'static str, u32);
 
 const WANTED: &[Want] = &[

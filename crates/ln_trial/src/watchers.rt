@@ -7,16 +7,13 @@ use crate::support::{Case, Faults, NO_FAULTS, is_answered, three_boxes};
 use crate::verdicts::wide_of_rows;
 use ln_base::NoMemory;
 use ln_code::Verdict;
+use ln_sample::ORIENT;
 use ln_top::Status;
 use ln_watch::{DeciderWatch, FirstWatch, Keep, Line, SignWatch, Watch};
 use std::alloc::Global;
 use std::cell::Cell;
 use std::rc::Rc;
 use std::test::Fail;
-
-const ORIENT: &str = "site point { x: -1000 .. 1000; y: -1000 .. 1000; }
-predicate orient(p: point, q: point, r: point) { sign (p.x - r.x)*(q.y - r.y) - (p.y - r.y)*(q.x - r.x); }
-";
 
 const HEAD: &str = "p,p.x,p.y,q,q.x,q.y,r,r.x,r.y\n";
 

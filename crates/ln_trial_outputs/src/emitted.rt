@@ -1,11 +1,11 @@
 //! Tests of what `emit` writes for no programs and for the orientation's, which is read back and called. ln_trial does so with what the program
 //! emits.
-use crate::sources::{ORIENT, compiled};
 use ln_base::NoMemory;
 use ln_cemit::emit;
 use ln_cmean::{CAnswer, CScratch, call};
 use ln_code::Programs;
 use ln_csyn::{CFile, CStop, read_c};
+use ln_sample::{ORIENT, compiled};
 use std::alloc::Global;
 use std::test::Fail;
 
@@ -79,7 +79,7 @@ fn all_give(alloc: Global, file: &CFile) -> Result<bool, NoMemory> {
     Ok(true)
 }
 
-/// How many calls of blocks a text has: each stands behind its cast, as in `((int)lb0_orient(v))`.
+/// How many calls of blocks a text has: each follows its cast, as in `((int)lb0_orient(v))`.
 fn calls_of_blocks(text: &[u8]) -> u32 {
     let mut calls = 0u32;
     let mut before = [0u8; 2];
@@ -90,7 +90,7 @@ fn calls_of_blocks(text: &[u8]) -> u32 {
     calls
 }
 
-/// Gives each row what it should, and are so many calls of blocks written?
+/// Gives each row what it should, and are this many calls of blocks written?
 fn is_called(alloc: Global, calls: u32) -> Result<bool, NoMemory> {
     let Some(text) = emitted(alloc, ORIENT)? else {
         return Ok(false);

@@ -10,5 +10,3 @@ mod csyn;
 mod emitted;
 #[cfg(test)]
 mod listings;
-#[cfg(test)]
-mod sources;

@@ -1,9 +1,9 @@
 //! Texts that are listings, and texts that are none; and what is written for programs.
-use crate::sources::compiled;
 use ln_base::NoMemory;
 use ln_bound::Width;
 use ln_cert::{Entry, ListStop, Listing, Part, read_listing, write_listing};
 use ln_code::{Op, Programs};
+use ln_sample::compiled;
 use std::alloc::Global;
 use std::process::Abort;
 use std::test::Fail;

@@ -1,7 +1,7 @@
 //! The programs of the orientation of three points of the plane, and of a square.
-use crate::compile::{ORIENT, compiled};
 use ln_code::{Block, FilterBlock, Program, Programs, Triple};
 use ln_order::{Order, order_of};
+use ln_sample::{ORIENT, compile_text};
 use std::alloc::Global;
 use std::test::Fail;
 
@@ -16,7 +16,7 @@ fn lowest(programs: &Programs) -> Option<i128> {
 }
 
 fn lowest_of(alloc: Global, source: &str) -> Option<i128> {
-    match compiled(alloc, source) {
+    match compile_text(alloc, source) {
         Ok(c) => lowest(c.programs()),
         Err(_) => None,
     }
@@ -74,7 +74,7 @@ fn are_orientation(programs: &Programs) -> bool {
 }
 
 fn is_compiled(alloc: Global) -> bool {
-    match compiled(alloc, ORIENT) {
+    match compile_text(alloc, ORIENT) {
         Ok(c) => are_orientation(c.programs()),
         Err(_) => false,
     }

@@ -1,15 +1,9 @@
 //! Tests that sources are compiled, or refused for the right reason at the right place.
 use ln_base::Span;
-use ln_compile::{Compiled, Refusal, compile};
+use ln_compile::{Compiled, Refusal};
+use ln_sample::{ORIENT, SQUARES, compile_text};
 use std::alloc::Global;
 use std::test::Fail;
-
-pub(crate) const ORIENT: &str = "site point { x: -1000 .. 1000; y: -1000 .. 1000; }
-predicate orient(p: point, q: point, r: point) { sign (p.x - r.x)*(q.y - r.y) - (p.y - r.y)*(q.x - r.x); }
-";
-
-pub(crate) const SQUARES: &str =
-    "site num { t: -10 .. 10; }\npredicate s(a: num, b: num) { sign a.t^2 - b.t^2; }\n";
 
 const LIGHT: &str = "site num { t: -9223372036854775806 .. 9223372036854775806; }
 predicate big(a: num, b: num, c: num, d: num) { sign a.t*b.t + c.t*d.t; }
@@ -20,15 +14,6 @@ predicate big(a: num, b: num, c: num, d: num) { sign a.t*b.t + c.t*d.t; }
 ";
 
 const NONE: &str = "site point { x: 0 .. 9; }\npredicate none(p: point) { sign p.x - p.x; }\n";
-
-/// Compiles a source. One that is too long counts as out of memory.
-pub(crate) fn compiled(alloc: Global, source: &str) -> Result<Compiled, Refusal> {
-    let bytes = source.as_bytes();
-    if bytes.len() > 1_048_576 {
-        return Err(Refusal::NoMemory);
-    }
-    compile(alloc, bytes)
-}
 
 // The stage count of the predicate of this name, if there is one.
 fn count_in(c: &Compiled, name: &str) -> Option<u64> {
@@ -41,7 +26,7 @@ fn count_in(c: &Compiled, name: &str) -> Option<u64> {
 }
 
 fn count(alloc: Global, source: &str, name: &str) -> Option<u64> {
-    match compiled(alloc, source) {
+    match compile_text(alloc, source) {
         Ok(c) => count_in(&c, name),
         Err(_) => None,
     }
@@ -64,7 +49,7 @@ fn sources_are_compiled_and_their_predicates_found(rt: HostRuntime) -> Result<()
 
 // The word for which a source is refused, and the place.
 fn refused(alloc: Global, source: &str) -> Option<(&'static str, Span)> {
-    match compiled(alloc, source) {
+    match compile_text(alloc, source) {
         Ok(_) => None,
         Err(r) => Some((r.word(), r.span()?)),
     }

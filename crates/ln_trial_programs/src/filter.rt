@@ -1,7 +1,7 @@
 //! Tests the operations and the last triple of the filters of compiled sources.
-use crate::compile::compiled;
 use ln_bound::Width;
 use ln_code::{FilterBlock, Op, Programs, Triple};
+use ln_sample::compile_text;
 use std::alloc::Global;
 use std::test::Fail;
 
@@ -50,7 +50,7 @@ fn has_ops(programs: &Programs, ops: &[Op]) -> bool {
 }
 
 fn is_compiled_to(alloc: Global, source: &str, ops: &[Op]) -> bool {
-    match compiled(alloc, source) {
+    match compile_text(alloc, source) {
         Ok(c) => has_ops(c.programs(), ops),
         Err(_) => false,
     }
@@ -71,7 +71,7 @@ fn root(programs: &Programs) -> Option<Triple> {
 
 // The root's triple of a source that compiles, and whether it does.
 fn root_of(alloc: Global, source: &str) -> (bool, Option<Triple>) {
-    match compiled(alloc, source) {
+    match compile_text(alloc, source) {
         Ok(c) => (true, root(c.programs())),
         Err(_) => (false, None),
     }

@@ -1,7 +1,7 @@
 //! Tests the blocks of compiled sources: equal subtrees are computed once, and a derivative has its own range.
-use crate::compile::{SQUARES, compiled};
 use ln_bound::Width;
 use ln_code::{Block, Op, Programs};
+use ln_sample::{SQUARES, compile_text};
 use std::alloc::Global;
 use std::test::Fail;
 
@@ -120,7 +120,7 @@ fn has_ops(programs: &Programs, ops: &[Op]) -> bool {
 }
 
 fn is_shared(alloc: Global, source: &str, ops: &[Op]) -> bool {
-    match compiled(alloc, source) {
+    match compile_text(alloc, source) {
         Ok(c) => has_ops(c.programs(), ops),
         Err(_) => false,
     }
@@ -150,7 +150,7 @@ fn has_doubled(programs: &Programs) -> bool {
 }
 
 fn is_derived(alloc: Global) -> bool {
-    match compiled(alloc, SQUARES) {
+    match compile_text(alloc, SQUARES) {
         Ok(c) => has_doubled(c.programs()),
         Err(_) => false,
     }

@@ -1,8 +1,8 @@
 //! Tests the texts of refusals, and the places in a source that they name.
-use crate::compile::compiled;
 use ln_base::Span;
 use ln_compile::Refusal;
 use ln_names::{LimitWhat, NameWhat};
+use ln_sample::compile_text;
 use std::alloc::Global;
 use std::error::Error;
 use std::fmt::InlineText;
@@ -105,7 +105,7 @@ fn a_refusal_says_what_is_wrong_and_where(rt: HostRuntime) -> Result<(), Fail> {
 
 // Is a source refused with this text?
 fn is_refused(alloc: Global, source: &str, want: &str) -> bool {
-    match compiled(alloc, source) {
+    match compile_text(alloc, source) {
         Ok(_) => false,
         Err(r) => says(r, want),
     }

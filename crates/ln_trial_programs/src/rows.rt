@@ -1,8 +1,8 @@
 //! The records of a rows file, and the numbers of fields.
-use crate::compile::{ORIENT, compiled};
 use csv::ByteRecord;
 use ln_base::NoMemory;
 use ln_rows::{NumberStop, Rows, number};
+use ln_sample::{ORIENT, compile_text};
 use ln_tree::Site;
 use std::alloc::Global;
 use std::test::Fail;
@@ -155,7 +155,7 @@ fn is_for(alloc: Global, site: &Site, text: &[u8]) -> bool {
 
 /// Does the text begin with the columns of points of the first type of a source?
 fn is_for_points(alloc: Global, source: &str, text: &[u8]) -> bool {
-    match compiled(alloc, source) {
+    match compile_text(alloc, source) {
         Ok(c) => match c.table().sites.get(0) {
             Some(site) => is_for(alloc, site, text),
             None => false,

@@ -1,8 +1,8 @@
 //! Random expressions and rows, the same at each run.
 ghost use Rattle.std.specs.Prelude.{◌<◌};
 
-use crate::compare::definition::{Part, Row};
 use ln_base::NoMemory;
+use ln_direct::{Part, Row};
 use std::alloc::Global;
 
 /// The most factors of a term of a drawn expression, numbers included.

@@ -1,6 +1,6 @@
 //! The filter as it is defined: truncated numbers with their sizes and errors.
-use crate::compare::definition::{Part, Row};
 use ln_base::NoMemory;
+use ln_direct::{Part, Row};
 use std::alloc::Global;
 
 /// A number that is at most `size` and, times 2^power, at most `error` times 2^power away from what it stands for.

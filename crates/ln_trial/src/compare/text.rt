@@ -1,6 +1,6 @@
 //! The texts of expressions, sources and records.
-use crate::compare::definition::{Part, Row};
 use ln_base::NoMemory;
+use ln_direct::{Part, Row};
 use std::alloc::Global;
 
 /// A column of a rows file: the index of a named site, whose first coordinate is this one; or the value of an input.
