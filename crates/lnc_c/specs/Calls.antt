@@ -1,5 +1,6 @@
 -- Calls as the lines of a text, and the lines that are written for them.
-use Rattle.std.specs.Prelude.{◌≡◌, ℕ, suc, ◌<◌, List, [], ◌∷◌, ◌++◌, length, take, drop, Option, Some, None, codes, decimal, ℤ}
+use Rattle.std.specs.Prelude.{◌≡◌, ℕ, suc, ◌<◌, List, [], ◌∷◌, ◌++◌, length, take, drop, Option, Some, None, codes, decimal, ℤ, All, FitsSigned, IsUtf8}
+use Rattle.std.proofs.Common.{zero, w64}
 use Rattle.std.specs.Fmt.{signed_decimal}
 use Rattle.ln_base.specs.Lines.{span_to, words}
 use Rattle.ln_base.specs.Outside.{Shelf, Shown, appended, bytes_of}
@@ -20,9 +21,25 @@ abbrev pub listed : List ℤ → List ℕ
 listed [] = []
 listed (z ∷ zs) = signed_decimal z ++ commas zs
 
--- The line, without its line feed, is a call of the function of this name on these indices and values.
-abbrev pub IsCall : List ℕ → List ℕ → List ℤ → List ℤ → Type 0
-IsCall line name index values = words line ≡ name ∷ (listed index ∷ (listed values ∷ []))
+-- an integer of 64 bits
+abbrev pub IsWord : ℤ → Type 0
+IsWord z = FitsSigned w64 z
+
+-- The line, without its line feed, is a call of the function of this name on these indices and values: three words, of which the name is UTF-8
+-- and the others are lists of integers of 64 bits.
+pub record IsCall (line name : List ℕ) (index values : List ℤ) : Type 0 where
+  pub three : words line ≡ name ∷ (listed index ∷ (listed values ∷ []))
+  pub text : IsUtf8 name
+  pub index_fits : All IsWord index
+  pub values_fit : All IsWord values
+
+-- The line is a call.
+abbrev pub IsSomeCall : List ℕ → Type 0
+IsSomeCall line = (name : List ℕ) × (index : List ℤ) × (values : List ℤ) × IsCall line name index values
+
+-- The line isn't a call.
+abbrev pub IsNoCall : List ℕ → Type 0
+IsNoCall line = (name : List ℕ) (index values : List ℤ) → IsCall line name index values → ⊥
 
 -- ---- its meaning
 
@@ -63,6 +80,19 @@ first text = take (span_to 10 text) text
 -- the text after the first line feed
 abbrev pub later : List ℕ → List ℕ
 later text = drop (suc (span_to 10 text)) text
+
+-- what remains of a text after its first k lines
+abbrev pub after_lines : ℕ → List ℕ → List ℕ
+after_lines zero text = text
+after_lines (suc k) text = later (after_lines k text)
+
+-- Line n of the text, from 1, isn't a call, and each line before it is one.
+pub record IsFirstOther (text : List ℕ) (n : ℕ) : Type 0 where
+  pub before : ℕ
+  pub number : n ≡ suc before
+  pub there : 0 < length (after_lines before text)
+  pub other : IsNoCall (first (after_lines before text))
+  pub calls : (k : ℕ) → k < before → IsSomeCall (first (after_lines k text))
 
 -- Each line of the text is a call, and the output has their meanings, in order. The last line may lack its line feed.
 pub data AreMeanings (fs : List Fun) : List ℕ → List ℕ → Type 0 where

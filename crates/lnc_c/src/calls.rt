@@ -1,8 +1,8 @@
 //! Calls, as the lines of a text: `NAME INDICES VALUES`.
-ghost use Rattle.std.specs.Prelude.{◌≡◌, ◌∷◌, [], IfOk, IfSome};
+ghost use Rattle.std.specs.Prelude.{◌≡◌, ◌<◌, ◌∷◌, [], ℕ, ℤ, List, All, IfOk, MatchOption, length};
 ghost use Rattle.std.specs.Fmt.{signed_decimal};
 ghost use Rattle.ln_base.specs.Lines.{words};
-ghost use Rattle.lnc_c.specs.Calls.{IsCall, first, later, listed};
+ghost use Rattle.lnc_c.specs.Calls.{IsCall, IsNoCall, IsWord, first, later, listed};
 
 use ln_base::NoMemory;
 use ln_base::numeral::integer;
@@ -33,7 +33,7 @@ pub fn next_line(text: &[u8]) -> (&[u8], &[u8])
 
 // Returns the integer of 64 bits that the word is.
 fn number(word: &[u8]) -> Option<i64>
-    ensures { IfSome result (λ z. word.now ≡ signed_decimal z) }
+    ensures { MatchOption result ((z : ℤ) → IsWord z → word.now ≡ signed_decimal z → ⊥) (λ z. IsWord z × (word.now ≡ signed_decimal z)) }
 {
     let z = integer(word)?;
     i64::try_from(z).ok()
@@ -41,7 +41,8 @@ fn number(word: &[u8]) -> Option<i64>
 
 // Returns the integers of a list with a comma between any two, in which there is at least one.
 fn some_numbers(alloc: Global, list: &[u8]) -> Result<Option<Vec<i64>>, NoMemory>
-    ensures { IfOk result (λ o. IfSome o (λ v. list.now ≡ listed v.items)) }
+    ensures { IfOk result (λ o. MatchOption o ((zs : List ℤ) → 0 < length zs → All IsWord zs → list.now ≡ listed zs → ⊥)
+        (λ v. (list.now ≡ listed v.items) × All IsWord v.items)) }
 {
     let mut found = Vec::new(alloc);
     let mut rest = list;
@@ -60,7 +61,8 @@ fn some_numbers(alloc: Global, list: &[u8]) -> Result<Option<Vec<i64>>, NoMemory
 
 // Returns the integers of a list with a comma between any two; an empty word is the list without any.
 fn numbers(alloc: Global, list: &[u8]) -> Result<Option<Vec<i64>>, NoMemory>
-    ensures { IfOk result (λ o. IfSome o (λ v. list.now ≡ listed v.items)) }
+    ensures { IfOk result (λ o. MatchOption o ((zs : List ℤ) → All IsWord zs → list.now ≡ listed zs → ⊥)
+        (λ v. (list.now ≡ listed v.items) × All IsWord v.items)) }
 {
     if list.len() == 0 {
         return Ok(Some(Vec::new(alloc)));
@@ -70,7 +72,8 @@ fn numbers(alloc: Global, list: &[u8]) -> Result<Option<Vec<i64>>, NoMemory>
 
 // Returns the three words of a line that has three.
 fn three_words(line: &[u8]) -> Option<(&[u8], &[u8], &[u8])>
-    ensures { IfSome result (λ x. words line.now ≡ x.0.now ∷ (x.1.now ∷ (x.2.now ∷ []))) }
+    ensures { MatchOption result ((a b c : List ℕ) → words line.now ≡ a ∷ (b ∷ (c ∷ [])) → ⊥)
+        (λ x. words line.now ≡ x.0.now ∷ (x.1.now ∷ (x.2.now ∷ []))) }
 {
     let (name, at) = word(line, 0);
     let (index, at) = next_word(line, at)?;
@@ -84,7 +87,7 @@ fn three_words(line: &[u8]) -> Option<(&[u8], &[u8], &[u8])>
 
 /// Returns the call that the line is, which has no line feed.
 pub fn call_of(alloc: Global, line: &[u8]) -> Result<Option<CallLine<'_>>, NoMemory>
-    ensures { IfOk result (λ o. IfSome o (λ a. IsCall line.now a.name.now a.index.items a.values.items)) }
+    ensures { IfOk result (λ o. MatchOption o (IsNoCall line.now) (λ a. IsCall line.now a.name.now a.index.items a.values.items)) }
 {
     let Some((name, index, values)) = three_words(line) else {
         return Ok(None);

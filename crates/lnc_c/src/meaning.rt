@@ -1,9 +1,10 @@
 //! The meanings of calls, as lines.
-ghost use Rattle.std.specs.Prelude.{◌≡◌, ◌++◌, true, map, IfOk};
+ghost use Rattle.std.specs.Prelude.{◌≡◌, ◌++◌, ◌⊎◌, ℕ, true, false, map, IfErr, IfOk};
 ghost use Rattle.ln_csyn.specs.View.{fun_tree};
 ghost use Rattle.ln_cmean.specs.Answered.{told};
 ghost use Rattle.ln_cmean.specs.Room.{MadeFor};
-ghost use Rattle.lnc_c.specs.Calls.{AreMeanings, IsPut, meaning_words, sign_words, undefined_words};
+ghost use Rattle.lnc_c.specs.Calls.{AreMeanings, IsFirstOther, IsNoCall, IsPut, meaning_words, sign_words, undefined_words};
+ghost use Rattle.lnc_c.specs.declared.stop.Stop.TheVariants.{Call, Memory};
 
 use crate::calls::{call_of, next_line};
 use crate::stop::Stop;
@@ -54,6 +55,7 @@ fn put_line(
     requires { MadeFor (map fun_tree file.now.funs) scratch.old }
     ensures made { MadeFor (map fun_tree file.now.funs) scratch.new }
     ensures line { IfOk result (λ is. is ≡ true → IsPut (map fun_tree file.now.funs) line.now out.old.items out.new.items) }
+    ensures other { IfOk result (λ is. is ≡ false → IsNoCall line.now) }
 {
     let Some(c) = call_of(alloc, line)? else {
         return Ok(false);
@@ -66,14 +68,15 @@ fn put_line(
 
 /// Returns the meanings of the calls that are the lines of a text, a line each; or stops at the first line that isn't a call.
 pub fn meanings(alloc: Global, file: &CFile, calls: &[u8]) -> Result<Vec<u8>, Stop>
-    ensures { IfOk result (λ v. AreMeanings (map fun_tree file.now.funs) calls.now v.items) }
+    ensures all { IfOk result (λ v. AreMeanings (map fun_tree file.now.funs) calls.now v.items) }
+    ensures stop { IfErr result (λ s. (s ≡ Memory) ⊎ ((n : ℕ) × (s ≡ Call n) × IsFirstOther calls.now n)) }
 {
     let mut scratch = CScratch::new(alloc, file)?;
     let mut out = Vec::new(alloc);
     let mut rest = calls;
     let mut n = 0u64;
     'lines: while rest.len() > 0 {
-        n = n.saturating_add(1);
+        n += 1;
         let (line, later) = next_line(rest);
         let is_call = put_line(alloc, file, line, &mut scratch, &mut out)?;
         if !is_call {

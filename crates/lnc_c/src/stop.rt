@@ -1,4 +1,8 @@
 //! Why the program stops before its end, with the exit statuses.
+ghost use Rattle.std.specs.Prelude.{◌≡◌, ◌⊎◌, IfErr, OnErr, OnOk};
+ghost use Rattle.ln_base.specs.Outside.{Rose, appended};
+ghost use Rattle.ln_base.specs.declared.outside.Port.TheVariants.{Err as ErrPort};
+ghost use Rattle.lnc_c.specs.Stops.{status, stop_line};
 
 use itoa::Buffer;
 use ln_base::{Console, Failed, NoMemory, Port, ReadStop, put_all};
@@ -25,7 +29,9 @@ pub enum Stop {
 
 impl Stop {
     // The exit status.
-    fn code(self) -> u8 {
+    fn code(self) -> u8
+        ensures { result ≡ status self }
+    {
         match self {
             Stop::Subset => 1,
             Stop::Usage => 2,
@@ -39,7 +45,10 @@ impl Stop {
 }
 
 // Writes the line of a stop.
-fn put_line<C: Console>(con: &mut C, stop: Stop) -> Result<(), Failed> {
+fn put_line<C: Console>(con: &mut C, stop: Stop) -> Result<(), Failed>
+    ensures ok { OnOk result (C.shown con.new ≡ appended ErrPort (stop_line stop) (C.shown con.old)) }
+    ensures cause { OnErr result (Rose (C.faults con.old) (C.faults con.new)) }
+{
     match stop {
         Stop::Subset => put_all(con, Port::Err, b"error subset\n"),
         Stop::Usage => put_all(con, Port::Err, b"error usage\n"),
@@ -56,7 +65,12 @@ fn put_line<C: Console>(con: &mut C, stop: Stop) -> Result<(), Failed> {
 }
 
 /// Writes the line of a stop on standard error, if it has one, and returns the exit status: 0 where there is no stop.
-pub fn exit_code<C: Console>(con: &mut C, ended: Result<(), Stop>) -> u8 {
+pub fn exit_code<C: Console>(con: &mut C, ended: Result<(), Stop>) -> u8
+    ensures done { OnOk ended ((result ≡ 0) × (C.shown con.new ≡ C.shown con.old)) }
+    ensures stopped { IfErr ended (λ s.
+        ((result ≡ status s) × (C.shown con.new ≡ appended ErrPort (stop_line s) (C.shown con.old)))
+        ⊎ ((result ≡ 7) × Rose (C.faults con.old) (C.faults con.new))) }
+{
     match ended {
         Ok(()) => 0,
         Err(stop) => match put_line(con, stop) {
@@ -67,18 +81,30 @@ pub fn exit_code<C: Console>(con: &mut C, ended: Result<(), Stop>) -> u8 {
 }
 
 impl From<NoMemory> for Stop {
+    ghost use Rattle.lnc_c.specs.declared.stop.Stop.TheVariants.{Memory};
+
+    ghost from_gives = { λ _ e. e ≡ Memory };
+
     fn from(_e: NoMemory) -> Self {
         Stop::Memory
     }
 }
 
 impl From<Failed> for Stop {
+    ghost use Rattle.lnc_c.specs.declared.stop.Stop.TheVariants.{Write};
+
+    ghost from_gives = { λ _ e. e ≡ Write };
+
     fn from(_e: Failed) -> Self {
         Stop::Write
     }
 }
 
 impl From<ReadStop> for Stop {
+    ghost use Rattle.lnc_c.specs.Stops.{of_read};
+
+    ghost from_gives = { λ x e. e ≡ of_read x };
+
     fn from(e: ReadStop) -> Self {
         match e {
             ReadStop::Fault => Stop::Read,
@@ -89,6 +115,10 @@ impl From<ReadStop> for Stop {
 }
 
 impl From<CStop> for Stop {
+    ghost use Rattle.lnc_c.specs.Stops.{of_c};
+
+    ghost from_gives = { λ x e. e ≡ of_c x };
+
     fn from(e: CStop) -> Self {
         match e {
             CStop::NotSubset => Stop::Subset,

@@ -1,22 +1,43 @@
 -- Answers to the goals of `meanings` in src/meaning.rt.
-use Rattle.std.proofs.Common.{rules, ◌≡◌, ◌<◌, length, map}
+use Rattle.std.proofs.Common.{rules, ℕ, List, subst, ◌≡◌, ◌<◌, ◌+◌, length, map, false, inr, refl}
 use Rattle.ln_csyn.specs.View.{fun_tree}
 use Rattle.lnc_c.specs.Calls.{IsPut}
-use Rattle.lnc_c.proofs.CallLaws.{written_all, written_more}
+use Rattle.lnc_c.proofs.CallLaws.{IsTaken, first_other, one_call, written_all, written_more}
 use Rattle.lnc_c.proofs.meaning.meanings.Goals as goal
 
 pub lines-preserved : goal.lines-preserved
 lines-preserved c =
     let some : 0 < length c.lines.rest.now = search rules in
     let put : IsPut (map fun_tree c.args.file.now.funs) c.next_line.result.0.now c.lines.out.items c.put_line.new.out.items = search rules in
+    let taken : IsTaken (map fun_tree c.args.file.now.funs) c.lines.rest.now c.next_line.result.1.now c.lines.out.items c.put_line.new.out.items =
+    record {
+      some = some;
+      put = subst (λ (x : List ℕ). IsPut (map fun_tree c.args.file.now.funs) x c.lines.out.items c.put_line.new.out.items)
+          c.next_line.ensures.line put;
+      left = c.next_line.ensures.rest;
+    } in
     record {
       made = c.in_ok-is_call.ensures.made;
-      written = written_more (map fun_tree c.args.file.now.funs) c.args.calls.now c.lines.rest.now c.next_line.result.0.now
-          c.next_line.result.1.now c.lines.out.items c.put_line.new.out.items c.lines.invariant.written some c.next_line.ensures.line
-          c.next_line.ensures.rest put;
+      written = written_more _ c.args.calls.now c.lines.rest.now c.next_line.result.1.now _ _ c.lines.invariant.written taken;
+      calls = one_call _ c.args.calls.now c.lines.rest.now c.next_line.result.1.now _ _ c.lines.n c.lines.invariant.calls taken;
     }
+
+pub returns-then-not-is_call-clause-stop : goal.returns-then-not-is_call-clause-stop
+returns-then-not-is_call-clause-stop c =
+    let some : 0 < length c.lines.rest.now = search rules in
+    let no : c.in_ok-is_call.is_call ≡ false = search rules in
+    let other = c.in_ok-is_call.ensures.other no in
+    inr (
+      c.lines.n + 1,
+      refl,
+      first_other c.args.calls.now c.lines.rest.now c.next_line.result.0.now c.lines.n (c.lines.n + 1)
+          c.lines.invariant.calls some c.next_line.ensures.line other refl,
+    )
 
 pub returns : goal.returns
 returns c =
     let empty : length c.lines.rest.now ≡ 0 = search rules in
-    written_all (map fun_tree c.args.file.now.funs) c.args.calls.now c.lines.rest.now c.lines.out.items c.lines.invariant.written empty
+    record {
+      all = written_all (map fun_tree c.args.file.now.funs) c.args.calls.now c.lines.rest.now c.lines.out.items c.lines.invariant.written empty;
+      stop = tt;
+    }
