@@ -39,9 +39,11 @@ all_same (d ∷ ds) = ap (λ (b : Bool). is_ascii_digit d && b) (all_same ds)
 own : IsNumeralModel (λ ds. all_ascii_digits ds ≡ true) decimal_value
 own = numerals_by_weight _ tells_all_ascii_digits decimal_value (record { empty = refl; more = λ c cs r. refl })
 
+-- the text of a number below 10^64, read back, has that number as its value
 pub value_of_text : (n : ℕ) → n < 10 ^ 64 → decimal_value (decimal n) ≡ n
 value_of_text n h = let k = decimal_is_IsNumeral_wide n h in own.same (decimal n) k.0.1 ∙ k.1
 
+-- the text of a number below 10^64 is one or more digits
 pub text_is_digits : (n : ℕ) → n < 10 ^ 64 → is_digits (decimal n) ≡ true
 text_is_digits n h =
     let k = decimal_is_IsNumeral_wide n h in
@@ -60,6 +62,7 @@ one_place d p v q h k e =
     let most : d * p ≤ 9 * p = mul-le-mul_right p h in
     omega (arith, most, k, e)
 
+-- n digits write a number below 10^n
 pub value_below : (ds : List ℕ) → list_all is_ascii_digit ds ≡ true → decimal_value ds < 10 ^ length ds
 value_below [] h = omega arith
 value_below (d ∷ ds) h =
@@ -92,9 +95,11 @@ by_zero = decimal_by_steps_wide (λ m ds. (0 < length ds) × (get_or ds 0 0 ≡ 
       λ a. let z = h.1 (sym (get_or-append ds ((48 + m % 10) ∷ []) 0 0 h.0) ∙ a) in omega arith,
     ))
 
+-- the text of a number below 10^64 has no leading zero
 pub text_is_plain : (n : ℕ) → n < 10 ^ 64 → IsPlain (decimal n)
 text_is_plain n h = (text_is_digits n h, λ a. ap (λ m. length (decimal m)) ((by_zero n h).1 a) ∙ ap length (decimal_digit 0 (omega arith)))
 
+-- the text of a number below 10^64 is read as that number
 pub text_is_natural : (n : ℕ) → n < 10 ^ 64 → natural_value (decimal n) ≡ Some n
 text_is_natural n h = rw (text_is_digits n h, value_of_text n h) refl
 
@@ -107,6 +112,7 @@ pub digits_alone : (ds : List ℕ) → is_digits ds ≡ true → integer_value d
 digits_alone [] h = absurd (cc)
 digits_alone (b ∷ bs) h = rw (ne_eqb b 45 (no_minus b bs h), h) refl
 
+-- the text of a signed number of magnitude below 10^64 is read as that number
 pub text_is_integer : (z : ℤ) → unsigned_abs z < 10 ^ 64 → integer_value (signed_decimal z) ≡ Some z
 text_is_integer (pos n) h = rw (digits_alone (decimal n) (text_is_digits n h), value_of_text n h) refl
 text_is_integer (negsuc n) h = rw (text_is_natural (suc n) h) refl

@@ -14,16 +14,19 @@ past_slots zero xs = omega arith
 past_slots (suc n) [] = omega arith
 past_slots (suc n) (x ∷ xs) = omega (arith, past_slots n xs)
 
+-- the functions before a place need no more letters than all
 pub past_letters : (n : ℕ) (xs : List CFun) → most_letters (map fun_tree (take n xs)) ≤ most_letters (map fun_tree xs)
 past_letters zero xs = omega arith
 past_letters (suc n) [] = omega arith
 past_letters (suc n) (x ∷ xs) = omega (arith, past_letters n xs)
 
+-- the functions from a place on need no more declarations than all
 pub left_slots : (n : ℕ) (xs : List CFun) → most_slots (map fun_tree (drop n xs)) ≤ most_slots (map fun_tree xs)
 left_slots zero xs = omega arith
 left_slots (suc n) [] = omega arith
 left_slots (suc n) (x ∷ xs) = omega (arith, left_slots n xs)
 
+-- the functions from a place on need no more letters than all
 pub left_letters : (n : ℕ) (xs : List CFun) → most_letters (map fun_tree (drop n xs)) ≤ most_letters (map fun_tree xs)
 left_letters zero xs = omega arith
 left_letters (suc n) [] = omega arith

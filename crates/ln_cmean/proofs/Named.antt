@@ -99,11 +99,13 @@ told_line (Ok a) l h = cc
 told_line (Err NoFunction) l h = cc
 told_line (Err (Undefined n)) l h = cc
 
+-- a result with the meaning of a call is `NoFunction` exactly where no function with two parameters has the name
 pub no_function : (r : Result CAnswer CFault) (fs : List Fun) (name : List ℕ) (index values : List ℤ) → told r ≡ CCall fs name index values →
     (r ≡ Err NoFunction → CNamed fs name → ⊥) × ((CNamed fs name → ⊥) → r ≡ Err NoFunction)
 no_function r fs name index values h =
     (λ e. unnamed_of_none fs name index values (sym h ∙ ap told e), λ n. told_none r (h ∙ none_of_unnamed fs name index values n))
 
+-- a result is `Undefined` at a line exactly where its meaning is
 pub undefined : (r : Result CAnswer CFault) (l : ℕ) (o : Option CMeaning) → told r ≡ o →
     (r ≡ Err (Undefined l) → o ≡ Some (m.Undefined l)) × (o ≡ Some (m.Undefined l) → r ≡ Err (Undefined l))
 undefined r l o h = (λ e. sym h ∙ ap told e, λ e. told_line r l (h ∙ e))

@@ -22,9 +22,11 @@ on_ok (Err e) p = tt
 
 -- ---- the room
 
+-- two steps, neither of which lessens the room, don't lessen it together
 pub no_smaller_then : (a b c : CScratch) → IsNoSmaller a b → IsNoSmaller b c → IsNoSmaller a c
 no_smaller_then a b c p q = record { slots_stay = omega (arith, p.slots_stay, q.slots_stay); names_stay = omega (arith, p.names_stay, q.names_stay) }
 
+-- two steps that both leave the declarations as they are leave them so together
 pub same_then : (a b c : CScratch) → IsSame a b → IsSame b c → IsSame a c
 same_then a b c p q = record { base_same = q.base_same ∙ p.base_same; slots_same = q.slots_same ∙ p.slots_same; names_same = q.names_same ∙ p.names_same }
 
@@ -34,6 +36,7 @@ fronts xs ys zs p q =
     let l : length xs ≤ length ys = omega (arith, ap length p, length-take (length xs) ys) in
     sym (take-take (length xs) (length ys) zs l) ∙ ap (λ ws. take (length xs) ws) q ∙ p
 
+-- declarations that each of two steps keeps as a prefix are a prefix after both
 pub front_then : (a b c : CScratch) → IsFront a b → IsFront b c → IsFront a c
 front_then a b c p q = record {
   base_front = q.base_front ∙ p.base_front;
@@ -56,6 +59,7 @@ opened old new d x a b r e s n c =
 front_of : {X : Type 0} (xs ys : List X) → take (length xs) (xs ++ ys) ≡ xs
 front_of xs ys = take-append-le (length xs) xs ys (omega arith) ∙ take_all (length xs) xs (omega arith)
 
+-- the declarations before one more are a prefix
 pub front_more : (old new : CScratch) (d : Slot) (x : List ℕ) → new.base ≡ old.base → new.slots.items ≡ old.slots.items ++ d ∷ []
     → new.names.items ≡ old.names.items ++ x → IsFront old new
 front_more old new d x e s n = record {
@@ -64,6 +68,7 @@ front_more old new d x e s n = record {
   names_front = ap (λ ys. take (length old.names.items) ys) n ∙ front_of old.names.items x;
 }
 
+-- one more declaration takes one slot, and the letters of its name
 pub room_more : (old new : CScratch) (d : Slot) (x : List ℕ) → new.slots.items ≡ old.slots.items ++ d ∷ [] → new.names.items ≡ old.names.items ++ x →
     (length new.slots.items ≡ length old.slots.items + 1) × (length new.names.items ≡ length old.names.items + length x)
 room_more old new d x s n = (ap length s ∙ length-append old.slots.items (d ∷ []), ap length n ∙ length-append old.names.items x)
@@ -73,6 +78,7 @@ room_more old new d x s n = (ap length s ∙ length-append old.slots.items (d �
 next_body : (ss : List CStmt) (i : ℕ) (s : CStmt) → i < length ss → s ≡ get_or ss i s → body_tree (drop i ss) ≡ stmt_front s (body_tree (drop (i + 1) ss))
 next_body ss i s l g = at_drop_more body_tree ss i s l ∙ ap (λ t. stmt_front t (body_tree (drop (i + 1) ss))) (sym g)
 
+-- the step of the loop in `run`: past a statement that doesn't return, the body means what the remaining statements mean
 pub going_on : (sc : Scene) (ss : List CStmt) (i : ℕ) (s : CStmt) (all : Outcome) (here next : List Seen) (k j : Counts) (r : Result Flow ℕ) (f : Flow) →
     i < length ss → s ≡ get_or ss i s → all ≡ runs sc here (body_tree (drop i ss)) k →
     ((rest : Body) → runs sc here (stmt_front s rest) k ≡ goes_on r j (λ m. runs sc next rest m)) → r ≡ Ok f → f ≡ Went →
@@ -83,6 +89,7 @@ going_on sc ss i s all here next k j r f l g h m o w =
     let t : goes_on r j (λ m. runs sc next (body_tree (drop (i + 1) ss)) m) ≡ runs sc next (body_tree (drop (i + 1) ss)) j = rw (o, w) refl in
     h ∙ e ∙ m (body_tree (drop (i + 1) ss)) ∙ t
 
+-- the step of the loop in `run`: what is in use and what the remaining statements need stays within one limit
 pub left_on : (need : Body → ℕ) (ss : List CStmt) (i : ℕ) (s : CStmt) (a b all : ℕ) → i < length ss → s ≡ get_or ss i s →
     a + need (body_tree (drop i ss)) ≤ all → ((rest : Body) → b + need rest ≤ a + need (stmt_front s rest)) → b + need (body_tree (drop (i + 1) ss)) ≤ all
 left_on need ss i s a b all l g h r = omega (arith, h, r (body_tree (drop (i + 1) ss)), ap need (next_body ss i s l g))

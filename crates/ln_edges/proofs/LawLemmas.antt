@@ -41,6 +41,7 @@ from_perturbed p e f row r c h s =
           (signs-perturbed BySmallest p e f row x.0 r c h x.1) s),
     )
 
+-- two different points are an edge by the machine exactly where they are one by the perturbed sign of the expression
 pub machine_finds : MachineFindsEdges
 machine_finds p e f ps i j r c a h g n = (
   λ m. record {
@@ -54,6 +55,7 @@ machine_finds p e f ps i j r c a h g n = (
       (m.around k l x y),
 )
 
+-- the lines of the edges by the machine are the lines of the edges
 pub lines_are : LinesAreOfEdges
 lines_are p e f ps text r c a =
     lines_by (ProgramEdge p ps) (Edge p.shape.vars e ps) (edge_line ps) text

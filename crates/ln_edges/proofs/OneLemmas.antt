@@ -23,6 +23,7 @@ say_one cs (r ∷ rs) (p ∷ ps) (q ∷ qs) a b =
     ap (λ (x : PointOf). x ∷ ps) (some_same p q (sym a.0 ∙ b.0))
     ∙ ap (λ (l : List PointOf). q ∷ l) (say_one cs rs ps qs a.1 b.1)
 
+-- records are at most one list of points
 pub points-one : PointsAreOne
 points-one cs rs ps qs a b = say_one cs rs ps qs a.say b.say
 
@@ -74,6 +75,7 @@ new_index (q ∷ qs) p back d (suc k, h, e) =
     new_index qs p back (λ i j x l m. d (suc i) (suc j) x (omega (arith, l)) (omega (arith, m)))
     (k, omega (arith, h), e)
 
+-- records that are points have none that is no point
 pub points-faultless : PointsHaveNoFault
 points-faultless cs rs ps n a f =
     let w = between cs f.before f.fields f.after ps (subst (λ (x : Records). SayPoints cs x ps) f.are a.say) in
@@ -118,6 +120,7 @@ not_earlier cs rs m n f g h =
       fault = f.fault;
     })
 
+-- records have at most one first record that is no point
 pub fault-one : PointFaultIsOne
 fault-one cs rs m n f g = elim (cases_lt (length f.before) (length g.before)) [
   | inl h ↦ absurd (not_earlier cs rs m n f g h)

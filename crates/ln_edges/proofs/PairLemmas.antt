@@ -54,6 +54,7 @@ before_none claim = record {
   rising = λ i j d h k. absurd (omega (arith, k));
 }
 
+-- a pair of which the claim holds is appended to those that precede it
 pub before_more : (claim : ℕ → ℕ → Type 0) (i j : ℕ) (xs : List Pair) → claim i j → ArePairsBefore claim i j xs
     → ArePairsBefore claim i (j + 1) (xs ++ pair i j ∷ [])
 before_more claim i j xs c b = record {
@@ -68,6 +69,7 @@ before_more claim i j xs c b = record {
   rising = all_pairs_push Precedes xs (pair i j) b.rising (λ k d h. (b.each k d h).1);
 }
 
+-- a pair of which the claim doesn't hold is passed over
 pub before_other : (claim : ℕ → ℕ → Type 0) (i j : ℕ) (xs : List Pair) → (claim i j → ⊥) → ArePairsBefore claim i j xs
     → ArePairsBefore claim i (j + 1) xs
 before_other claim i j xs n b = record {
@@ -81,6 +83,7 @@ before_other claim i j xs n b = record {
   rising = b.rising;
 }
 
+-- the pairs from place i have all been taken where the second place is past the end of each
 pub before_next : (claim : ℕ → ℕ → Type 0) (i n : ℕ) (xs : List Pair) → ((k l : ℕ) → claim k l → l < n)
     → ArePairsBefore claim i n xs → ArePairsBefore claim (i + 1) 0 xs
 before_next claim i n xs f b = record {
@@ -91,6 +94,7 @@ before_next claim i n xs f b = record {
   rising = b.rising;
 }
 
+-- the pairs that precede a first place past the end of each are all pairs
 pub before_all : (claim : ℕ → ℕ → Type 0) (n : ℕ) (xs : List Pair) → ((k l : ℕ) → claim k l → k < n)
     → ArePairsBefore claim n 0 xs → ArePairs claim xs
 before_all claim n xs f b = record {
@@ -151,6 +155,7 @@ one_list (x ∷ xs) (y ∷ ys) r s f g =
     (λ p c. behind_head y x p ys xs (sym e) s c (in_cons x p xs (g p (in_tail y p ys c)))) in
     ap (λ (p : Pair). p ∷ xs) e ∙ ap (λ (l : List Pair). y ∷ l) t
 
+-- there is at most one list of the pairs of which a claim holds, in order
 pub pairs-one : (claim : ℕ → ℕ → Type 0) (xs ys : List Pair) → ArePairs claim xs → ArePairs claim ys → xs ≡ ys
 pairs-one claim xs ys a b =
     one_list xs ys a.rising b.rising
@@ -166,6 +171,7 @@ so_far_more claim line start i j old new c e s = record {
   is = e ∙ ap (λ (t : List ℕ). t ++ line (pair i j)) s.is ∙ flat_map_more line start s.pairs (pair i j);
 }
 
+-- the step of the loop over second places where the pair is no edge: the text stays
 pub so_far_other : (claim : ℕ → ℕ → Type 0) (line : Pair → List ℕ) (start : List ℕ) (i j : ℕ) (old new : List ℕ)
     → (claim i j → ⊥) → new ≡ old → SoFar claim line start i j old → SoFar claim line start i (j + 1) new
 so_far_other claim line start i j old new c e s = record {
@@ -174,14 +180,17 @@ so_far_other claim line start i j old new c e s = record {
   is = e ∙ s.is;
 }
 
+-- the end of the loop over second places: the next first place follows
 pub so_far_next : (claim : ℕ → ℕ → Type 0) (line : Pair → List ℕ) (start : List ℕ) (i n : ℕ) (text : List ℕ)
     → ((k l : ℕ) → claim k l → l < n) → SoFar claim line start i n text → SoFar claim line start (i + 1) 0 text
 so_far_next claim line start i n text f s = record
     { pairs = s.pairs; are = before_next claim i n s.pairs f s.are; is = s.is }
 
+-- the beginning of the loop over first places: an empty text
 pub so_far_none : (claim : ℕ → ℕ → Type 0) (line : Pair → List ℕ) → SoFar claim line [] 0 0 []
 so_far_none claim line = record { pairs = []; are = before_none claim; is = refl }
 
+-- the end of the loop over first places: the text is the lines of all pairs
 pub so_far_all : (claim : ℕ → ℕ → Type 0) (line : Pair → List ℕ) (n : ℕ) (text : List ℕ)
     → ((k l : ℕ) → claim k l → k < n) → SoFar claim line [] n 0 text → AreLines claim line text
 so_far_all claim line n text f s = record { pairs = s.pairs; are = before_all claim n s.pairs f s.are; is = s.is }

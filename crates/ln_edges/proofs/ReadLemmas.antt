@@ -57,6 +57,7 @@ zeros zero m = refl
 zeros (suc n) zero = refl
 zeros (suc n) (suc m) = zeros n m
 
+-- the beginning of the loop in `point_over`: no coordinate is read, and all places are 0
 pub read_none : (cs : List CoordOf) (fs : List (List ℕ)) (values : List ℤ) → values ≡ replicate 32 (pos 0)
     → ReadTo cs fs 0 values
 read_none cs fs values h = record {
@@ -66,6 +67,7 @@ read_none cs fs values h = record {
   zero = λ m k. ap (λ (zs : List ℤ). get_or zs m (pos 0)) h ∙ zeros 32 m;
 }
 
+-- the step of the loop in `point_over`: one more number is read
 pub read_more : (cs : List CoordOf) (fs : List (List ℕ)) (k : ℕ) (values : List ℤ) (c : CoordOf) (z : ℤ)
     → length cs ≤ 32
     → length fs ≡ length cs
@@ -93,6 +95,7 @@ read_more cs fs k values c z few size h e n r =
       zero = λ m l. get_or-set_other values k m z (pos 0) (omega (arith, l)) ∙ r.zero m (omega (arith, l));
     }
 
+-- the end of the loop in `point_over` at a field that is no number in its coordinate's range: the fields have no numbers
 pub read_stops : (cs : List CoordOf) (fs : List (List ℕ)) (k : ℕ) (values : List ℤ) (c : CoordOf)
     → length fs ≡ length cs → k < length cs → c ≡ get_or cs k c → IsErr (number_in c.lo c.hi (get_or fs k []))
     → ReadTo cs fs k values → numbers_in cs fs ≡ None
@@ -107,6 +110,7 @@ read_stops cs fs k values c size h e n r =
     (numbers_in (drop (suc k) cs) (drop (suc k) fs)) n) in
     r.numbers ∙ ap (ahead (take k values)) step
 
+-- the end of the loop in `point_over`: the numbers of all fields are read
 pub read_all : (cs : List CoordOf) (fs : List (List ℕ)) (k : ℕ) (values : List ℤ) → length fs ≡ length cs
     → length cs ≤ k → ReadTo cs fs k values → numbers_in cs fs ≡ Some (take (length cs) values)
 unfolding ahead
@@ -139,6 +143,7 @@ pointed_none : (r : Result ℤ NumberStop) → pointed r None ≡ None
 pointed_none (Err e) = refl
 pointed_none (Ok z) = refl
 
+-- a record with another number of fields than the index and the coordinates is no point
 pub other_point : (cs : List CoordOf) (fields : List (List ℕ)) → length fields ≢ length cs + 1
     → point_in cs fields ≡ None
 other_point cs [] h = refl
@@ -150,9 +155,11 @@ pub after_first : (fields : List (List ℕ)) (k : ℕ) → get_or fields (k + 1)
 after_first [] k = refl
 after_first (f ∷ fs) k = rw (add-one k) refl
 
+-- there is one field fewer after the first
 pub after_size : (fields : List (List ℕ)) (n : ℕ) → length fields ≡ n + 1 → length (drop 1 fields) ≡ n
 after_size fields n h = omega (arith, length-drop 1 fields, h)
 
+-- the index and the numbers that were read are the point of the record
 pub point_made : (cs : List CoordOf) (fields : List (List ℕ)) (p : Point) → length fields ≡ length cs + 1
     → number_in (pos 0) (pos (2 ^ 63 - 1)) (get_or fields 0 []) ≡ Ok p.index
     → numbers_in cs (drop 1 fields) ≡ Some (take (length cs) p.values)
@@ -160,11 +167,13 @@ pub point_made : (cs : List CoordOf) (fields : List (List ℕ)) (p : Point) → 
 point_made cs [] p h n m = absurd (omega (arith, h))
 point_made cs (f ∷ fs) p h n m = rw (n, m) refl
 
+-- a record whose coordinates aren't all read is no point
 pub point_refused : (cs : List CoordOf) (fields : List (List ℕ)) → numbers_in cs (drop 1 fields) ≡ None
     → point_in cs fields ≡ None
 point_refused cs [] m = refl
 point_refused cs (f ∷ fs) m = rw m (pointed_none (number_in (pos 0) (pos (2 ^ 63 - 1)) f))
 
+-- a record whose index isn't read is no point
 pub index_refused : (cs : List CoordOf) (fields : List (List ℕ)) (e : NumberStop)
     → number_in (pos 0) (pos (2 ^ 63 - 1)) (get_or fields 0 []) ≡ Err e
     → point_in cs fields ≡ None
@@ -190,6 +199,7 @@ say_push cs [] (q ∷ ps) r p s e = absurd s
 say_push cs (x ∷ rs) [] r p s e = absurd s
 say_push cs (x ∷ rs) (q ∷ ps) r p s e = (s.0, say_push cs rs ps r p s.1 e)
 
+-- the empty list of records is the empty list of points
 pub stands_none : (cs : List CoordOf) → Stands cs [] [] None
 stands_none cs = fine (record { say = tt; differ = λ i j d h k. absurd (omega (arith, k)) })
 
@@ -249,20 +259,24 @@ pub stood_point : (cs : List CoordOf) (done : Records) (ps : List PointOf) (r : 
     → Stands cs done ps None → Stands cs (done ++ r ∷ []) (ps ++ p ∷ []) None
 stood_point cs done ps r p n (fine a) = stands_point cs done ps r p n.says n.new a
 
+-- after points, a record that is no point is the first that is none
 pub stood_fault : (cs : List CoordOf) (done : Records) (ps : List PointOf) (r : List (List ℕ)) (n : ℕ)
     → n ≡ length done + 1 → IsNoPoint cs ps r → Stands cs done ps None → Stands cs (done ++ r ∷ []) ps (Some n)
 stood_fault cs done ps r n e h (fine a) = stands_fault cs done ps ps r n e h a
 
+-- where a record that is no point was found, it stays the first, whatever follows
 pub stood_still : (cs : List CoordOf) (done : Records) (ps : List PointOf) (r : List (List ℕ)) (o : Option ℕ)
     → (o ≡ None → ⊥)
     → Stands cs done ps o → Stands cs (done ++ r ∷ []) ps o
 stood_still cs done ps r None h s = absurd (h refl)
 stood_still cs done ps r (Some n) h (faulty m f) = stands_still cs done ps ps r n f
 
+-- where no record was found that is no point, the records are the points that were read
 pub found_points : (cs : List CoordOf) (records : Records) (ps : List PointOf) → Stands cs records ps None
     → ArePointsOf cs records ps
 found_points cs records ps (fine a) = a
 
+-- the record that was found is the first that is no point
 pub found_fault : (cs : List CoordOf) (records : Records) (ps : List PointOf) (n : ℕ) → Stands cs records ps (Some n)
     → IsPointFault cs records n
 found_fault cs records ps n (faulty m f) = f
@@ -281,6 +295,7 @@ pub record IsNowhere (ps : List Point) (i : ℕ) (z : ℤ) : Type 0 where
   pub within : i ≤ length ps
   pub none : (k : ℕ) → k < i → (get_or ps k a_point).index ≢ z
 
+-- no index is among the first 0 points
 pub nowhere_none : (ps : List Point) (z : ℤ) → IsNowhere ps 0 z
 nowhere_none ps z = record { within = omega arith; none = λ k h. absurd (omega (arith, h)) }
 
@@ -289,6 +304,7 @@ same_point [] i p h e = absurd (omega (arith, h))
 same_point (q ∷ ps) zero p h e = e
 same_point (q ∷ ps) (suc i) p h e = same_point ps i p (omega (arith, h)) e
 
+-- the step of the loop in `has_index`: one more point has another index
 pub nowhere_more : (ps : List Point) (i : ℕ) (z : ℤ) (p : Point) → i < length ps → p ≡ get_or ps i p → p.index ≢ z
     → IsNowhere ps i z → IsNowhere ps (i + 1) z
 nowhere_more ps i z p h e n w = record {
@@ -308,12 +324,14 @@ index_place [] k z h = absurd (omega (arith, h))
 index_place (q ∷ ps) zero z h = refl
 index_place (q ∷ ps) (suc k) z h = index_place ps k z (omega (arith, h))
 
+-- the end of the loop in `has_index`: no point has the index
 pub nowhere_all : (ps : List Point) (i : ℕ) (z : ℤ) → length ps ≤ i → IsNowhere ps i z
     → Contains (map (λ p. p.index) ps) z → ⊥
 nowhere_all ps i z l w (k, h, e) =
     let inner : k < length ps = omega (arith, h, length-map ps (λ (p : Point). p.index)) in
     w.none k (omega (arith, inner, l)) (sym (index_place ps k z inner) ∙ e)
 
+-- where a point has the index, it is among the indices of the points
 pub somewhere : (ps : List Point) (i : ℕ) (z : ℤ) (p : Point) → i < length ps → p ≡ get_or ps i p → p.index ≡ z
     → Contains (map (λ p. p.index) ps) z
 somewhere ps i z p h e q = (
@@ -328,10 +346,12 @@ pub indices_of : (n : ℕ) (ps : List Point) → map (λ q. q.index) (map (point
 indices_of n [] = refl
 indices_of n (p ∷ ps) = ap (λ (zs : List ℤ). p.index ∷ zs) (indices_of n ps)
 
+-- an option without a value is `None`
 pub none_there : (o : Option ℕ) → false ≡ is_some o → o ≡ None
 none_there None e = refl
 none_there (Some n) e = absurd (cc)
 
+-- the beginning of the loop in `read_points`: no record is read, and all remain
 pub reading_none : (cs : List CoordOf) (all : Records) → Reading cs all all [] None 0
 reading_none cs all = record { done = []; parts = refl; count = refl; few = omega arith; stands = stands_none cs }
 
@@ -367,6 +387,7 @@ reading_few cs all left ps o n e w =
     let none : length left ≡ 0 = ap length e in
     omega (arith, size, none, w.count, w.few)
 
+-- the end of the loop in `read_points`: what was found of the records read is found of all
 pub reading_all : (cs : List CoordOf) (all left : Records) (ps : List PointOf) (o : Option ℕ) (n : ℕ) → left ≡ []
     → Reading cs all left ps o n → Stands cs all ps o
 reading_all cs all left ps o n e w =
@@ -382,6 +403,7 @@ next_cut cs ps all kept p k n = record {
   new = n.new;
 }
 
+-- a record that is no point by its first fields is none by all its fields
 pub fault_cut : (cs : List CoordOf) (ps : List PointOf) (all kept : List (List ℕ)) → kept ≡ take (length cs + 2) all
     → IsNoPoint cs ps kept → IsNoPoint cs ps all
 fault_cut cs ps all kept k (inl e) = inl (sym (point_cut cs all) ∙ ap (point_in cs) (sym k) ∙ e)

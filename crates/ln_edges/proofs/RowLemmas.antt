@@ -38,6 +38,7 @@ index_more before c xs place e h k =
     rw n (take_more_set xs place c.index h ∙ ap (λ (ys : List ℤ). ys ++ c.index ∷ []) (rw e at k)
     ∙ sym (map-append (λ p. p.index) before (c ∷ [])))
 
+-- each row holds no points in its first places
 pub holds_none : (n : ℕ) (r : code.Row) → Holds n [] r
 holds_none n r = record { index = refl; values = let z : 0 * n ≡ 0 = omega arith in ap (λ (k : ℕ). take k r.values) z }
 
@@ -88,6 +89,7 @@ values_kept before xs zs place n e l k =
     ∙ take-take (place * n) (place * n) xs (omega arith) in
     rw e (seam ∙ rw e at k)
 
+-- a point written after those that a row holds leaves them in the row
 pub holds_kept : (n place : ℕ) (before : List PointOf) (z : ℤ) (old new : code.Row) (zs : List ℤ)
     → length before ≡ place → Holds n before old → place * n ≤ length old.values → new.index ≡ set old.index place z
     → new.values ≡ take (place * n) old.values ++ zs → Holds n before new
@@ -112,6 +114,7 @@ three_size cs =
       site_size 2 2 0 cs,
     ) (omega arith)
 
+-- each of three sites of one type has as many variables as the type has coordinates
 pub three_width : (cs : List CoordOf) → width (three_of cs) ≡ length cs
 three_width cs = ap (λ (n : ℕ). n / 3) (three_size cs) ∙ mul-div_cancel_left (length cs) (omega arith)
 
@@ -181,15 +184,18 @@ three_in_range cs ps i j k a h g f n m l =
       values = three_within cs (point_at ps i) (point_at ps j) (point_at ps k) x y z;
     }
 
+-- the row of three different points is in range for a part over three sites of their type
 pub for_in_range : (sites : ℕ) (vars : List VarInfo) (ps : List PointOf) (i j k : ℕ) → AreFor sites vars ps
     → i < length ps → j < length ps → k < length ps → i ≢ j → k ≢ i → k ≢ j
     → InRange sites vars (row_with (point_at ps i ∷ point_at ps j ∷ point_at ps k ∷ []))
 for_in_range sites vars ps i j k a h g f n m l =
     rw (a.three, a.are) (three_in_range a.type ps i j k a.points h g f n m l)
 
+-- a part over three sites of one type has at most 32 coordinates for each
 pub few : (sites : ℕ) (vars : List VarInfo) (ps : List PointOf) → AreFor sites vars ps → width vars ≤ 32
 few sites vars ps a = rw (ap width a.are ∙ three_width a.type) a.narrow
 
+-- there are as many points as are kept in memory
 pub points_size : (vars : List VarInfo) (ps : List Point) → length (points_in vars ps) ≡ length ps
 points_size vars ps = length-map ps (point_of (width vars))
 
@@ -206,6 +212,7 @@ pub plus_of : (part : Part) (row : tree.Row) (v w : Verdict) → IsVerdict part 
     → w.sign ≡ Plus → v.sign ≡ Plus
 plus_of part row v w a b e = ap (λ (x : Verdict). x.sign) (verdict-unique part row v w a b) ∙ e
 
+-- the point that is kept at a place is the point at that place
 pub point_there : (vars : List VarInfo) (ps : List Point) (k : ℕ) (d : Point) → k < length ps
     → point_of (width vars) (get_or ps k d) ≡ point_at (points_in vars ps) k
 point_there vars [] k d h = absurd (omega (arith, h))
@@ -222,6 +229,7 @@ passed_more part ps i j k f g m h x y = elim (cases_lt m k) [
       subst (λ (n : ℕ). n ≢ i → n ≢ j → IsPlusOn part ps i j n) e g x y
 ]
 
+-- where each of five sites has at most 32 coordinates, those of the first sites end within the 168 places of a row
 pub place_fits : (place n : ℕ) → place < 5 → n ≤ 32 → place * n ≤ 168
 place_fits place n h k =
     let a : place * n ≤ 5 * n = mul-le-mul_right n (omega (arith, h)) in

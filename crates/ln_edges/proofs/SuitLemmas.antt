@@ -71,6 +71,7 @@ all_points cs (r ∷ rs) [] s = absurd s
 all_points cs (r ∷ rs) (p ∷ ps) s = All-cons (IsPoint cs) p ps (is_point cs r p s.0)
     (all_points cs rs ps s.1)
 
+-- the points of records of a type are points for a part over three sites of that type
 pub points_fit : PointsSuit
 points_fit cs rs points sites vars e f narrow a =
     let w : length cs ≡ width vars = sym (ap width f ∙ three_width cs) in

@@ -14,6 +14,7 @@ every_at P [] i x e h = absurd (cc)
 every_at P (y ∷ ys) zero x e h = let q : y ≡ x = cc in subst P q h.0
 every_at P (y ∷ ys) (suc i) x e h = every_at P ys i x e h.1
 
+-- a predicate whose arguments are three sites of one type has the type's coordinates, at most 32, three times as its variables
 pub tables_three : TablesGiveThree
 tables_three t i p type w e h =
     let parts = table_parts t w in

@@ -54,6 +54,7 @@ module _ (rank : Rank) (sites : ℕ) (vars : List VarInfo) (r : Row) (ps : List 
       (record { size = omega (arith, ve.size); each = λ k p u g q. ve.each (suc k) p u (behind ps i is k p g) q }) in
       (here.0 ∷ ih.0, (one, ih.1))
 
+-- on a row of all factors the product of the signs of their verdicts is the perturbed sign of their product
 pub product-perturbed : (ps : List Part) (which : List ℕ) (r : Row) (vs : List Verdict) → All (λ i. i < length ps) which
     → IsRowOfFactors ps which r → AreVerdicts ps which r vs → IsSignOfProduct ps which r (multiplied_numbers (numbers_of vs))
 product-perturbed ps which r vs pl ro ve rank sites vars e es ov ca =

@@ -10,11 +10,13 @@ use Rattle.ln_due.specs.Due.{Due}
 use Rattle.ln_due.proofs.Verdicts.Composition.{verdicts-due}
 use Rattle.ln_graded.specs.Graded.{GradedIsDue, GradedListsAreOne}
 
+-- the verdict of a program by total degree is the one that a row in range requires in that order of infinitesimals
 pub graded-due : GradedIsDue
 graded-due s f p q e row does v g k inputs normal range filtering verdict =
     subst (λ (z : Shape). Due ByDegree does z.vars e row v) g.shape
     (verdicts-due ByDegree q e (terms_of (length s.vars) f) row does v (programs-run q k) (g.carries e inputs normal)
     (subst (λ (z : Shape). InRange z.sites z.vars row) (sym g.shape) range) filtering verdict)
 
+-- a polynomial has at most one set of stage lists by total degree
 pub one-list : GradedListsAreOne
 one-list s f xs ys a b = lists-one ByDegree s.sites s.vars f xs ys s.kept a b

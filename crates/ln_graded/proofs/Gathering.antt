@@ -64,6 +64,7 @@ blocks-more vars f own exps i old blocks c a l q e x b s h =
     } in
     subst (λ (ys : List Pairs). AreBlocksOf vars f own ys blocks) t (subst (λ (bs : List Code). AreBlocksOf vars f own (take i exps ++ a ∷ []) bs) (sym e) one)
 
+-- the end of the loop in `blocks`: there is a block for each of the exponents
 pub blocks-end : (vars : List VarInfo) (f : Sparse) (own : Code) (exps : List Pairs) (i : ℕ) (blocks : List Code) → length exps ≤ i
     → AreBlocksOf vars f own (take i exps) blocks → AreBlocksOf vars f own exps blocks
 blocks-end vars f own exps i blocks l h = subst (λ (ys : List Pairs). AreBlocksOf vars f own ys blocks) (take_all i exps l) h

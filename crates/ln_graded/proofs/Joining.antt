@@ -29,6 +29,7 @@ all-at P xs i x e a = subst P (get_or_from_slice_get xs i x x e) (a i x (slice_g
 pub own-is : (s : Shape) (f : Sparse) (p : Part) (own : Code) → (b : Begins s f p) → slice_get p.blocks 0 ≡ Some own → own ≡ b.own
 own-is s f p own b e = same_Some own b.own (sym e ∙ b.first)
 
+-- a program that begins with a block has a block
 pub some-block : (s : Shape) (f : Sparse) (p : Part) → Begins s f p → 0 < length p.blocks
 some-block s f p b = slice_get_within p.blocks 0 b.own b.first
 

@@ -83,6 +83,7 @@ pub record Corners (p q : Range) (l u : ℤ) : Type 0 where
   pub low_small : unsigned_abs (kept l) ≤ most
   pub high_small : unsigned_abs (kept u) ≤ most
 
+-- where no magnitude exceeds the limit, the least and the greatest of the four products that the code forms are the product's ends
 pub corners : (p q : Range) (a b c d l u : ℤ) → magnitude p ≤ most → magnitude q ≤ most → magnitude p * magnitude q ≤ most
     → a ≡ kept p.low *ℤ kept q.low → b ≡ kept p.low *ℤ kept q.high → c ≡ kept p.high *ℤ kept q.low → d ≡ kept p.high *ℤ kept q.high
     → l ≡ least_of (kept a) (kept b) (kept c) (kept d) → u ≡ greatest_of (kept a) (kept b) (kept c) (kept d) → Corners p q l u

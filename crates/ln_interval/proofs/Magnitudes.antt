@@ -20,12 +20,15 @@ covers_magnitude p q o c = omega (arith, ints, o, c.0, c.1)
 pub covers_holds : (p q : Range) (z : ℤ) → Covers p q → Holds q z → Holds p z
 covers_holds p q z c h = (omega (arith, ints, c.0, h.0), omega (arith, ints, c.1, h.1))
 
+-- a sum's magnitude is at most the sum of the magnitudes
 pub sum_magnitude : (p q : Range) → magnitude (sum p q) ≤ magnitude p + magnitude q
 sum_magnitude p q = omega (arith, ints)
 
+-- a difference's magnitude is at most the sum of the magnitudes
 pub difference_magnitude : (p q : Range) → magnitude (difference p q) ≤ magnitude p + magnitude q
 difference_magnitude p q = omega (arith, ints)
 
+-- the opposite has the same magnitude
 pub opposite_magnitude : (p : Range) → magnitude (opposite p) ≡ magnitude p
 opposite_magnitude p = omega (arith, ints)
 
@@ -122,12 +125,14 @@ four_max a b c d =
     reached m n (inr e) (inl f) = rw (e, f) (omega arith)
     reached m n (inr e) (inr f) = rw (e, f) (omega arith)
 
+-- a product's magnitude is the product of the magnitudes
 pub product_magnitude : (p q : Range) → magnitude (product p q) ≡ magnitude p * magnitude q
 product_magnitude p q =
     four_abs (p.low *ℤ q.low) (p.low *ℤ q.high) (p.high *ℤ q.low) (p.high *ℤ q.high)
     ∙ rw (unsigned_abs-mul p.low q.low, unsigned_abs-mul p.low q.high, unsigned_abs-mul p.high q.low, unsigned_abs-mul p.high q.high)
     (four_max (unsigned_abs p.low) (unsigned_abs p.high) (unsigned_abs q.low) (unsigned_abs q.high))
 
+-- a power's magnitude is the power of the magnitude
 pub power_magnitude : (p : Range) (n : ℕ) → magnitude (power p n) ≡ magnitude p ^ n
 power_magnitude p zero = rw pow-zero (omega (arith, ints))
 power_magnitude p (suc n) = product_magnitude (power p n) p ∙ ap (λ m. m * magnitude p) (power_magnitude p n) ∙ sym (pow-suc (magnitude p) n)
@@ -136,12 +141,15 @@ power_magnitude p (suc n) = product_magnitude (power p n) p ∙ ap (λ m. m * ma
 pub sum_ordered : (p q : Range) → IsOrdered p → IsOrdered q → IsOrdered (sum p q)
 sum_ordered p q h g = omega (arith, ints, h, g)
 
+-- a difference of ordered ranges is ordered
 pub difference_ordered : (p q : Range) → IsOrdered p → IsOrdered q → IsOrdered (difference p q)
 difference_ordered p q h g = omega (arith, ints, h, g)
 
+-- the opposite of an ordered range is ordered
 pub opposite_ordered : (p : Range) → IsOrdered p → IsOrdered (opposite p)
 opposite_ordered p h = omega (arith, ints, h)
 
+-- a product is ordered, whatever the two ranges are
 pub product_ordered : (p q : Range) → IsOrdered (product p q)
 product_ordered p q = four (p.low *ℤ q.low) (p.low *ℤ q.high) (p.high *ℤ q.low) (p.high *ℤ q.high)
   where
@@ -151,6 +159,7 @@ product_ordered p q = four (p.low *ℤ q.low) (p.low *ℤ q.high) (p.high *ℤ q
         (le_then (least_of a b c d) (int_min a b) (int_max a b) (min_left (int_min a b) (int_min c d)) (min_max a b))
         (max_left (int_max a b) (int_max c d))
 
+-- a power is ordered, whatever the range is
 pub power_ordered : (p : Range) (n : ℕ) → IsOrdered (power p n)
 power_ordered p zero = omega (arith, ints)
 power_ordered p (suc n) = product_ordered (power p n) p

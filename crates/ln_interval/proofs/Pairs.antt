@@ -8,12 +8,15 @@ use Rattle.ln_interval.specs.Number.{power as power_of}
 use Rattle.ln_interval.specs.Range.{Range, Holds, sum, difference, opposite, product, power}
 use Rattle.ln_interval.proofs.Signs.{between}
 
+-- the sum of values in two ranges is in the sum of the ranges
 pub sum_holds : (p q : Range) (x y : ℤ) → Holds p x → Holds q y → Holds (sum p q) (x +ℤ y)
 sum_holds p q x y h g = (omega (arith, ints, h.0, g.0), omega (arith, ints, h.1, g.1))
 
+-- the difference of values in two ranges is in the difference of the ranges
 pub difference_holds : (p q : Range) (x y : ℤ) → Holds p x → Holds q y → Holds (difference p q) (x -ℤ y)
 difference_holds p q x y h g = (omega (arith, ints, h.0, g.1), omega (arith, ints, h.1, g.0))
 
+-- the opposite of a value in a range is in the opposite of the range
 pub opposite_holds : (p : Range) (x : ℤ) → Holds p x → Holds (opposite p) (neg_ℤ x)
 opposite_holds p x h = (omega (arith, ints, h.1), omega (arith, ints, h.0))
 
@@ -26,6 +29,7 @@ join : (z r s a b c d : ℤ) → int_min r s ≤ℤ z → z ≤ℤ int_max r s �
     → (int_min (int_min a b) (int_min c d) ≤ℤ z) × (z ≤ℤ int_max (int_max a b) (int_max c d))
 join z r s a b c d h1 h2 h3 h4 h5 h6 = (omega (arith, ints, clamps, h1, h3, h5), omega (arith, ints, clamps, h2, h4, h6))
 
+-- the product of values in two ranges is in the product of the ranges
 pub product_holds : (p q : Range) (x y : ℤ) → Holds p x → Holds q y → Holds (product p q) (x *ℤ y)
 product_holds p q x y h g =
     let m = between p.low x p.high y h.0 h.1 in
@@ -33,6 +37,7 @@ product_holds p q x y h g =
     let r = between_left p.high q.low y q.high g.0 g.1 in
     join (x *ℤ y) (p.low *ℤ y) (p.high *ℤ y) (p.low *ℤ q.low) (p.low *ℤ q.high) (p.high *ℤ q.low) (p.high *ℤ q.high) m.0 m.1 l.0 l.1 r.0 r.1
 
+-- a power of a value in a range is in the same power of the range
 pub power_holds : (p : Range) (n : ℕ) (x : ℤ) → Holds p x → Holds (power p n) (power_of x n)
 power_holds p zero x h = (omega (arith, ints), omega (arith, ints))
 power_holds p (suc n) x h = product_holds (power p n) p (power_of x n) x (power_holds p n x h) h

@@ -67,6 +67,7 @@ comment_nearer {bytes = bytes} {rest = rest} {at = at} s r e w =
     let long = ap length r ∙ length-drop at bytes in
     omega (arith, long, e, w, s.within)
 
+-- the place after a blank is nearer to the end
 pub blank_nearer : (bytes : List ℕ) (at : ℕ) {rest : List ℕ} {b : Bool} → rest ≡ drop at bytes → b ≡ begins_blank rest → b ≡ true
     → length bytes - (at + 1) < length bytes - at
 blank_nearer bytes at {rest = rest} r e t =

@@ -101,5 +101,6 @@ token_nearer bytes at g w r f = omega (arith, w, f.some, token_within bytes (at 
 pub fits_32 : (bytes : List ℕ) (n : ℕ) → n ≤ length bytes → length bytes ≤ 1048576 → Fits w32 n
 fits_32 bytes n w s = omega (arith, w, s)
 
+-- places within a source fit 64 bits
 pub fits_64 : (bytes : List ℕ) (n : ℕ) → n ≤ length bytes → length bytes ≤ 1048576 → Fits w64 n
 fits_64 bytes n w s = omega (arith, w, s)

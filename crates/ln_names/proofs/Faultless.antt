@@ -51,10 +51,12 @@ in_order (pos a) (negsuc b) h = absurd (cc)
 in_order (negsuc a) (pos b) h = omega (arith, ints)
 in_order (negsuc a) (negsuc b) h = let q = ltb-false a b h in omega (arith, ints, q)
 
+-- where no token of one list followed by another has a fault, none of either list has
 pub clean_append : (bytes : List ℕ) (vs ws : List Visit) → Clean bytes (vs ++ ws) → Clean bytes vs × Clean bytes ws
 clean_append bytes [] ws c = (tt, c)
 clean_append bytes (v ∷ vs) ws c = let r = clean_append bytes vs ws c.1 in ((c.0, r.0), r.1)
 
+-- where no token of a list's elements has a fault, none of any element has, after the elements before it
 pub clean_each : {A : Type 0} (bytes : List ℕ) (f : List A → A → List Visit) (before xs : List A) → Clean bytes (visits_by f before xs)
     → Each (λ b x. Clean bytes (f b x)) before xs
 clean_each bytes f before [] c = tt
@@ -265,6 +267,7 @@ pred_counted bytes ts before (SiteItem name cs) c q = absurd (cc)
 pred_counted bytes ts before (ParamItem name r) c q = absurd (cc)
 pred_counted bytes ts before (PredItem name args ls root) c q = (rows_three _ _ _ _ _ _ c.0).1
 
+-- a file without a fault is within the limits, and its names are known and its own
 pub faultless_is_within : (bytes : List ℕ) (ts : List Token) (is : List Item) → NoFault bytes ts is → FileWithin bytes ts is
 faultless_is_within bytes ts is c =
     let e = clean_each bytes (item_visits ts) [] is c in

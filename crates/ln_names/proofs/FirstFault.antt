@@ -28,6 +28,7 @@ found : (bytes : List ℕ) (v : Visit) (vs : List Visit) (f : Found) (o : Option
 found bytes v vs f None e h on = later bytes v vs f e (on h)
 found bytes v vs f (Some a) e h on = here bytes v vs a f e h
 
+-- the fault that the fold finds is the first one
 pub is_first : (bytes : List ℕ) (vs : List Visit) (f : Found) → first_fault bytes vs ≡ Some f → IsFirst bytes vs f
 is_first bytes [] f h = absurd (cc)
 is_first bytes (v ∷ vs) f h = found bytes v vs f (fault_at bytes v.use_of v.at) refl h (is_first bytes vs f)
@@ -37,14 +38,17 @@ clean_at : (bytes : List ℕ) (v : Visit) (vs : List Visit) (o : Option Fault) �
 clean_at bytes v vs None e h on = (e, on h)
 clean_at bytes v vs (Some a) e h on = absurd (cc)
 
+-- where the fold finds none, no token has a fault
 pub is_clean : (bytes : List ℕ) (vs : List Visit) → first_fault bytes vs ≡ None → Clean bytes vs
 is_clean bytes [] h = tt
 is_clean bytes (v ∷ vs) h = clean_at bytes v vs (fault_at bytes v.use_of v.at) refl h (is_clean bytes vs)
 
+-- where no token has a fault, the fold finds none
 pub none_of_clean : (bytes : List ℕ) (vs : List Visit) → Clean bytes vs → first_fault bytes vs ≡ None
 none_of_clean bytes [] h = refl
 none_of_clean bytes (v ∷ vs) h = rw h.0 (none_of_clean bytes vs h.1)
 
+-- the first fault is the one that the fold finds
 pub first_of : (bytes : List ℕ) (vs : List Visit) (f : Found) → IsFirst bytes vs f → first_fault bytes vs ≡ Some f
 first_of bytes vs f r =
     let a = none_of_clean bytes r.before r.clean in

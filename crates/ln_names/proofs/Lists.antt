@@ -13,10 +13,12 @@ use Rattle.ln_lex.specs.declared.token.Token.{Token}
 use Rattle.ln_syntax.specs.Raw.{Item, item, items, kind_at}
 use Rattle.ln_names.specs.Numbers.{decimal}
 
+-- whether some item passes a test is whether the item of some raw item does
 pub any_items : (p : Item → Bool) (is : List RawItem) → list_any p (items is) ≡ list_any (λ i. p (item i)) is
 any_items p [] = refl
 any_items p (i ∷ is) = ap (λ (b : Bool). p (item i) || b) (any_items p is)
 
+-- the first item that passes a test is that of the first raw item whose item passes it
 pub find_items : (p : Item → Bool) (is : List RawItem) → find p (items is) ≡ option_map item (find (λ i. p (item i)) is)
 find_items p [] = refl
 find_items p (i ∷ is) =
@@ -33,12 +35,14 @@ grows n (d ∷ ds) = omega (arith, grows (10 * n + (d - 48)) ds)
 one_of : (n c : ℕ) → (min n c ≡ n) ⊎ ((min n c ≡ c) × (c ≤ n))
 one_of n c = grind arith
 
+-- a cap on the number of the digits so far doesn't change the capped number of all digits
 pub capped : (n c : ℕ) (ds : List ℕ) → min (decimal (min n c) ds) c ≡ min (decimal n ds) c
 capped n c ds = elim (one_of n c) [
   | inl e ↦ rw e refl
   | inr e ↦ rw e.0 (omega (arith, grows c ds, grows n ds, e.1))
 ]
 
+-- the step of `number`: with one digit more, the capped number of all digits stays the same
 pub one_digit : (n c i : ℕ) (xs : List ℕ) → i < length xs
     → min (decimal (min (10 * n + (get_or xs i 0 - 48)) c) (drop (i + 1) xs)) c ≡ min (decimal n (drop i xs)) c
 one_digit n c i xs h = rw (add-one, drop-cons xs i 0) (capped (10 * n + (get_or xs i 0 - 48)) c (drop (suc i) xs))
@@ -89,9 +93,11 @@ pub any_found : {X : Type 0} (p : X → Bool) (xs : List X) (i : ℕ) (d : X) �
     → list_any p (drop i xs) ≡ list_any p xs → true ≡ list_any p xs
 any_found p xs i d l h e = sym (rw (drop-cons xs i d, h) refl) ∙ e
 
+-- a loop that looks for an element goes on: it isn't this one, so it is looked for among those after it
 pub any_on : {X : Type 0} (p : X → Bool) (xs : List X) (i : ℕ) (d : X) → i < length xs → p (get_or xs i d) ≡ false
     → list_any p (drop i xs) ≡ list_any p xs → list_any p (drop (i + 1) xs) ≡ list_any p xs
 any_on p xs i d l h e = rw add-one (sym (rw (drop-cons xs i d, h) refl) ∙ e)
 
+-- a loop that looks for an element ends without one: there is none
 pub any_none : {X : Type 0} (p : X → Bool) (xs : List X) (i : ℕ) → length xs ≤ i → list_any p (drop i xs) ≡ list_any p xs → false ≡ list_any p xs
 any_none p xs i l e = sym (ap (list_any p) (drop_all i xs l)) ∙ e

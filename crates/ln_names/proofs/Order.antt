@@ -114,5 +114,6 @@ items_along before (an_item {x = x} d rest) =
     let e = items_along (before ++ (x ∷ [])) rest in
     join (item_along before d) e
 
+-- each NAME and each NUMBER of a file that is spelt by the grammar is judged, in order of the text
 pub judges_in_order : (ts : List Token) (xs : List Item) → Spelt ts xs → Along ts 0 (length ts) (visits_by (item_visits ts) [] xs)
 judges_in_order ts xs d = items_along [] d

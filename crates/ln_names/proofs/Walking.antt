@@ -18,6 +18,7 @@ use Rattle.ln_names.specs.Rules.{fault_at, Scope, scope}
 use Rattle.ln_names.specs.Visits.{Visit, or_later, first_fault, visits_by, expr_visits, token_visits, role_at, is_node_at, nodes}
 use Rattle.ln_names.specs.Visits.{arg_visits, let_visits, value_visits, nodes_before, value_nodes, pred_visits, item_visits, file_visits}
 
+-- the fault that comes first, or else the later one
 abbrev pub first_or : Option Found → Option Found → Option Found
 first_or None later = later
 first_or (Some f) later = Some f
@@ -26,6 +27,7 @@ later_or : (o : Option Fault) (at : Span) (x y : Option Found) → or_later o at
 later_or None at x y = refl
 later_or (Some f) at x y = refl
 
+-- the first fault of one list followed by another is that of the first list, or else that of the second
 pub first_append : (bytes : List ℕ) (vs ws : List Visit) → first_fault bytes (vs ++ ws) ≡ first_or (first_fault bytes vs) (first_fault bytes ws)
 first_append bytes [] ws = refl
 first_append bytes (v ∷ vs) ws =
@@ -36,6 +38,7 @@ first_append bytes (v ∷ vs) ws =
 abbrev pub Left : {A : Type 0} → List ℕ → (List A → A → List Visit) → List A → ℕ → Type 0
 Left bytes f xs i = first_fault bytes (visits_by f (take i xs) (drop i xs)) ≡ first_fault bytes (visits_by f [] xs)
 
+-- the first fault from an element on is the element's, or else that of the elements after it
 pub unrolled : {A : Type 0} (bytes : List ℕ) (f : List A → A → List Visit) (xs : List A) (i : ℕ) (d : A) → i < length xs →
     first_fault bytes (visits_by f (take i xs) (drop i xs))
     ≡ first_or (first_fault bytes (f (take i xs) (get_or xs i d))) (first_fault bytes (visits_by f (take (suc i) xs) (drop (suc i) xs)))
@@ -44,6 +47,7 @@ unrolled bytes f xs i d h =
     let t = take-suc xs i d h in
     rw (e, t) (first_append bytes (f (take i xs) (get_or xs i d)) (visits_by f (take i xs ++ (get_or xs i d ∷ [])) (drop (suc i) xs)))
 
+-- the step of a loop over elements: after one without a fault, the fault of the remaining elements is still that of all
 pub walked : {A : Type 0} (bytes : List ℕ) (f : List A → A → List Visit) (xs : List A) (i : ℕ) (d : A) → i < length xs → Left bytes f xs i
     → first_fault bytes (f (take i xs) (get_or xs i d)) ≡ None → Left bytes f xs (i + 1)
 walked bytes f xs i d h l n =
@@ -51,6 +55,7 @@ walked bytes f xs i d h l n =
     let w = rw n at u in
     rw add-one (sym w ∙ l)
 
+-- the end of a loop over elements at one with a fault: it is the first fault of all
 pub stopped : {A : Type 0} (bytes : List ℕ) (f : List A → A → List Visit) (xs : List A) (i : ℕ) (d : A) (x : Found) → i < length xs
     → Left bytes f xs i → first_fault bytes (f (take i xs) (get_or xs i d)) ≡ Some x → first_fault bytes (visits_by f [] xs) ≡ Some x
 stopped bytes f xs i d x h l n =
@@ -77,6 +82,7 @@ token_unrolled bytes ts s n k to h =
     rw (next_token ts s n k to h)
     (first_append bytes (token_visits ts s n k (role_at ts k)) (expr_visits ts s (n + is_node_at (role_at ts k)) (k + 1) (to - (k + 1))))
 
+-- the step of `value_fault`: after a token without a fault, the fault of the remaining tokens is the same
 pub token_walked : (bytes : List ℕ) (ts : List Token) (s : Scope) (n m k to : ℕ) (x : Option Found) → k < to →
     first_fault bytes (expr_visits ts s n k (to - k)) ≡ x →
     first_fault bytes (token_visits ts s n k (role_at ts k)) ≡ None → m ≡ n + is_node_at (role_at ts k) →
@@ -86,6 +92,7 @@ token_walked bytes ts s n m k to x h l f q =
     let w = rw f at u in
     rw q (sym w ∙ l)
 
+-- the end of `value_fault` at a token with a fault: it is the fault of the remaining tokens
 pub token_stopped : (bytes : List ℕ) (ts : List Token) (s : Scope) (n k to : ℕ) (x : Option Found) (f : Found) → k < to →
     first_fault bytes (expr_visits ts s n k (to - k)) ≡ x →
     first_fault bytes (token_visits ts s n k (role_at ts k)) ≡ Some f → x ≡ Some f
@@ -94,10 +101,12 @@ token_stopped bytes ts s n k to x f h l e =
     let w = rw e at u in
     sym l ∙ w
 
+-- the step of `value_fault`: one token more is counted, and with the nodes of the remaining ones the count stays that of all
 pub nodes_walked : (ts : List Token) (n m k to all : ℕ) → k < to → n + nodes ts k (to - k) ≡ all → m ≡ n + is_node_at (role_at ts k)
     → m + nodes ts (k + 1) (to - (k + 1)) ≡ all
 nodes_walked ts n m k to all h l q = omega (arith, next_nodes ts k to h)
 
+-- the step of `lets_fault`: the nodes of one let more are counted
 pub nodes_more : (ts : List Token) (ls : List RawLet) (i n m : ℕ) (d : RawLet) → i < length ls → n ≡ nodes_before ts (take i ls)
     → m ≡ n + value_nodes ts (get_or ls i d).value → m ≡ nodes_before ts (take (i + 1) ls)
 nodes_more ts ls i n m d h a b =
@@ -123,6 +132,7 @@ items_at : (bytes : List ℕ) (ts : List Token) (is : List RawItem) (i : ℕ) (x
     first_fault bytes (item_visits ts (take i (items is)) (get_or (items is) i (item x))) ≡ o
 items_at bytes ts is i x e o h = rw (at_items is i x e, take-map item i is) (sym h)
 
+-- the step of `names_fault`: after an item without a fault, the fault of the remaining items is still that of all
 pub items_walked : (bytes : List ℕ) (ts : List Token) (is : List RawItem) (i : ℕ) (x : RawItem) (o : Option Found) → i < length is →
     x ≡ get_or is i x → Left bytes (item_visits ts) (items is) i →
     o ≡ first_fault bytes (item_visits ts (items (take i is)) (item x)) → o ≡ None → Left bytes (item_visits ts) (items is) (i + 1)
@@ -130,6 +140,7 @@ items_walked bytes ts is i x o h e l f n =
     let len = length-map is item in
     walked bytes (item_visits ts) (items is) i (item x) (omega arith) l (items_at bytes ts is i x e o f ∙ n)
 
+-- the end of `names_fault` at an item with a fault: it is the file's first
 pub items_stopped : (bytes : List ℕ) (ts : List Token) (is : List RawItem) (i : ℕ) (x : RawItem) (o : Option Found) (found : Found) →
     i < length is → x ≡ get_or is i x → Left bytes (item_visits ts) (items is) i →
     o ≡ first_fault bytes (item_visits ts (items (take i is)) (item x)) → o ≡ Some found → Some found ≡ first_fault bytes (file_visits ts (items is))

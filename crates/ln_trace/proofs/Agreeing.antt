@@ -66,6 +66,7 @@ module _ (s : Subject) (inputs : InputsBelow (length s.vars) s.tree) (differ : R
     right lines (Between seen left) tt (subst (λ p. Go s p lines (Between m [])) r.to g),
   )
 
+-- an agreed trace says of each record what is right
 pub agreed-right : (s : Subject) (records : Records) (lines : List TraceLine) → InputsBelow (length s.vars) s.tree → RowsDiffer s
     → IsAgreed s records lines → AreRight s records (signs_in lines)
 agreed-right s records lines inputs differ g = right s inputs differ (length records) lines (Between 0 records) tt g

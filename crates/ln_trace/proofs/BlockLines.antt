@@ -24,6 +24,7 @@ use Rattle.ln_trace.specs.Text.{text_of_line, text_of_lines}
 pub its-block : (cs : List Code) (number : ℕ) (block : Code) → number < length cs → block ≡ get_or cs number block → Contains cs block
 its-block cs number block h e = (number, h, sym e)
 
+-- the block with this number tells its exponents and its value
 pub block-tells : (p : Part) (zs : List ℤ) (number : ℕ) (block : Code) (exps : Pairs) (z : ℤ) → IsProgram p → number < length p.blocks
     → block ≡ get_or p.blocks number block → exps ≡ block.exps → IsRising exps → block_value zs block ≡ Some z → BlockTells p zs number exps z
 block-tells p zs number block exps z k h is same rising v =
@@ -63,6 +64,7 @@ other-told p zs number exps z old now new b h q r rest = record {
 pub nothing-on : (p : Part) (zs : List ℤ) (list : List ℕ) (old : List ℕ) → TellOn p zs list list old old
 nothing-on p zs list old behind t = record { lines = behind; tell = t; put = refl }
 
+-- lines that are out up to one place of a list, and then from there up to another, are out up to the other
 pub on-on : (p : Part) (zs : List ℤ) (list next rest old now new : List ℕ) → TellOn p zs list next old now → TellOn p zs next rest now new
     → TellOn p zs list rest old new
 on-on p zs list next rest old now new f g behind t =
@@ -70,6 +72,7 @@ on-on p zs list next rest old now new f g behind t =
     let b = f a.lines a.tell in
     record { lines = b.lines; tell = b.tell; put = b.put ∙ a.put }
 
+-- lines that are out up to one place, and then all from there on, are all
 pub on-told : (p : Part) (zs : List ℤ) (list next old now new : List ℕ) → TellOn p zs list next old now → IsTold p zs next now new → IsTold p zs list old new
 on-told p zs list next old now new f a =
     let b = f a.lines a.tell in
@@ -94,6 +97,7 @@ module _ (p : Part) (zs : List ℤ) (segment old now new : List ℕ) (i n : ℕ)
   pub segment-told : ((rest : List ℕ) → IsTold p zs (n ∷ rest) now new) → (rest : List ℕ) → IsTold p zs (segment ++ rest) old new
   segment-told f rest = on-told p zs (segment ++ rest) (n ∷ (drop (i + 1) segment ++ rest)) old now new (here rest) (f (drop (i + 1) segment ++ rest))
 
+-- after the last block of a segment, what is out is what the whole segment tells
 pub segment-end : (p : Part) (zs : List ℤ) (segment old now : List ℕ) (i : ℕ) → length segment ≤ i
     → ((rest : List ℕ) → TellOn p zs (segment ++ rest) (drop i segment ++ rest) old now) → (rest : List ℕ) → TellOn p zs (segment ++ rest) rest old now
 segment-end p zs segment old now i h f rest = subst (λ (y : List ℕ). TellOn p zs (segment ++ rest) (y ++ rest) old now) (drop_all i segment h) (f rest)
@@ -110,6 +114,7 @@ module _ (p : Part) (zs : List ℤ) (o segment list old now new : List ℕ) (j :
   pub list-told : ((rest : List ℕ) → IsTold p zs (segment ++ rest) now new) → IsTold p zs list old new
   list-told f = on-told p zs list (segment ++ list_from p o (j + 1)) old now new from-here (f (list_from p o (j + 1)))
 
+-- past the last segment the sign 0 ends what the list tells
 pub list-end : (p : Part) (zs : List ℤ) (o list old now new : List ℕ) (j : ℕ) → length o < j → TellOn p zs list (list_from p o j) old now
     → new ≡ now ++ text_of_line (line.Sign Zero) → IsTold p zs list old new
 list-end p zs o list old now new j h f q = on-told p zs list [] old now new (subst (λ (y : List ℕ). TellOn p zs list y old now) (list_ends p o j h) f) (record {
@@ -144,5 +149,6 @@ row-told p row n o now new size r q t = record {
   put = t.put ∙ ap (λ y. y ++ text_of_lines t.lines) q;
 }
 
+-- and so the lines of a row are appended to what was out before it
 pub told-behind : (p : Part) (row : Row) (n : ℕ) (old text new : List ℕ) → IsToldBehind p row n [] text → new ≡ old ++ text → IsToldBehind p row n old new
 told-behind p row n old text new t q = record { lines = t.lines; told = t.told; put = q ∙ ap (λ y. old ++ y) t.put }

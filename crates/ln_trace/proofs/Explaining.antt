@@ -17,6 +17,7 @@ use Rattle.ln_trace.specs.Text.{IsLine, first_line, text_of_lines}
 use Rattle.ln_trace.specs.Told.{up_to_first}
 use Rattle.ln_trace.specs.Trace.{Subject}
 
+-- whole records whose lines are within the ranges are a trace, after the first line
 pub records-trace : (ls : List TraceLine) → WholeRecords ls → Each IsLine ls → TraceText (first_line ++ text_of_lines ls) ls
 records-trace ls w p = record { trace = record { form = w; ranges = p }; text = refl }
 
@@ -89,6 +90,7 @@ all-records s n (fields ∷ records) lines h v l m e p =
     subst (λ (z : List TraceLine). IsSound z) (sym e.4)
     (one-record s n fields e.0 e.1 h v l (omega arith) e.2 q (λ g. all-records s (n + 1) records e.1 h v (omega arith) (omega arith) e.3 g))
 
+-- the lines explained of fewer than 2^32 records are a trace, where rows have stages, variables are at most 168 and values small
 pub explained-trace : (s : Subject) (records : Records) (lines : List TraceLine) → HaveStages s → length s.vars ≤ 168 → length records < 2 ^ 32 →
     AreExplained s 1 records lines → Each HasSmallValue lines → TraceText (first_line ++ text_of_lines lines) lines
 explained-trace s records lines h v m e p = let r = all-records s 1 records lines h v (omega arith) (omega arith) e p in records-trace lines r.form r.ranges

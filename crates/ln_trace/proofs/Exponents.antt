@@ -27,6 +27,7 @@ above-at v [] i d h a = absurd (omega (arith, h))
 above-at v (p ∷ ps) zero d h a = a.0
 above-at v (p ∷ ps) (suc i) d h a = above-at v ps i d (omega (arith, h)) a.1
 
+-- in exponents that rise and are of coordinates of sites, each pair may follow those before it
 pub follows-at : (vars : List VarInfo) (a : Pairs) (i : ℕ) (d : ℕ × ℕ) → IsRising a → AreOfSites vars a → i < length a
     → MayFollow vars (take i a) (get_or a i d)
 follows-at vars [] i d r s l = absurd (omega (arith, l))
@@ -42,9 +43,11 @@ pub record Read (vars : List VarInfo) (a : Pairs) (i : ℕ) (out : Pairs) : Type
   pub rising : IsRising (take i a)
   pub sites : AreOfSites vars (take i a)
 
+-- before the first pair nothing has been read
 pub read-first : (vars : List VarInfo) (a out : Pairs) → out ≡ [] → Read vars a 0 out
 read-first vars a out e = record { same = e; rising = tt; sites = tt }
 
+-- the step of the loop in `exps_of`: one pair more, which may follow
 pub read-more : (vars : List VarInfo) (a : Pairs) (i : ℕ) (out new : Pairs) (d : ℕ × ℕ) → Read vars a i out → i < length a
     → MayFollow vars out (get_or a i d) → new ≡ out ++ get_or a i d ∷ [] → Read vars a (i + 1) new
 read-more vars a i out new d h l f q =
@@ -56,10 +59,12 @@ read-more vars a i out new d h l f q =
       sites = subst (AreOfSites vars) (sym t) (sites-more vars (take i a) (get_or a i d) h.sites f.of_site);
     }
 
+-- where a pair may not follow, the exponents don't rise or aren't of coordinates of sites
 pub read-stops : (vars : List VarInfo) (a : Pairs) (i : ℕ) (out : Pairs) (d : ℕ × ℕ) → Read vars a i out → i < length a
     → (MayFollow vars out (get_or a i d) → ⊥) → IsRising a → AreOfSites vars a → ⊥
 read-stops vars a i out d h l n r s = n (subst (λ (z : Pairs). MayFollow vars z (get_or a i d)) (sym h.same) (follows-at vars a i d r s l))
 
+-- at the end of the loop in `exps_of` all pairs have been read
 pub read-end : (vars : List VarInfo) (a : Pairs) (i : ℕ) (out : Pairs) → length a ≤ i → Read vars a i out → (out ≡ a) × IsRising a × AreOfSites vars a
 read-end vars a i out l h = let t : take i a ≡ a = take_all i a l in (h.same ∙ t, subst IsRising t h.rising, subst (AreOfSites vars) t h.sites)
 
@@ -73,9 +78,11 @@ below-turn [] v i d l = absurd (omega (arith, l))
 below-turn (p ∷ a) v zero d l = (λ h. h, λ h. h)
 below-turn (p ∷ a) v (suc i) d l = below-turn a v i d (omega (arith, l))
 
+-- where a variable isn't below v, not all are
 pub below-stop : (a : Pairs) (v i : ℕ) (d : ℕ × ℕ) → i < length a → BelowDecides a v i → v ≤ (get_or a i d).0 → IsTrue false ↔ IsAbove a v
 below-stop a v i d l t n = (λ e. cc, λ h. absurd (omega (arith, n, ((below-turn a v i d l).0 (t.1 h)).0)))
 
+-- where it is, the variables that follow decide
 pub below-next : (a : Pairs) (v i : ℕ) (d : ℕ × ℕ) → i < length a → BelowDecides a v i → (get_or a i d).0 < v → BelowDecides a v (i + 1)
 below-next a v i d l t y =
     let u = below-turn a v i d l in
@@ -88,6 +95,7 @@ below-past [] v (suc i) l = tt
 below-past (p ∷ a) v zero l = absurd (omega (arith, l))
 below-past (p ∷ a) v (suc i) l = below-past a v i (omega (arith, l))
 
+-- at the end of the loop in `are_below` all are below v
 pub below-end : (a : Pairs) (v i : ℕ) → length a ≤ i → BelowDecides a v i → IsTrue true ↔ IsAbove a v
 below-end a v i l t = (λ e. t.0 (below-past a v i l), λ h. refl)
 
@@ -101,6 +109,7 @@ some-in : (vars : List VarInfo) (a e : Pairs) (o : Option Pairs) → o ≡ Some 
     → MatchOption o (IsRising a → AreOfSites vars a → ⊥) (λ x. (x ≡ a) × IsRising a × AreOfSites vars a) → (e ≡ a) × IsRising a × AreOfSites vars a
 some-in vars a e o q h = subst (λ (x : Option Pairs). MatchOption x (IsRising a → AreOfSites vars a → ⊥) (λ y. (y ≡ a) × IsRising a × AreOfSites vars a)) q h
 
+-- where `exps_of` returned exponents, they were read so
 pub was-read : (vs vars : List VarInfo) (a e : Pairs) (o : Option Pairs) → vs ≡ vars → o ≡ Some e
     → MatchOption o (IsRising a → AreOfSites vs a → ⊥) (λ x. (x ≡ a) × IsRising a × AreOfSites vs a) → WasRead vars a e
 was-read vs vars a e o v q h =

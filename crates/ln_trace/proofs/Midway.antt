@@ -150,6 +150,7 @@ pub judged-answer : (s : Subject) (records : Records) (ls : List TraceLine) (j :
 judged-answer s records ls (Agreed n) h = h.0
 judged-answer s records ls (Wrong n) h = h
 
+-- the same under another name of the number of records
 pub judged-seen : (s : Subject) (records : Records) (ls : List TraceLine) (n m : ℕ) → n ≡ m → IsJudged s records ls (Agreed m)
     → IsJudged s records ls (Agreed n)
 judged-seen s records ls n m e h = (h.0, e ∙ h.1)
@@ -157,10 +158,12 @@ judged-seen s records ls n m e h = (h.0, e ∙ h.1)
 same-count : (n m : ℕ) → Agreed n ≡ Agreed m → n ≡ m
 same-count n m e = cc
 
+-- an agreed trace has as many records as were counted
 pub judged-count : (s : Subject) (records : Records) (ls : List TraceLine) (j : Judged) (n : ℕ) → IsJudged s records ls j → j ≡ Agreed n → n ≡ length records
 judged-count s records ls (Agreed m) n h e = sym (same-count m n e) ∙ h.1
 judged-count s records ls (Wrong m) n h e = cc
 
+-- and what it says of each record is right
 pub judged-signs : (s : Shape) (e : Tree) (f : Sparse) (records : Records) (ls : List TraceLine) (j : Judged) (n : ℕ) → HasPoly s e f
     → IsJudged (subject_of s e) records ls j → j ≡ Agreed n → AreRight (subject_of s e) records (signs_in ls)
 judged-signs s e f records ls (Agreed m) n p h q =

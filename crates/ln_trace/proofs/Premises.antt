@@ -43,6 +43,7 @@ beside-all P (q ∷ ps) (s ∷ ss) p h = go (same_vector q p) (beside-all P ps s
   go true r = h 0 s (omega arith)
   go false r = r
 
+-- the numbers in each segment are those of stages
 pub case-numbers : (s : Shape) (f : Sparse) (st : Staged) → IsCase s f st → (q : List ℕ) → All (λ i. i < length st.exps) (segment_of st q)
 case-numbers s f st h q = beside-all (λ i. i < length st.exps) (prefixes_of st.sites) st.segments q h.stages.segments.numbers
 
@@ -53,6 +54,7 @@ exps-above n exps h i = by_case (cases_lt i (length exps)) where
   by_case (inl l) = h i [] l
   by_case (inr l) = subst (λ (e : Pairs). IsAbove e n) (sym (get_or_past exps i [] l)) tt
 
+-- the variables in the exponents of each remaining stage are below the number of variables
 pub case-above : (s : Shape) (f : Sparse) (st : Staged) → IsCase s f st → (o : List ℕ) (p : Spot) → All (λ b. IsAbove b (length s.vars)) (left_at st o p)
 case-above s f st h o p = each (numbers_at st o p.sites p.at) where
   each : (list : List ℕ) → All (λ b. IsAbove b (length s.vars)) (exps_at st list)
@@ -116,6 +118,7 @@ site-within [] v h = cc
 site-within (x ∷ vars) zero h = omega arith
 site-within (x ∷ vars) (suc v) h = omega (arith, site-within vars v h)
 
+-- coordinates of sites are below the number of variables
 pub sites-above : (vars : List VarInfo) (a : Pairs) → AreOfSites vars a → IsAbove a (length vars)
 sites-above vars [] h = tt
 sites-above vars (x ∷ a) h = (site-within vars x.0 h.0, sites-above vars a h.1)
@@ -130,6 +133,7 @@ none-there vars v [] h e = refl
 none-there vars v (p ∷ a) h e =
     omega (arith, power-apart v p (λ (q : p.0 ≡ v). site-some vars p.0 h.0 (subst (λ (w : ℕ). site_of vars w ≡ None) (sym q) e)), none-there vars v a h.1 e)
 
+-- and the vector of their exponents is one over the variables of sites
 pub sites-over : (vars : List VarInfo) (index : List ℤ) (a : Pairs) → AreOfSites vars a → IsOver (length vars) (row_sites vars index) (vector (length vars) a)
 sites-over vars index a h = record { size = vector-length (length vars) a; of_sites = λ v e. by_case v e (cases_lt v (length vars)) } where
   by_case : (v : ℕ) → site_of vars v ≡ None → (v < length vars) ⊎ (length vars ≤ v) → get_or (vector (length vars) a) v 0 ≡ 0
@@ -140,5 +144,6 @@ sites-over vars index a h = record { size = vector-length (length vars) a; of_si
 pub size-at : (s : Shape) (st : Staged) (d : Desk) → IsAtRow s st d → length (order_places d.order) ≡ s.sites
 size-at s st d at = at.order.size ∙ at.range.size
 
+-- the order that is held has a place for each site of the stages
 pub size-staged : (s : Shape) (f : Sparse) (st : Staged) (d : Desk) → IsCase s f st → IsAtRow s st d → length (order_places d.order) ≡ st.sites
 size-staged s f st d c at = size-at s st d at ∙ sym c.stages.sites

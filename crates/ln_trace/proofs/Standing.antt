@@ -11,6 +11,7 @@ use Rattle.ln_trace.specs.ToldLaw.{IsLeft, NoneIsEarlier}
 use Rattle.ln_trace.proofs.Telling.{first-left, first-stands, other-stands}
 use Rattle.ln_trace.specs.Stand.{IsLastOf, MayStand}
 
+-- no test is both true and false
 pub true-false : (b : Bool) → b ≡ true → b ≡ false → ⊥
 true-false b e f = cc
 
@@ -25,6 +26,7 @@ behind-some n sites (Some c) a b zero r e h (p ∷ stood) l =
       same : (c b : Pairs) → Some c ≡ Some b → c ≡ b
       same c b e = cc
 
+-- where none has stood, any vector is later
 pub behind-none : (n : ℕ) (sites : Sites) (o : Option Pairs) (a : Pairs) (zero : Bool) → o ≡ None → (stood : Stood)
     → IsLastOf n o zero stood → IsTrue true ↔ LastIsEarlier sites stood (vector n a)
 behind-none n sites (Some c) a zero e stood l = cc
@@ -69,10 +71,12 @@ module _ (n : ℕ) (sites : Sites) (o : Option Pairs) (zero : Bool) (a : List �
   may left z r t h none i =
       always (record { zeros = zeros-of n o zero stood last z; later = h.0 t; members = (first-left n sites e differ stood left a i).0 none })
 
+-- where the first remaining one isn't earlier, none is
 pub none-earlier : (sites : Sites) (left : List (List ℕ)) (a b : List ℕ) (rest : List (List ℕ)) → left ≡ b ∷ rest → (Earlier sites b a → ⊥)
     → NoneIsEarlier sites left a
 none-earlier sites left a b rest q h = subst (λ l. NoneIsEarlier sites l a) (sym q) h
 
+-- and where none remains, none is
 pub none-left-earlier : (sites : Sites) (left : List (List ℕ)) (a : List ℕ) → left ≡ [] → NoneIsEarlier sites left a
 none-left-earlier sites left a q = subst (λ l. NoneIsEarlier sites l a) (sym q) tt
 

@@ -44,9 +44,11 @@ use Rattle.ln_trace.proofs.Bridging.{all-from, all-to, next-may}
 use Rattle.ln_trace.proofs.Premises.{left-first, sites-over, spot-first}
 use Rattle.ln_trace.proofs.Telling.{none-left}
 
+-- false isn't true
 pub false-true : false ≡ true → ⊥
 false-true e = cc
 
+-- no test is both true and false
 pub clash : (b : Bool) → b ≡ true → b ≡ false → ⊥
 clash b e f = cc
 

@@ -27,6 +27,7 @@ joined-many : (ls : List TraceLine) → length ls ≤ length (joined (map text_o
 joined-many [] = omega arith
 joined-many (l ∷ ls) = omega (arith, text-some l, joined-many ls, length-append (text_of_line l) (joined (map text_of_line ls)))
 
+-- a trace of at most 67,108,864 bytes has at most as many lines
 pub few-lines : (read ls : List TraceLine) → read ≡ ls → IsKept ls → length read ≤ 67108864
 few-lines read ls q h = omega (arith, ap length q, h.short, ap length h.text.text, length-append first_line (joined (map text_of_line ls)), joined-many ls)
 
@@ -41,6 +42,7 @@ signs : (s : Shape) (e : Tree) (f : Sparse) (records : Records) (ls : List Trace
 signs s e f records ls (Agreed n) p h q = judged-signs s e f records ls (Agreed n) n p h refl
 signs s e f records ls (Wrong n) p h q = cc
 
+-- and where no line fails, what the trace says of each record is right
 pub whole-signs : (s : Shape) (e : Tree) (f : Sparse) (records : Records) (read ls : List TraceLine) (j : Judged) (o : Option ℕ) → HasPoly s e f
     → read ≡ ls → o ≡ fault_of j → IsJudged (subject_of s e) records read j → o ≡ None → AreRight (subject_of s e) records (signs_in ls)
 whole-signs s e f records read ls j o p q r h n =

@@ -236,5 +236,6 @@ from sites vars x =
     let l : length vars ≤ 168 = omega (arith, ap length x.are, few x.args 0 0 x.narrow, x.sites_are, x.few_sites, x.few_params) in
     rw (o, x.ranges, c, itself sites, le-leb sites 5 x.few_sites, le-leb (count_by is_param vars) 8 p, le-leb (length vars) 168 l) refl
 
+-- the test of variables in order passes exactly those of arguments
 pub variables-of-arguments : VariablesAreOfArguments
 variables-of-arguments sites vars = (to sites vars, from sites vars)

@@ -11,9 +11,11 @@ power v p = if eqb p.0 v then p.1 else 0
 apart : (x y : ℕ) → (x ≡ y → ⊥) → eqb x y ≡ false
 apart x y h = grind (arith, nat_tests)
 
+-- a pair of v adds its exponent to that of v
 pub power-here : (v : ℕ) (p : ℕ × ℕ) → p.0 ≡ v → power v p ≡ p.1
 power-here v p e = let t : eqb p.0 v ≡ true = eq-eqb p.0 v e in rw t refl
 
+-- a pair of another variable adds nothing to the exponent of v
 pub power-apart : (v : ℕ) (p : ℕ × ℕ) → (p.0 ≡ v → ⊥) → power v p ≡ 0
 power-apart v p h = let t : eqb p.0 v ≡ false = apart p.0 v h in rw t refl
 
@@ -25,6 +27,7 @@ exponent-more v (p ∷ ps) (suc i) h =
     let ih : exponent v (take (suc i) ps) ≡ exponent v (take i ps) + power v (get_or ps i (0, 0)) = rw add-one at (exponent-more v ps i (omega arith)) in
     rw add-one (omega (arith, ih))
 
+-- where all pairs are above w, so is the variable of the pair at each place
 pub above-at : (w : ℕ) (ps : Pairs) (i : ℕ) → i < length ps → AllAbove w ps → w < (get_or ps i (0, 0)).0
 above-at w [] i h a = absurd (omega arith)
 above-at w (p ∷ ps) zero h a = a.0
@@ -42,6 +45,7 @@ found v (p ∷ ps) zero r h e = omega (arith, power-here v p e, all_above-none v
 found v (p ∷ ps) (suc i) r h e =
     omega (arith, power-apart v p (λ q. absurd (omega (arith, above-at p.0 ps i (omega arith) r.2))), found v ps i r.3 (omega arith) e)
 
+-- the exponent of each of rising pairs is below 128
 pub small-at : (ps : Pairs) (i : ℕ) → IsRising ps → i < length ps → (get_or ps i (0, 0)).1 < 128
 small-at [] i r h = absurd (omega arith)
 small-at (p ∷ ps) zero r h = r.1
@@ -61,5 +65,6 @@ from-length : (n v : ℕ) (ps : Pairs) → length (exponents_from v n ps) ≡ n
 from-length zero v ps = refl
 from-length (suc n) v ps = omega (arith, from-length n (suc v) ps)
 
+-- the vector of pairs over n variables has n entries
 pub vector-length : (n : ℕ) (ps : Pairs) → length (vector n ps) ≡ n
 vector-length n ps = from-length n 0 ps

@@ -27,9 +27,11 @@ pub all_broken : {X : Type 0} (p : X → Bool) (xs : List X) (i : ℕ) (d : X) �
     → list_all p (drop i xs) ≡ list_all p xs → false ≡ list_all p xs
 all_broken p xs i d l h e = sym (rw (drop-cons xs i d, h) refl) ∙ e
 
+-- the step of a loop that tests all elements: this one passes
 pub all_on : {X : Type 0} (p : X → Bool) (xs : List X) (i : ℕ) (d : X) → i < length xs → p (get_or xs i d) ≡ true
     → list_all p (drop i xs) ≡ list_all p xs → list_all p (drop (i + 1) xs) ≡ list_all p xs
 all_on p xs i d l h e = rw add-one (sym (rw (drop-cons xs i d, h) refl) ∙ e)
 
+-- the end of a loop that tests all elements: all pass
 pub all_passed : {X : Type 0} (p : X → Bool) (xs : List X) (i : ℕ) → length xs ≤ i → list_all p (drop i xs) ≡ list_all p xs → true ≡ list_all p xs
 all_passed p xs i l e = sym (ap (list_all p) (drop_all i xs l)) ∙ e

@@ -44,11 +44,14 @@ running_size (Sub e f) = let p = running_size e in let q = running_size f in ome
 running_size (Mul e f) = mul-le _ _ _ _ (running_size e) (running_size f)
 running_size (Pow e k) = pow-le-pow_left (running_size e) k
 
+-- the absolute coefficients of a collected normal polynomial are together at most the running size
 pub sum_running : (n : ℕ) (e : Tree) (f : List Term) → InputsBelow n e → IsNormalOf n e f → IsCollected f → coefficient_sum f ≤ weight one e
 sum_running n e f i h c = let s = sum_one f in let w = weighted-normal n e f one i h c in omega (arith, s, w)
 
+-- and so at most the size
 pub sum_size : (n : ℕ) (e : Tree) (f : List Term) → InputsBelow n e → IsNormalOf n e f → IsCollected f → coefficient_sum f ≤ weight two e
 sum_size n e f i h c = let s = sum_running n e f i h c in let g = running_size e in omega (arith, s, g)
 
+-- the size is at most the weight where each variable weighs at least 2
 pub size_weight : (n : ℕ) (w : ℕ → ℕ) (e : Tree) → InputsBelow n e → ((v : ℕ) → v < n → 2 ≤ w v) → weight two e ≤ weight w e
 size_weight n w e i h = weight_more n two w e i h

@@ -61,6 +61,7 @@ pub stage_list-unique-by : (n : ℕ) (sites : Sites) (before : List ℕ → List
 stage_list-unique-by n sites before order M xs ys s t =
     sorted-same n sites before order xs ys s.in_order t.in_order (λ a i. t.all a (s.stages a i)) (λ a i. s.all a (t.stages a i))
 
+-- and so are two stage lists of an expression
 pub stage_list-unique-in : (n : ℕ) (sites : Sites) (before : List ℕ → List ℕ → Type 0) → IsAdmissible n sites before
     → (e : Tree) (xs ys : List (List ℕ)) → IsStageListIn before n sites e xs → IsStageListIn before n sites e ys → xs ≡ ys
 stage_list-unique-in n sites before order e = stage_list-unique-by n sites before order (IsMonomial n e)

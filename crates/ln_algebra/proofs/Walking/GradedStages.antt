@@ -24,11 +24,13 @@ zero-total : (a : List ℕ) → ((u : ℕ) → get_or a u 0 ≡ 0) → total_deg
 zero-total [] h = refl
 zero-total (x ∷ a) h = omega (arith, h 0, zero-total a (λ u. h (suc u)))
 
+-- the total degree is that of the vector with the exponent of v set to 0, plus that exponent
 pub total-set : (a : List ℕ) (v : ℕ) → v < length a → total_degree (set a v 0) + get_or a v 0 ≡ total_degree a
 total-set [] v l = absurd (omega (arith, l))
 total-set (x ∷ a) zero l = omega arith
 total-set (x ∷ a) (suc v) l = omega (arith, total-set a v (omega (arith, l)))
 
+-- the degree on some variables stays where the exponent of another variable is set to 0
 pub degree_on-set : (vs a : List ℕ) (v : ℕ) → Fresh v vs → degree_on vs (set a v 0) ≡ degree_on vs a
 degree_on-set [] a v f = refl
 degree_on-set (u ∷ vs) a v f = omega (arith, get_or-set_other a v u 0 0 (λ q. f.0 (sym q)), degree_on-set vs a v f.1)

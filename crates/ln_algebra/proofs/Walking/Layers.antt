@@ -173,6 +173,7 @@ steps-none v vs ms p whole go h low (suc k) e q =
     unless_none-same (at_least v e ms) (before (go k (at_least v e ms) (set p v e)) (steps_at go v ms p k (suc e)))
     (before-none (go k (at_least v e ms) (set p v e)) (steps_at go v ms p k (suc e)) r s)
 
+-- where no vector reaches the degree on these variables, the walk of that degree lists nothing and isn't cut
 pub walk-none : (vs : List ℕ) (d : ℕ) (ms : List (List ℕ)) (p : List ℕ) → NoneReaches d vs ms → walk_at vs d ms p ≡ ([], false)
 walk-none [] (suc d) ms p low = refl
 walk-none [] zero [] p low = refl
@@ -184,9 +185,11 @@ walk-none (v ∷ vs) d ms p low = steps-none v vs ms p d (walk_at vs) (walk-none
 abbrev pub Graded : List ℕ → List ℕ → List ℕ → Type 0
 Graded vs a b = (degree_on vs a < degree_on vs b) ⊎ ((degree_on vs a ≡ degree_on vs b) × Lex vs a b)
 
+-- a is p but for the variables vs, whose exponents sum up to at least d
 abbrev pub FromDegree : List ℕ → ℕ → List ℕ → List ℕ → Type 0
 FromDegree vs d p a = Region vs p a × (d ≤ degree_on vs a)
 
+-- where each vector's degree is below the limit, the layers from d up to it list the covered vectors from degree d on, up to the cut
 pub listing-layers : (vs : List ℕ) (ms : List (List ℕ)) (p : List ℕ) (limit : ℕ) → Distinct vs → Inside vs (length p) →
     DegreesBelow limit vs ms → (k d : ℕ) → k + d ≡ limit →
     Listing (Graded vs) (FromDegree vs d p) (walk_of.Covered vs ms) (Last vs ms) (layers k d vs ms p).0 (layers k d vs ms p).1

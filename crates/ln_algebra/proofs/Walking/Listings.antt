@@ -45,6 +45,7 @@ pub record Same (before before' : List ℕ → List ℕ → Type 0) (here here' 
   pub order_to : (a b : List ℕ) → here a → here b → before a b → before' a b
   pub order_from : (a b : List ℕ) → here a → here b → before' a b → before a b
 
+-- a listing of a region is one of the same region said in another way
 pub listing-moves : (before before' : List ℕ → List ℕ → Type 0) (here here' covered covered' last last' : List ℕ → Type 0)
     (found : List (List ℕ)) (stop : Bool) → Same before before' here here' covered covered' last last'
     → Listing before here covered last found stop → Listing before' here' covered' last' found stop

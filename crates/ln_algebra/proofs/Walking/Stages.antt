@@ -168,6 +168,7 @@ module _ (before : List ℕ → List ℕ → Type 0) (n : ℕ) (sites : Sites) (
     before_cut = λ b o l r. s.before_cut b o (cut-to b l) r;
   }
 
+-- and so a stage list over one of two such sets is one over the other
 pub stage_list-to : (before : List ℕ → List ℕ → Type 0) (n : ℕ) (sites : Sites) (M N : List ℕ → Type 0) → ((m : List ℕ) → M m → N m)
     → ((m : List ℕ) → N m → M m) → (list : List (List ℕ)) → IsStageListBy before n sites M list → IsStageListBy before n sites N list
 stage_list-to before n sites M N to from list s = record {

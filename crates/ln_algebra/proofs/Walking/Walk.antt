@@ -74,6 +74,7 @@ pub record Region (vs p a : List ℕ) : Type 0 where
 abbrev pub Covered : List ℕ → List (List ℕ) → List ℕ → Type 0
 Covered vs ms a = (m : List ℕ) × In ms m × CoversOn vs m a
 
+-- a is one of the vectors, and no other of them covers it on these variables
 pub record Last (vs : List ℕ) (ms : List (List ℕ)) (a : List ℕ) : Type 0 where
   pub here : In ms a
   pub only : (m : List ℕ) → In ms m → CoversOn vs m a → m ≡ a

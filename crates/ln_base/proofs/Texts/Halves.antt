@@ -30,6 +30,7 @@ around stop (b ∷ bs) h = by (b == stop) (eqb-true b stop) h (around stop bs)
     by true e h f = ap (λ x. x ∷ bs) (e refl)
     by false e h f = ap (λ x. b ∷ x) (f (omega arith))
 
+-- a word is what is before its first `^`, the `^` and what is after it, and no `^` is in the first part
 pub cut_here : (w a b : List ℕ) (hat : ℕ) → hat ≡ 0 + span_to 94 (drop 0 w) → hat < length w → a ≡ take (hat - 0) (drop 0 w)
     → b ≡ drop (hat + 1) w → (w ≡ a ++ 94 ∷ b) × (span_to 94 a ≡ length a)
 cut_here w a b hat e h p q =
@@ -74,23 +75,28 @@ has_hat (c ∷ a) b h = has_hat a b (tail_free 94 c (a ++ 94 ∷ b) h).1
 pub no_hat : (w : List ℕ) → span_to 94 w ≡ length w → (p : ℕ × ℕ) → IsExponent p → w ≡ exponent_word p → ⊥
 no_hat w h p q e = has_hat (decimal p.0) (decimal p.1) (subst (λ (x : List ℕ). span_to 94 x ≡ length x) e h)
 
+-- where an exponent's word is cut at its first `^`, the parts are the texts of the variable and of the exponent
 pub parts : (w a b : List ℕ) (p : ℕ × ℕ) → w ≡ a ++ 94 ∷ b → span_to 94 a ≡ length a → IsExponent p → w ≡ exponent_word p
     → (a ≡ decimal p.0) × (b ≡ decimal p.1)
 parts w a b p s f q e = same_cut 94 a b (decimal p.0) (decimal p.1) (sym s ∙ e) f (decimal_free p.0 (omega (arith, q.0)))
 
+-- a word whose part before the first `^` is no number up to 167 is no exponent
 pub no_left : (w a b : List ℕ) → w ≡ a ++ 94 ∷ b → span_to 94 a ≡ length a → ((n : ℕ) → n ≤ 167 → a ≡ decimal n → ⊥) → (p : ℕ × ℕ)
     → IsExponent p → w ≡ exponent_word p → ⊥
 no_left w a b s f g p q e = g p.0 q.0 (parts w a b p s f q e).0
 
+-- a word whose part after the first `^` is no number up to 127 is no exponent
 pub no_right : (w a b : List ℕ) → w ≡ a ++ 94 ∷ b → span_to 94 a ≡ length a → ((n : ℕ) → n ≤ 127 → b ≡ decimal n → ⊥) → (p : ℕ × ℕ)
     → IsExponent p → w ≡ exponent_word p → ⊥
 no_right w a b s f g p q e = g p.1 q.2 (parts w a b p s f q e).1
 
+-- a word whose part after the first `^` is 0 is no exponent
 pub no_power : (w a b : List ℕ) (n : ℕ) → w ≡ a ++ 94 ∷ b → span_to 94 a ≡ length a → b ≡ decimal n → n ≡ 0 → (p : ℕ × ℕ) → IsExponent p
     → w ≡ exponent_word p → ⊥
 no_power w a b n s f d z p q e =
     omega (arith, q.1, decimal_injective p.1 0 (omega (arith, q.2)) (omega arith) (sym (parts w a b p s f q e).1 ∙ d ∙ ap decimal z))
 
+-- exponents with the same word are the same
 pub same_exponent : (p q : ℕ × ℕ) → IsExponent p → IsExponent q → exponent_word p ≡ exponent_word q → p ≡ q
 same_exponent p q a b e =
     let h = same_cut 94 (decimal p.0) (decimal p.1) (decimal q.0) (decimal q.1) e (decimal_free p.0 (omega (arith, a.0)))

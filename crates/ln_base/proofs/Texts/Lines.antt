@@ -9,6 +9,7 @@ use Rattle.ln_base.specs.Lines.{is_plain, joined, lines, onto, parted, span_to}
 use Rattle.ln_base.proofs.Texts.Lists.{head, rest}
 use Rattle.ln_base.proofs.Texts.Words.{ArePlain, lines_first}
 
+-- from a place on, the first line goes to the next line feed or to the end, and the other lines begin after it
 pub line_at : (bs : List ℕ) (at end : ℕ) → at < length bs → end ≡ at + span_to 10 (drop at bs)
     → lines (drop at bs) ≡ take (suc (end - at)) (drop at bs) ∷ lines (drop (end + 1) bs)
 line_at bs at end h e =
@@ -20,6 +21,7 @@ line_at bs at end h e =
     drop-drop (suc (end - at)) at bs ∙ ap (λ n. drop n bs) {x = at + suc (end - at)} {y = end + 1} (omega arith) in
     f ∙ ap (λ n. take (suc n) (drop at bs) ∷ lines (drop (suc n) (drop at bs))) s ∙ ap (λ x. take (suc (end - at)) (drop at bs) ∷ lines x) d
 
+-- of a text with a line feed, the bytes up to and with the first one are those before it and a line feed
 pub feed : (xs : List ℕ) → span_to 10 xs < length xs → take (suc (span_to 10 xs)) xs ≡ take (span_to 10 xs) xs ++ (10 ∷ [])
 feed [] h = absurd (omega arith)
 feed (b ∷ bs) h = by (b == 10) (eqb-true b 10) h (feed bs)
@@ -30,6 +32,7 @@ feed (b ∷ bs) h = by (b == 10) (eqb-true b 10) h (feed bs)
     by true e h f = ap (λ x. x ∷ []) (e refl)
     by false e h f = ap (λ x. b ∷ x) (f (omega arith))
 
+-- a line that ends at a line feed is its body and that line feed
 pub with_feed : (bs : List ℕ) (at end : ℕ) (body : List ℕ) → end ≡ at + span_to 10 (drop at bs) → end < length bs
     → body ≡ take (end - at) (drop at bs) → take (suc (end - at)) (drop at bs) ≡ body ++ (10 ∷ [])
 with_feed bs at end body e h q =
@@ -37,6 +40,7 @@ with_feed bs at end body e h q =
     let l : length (drop at bs) ≡ length bs - at = simp length-drop in
     rw (q, s) (feed (drop at bs) (omega arith))
 
+-- a text that ends in a line feed has a line feed
 pub stops : (w : List ℕ) → span_to 10 (w ++ (10 ∷ [])) < length (w ++ (10 ∷ []))
 stops [] = omega arith
 stops (b ∷ bs) = by (b == 10) (stops bs)
@@ -53,10 +57,12 @@ no_line xs w n e f q =
     let d : span_to 10 xs < length xs = subst (λ (z : List ℕ). span_to 10 z < length z) (sym q ∙ a) (stops w) in
     omega arith
 
+-- a byte before the first of some texts is that byte before all of them joined
 pub onto_joined : (b : ℕ) (ts : List (List ℕ)) → joined (onto b ts) ≡ b ∷ joined ts
 onto_joined b [] = refl
 onto_joined b (t ∷ ts) = refl
 
+-- the lines of a text, joined, are the text
 pub joined_lines : (bs : List ℕ) → joined (lines bs) ≡ bs
 joined_lines [] = refl
 joined_lines (b ∷ bs) = by (b == 10) (joined_lines bs)
@@ -65,10 +71,12 @@ joined_lines (b ∷ bs) = by (b == 10) (joined_lines bs)
     by true h = ap (λ x. b ∷ x) h
     by false h = onto_joined b (lines bs) ∙ ap (λ x. b ∷ x) h
 
+-- no line feed is in it
 abbrev pub one_line : List ℕ → Bool
 one_line [] = true
 one_line (b ∷ bs) = if b == 10 then false else one_line bs
 
+-- a text without a line feed, then a line feed, is the first line of what begins so
 pub line_end : (w rest : List ℕ) → one_line w ≡ true → lines (w ++ (10 ∷ rest)) ≡ (w ++ (10 ∷ [])) ∷ lines rest
 line_end [] rest p = refl
 line_end (b ∷ bs) rest p = by (b == 10) p (λ q. line_end bs rest q)
@@ -78,6 +86,7 @@ line_end (b ∷ bs) rest p = by (b == 10) p (λ q. line_end bs rest q)
     by true p h = absurd (cc)
     by false p h = ap (onto b) (h p)
 
+-- a plain word before a text without a line feed brings no line feed into it
 pub plain_before : (w rest : List ℕ) → is_plain w ≡ true → one_line rest ≡ true → one_line (w ++ rest) ≡ true
 plain_before [] rest p q = q
 plain_before (b ∷ bs) rest p q = by (b == 32) (b == 10) p (λ r. plain_before bs rest r q)
@@ -88,6 +97,7 @@ plain_before (b ∷ bs) rest p q = by (b == 32) (b == 10) p (λ r. plain_before 
     by false true p h = absurd (cc)
     by false false p h = h p
 
+-- no line feed is in a plain word
 pub plain_alone : (w : List ℕ) → is_plain w ≡ true → one_line w ≡ true
 plain_alone [] p = refl
 plain_alone (b ∷ bs) p = by (b == 32) (b == 10) p (λ r. plain_alone bs r)
@@ -98,6 +108,7 @@ plain_alone (b ∷ bs) p = by (b == 32) (b == 10) p (λ r. plain_alone bs r)
     by false true p h = absurd (cc)
     by false false p h = h p
 
+-- no line feed is in plain words with spaces between them
 pub parted_line : (w : List ℕ) (ws : List (List ℕ)) → ArePlain (w ∷ ws) → one_line (parted (w ∷ ws)) ≡ true
 parted_line w [] p = plain_alone w p.0
 parted_line w (x ∷ ws) p = plain_before w (32 ∷ parted (x ∷ ws)) p.0 (parted_line x ws p.1)
@@ -113,6 +124,7 @@ pub lines_of_each : {A : Type 0} (f : A → List ℕ) (P : A → Type 0) → ((x
 lines_of_each f P g [] p = refl
 lines_of_each f P g (x ∷ xs) p = g x (joined (map f xs)) p.0 ∙ ap (λ (z : List (List ℕ)). f x ∷ z) (lines_of_each f P g xs p.1)
 
+-- texts that are equal with a line feed at the end of each are equal without
 pub snoc_same : (a b : List ℕ) → a ++ (10 ∷ []) ≡ b ++ (10 ∷ []) → a ≡ b
 snoc_same [] [] e = refl
 snoc_same [] (y ∷ []) e = absurd (cc)
@@ -132,6 +144,7 @@ nat_split (suc m) (suc n) h = by (nat_split m n (omega arith))
     by (inl l) = inl (omega arith)
     by (inr e) = inr (ap suc e)
 
+-- the first elements of a list and the others after them are the list
 pub take_drop : {A : Type 0} (n : ℕ) (xs : List A) → take n xs ++ drop n xs ≡ xs
 take_drop zero xs = refl
 take_drop (suc n) [] = refl
@@ -144,6 +157,7 @@ shorter (suc m) zero ts h = absurd (omega arith)
 shorter (suc m) (suc n) [] h = refl
 shorter (suc m) (suc n) (t ∷ ts) h = ap (λ z. t ∷ z) (shorter m n ts (omega arith))
 
+-- one of two numbers is less than the other, or they are equal
 pub three : (m n : ℕ) → (m < n) ⊎ ((n < m) ⊎ (m ≡ n))
 three zero zero = inr (inr refl)
 three zero (suc n) = inl (omega arith)

@@ -21,6 +21,7 @@ line_is old a b new w f e p n =
     ∙ append_assoc old (w ++ spaced (f [])) (10 ∷ [])
     ∙ ap (λ z. old ++ (z ++ (10 ∷ []))) (sym (parted_spaced w (f [])))
 
+-- words appended and then more words are the former followed by the latter
 pub then_puts : (old a new : List ℕ) (f g : List (List ℕ) → List (List ℕ)) → Puts old a f → Puts a new g → Puts old new (λ r. f (g r))
 then_puts old a new f g p q = record { is = λ r. q.is r ∙ p.is (g r) }
 
@@ -33,9 +34,11 @@ exponent_is old a b new v e x y p q f g h =
     ∙ ap (λ z. z ++ (94 ∷ decimal e)) s ∙ append_assoc old (32 ∷ decimal v) (94 ∷ decimal e) in
     record { is = λ r. ap (λ z. z ++ spaced r) t ∙ append_assoc old ((32 ∷ decimal v) ++ (94 ∷ decimal e)) (spaced r) }
 
+-- appending the text of a number that equals n appends the text of n
 pub number_put : (old new : List ℕ) (x n : ℕ) → Puts old new (λ r. decimal x ∷ r) → x ≡ n → Puts old new (λ r. decimal n ∷ r)
 number_put old new x n p e = subst (λ z. Puts old new (λ r. decimal z ∷ r)) e p
 
+-- appending the text of a signed number that equals z appends the text of z
 pub signed_put : (old new : List ℕ) (x z : ℤ) → Puts old new (λ r. signed_decimal x ∷ r) → x ≡ z → Puts old new (λ r. signed_decimal z ∷ r)
 signed_put old new x z p e = subst (λ y. Puts old new (λ r. signed_decimal y ∷ r)) e p
 
@@ -46,6 +49,7 @@ line_two old a b c new t w ns cs e f p q n =
     line_is old a c new w (λ r. ns ++ (cs ++ r)) (e ∙ ap (λ z. old ++ z) f) (then_puts a b c (λ r. ns ++ r) (λ r. cs ++ r) p q) n
     ∙ ap (λ z. old ++ (parted (w ∷ (ns ++ z)) ++ (10 ∷ []))) (append-nil cs)
 
+-- the invariant of a loop that appends a word of each element: with the words of the remaining elements the text has the words of all
 abbrev pub Going : {A : Type 0} → (A → List ℕ) → List ℕ → List ℕ → List A → List A → Type 0
 Going f start now left all = (r : List (List ℕ)) → now ++ spaced (map f left ++ r) ≡ start ++ spaced (map f all ++ r)
 

@@ -20,6 +20,7 @@ from_drop zero k bs h = let e : 0 + k ≡ k = omega arith in ap (λ n. words_fro
 from_drop (suc at) k [] h = absurd (omega arith)
 from_drop (suc at) k (b ∷ bs) h = let e : suc at + k ≡ suc (at + k) = omega arith in rw e (from_drop at k bs (omega arith))
 
+-- the first word from a place on goes to the next space or the end, and the other words begin after that space
 pub word_at : (at end : ℕ) (bs w : List ℕ) → at ≤ length bs → end ≡ at + span_to 32 (drop at bs) → w ≡ take (end - at) (drop at bs)
     → words_from at bs ≡ w ∷ words_from (end + 1) bs
 word_at at end bs w h e q =
@@ -30,11 +31,13 @@ word_at at end bs w h e q =
     let d : end - at ≡ s = omega arith in
     a ∙ words_first (drop at bs) ∙ sym (rw (q, d, c) refl)
 
+-- past the end of a text there are no words
 pub past_words : (bs : List ℕ) (at : ℕ) → length bs < at → words_from at bs ≡ []
 past_words bs zero h = absurd (omega arith)
 past_words [] (suc at) h = refl
 past_words (b ∷ bs) (suc at) h = past_words bs at (omega arith)
 
+-- the first line of a text goes to its first line feed or its end, and the other lines are those of the rest
 pub lines_first : (b : ℕ) (bs : List ℕ) → lines (b ∷ bs) ≡ take (suc (span_to 10 (b ∷ bs))) (b ∷ bs) ∷ lines (drop (suc (span_to 10 (b ∷ bs))) (b ∷ bs))
 lines_first b [] = by (b == 10)
   where
@@ -51,6 +54,7 @@ lines_first b (c ∷ bs) = by (b == 10) (lines_first c bs)
 
 -- ---- words that are written are read
 
+-- a plain word and a space before a text are one more word before its words
 pub plain_words : (w rest : List ℕ) → is_plain w ≡ true → words (w ++ (32 ∷ rest)) ≡ w ∷ words rest
 plain_words [] rest p = refl
 plain_words (b ∷ bs) rest p = by (b == 32) (b == 10) p (λ q. plain_words bs rest q)
@@ -61,6 +65,7 @@ plain_words (b ∷ bs) rest p = by (b == 32) (b == 10) p (λ q. plain_words bs r
     by false true p h = absurd (cc)
     by false false p h = ap (onto b) (h p)
 
+-- a plain word alone is read as one word
 pub plain_word : (w : List ℕ) → is_plain w ≡ true → words w ≡ w ∷ []
 plain_word [] p = refl
 plain_word (b ∷ bs) p = by (b == 32) (b == 10) p (λ q. plain_word bs q)
@@ -71,14 +76,17 @@ plain_word (b ∷ bs) p = by (b == 32) (b == 10) p (λ q. plain_word bs q)
     by false true p h = absurd (cc)
     by false false p h = ap (onto b) (h p)
 
+-- each of the words is plain
 abbrev pub ArePlain : List (List ℕ) → Type 0
 ArePlain [] = Unit {0}
 ArePlain (w ∷ ws) = (is_plain w ≡ true) × ArePlain ws
 
+-- plain words written with spaces between them are read back as these words
 pub words_parted : (w : List ℕ) (ws : List (List ℕ)) → ArePlain (w ∷ ws) → words (parted (w ∷ ws)) ≡ w ∷ ws
 words_parted w [] p = plain_word w p.0
 words_parted w (v ∷ ws) p = plain_words w (parted (v ∷ ws)) p.0 ∙ ap (λ (x : List (List ℕ)). w ∷ x) (words_parted v ws p.1)
 
+-- the words of a text, written with spaces between them, are the text
 pub parted_words : (bs : List ℕ) → parted (words bs) ≡ bs
 parted_words [] = refl
 parted_words (b ∷ bs) = by (b == 32) (eqb-true b 32) (words bs) (parted_words bs) (words_first bs)

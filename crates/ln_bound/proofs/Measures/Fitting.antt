@@ -5,6 +5,7 @@ use Rattle.std.proofs.Math.Nat.{pow-suc, pow-zero, pow-le-pow_right}
 use Rattle.ln_base.specs.declared.span.Span.{Span}
 use Rattle.ln_bound.specs.Light.{most, AreLight}
 
+-- where no weight is too large in two lists of nodes, one after the other, none is in either
 pub light_parts : (xs ys : List (Span × ℕ)) → AreLight (xs ++ ys) → AreLight xs × AreLight ys
 light_parts [] ys h = (tt, h)
 light_parts (x ∷ xs) ys h = let r = light_parts xs ys h.1 in ((h.0, r.0), r.1)

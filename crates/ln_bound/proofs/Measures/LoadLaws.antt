@@ -159,6 +159,7 @@ more_ranges (q ∷ ps) [] p w e h l j = absurd (omega arith)
 more_ranges (q ∷ ps) (v ∷ ws) p w e h l zero = l 0
 more_ranges (q ∷ ps) (v ∷ ws) p w e h l (suc j) = more_ranges ps ws p w (omega arith) h (λ i. l (suc i)) j
 
+-- where each size is at most the weight at its place, so it is with one more size and its weight at the end
 pub more_sizes : (ss ws : List ℕ) (s w : ℕ) → length ss ≡ length ws → s ≤ w → ((j : ℕ) → slice_index_or ss j 0 ≤ slice_index_or ws j 0)
     → (j : ℕ) → slice_index_or (ss ++ s ∷ []) j 0 ≤ slice_index_or (ws ++ w ∷ []) j 0
 more_sizes [] [] s w e h l zero = h
@@ -168,12 +169,14 @@ more_sizes (q ∷ ss) [] s w e h l j = absurd (omega arith)
 more_sizes (q ∷ ss) (v ∷ ws) s w e h l zero = l 0
 more_sizes (q ∷ ss) (v ∷ ws) s w e h l (suc j) = more_sizes ss ws s w (omega arith) h (λ i. l (suc i)) j
 
+-- lists of equal length are of equal length with one more element at the end of each
 pub long_more : {A B : Type 0} → (xs : List A) (ys : List B) (x : A) (y : B) → length xs ≡ length ys → length (xs ++ x ∷ []) ≡ length (ys ++ y ∷ [])
 long_more [] [] x y e = refl
 long_more [] (b ∷ ys) x y e = absurd (omega arith)
 long_more (a ∷ xs) [] x y e = absurd (omega arith)
 long_more (a ∷ xs) (b ∷ ys) x y e = ap suc (long_more xs ys x y (omega arith))
 
+-- what is known of lets whose weights are not too large: nor are their loads, and their ranges and sizes are at most their weights
 pub record LighterLets (vars : List VarInfo) (ps : List Range) (ss ws : List ℕ) (fs : List Formula) : Type 0 where
   pub light : AreLight (loaded_lets vars ps ss fs)
   pub below : Below (ranges_of_lets vars ps fs) (sizes_of_lets vars ss fs) (let_weights vars ws fs)

@@ -19,6 +19,7 @@ use Rattle.ln_bound.specs.Ranges.{range_over, ranges, size_over}
 use Rattle.ln_bound.specs.Stop.{StopsWeighing}
 use Rattle.ln_bound.proofs.Measures.Weighing.{Nodes, light_both, stop_before, stop_behind}
 
+-- the range and the size of a node
 abbrev pub Seen : Type 0
 Seen = Range × ℕ
 
@@ -34,10 +35,12 @@ pub record LetsMeasured (vars : List VarInfo) (whole rest : List Formula) (done 
   pub same_ranges : ranges_of_lets vars (map range_in done) rest ≡ ranges_of_lets vars [] whole
   pub same_sizes : sizes_of_lets vars (map size_in done) rest ≡ sizes_of_lets vars [] whole
 
+-- the beginning of the loop in `weigh_lets`: no let is measured
 pub lets_begin : (vars : List VarInfo) (whole : List Formula) (all : List Measure) → all ≡ [] → LetsMeasured vars whole whole [] all
 lets_begin vars whole all e =
     record { front = []; stands = refl; light = tt; before = []; follows = refl; nodes = ap (map seen) e; same_ranges = refl; same_sizes = refl }
 
+-- the step of the loop in `weigh_lets`: one more let is measured
 pub lets_more : (vars : List VarInfo) (whole rest : List Formula) (f : Formula) (done all more after : List Measure)
     → LetsMeasured vars whole (f ∷ rest) done all → AreLight (loaded vars (map range_in done) (map size_in done) f)
     → map seen more ≡ map seen all ++ node_measures (measured vars (map range_in done) (map size_in done) f)
@@ -55,6 +58,7 @@ lets_more vars whole rest f done all more after h l m a b = record {
   same_sizes = rw b h.same_sizes;
 }
 
+-- the end of the loop in `weigh_lets` at a failure: what stops the weighing of the next let stops that of all lets
 pub lets_stop : (vars : List VarInfo) (whole rest : List Formula) (f : Formula) (done all : List Measure) (s : BoundStop)
     → LetsMeasured vars whole (f ∷ rest) done all → StopsWeighing (loaded vars (map range_in done) (map size_in done) f) s
     → StopsWeighing (loaded_lets vars [] [] whole) s

@@ -83,6 +83,7 @@ power_measured : (p q : Range) (s t n : ℕ) (o : Option Measure) → p ≡ q �
     → MatchOption o (most < max (magnitude (power q n)) (t ^ n)) (λ m. IsMeasure m (power q n) (t ^ n))
 power_measured p q s t n o e f h = rw (e, f) at h
 
+-- the case of a negation in `weigh_in`: the node of the negation, after those of its operand
 pub opposite_weighed : (vars : List VarInfo) (lets : List Measure) (x : Formula) (at : Span) (a m : Measure) (old mid new : List Measure)
     (r : Result Measure BoundStop)
     → IsWeighed vars lets x old mid a → IsMeasure m (opposite (range a.pair)) a.size
@@ -92,6 +93,7 @@ opposite_weighed vars lets x at a m old mid new r h k i j =
     (measured vars (map range_in lets) (map size_in lets) x) at (Some m) old mid new r refl refl h.light h.nodes
     (opposite_measured (range a.pair) _ a.size _ m h.measure.same_range h.measure.same_size k) i j
 
+-- the case of a power in `weigh_in`: the node of the power, after those of its base
 pub power_weighed : (vars : List VarInfo) (lets : List Measure) (x : Formula) (n : ℕ) (at : Span) (a : Measure) (o : Option Measure)
     (old mid new : List Measure) (r : Result Measure BoundStop)
     → IsWeighed vars lets x old mid a
@@ -130,6 +132,7 @@ both_nodes : (old first mid : List Measure) (xs ys : List (Span × Seen)) → ma
     → map seen mid ≡ map seen first ++ node_measures ys → map seen mid ≡ map seen old ++ node_measures (xs ++ ys)
 both_nodes old first mid xs ys g h = h ∙ rw (g, map-append) (append_assoc (map seen old) (node_measures xs) (node_measures ys))
 
+-- the case of a sum, difference or product in `weigh_in`: its node, after those of both operands
 pub two_weighed : (vars : List VarInfo) (lets : List Measure) (k : Two) (x y : Formula) (at : Span) (a b : Measure) (o : Option Measure)
     (old first mid new : List Measure) (r : Result Measure BoundStop)
     → IsWeighed vars lets x old first a → IsWeighed vars lets y first mid b
@@ -153,6 +156,7 @@ first_stops vars lets k at x y s h = rw (loaded_two vars lets k at x y)
     (stop_before (loaded vars (map range_in lets) (map size_in lets) x ++ loaded vars (map range_in lets) (map size_in lets) y) _ s
     (stop_before (loaded vars (map range_in lets) (map size_in lets) x) (loaded vars (map range_in lets) (map size_in lets) y) s h))
 
+-- what stops the weighing of the right operand stops that of the operation, where the left operand's weights are not too large
 pub second_stops : (vars : List VarInfo) (lets : List Measure) (k : Two) (at : Span) (x y : Formula) (s : BoundStop)
     → AreLight (loaded vars (map range_in lets) (map size_in lets) x) → StopsWeighing (loaded vars (map range_in lets) (map size_in lets) y) s
     → StopsWeighing (loaded vars (map range_in lets) (map size_in lets) (formula_of k at x y)) s
@@ -160,6 +164,7 @@ second_stops vars lets k at x y s l h = rw (loaded_two vars lets k at x y)
     (stop_before (loaded vars (map range_in lets) (map size_in lets) x ++ loaded vars (map range_in lets) (map size_in lets) y) _ s
     (stop_behind (loaded vars (map range_in lets) (map size_in lets) x) (loaded vars (map range_in lets) (map size_in lets) y) s l h))
 
+-- what stops the weighing of the only operand stops that of the operation
 pub operand_stops : (vars : List VarInfo) (lets : List Measure) (e x : Formula) (at : Span) (s : BoundStop)
     → loaded vars (map range_in lets) (map size_in lets) e ≡ loaded vars (map range_in lets) (map size_in lets) x ++ (
       at,
@@ -173,6 +178,7 @@ pub lets_stop_pred : (vars v : List VarInfo) (lets ls : List Formula) (root : Fo
     → StopsWeighing (loaded_lets v [] [] ls) s → StopsWeighing (loaded_pred vars lets root) s
 lets_stop_pred vars v lets ls root s ev el h = rw (← ev, ← el) (stop_before (loaded_lets v [] [] ls) _ s h)
 
+-- no node of a predicate has too large a weight where none of its lets and none of its root has
 pub pred_light : (vars v : List VarInfo) (lets ls : List Formula) (root : Formula) (rs : List Range) (zs : List ℕ) → v ≡ vars → ls ≡ lets
     → rs ≡ ranges_of_lets v [] ls → zs ≡ sizes_of_lets v [] ls → AreLight (loaded_lets v [] [] ls) → AreLight (loaded v rs zs root)
     → AreLight (loaded_pred vars lets root)
@@ -180,6 +186,7 @@ pred_light vars v lets ls root rs zs ev el er es h g =
     let i : AreLight (loaded v (ranges_of_lets v [] ls) (sizes_of_lets v [] ls) root) = rw (er, es) at g in
     rw (← ev, ← el) (light_both (loaded_lets v [] [] ls) (loaded v (ranges_of_lets v [] ls) (sizes_of_lets v [] ls) root) h i)
 
+-- the measures of the lets' nodes, followed by those of the root's, are the measures of the predicate's nodes
 pub pred_nodes : (vars v : List VarInfo) (lets ls : List Formula) (root : Formula) (rs : List Range) (zs : List ℕ) (mid all : List Measure)
     → v ≡ vars → ls ≡ lets → rs ≡ ranges_of_lets v [] ls → zs ≡ sizes_of_lets v [] ls
     → map seen mid ≡ node_measures (measured_lets v [] [] ls) → map seen all ≡ map seen mid ++ node_measures (measured v rs zs root)

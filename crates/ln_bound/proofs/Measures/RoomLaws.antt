@@ -139,6 +139,7 @@ pub record PredRoom (vars : List VarInfo) (lets : List Formula) (root : Formula)
   pub lets_running : HaveRoom one [] (map (tree vars) lets)
   pub root_running : HasRoom one (let_bounds one [] (map (tree vars) lets)) (tree vars root)
 
+-- where no load of a predicate is too large, the ranges and the running sizes of its nodes are within the limit
 pub pred_room : (vars : List VarInfo) (lets : List Formula) (root : Formula) → AreLight (loaded_pred vars lets root) → PredRoom vars lets root
 pred_room vars lets root l =
     let p = light_parts (loaded_lets vars [] [] lets) _ l in

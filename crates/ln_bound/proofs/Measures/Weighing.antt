@@ -6,6 +6,7 @@ use Rattle.ln_bound.specs.declared.weigh.BoundStop.TheVariants.{Bound, NoMemory}
 use Rattle.ln_bound.specs.Light.{most, AreLight}
 use Rattle.ln_bound.specs.Stop.{StopsWeighing, IsHeavyOrNoMemory, IsHeavy}
 
+-- nodes: where each is in the source, and its weight
 abbrev pub Nodes : Type 0
 Nodes = List (Span × ℕ)
 

@@ -156,6 +156,7 @@ pub pairs_more : (vars : List VarInfo) (done : List Typed) (t : Typed) → IsExa
     → map pair (done ++ t ∷ []) ≡ map pair done ++ range_over (ranges vars) (map pair done) (untyped t) ∷ []
 pairs_more vars done t h = map-append pair done (t ∷ []) ∙ ap (λ (p : Range). map pair done ++ p ∷ []) (exact_range vars done t h)
 
+-- with one more let at the end, a list of lets is longer by one
 pub length_more : (done : List Typed) (t : Typed) → length (done ++ t ∷ []) ≡ suc (length done)
 length_more [] t = refl
 length_more (u ∷ us) t = ap suc (length_more us t)
@@ -179,6 +180,7 @@ more_ordered [] t h o (suc j) u e = cc
 more_ordered (s ∷ ts) t h o zero u e = h 0 u e
 more_ordered (s ∷ ts) t h o (suc j) u e = more_ordered ts t (λ i. h (suc i)) o j u e
 
+-- the ranges of exact lets are in order where those of the variables and of the lets before them are
 pub lets_ordered : (vars : List VarInfo) → ((v : ℕ) → IsOrdered (ranges vars v)) → (done ts : List Typed)
     → ((j : ℕ) (u : Typed) → slice_get done j ≡ Some u → IsOrdered (pair u)) → AreExact vars done ts → (j : ℕ) (u : Typed)
     → slice_get (done ++ ts) j ≡ Some u → IsOrdered (pair u)
@@ -193,9 +195,11 @@ pub record LetsSoFar (vars : List VarInfo) (whole rest : List Tree) (done : List
   pub fit : lets_fit (length vars) (length done) rest ≡ true
   pub small : LetsHaveRange vars (map pair done) rest
 
+-- the beginning of a loop over the lets: none is done
 pub lets_start : (vars : List VarInfo) (whole : List Tree) → lets_fit (length vars) 0 whole ≡ true → LetsHaveRange vars [] whole → LetsSoFar vars whole whole []
 lets_start vars whole f r = record { goes_on = λ us e h. (e, h); fit = f; small = r }
 
+-- the step of a loop over the lets: one more exact let is done
 pub lets_next : (vars : List VarInfo) (whole rest : List Tree) (e : Tree) (done : List Typed) (t : Typed)
     → LetsSoFar vars whole (e ∷ rest) done → untyped t ≡ e → IsExact vars done t → LetsSoFar vars whole rest (done ++ t ∷ [])
 lets_next vars whole rest e done t s q h = record {
@@ -207,6 +211,7 @@ lets_next vars whole rest e done t s q h = record {
     both : (x y : Tree) (xs ys : List Tree) → x ≡ y → xs ≡ ys → x ∷ xs ≡ y ∷ ys
     both x y xs ys p r = rw (p, r) refl
 
+-- the end of a loop over the lets: the trees that are done are exact and are those of all lets
 pub lets_end : (vars : List VarInfo) (whole : List Tree) (done : List Typed) → LetsSoFar vars whole [] done → (map untyped done ≡ whole) × AreExact vars [] done
 lets_end vars whole done s =
     let r = s.goes_on [] refl tt in
@@ -218,6 +223,7 @@ pub next_fit : (vars : List VarInfo) (whole rest : List Tree) (e : Tree) (done :
     → is_fit (length vars) (length done) e ≡ true
 next_fit vars whole rest e done s = (and_parts (is_fit (length vars) (length done) e) _ s.fit).0
 
+-- the ranges of the next let's nodes are within the limit
 pub next_range : (vars : List VarInfo) (whole rest : List Tree) (e : Tree) (done : List Typed) → LetsSoFar vars whole (e ∷ rest) done
     → HaveRange vars (map pair done) e
 next_range vars whole rest e done s = s.small.0
@@ -234,6 +240,7 @@ pub two_untyped : (k j : Two) (s t r : Typed) (p : Range) (w : Width) (e f g : T
     → untyped t ≡ f → g ≡ two_of k e f → untyped r ≡ g
 two_untyped k j s t r p w e f g i h a b q = ap untyped h ∙ rw (i, a, b, q) refl
 
+-- the range of a power of an exact tree is within the limit where its node's is
 pub power_range : (vars : List VarInfo) (lets : List Typed) (e : Tree) (n : ℕ) (t : Typed) → HaveRange vars (map pair lets) (Pow e n)
     → untyped t ≡ e → IsExact vars lets t → magnitude (power (pair t) n) ≤ most
 power_range vars lets e n t r p h = let a = exact_range vars lets t h in rw (a, p) r.1

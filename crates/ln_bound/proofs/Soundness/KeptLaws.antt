@@ -48,6 +48,7 @@ abbrev pub nodes_of_all : List Tree → ℕ
 nodes_of_all [] = 0
 nodes_of_all (e ∷ es) = nodes_of e + nodes_of_all es
 
+-- the tree of a formula has as many nodes as the formula
 pub nodes_same : (vars : List VarInfo) (f : Formula) → nodes_of (tree vars f) ≡ node_count f
 nodes_same vars (FNum at c) = refl
 nodes_same vars (FInput at a c) = refl
@@ -58,6 +59,7 @@ nodes_same vars (FSub at e f) = let p = nodes_same vars e in let q = nodes_same 
 nodes_same vars (FMul at e f) = let p = nodes_same vars e in let q = nodes_same vars f in omega (arith, p, q)
 nodes_same vars (FPow at e n) = ap (λ n. n + 1) (nodes_same vars e)
 
+-- the trees of expressions have as many nodes as their formulas
 pub all_nodes_same : (vars : List VarInfo) (es : List Expr) → nodes_of_all (map (tree_of vars) es) ≡ node_counts (map formula es)
 all_nodes_same vars [] = refl
 all_nodes_same vars (e ∷ es) = let p = nodes_same vars (formula e) in let q = all_nodes_same vars es in omega (arith, p, q)
@@ -69,6 +71,7 @@ pub record Parts (args : List Arg) (vars : List VarInfo) (lets : List Expr) (roo
   pub fit_root : is_fit (length vars) (length lets) (tree_of vars root) ≡ true
   pub small : node_counts (map formula lets) + node_count (formula root) ≤ 2048
 
+-- what passes the test of a predicate has at most 64 lets, expressions that fit, and at most 2,048 nodes
 pub parts_of : (args : List Arg) (vars : List VarInfo) (lets : List Expr) (names : ℕ) (root : Expr)
     → is_pred args vars lets names root ≡ true → Parts args vars lets root
 parts_of args vars lets names root h =
@@ -80,10 +83,12 @@ parts_of args vars lets names root h =
     let e = and_parts (are_of args vars) _ d.0 in
     record { few = le_test _ _ e.1; fit_lets = c.1; fit_root = b.1; small = le_test _ _ a.1 }
 
+-- there are as many trees as expressions
 pub length_trees : (vars : List VarInfo) (es : List Expr) → length (map (tree_of vars) es) ≡ length es
 length_trees vars [] = refl
 length_trees vars (e ∷ es) = ap suc (length_trees vars es)
 
+-- the trees of the formulas of expressions are the trees of the expressions
 pub trees_of_formulas : (vars : List VarInfo) (es : List Expr) → map (tree vars) (map formula es) ≡ map (tree_of vars) es
 trees_of_formulas vars [] = refl
 trees_of_formulas vars (e ∷ es) = ap (λ (ts : List Tree). tree_of vars e ∷ ts) (trees_of_formulas vars es)
@@ -137,6 +142,7 @@ cost_nodes n j (TPow t k b w) f =
     let q : k ≤ 16 = le_test k 16 g.1 in
     omega (arith, p, q)
 
+-- lets take at most 33 operations for each node, where exponents are at most 16
 pub costs_nodes : (n j : ℕ) (ts : List Typed) → lets_fit n j (map untyped ts) ≡ true → costs ts ≤ 33 * nodes_of_all (map untyped ts)
 costs_nodes n j [] f = omega arith
 costs_nodes n j (t ∷ ts) f =
@@ -197,6 +203,7 @@ pub record Room (vars : List VarInfo) (es : List Expr) (root : Expr) : Type 0 wh
   pub lets_running : HaveRoom one [] (map (tree_of vars) es)
   pub root_running : HasRoom one (let_bounds one [] (map (tree_of vars) es)) (tree_of vars root)
 
+-- where no load of a predicate is too large, its expressions have ranges and running sizes within the limit
 pub room_of : (vars : List VarInfo) (es : List Expr) (root : Expr) → AreLight (loaded_pred vars (map formula es) (formula root)) → Room vars es root
 room_of vars es root a =
     let r = pred_room vars (map formula es) (formula root) a in

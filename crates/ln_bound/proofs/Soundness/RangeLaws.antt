@@ -48,6 +48,7 @@ more_held (q ∷ ps) [] p z e h l j = absurd (omega arith)
 more_held (q ∷ ps) (y ∷ zs) p z e h l zero = l 0
 more_held (q ∷ ps) (y ∷ zs) p z e h l (suc j) = more_held ps zs p z (omega arith) h (λ i. l (suc i)) j
 
+-- as many ranges as numbers stay as many with one more of each
 pub more_long : (ps : List Range) (zs : List ℤ) (p : Range) (z : ℤ) → length ps ≡ length zs → length (ps ++ p ∷ []) ≡ length (zs ++ z ∷ [])
 more_long [] [] p z e = refl
 more_long [] (y ∷ zs) p z e = absurd (omega arith)
@@ -59,6 +60,7 @@ pub record LetsHold (x : ℕ → ℤ) (zs : List ℤ) (r : ℕ → Range) (ps : 
   pub nodes : LetsAreHeld x zs r ps es
   pub all : AllHold (let_ranges r ps es) (let_values x zs es)
 
+-- where the values of the variables and of the lets before are in their ranges, so are those of the nodes of lets
 pub lets_hold : (x : ℕ → ℤ) (r : ℕ → Range) → ((v : ℕ) → Holds (r v) (x v)) → (zs : List ℤ) (ps : List Range) → length ps ≡ length zs
     → AllHold ps zs → (es : List Tree) → LetsHold x zs r ps es
 lets_hold x r h zs ps n l [] = record { nodes = tt; all = l }
@@ -81,6 +83,7 @@ in_ranges (i ∷ is) (z ∷ zs) h (suc v) = in_ranges is zs h.2 v
 pub row_lets : (vars : List VarInfo) (zs : List ℤ) (es : List Tree) → AreWithin vars zs → LetsAreHeld (values zs) [] (ranges vars) [] es
 row_lets vars zs es h = (lets_hold (values zs) (ranges vars) (in_ranges vars zs h) [] [] refl (λ j. (omega (arith, ints), omega (arith, ints))) es).nodes
 
+-- on a row in range the value of each node of a tree after its lets is in its range
 pub row_tree : (vars : List VarInfo) (zs : List ℤ) (es : List Tree) (e : Tree) → AreWithin vars zs
     → AreHeld (values zs) (let_values (values zs) [] es) (ranges vars) (let_ranges (ranges vars) [] es) e
 row_tree vars zs es e h =

@@ -32,9 +32,11 @@ le_says a b e = grind (arith, ints, e)
 holds_says : (p : Range) (z : ℤ) → holds p z ≡ true → Holds p z
 holds_says p z h = let e = and_parts (int_le p.low z) _ h in (le_says _ _ e.0, le_says _ _ e.1)
 
+-- the test whether a range covers another is true only where it does
 pub covers_say : (p q : Range) → covers p q ≡ true → Covers p q
 covers_say p q h = let e = and_parts (int_le p.low q.low) _ h in (le_says _ _ e.0, le_says _ _ e.1)
 
+-- the test of a range and a width is true only where the range is in order and fits the width
 pub is_in_says : (p : Range) (w : Width) → is_in p w ≡ true → IsIn p w
 is_in_says p w h = let e = and_parts (int_le p.low p.high) _ h in (le_says _ _ e.0, le_test _ _ e.1)
 
@@ -96,12 +98,14 @@ room_says ss (Mul e f) h =
     (room_says ss e y.0, room_says ss f y.1, le_test _ _ x.1)
 room_says ss (Pow e n) h = let x = and_parts (has_room ss e) _ h in (room_says ss e x.0, le_test _ _ x.1)
 
+-- the test of soundness is true only of sound trees
 pub is_sound_says : (vars : List VarInfo) (lets : List Typed) (t : Typed) → is_sound vars lets t ≡ true → Sound vars lets t
 is_sound_says vars lets t h =
     let x = and_parts (sound_nodes vars lets t && has_room (running lets) (untyped t)) _ h in
     let y = and_parts (sound_nodes vars lets t) _ x.0 in
     record { nodes = nodes_say vars lets t y.0; sizes = room_says (running lets) (untyped t) y.1; deep = le_test _ _ x.1 }
 
+-- the test of soundness is true only of sound lets
 pub are_sound_say : (vars : List VarInfo) (done ts : List Typed) → are_sound vars done ts ≡ true → AreSound vars done ts
 are_sound_say vars done [] h = tt
 are_sound_say vars done (t ∷ ts) h = let p = and_parts (is_sound vars done t) _ h in (is_sound_says vars done t p.0, are_sound_say vars (done ++ t ∷ []) ts p.1)
@@ -173,6 +177,7 @@ pub record LetsWithin (x : ℕ → ℤ) (zs : List ℤ) (done ts : List Typed) :
 pairs_more : (done : List Typed) (t : Typed) → map pair (done ++ t ∷ []) ≡ map pair done ++ pair t ∷ []
 pairs_more done t = map-append pair done (t ∷ [])
 
+-- sound lets are bounded, with their values in their ranges, where the values of the variables and of the lets before are in theirs
 pub lets_bounded : (vars : List VarInfo) (x : ℕ → ℤ) (zs : List ℤ) (done ts : List Typed) → ((v : ℕ) → Holds (ranges vars v) (x v))
     → length (map pair done) ≡ length zs → AllHold (map pair done) zs → AreSound vars done ts → LetsWithin x zs done ts
 lets_bounded vars x zs done [] h n l s = record { bounded = tt; within = let a : done ++ [] ≡ done = append-nil done in rw a l }

@@ -56,6 +56,7 @@ test_room ss (Pow e n) h = both_true _ _ (test_room ss e h.0) (test_le _ _ h.1)
 pub test_sound : (vars : List VarInfo) (lets : List Typed) (t : Typed) → Sound vars lets t → is_sound vars lets t ≡ true
 test_sound vars lets t h = both_true _ _ (both_true _ _ (test_nodes vars lets t h.nodes) (test_room (running lets) (untyped t) h.sizes)) (test_le _ _ h.deep)
 
+-- sound lets pass the test of soundness
 pub test_sounds : (vars : List VarInfo) (done ts : List Typed) → AreSound vars done ts → are_sound vars done ts ≡ true
 test_sounds vars done [] h = refl
 test_sounds vars done (t ∷ ts) h = both_true _ _ (test_sound vars done t h.0) (test_sounds vars (done ++ t ∷ []) ts h.1)

@@ -8,15 +8,19 @@ use Rattle.ln_bound.specs.declared.fitted.Width.TheVariants.{W64, W128}
 use Rattle.ln_bound.specs.Light.{most}
 use Rattle.ln_bound.specs.Widths.{limit, least, wider, no_wider}
 
+-- the test of `≤` is true where it holds
 pub test_le : (a b : ℕ) → a ≤ b → nat_le a b ≡ true
 test_le a b h = le-leb a b h
 
+-- `≤` holds where its test is true
 pub le_test : (a b : ℕ) → nat_le a b ≡ true → a ≤ b
 le_test a b h = leb-true a b h
 
+-- the test of `<` is true where it holds
 pub test_lt : (a b : ℕ) → a < b → nat_lt a b ≡ true
 test_lt a b h = grind (arith, nat_tests)
 
+-- `<` holds where its test is true
 pub lt_test : (a b : ℕ) → nat_lt a b ≡ true → a < b
 lt_test a b h = grind (arith, nat_tests)
 
@@ -37,6 +41,7 @@ least_fits b h = by_case (nat_le b (limit W64)) refl
     by_case true e = rw e (le_test _ _ e)
     by_case false e = rw e h
 
+-- a bound up to 2^127 - 1 fits the wider of any width and its least width
 pub wider_fits : (u : Width) (b : ℕ) → b ≤ most → b ≤ limit (wider u (least b))
 wider_fits W64 b h = least_fits b h
 wider_fits W128 b h = h
@@ -46,16 +51,19 @@ pub left_no_wider : (u w : Width) → no_wider u (wider u w) ≡ true
 left_no_wider W64 w = refl
 left_no_wider W128 w = refl
 
+-- a width is no wider than the wider of another and it
 pub right_no_wider : (u w : Width) → no_wider w (wider u w) ≡ true
 right_no_wider W64 W64 = refl
 right_no_wider W64 W128 = refl
 right_no_wider W128 W64 = refl
 right_no_wider W128 W128 = refl
 
+-- the first of three widths is no wider than the widest of them
 pub first_no_wider : (u v w : Width) → no_wider u (wider (wider u v) w) ≡ true
 first_no_wider W64 v w = refl
 first_no_wider W128 v w = refl
 
+-- the second of three widths is no wider than the widest of them
 pub second_no_wider : (u v w : Width) → no_wider v (wider (wider u v) w) ≡ true
 second_no_wider W64 v w = left_no_wider v w
 second_no_wider W128 W64 w = refl

@@ -28,11 +28,13 @@ tree_two vars Plus at f g = refl
 tree_two vars Minus at f g = refl
 tree_two vars Times at f g = refl
 
+-- a sum, difference or product has the nodes of both operands and one more
 pub count_two : (k : Two) (at : Span) (f g : Formula) → node_count (formula_of k at f g) ≡ node_count f + node_count g + 1
 count_two Plus at f g = refl
 count_two Minus at f g = refl
 count_two Times at f g = refl
 
+-- both operands of a sum, difference or product fit the variables and lets where it does
 pub fit_two : (n j : ℕ) (k : Two) (e f : Tree) → is_fit n j (two_of k e f) ≡ true → (is_fit n j e ≡ true) × (is_fit n j f ≡ true)
 fit_two n j Plus e f h = and_parts (is_fit n j e) (is_fit n j f) h
 fit_two n j Minus e f h = and_parts (is_fit n j e) (is_fit n j f) h
@@ -54,6 +56,7 @@ pub record AreOperands (vars : List VarInfo) (ps : List Range) (n j : ℕ) (t : 
   pub first_range : HaveRange vars ps (tree vars f)
   pub second_range : HaveRange vars ps (tree vars g)
 
+-- the operands of a sum, difference or product have fewer nodes, fit as it does, and have ranges within the limit as it has
 pub are_operands : (vars : List VarInfo) (ps : List Range) (n j : ℕ) (t : ℕ) (k : Two) (at : Span) (e f g : Formula)
     → e ≡ formula_of k at f g → node_count e ≡ t
     → is_fit n j (tree vars e) ≡ true → HaveRange vars ps (tree vars e) → AreOperands vars ps n j t k e f g

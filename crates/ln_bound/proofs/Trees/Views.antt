@@ -13,6 +13,7 @@ use Rattle.ln_interval.specs.View.{range}
 use Rattle.ln_bound.specs.Typed.{Typed, TNeg, TPow, TTwo, pair, width, range_of}
 use Rattle.ln_bound.specs.View.{op_typed, typed}
 
+-- the tree of a node's operation with a range has that range at its root
 pub pair_here : (op : FitOp) (p : Range) (w : Width) → pair (op_typed op p w) ≡ p
 pair_here (Num c) b w = refl
 pair_here (Input v) b w = refl
@@ -23,6 +24,7 @@ pair_here (Sub' p x c u q y d v) b w = refl
 pair_here (Mul' p x c u q y d v) b w = refl
 pair_here (Pow' p x c u n) b w = refl
 
+-- the tree of a node's operation with a width has that width at its root
 pub width_here : (op : FitOp) (p : Range) (w : Width) → width (op_typed op p w) ≡ w
 width_here (Num c) b w = refl
 width_here (Input v) b w = refl
@@ -37,6 +39,7 @@ width_here (Pow' p x c u n) b w = refl
 pub pair_typed : (t : Fitted) → pair (typed t) ≡ range t.pair
 pair_typed t = pair_here t.op (range t.pair) t.width
 
+-- the width of a node's tree is the node's
 pub width_typed : (t : Fitted) → width (typed t) ≡ t.width
 width_typed t = width_here t.op (range t.pair) t.width
 

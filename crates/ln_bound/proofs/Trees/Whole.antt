@@ -45,6 +45,7 @@ values_behind : (x : ℕ → ℤ) (done : List ℤ) (ts : List Tree) → let_val
 values_behind x done [] = refl
 values_behind x done (t ∷ ts) = values_behind x (done ++ (value x done t ∷ [])) ts
 
+-- a tree over the values of its lets has the value of the tree with the lets substituted for their names
 pub whole_value : (x : ℕ → ℤ) (lets : List Tree) (t : Tree) → value x (let_values x [] lets) t ≡ value x [] (inlined (inlined_after [] lets) t)
 whole_value x lets t = ap (λ l. value x l t) (values_behind x [] lets) ∙ put_in (value x) (value-inlined x) lets t
 
@@ -69,6 +70,7 @@ bounds_behind : (w : ℕ → ℕ) (done : List ℕ) (ts : List Tree) → let_bou
 bounds_behind w done [] = refl
 bounds_behind w done (t ∷ ts) = bounds_behind w (done ++ (weight_over w done t ∷ [])) ts
 
+-- a tree over the weights of its lets has the weight of the tree with the lets substituted for their names
 pub whole_weight : (w : ℕ → ℕ) (lets : List Tree) (t : Tree) → weight_over w (let_bounds w [] lets) t ≡ weight_over w [] (inlined (inlined_after [] lets) t)
 whole_weight w lets t = ap (λ l. weight_over w l t) (bounds_behind w [] lets) ∙ put_in (weight_over w) (weight_inlined w) lets t
 
@@ -78,6 +80,7 @@ ranges_behind : (r : ℕ → Range) (done : List Range) (ts : List Tree) → let
 ranges_behind r done [] = refl
 ranges_behind r done (t ∷ ts) = ranges_behind r (done ++ (range_over r done t ∷ [])) ts
 
+-- a tree over the ranges of its lets has the range of the tree with the lets substituted for their names
 pub whole_range : (r : ℕ → Range) (lets : List Tree) (t : Tree) → range_over r (let_ranges r [] lets) t ≡ range_over r [] (inlined (inlined_after [] lets) t)
 whole_range r lets t = ap (λ l. range_over r l t) (ranges_behind r [] lets) ∙ put_in (range_over r) (range-inlined r) lets t
 
@@ -119,6 +122,7 @@ last_node by (FSub at e f) = record { front = nodes_by by e ++ nodes_by by f; at
 last_node by (FMul at e f) = record { front = nodes_by by e ++ nodes_by by f; at = at; ends = refl }
 last_node by (FPow at e n) = record { front = nodes_by by e; at = at; ends = refl }
 
+-- the last measure of a predicate's nodes is that of its root with the lets substituted for their names
 pub last_measure : (vars : List VarInfo) (lets : List Formula) (root : Formula) (d : Range × ℕ)
     → slice_index_or (node_measures (measured_pred vars lets root)) (length (node_measures (measured_pred vars lets root)) - 1) d
     ≡ measure_of_whole vars lets root

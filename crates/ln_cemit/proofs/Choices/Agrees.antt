@@ -26,23 +26,28 @@ abbrev pub value_or : Option ℤ → ℤ
 value_or None = pos 0
 value_or (Some z) = z
 
+-- the sign of a block's value on a row; 0 where there is no block
 abbrev pub block_sign : List ℤ → Option Code → ℤ
 block_sign zs None = pos 0
 block_sign zs (Some c) = sign_of (value_or (block_value zs c))
 
+-- the sign of what a filter leaves, where it decides; else 0
 abbrev pub held_sign : Option Held → ℤ
 held_sign None = pos 0
 held_sign (Some h) = law.decided h
 
+-- what the function with this number returns on a row
 abbrev pub signs : List ℤ → Option FilterCode → List Code → ℕ → ℤ
 signs zs None cs b = block_sign zs (slice_get cs b)
 signs zs (Some f) cs zero = held_sign (filter_value zs f)
 signs zs (Some f) cs (suc b) = block_sign zs (slice_get cs b)
 
+-- how many operations at 128 bits the function of a block makes; 0 where there is no block
 abbrev pub wide_of : Option Code → ℕ
 wide_of None = 0
 wide_of (Some c) = wide_lines (block_lines c)
 
+-- the counts after a call of the function with this number
 abbrev pub afters : Option FilterCode → List Code → ℕ → Counts → Counts
 afters None cs b = plus (wide_of (slice_get cs b))
 afters (Some f) cs zero = λ k. k
@@ -164,6 +169,7 @@ pub record Same (zs : List ℤ) (f : Option FilterCode) (cs : List Code) (ns : L
   pub narrow : verdict.by ≡ Filter → (z : ℤ) (j : Counts)
       → first_of_signs (signs zs f cs) (afters f cs) (first_of f ++ moved f ns) (record { wide = 0; calls = 0 }) ≡ Said z j → j.wide ≡ 0
 
+-- where the filter leaves a number and the blocks have values, the machine's verdict is as `Same` has it
 pub both_same : (zs : List ℤ) (f : Option FilterCode) (cs : List Code) (ns : List ℕ) → Leaves zs f → ((n : ℕ) → Member ns n → Valued zs cs n) → Same zs f cs ns
 both_same zs None cs ns l h =
     let a = along_agrees zs cs ns 0 0 0 h in

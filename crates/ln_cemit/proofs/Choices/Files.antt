@@ -83,6 +83,7 @@ index-touched : (s : Scene) (t : Bool) (body : Body) (k : Counts) → runs s [] 
 index-touched s true body k = refl
 index-touched s false body k = refl
 
+-- a call of the function with two parameters returns the first sign that isn't 0 along the row's list
 pub file-means : FileMeans
 file-means front rest block own name touch bodies sign after segment before places indices values away blocks_away apart means b numbers fits o =
     let m : ℕ = length bodies in

@@ -39,6 +39,7 @@ along_row segment at zero p left = segment p
 along_row segment at (suc d) p [] = segment p
 along_row segment at (suc d) p (i ∷ js) = segment p ++ along_row segment at d (p ++ least at i js ∷ []) (without (least at i js) (i ∷ js))
 
+-- what is in a list without x is in the list
 pub in-without : (x : ℕ) (js : List ℕ) (j : ℕ) → Member (without x js) j → Member js j
 in-without x [] j m = absurd m
 in-without x (y ∷ js) j m = go (not (eqb y x)) m (in-without x js j) where

@@ -195,6 +195,7 @@ module _ (indices : List ℤ) (places : List ℕ) (o : IsOrder indices places) w
       rows-are-orders (index_at indices) segment (length indices) [] (range_with_len 0 (length indices)) places (omega (arith, o.size)) the-row-order
       ∙ along-pieces (index_at indices) segment [] places ∙ ap (λ n. joined (map (λ j. segment (take j places)) (range_with_len 0 (suc n)))) o.size
 
+-- on a row whose indices differ, the body returns what the filter and the blocks of the row's order return
 pub finds-the-order : FindsTheOrder
 finds-the-order block own s m sign after segment before places indices k answers b numbers e fits o =
     let n = length indices in

@@ -313,6 +313,7 @@ says_too fs gs (p ∷ ps) e a = (
   says_too fs gs ps e a.1,
 )
 
+-- the text of the file of programs is what is promised of their C
 pub file_is_emitted : FileIsEmitted
 file_is_emitted ps bytes a k e =
     let h = facts-of ps k a.small in

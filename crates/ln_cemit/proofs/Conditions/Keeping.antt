@@ -79,6 +79,7 @@ freed names x h =
     let b = and_parts (is_own x) _ a.1 in
     record { word = a.0; own = b.0; apart = b.1 }
 
+-- the function of lines keeps the conditions, where its names are free and differ and its numbers are small
 pub funs_keep : FunsKeep
 funs_keep names name own e xs differ free w o b h =
     let v : Bool = reads_row xs in
@@ -165,6 +166,7 @@ strict_filter vars depth few = record {
     short : (z : ℤ) (a : Triple) → unsigned_abs z / 2 ^ a.k ≤ a.h → a.h ≤ 9223372036854775807 → nat_le (unsigned_abs (cut_by a.k z)) (limit W128) ≡ true
     short z a p q = le-leb (unsigned_abs (cut_by a.k z)) (limit W128) (rw (cut_abs a.k z) (omega (arith, p, q)))
 
+-- the function of a block that follows the rules keeps the conditions
 pub blocks_keep : BlocksKeep
 blocks_keep names name own vars code differ free w o few r =
     let k = some_is (known_of vars code) r.answers in
@@ -172,6 +174,7 @@ blocks_keep names name own vars code differ free w o few r =
     funs_keep names name own 0 (block_lines code) differ free w o (omega arith) (fine_run block_way (rules vars code.depth)
     (strict_rules vars code.depth few) (lines_of code.ops code.pairs) (record { stack = []; locals = no_locals }) q.0 q.1)
 
+-- the function of a filter that follows the rules keeps the conditions, where there is a row in range
 pub filters_keep : FiltersKeep
 filters_keep names name own vars zs f range differ free w o few r =
     let b = filter_runs vars zs f f.depth (λ k. pos 0) r range (omega arith) in

@@ -44,11 +44,13 @@ pub record Facts (p : Part) : Type 0 where
   pub kept : IsProgram p
   pub small : length p.blocks ≤ 65536
 
+-- there are no more lines than operations
 pub lines_short : {B : Type 0} (g : B → Way) (ops : List Op) (bs : List B) → length (ways g (lines_of ops bs)) ≤ length ops
 lines_short g [] bs = omega arith
 lines_short g (o ∷ os) [] = omega arith
 lines_short g (o ∷ os) (b ∷ bs) = let h = lines_short g os bs in omega (arith, h)
 
+-- there is at most one function with one parameter more than there are blocks
 pub few_bodies : (f : Option FilterCode) (cs : List Code) → length (bodies_of f cs) ≤ suc (length cs)
 few_bodies None cs = let h = mapped cs in omega (arith, h) where
   mapped : (cs : List Code) → length (map block_body cs) ≡ length cs
@@ -59,6 +61,7 @@ few_bodies (Some f) cs = let h = mapped cs in omega (arith, h) where
   mapped [] = refl
   mapped (c ∷ cs) = ap suc (mapped cs)
 
+-- a program has at most 2^63 functions with one parameter
 pub short_bodies : (p : Part) → Facts p → length (bodies_of p.filter p.blocks) ≤ 2 ^ 63
 short_bodies p h = let a = few_bodies p.filter p.blocks in omega (arith, a, h.small)
 
@@ -148,6 +151,7 @@ beside_numbers m (q ∷ qs) (s ∷ ss) p h b i = by_case (same_vector q p) (besi
   by_case true r = to_numbers m s (h 0 s (omega arith))
   by_case false r = r
 
+-- numbers of blocks, as numbers of functions, are those of functions that are there
 pub moved_numbers : (f : Option FilterCode) (cs : List Code) (bs : List ℕ) → AreNumbers (length cs) bs → AreNumbers (length (bodies_of f cs)) (moved f bs)
 moved_numbers None cs bs h b i = let e = mapped cs in omega (arith, e, h b i) where
   mapped : (cs : List Code) → length (map block_body cs) ≡ length cs
@@ -163,11 +167,13 @@ moved_numbers (Some f) cs bs h b i = go bs (λ n l. h n l) i where
   go (x ∷ xs) h (inl e) = let l = h x (inl refl) in let m = mapped cs in omega (arith, e, l, m)
   go (x ∷ xs) h (inr i) = go xs (λ n l. h n (inr l)) i
 
+-- the number of the filter is that of a function that is there
 pub first_numbers : (f : Option FilterCode) (cs : List Code) → AreNumbers (length (bodies_of f cs)) (first_of f)
 first_numbers None cs b i = absurd i
 first_numbers (Some f) cs b (inl e) = omega (arith, e)
 first_numbers (Some f) cs b (inr i) = absurd i
 
+-- the numbers in a segment, as numbers of functions, are those of functions that are there
 pub segment_numbers : (p : Part) → Facts p → (q : List ℕ) → AreNumbers (length (bodies_of p.filter p.blocks)) (moved p.filter (segment_of p q))
 segment_numbers p h q =
     moved_numbers p.filter p.blocks (segment_of p q) (beside_numbers (length p.blocks) (prefixes_of p.shape.sites) p.segments q h.kept.named)
@@ -226,6 +232,7 @@ abbrev pub NoneHas : List ℕ → List Part → Type 0
 NoneHas x [] = Unit {0}
 NoneHas x (p ∷ ps) = (part_name p ≢ x) × NoneHas x ps
 
+-- no two of these have one name
 abbrev pub NamesDiffer : List Part → Type 0
 NamesDiffer [] = Unit {0}
 NamesDiffer (p ∷ ps) = NoneHas (part_name p) ps × NamesDiffer ps
@@ -235,6 +242,7 @@ one_begin : (name : ℕ → List ℕ) (i : ℕ) (bodies : List Body) (rest : Lis
 one_begin name i [] rest h r = r
 one_begin name i (b ∷ bs) rest h r = rw (h i, one_begin name (suc i) bs rest h r) refl
 
+-- the names of all functions of the file begin with l
 pub file_begins : (ps : List Part) → all_begin (names_of (file_of ps)) ≡ true
 file_begins [] = refl
 file_begins (p ∷ ps) = one_begin (numbered (part_name p) p.filter) 0 (bodies_of p.filter p.blocks)
@@ -300,6 +308,7 @@ module _ (names : List (List ℕ)) (begin : all_begin names ≡ true) where
       both : {u v : Bool} → u ≡ true → v ≡ true → (u && v) ≡ true
       both {u} {v} e f = rw (e, f) refl
 
+-- the functions of programs whose names differ are a file of the subset
 pub file_kept : (ps : List Part) → AllFacts ps → NamesDiffer ps → is_file (file_of ps) ≡ true
 file_kept ps h d =
     let names : List (List ℕ) = names_of (file_of ps) in

@@ -44,6 +44,7 @@ apart ((b ∷ bs) ∷ xs) ds h =
 tail_same : (xs ys : List ℕ) → 110 ∷ xs ≡ 110 ∷ ys → xs ≡ ys
 tail_same xs ys e = cc
 
+-- the names of declarations differ, and are free beside functions whose names begin with l
 pub names_serve : NamesServe
 names_serve names top small h = (
   λ m n p q e. decimal_injective m n (omega (arith, p, small)) (omega (arith, q, small)) (tail_same (decimal m) (decimal n) e),

@@ -47,6 +47,7 @@ pub data IsOut (name : ℕ → List ℕ) (p : List ℕ → Bool) : Expr → Type
 
 -- ---- what holds of each
 
+-- a number below 2^63 is a NUMBER
 pub short_most : (n : ℕ) → is_short n ≡ true → nat_le n most_number ≡ true
 short_most n e = le-leb n most_number (omega (arith, lt_from n (2 ^ 63) e))
 
@@ -86,6 +87,7 @@ lowest_words : (t : CType) (e : ℕ) → e ≤ most_number → has_words (lowest
 lowest_words t zero h = refl
 lowest_words t (suc e) h = le-leb (suc e) most_number h
 
+-- the names and numbers of an emitted expression are NAMEs and NUMBERs, where the names that it reads are
 pub words_out : (name : ℕ → List ℕ) (x : Expr) → IsOut name is_c_name x → has_words x ≡ true
 words_out name x (constant_out w z h) = constant_words z h
 words_out name x (value_out w v h) = le-leb v most_number h
@@ -126,6 +128,7 @@ two_divides Plus name w x y = refl
 two_divides Minus name w x y = refl
 two_divides Times name w x y = refl
 
+-- an emitted expression divides by NUMBERs above 0 alone
 pub divides_out : (name : ℕ → List ℕ) (p : List ℕ → Bool) (x : Expr) → IsOut name p x → divides x ≡ true
 divides_out name p x (constant_out w z h) = constant_divides z
 divides_out name p x (value_out w v h) = refl
@@ -161,6 +164,7 @@ lowest_calls : (t : CType) (e : ℕ) → calls_none (lowest t e) ≡ true
 lowest_calls t zero = refl
 lowest_calls t (suc e) = refl
 
+-- an emitted expression has no call
 pub calls_out : (name : ℕ → List ℕ) (p : List ℕ → Bool) (x : Expr) → IsOut name p x → calls_none x ≡ true
 calls_out name p x (constant_out w z h) = constant_calls z
 calls_out name p x (value_out w v h) = refl
@@ -196,6 +200,7 @@ lowest_flat : (name : ℕ → List ℕ) (e : ℕ) (s : Slot) → is_flat (sign_e
 lowest_flat name zero s = refl
 lowest_flat name (suc e) s = refl
 
+-- at most 12 parentheses are round a place of an emitted expression
 pub flat_out : (name : ℕ → List ℕ) (p : List ℕ → Bool) (x : Expr) → IsOut name p x → is_flat x ≡ true
 flat_out name p x (constant_out w z h) = le-leb (suc (max 1 (parens (constant z)))) 12 (omega (arith, constant_parens z))
 flat_out name p x (value_out w v h) = refl

@@ -47,6 +47,7 @@ digit_names : (ds : List ℕ) → every is_digit ds ≡ true → every is_name_b
 digit_names [] h = refl
 digit_names (d ∷ ds) h = let p = and_parts (is_digit d) (every is_digit ds) h in rw (or_right (is_letter d) (is_digit d) p.0, digit_names ds p.1) refl
 
+-- a number up to 2^63 is written in digits
 pub number_digits : (n : ℕ) → n ≤ 2 ^ 63 → every is_digit (decimal n) ≡ true
 number_digits n h = digits_pass (decimal n) (and_parts (list_all is_ascii_digit (decimal n)) _ (text_is_digits n (omega (arith, h)))).0
 
@@ -54,6 +55,7 @@ number_digits n h = digits_pass (decimal n) (and_parts (list_all is_ascii_digit 
 filter_c_name : (x : List ℕ) → every is_name_byte x ≡ true → is_c_name (filter_name x) ≡ true
 filter_c_name x h = rw h refl
 
+-- the name of the function that is called from outside is a NAME
 pub call_c_name : (x : List ℕ) → every is_name_byte x ≡ true → is_c_name (call_name x) ≡ true
 call_c_name x h = rw h refl
 
@@ -62,16 +64,19 @@ block_c_name x b l h = word (decimal b ++ 95 ∷ x) (every_more is_name_byte (de
   word : (ds : List ℕ) → every is_name_byte ds ≡ true → is_c_name (108 ∷ 98 ∷ ds) ≡ true
   word ds e = rw e refl
 
+-- the name of a function with one parameter is a NAME
 pub numbered_c_name : (x : List ℕ) (f : Option FilterCode) (b : ℕ) → b ≤ 2 ^ 63 → every is_name_byte x ≡ true → is_c_name (numbered x f b) ≡ true
 numbered_c_name x None b l h = block_c_name x b l h
 numbered_c_name x (Some f) zero l h = filter_c_name x h
 numbered_c_name x (Some f) (suc b) l h = block_c_name x b (omega (arith, l)) h
 
+-- the name of a function with one parameter is neither v nor x
 pub numbered_own : (x : List ℕ) (f : Option FilterCode) (b : ℕ) → is_own (numbered x f b) ≡ true
 numbered_own x None b = refl
 numbered_own x (Some f) zero = refl
 numbered_own x (Some f) (suc b) = refl
 
+-- the name of a function with one parameter begins with l
 pub numbered_begins : (x : List ℕ) (f : Option FilterCode) (b : ℕ) → begins_with_l (numbered x f b) ≡ true
 numbered_begins x None b = refl
 numbered_begins x (Some f) zero = refl
@@ -103,11 +108,13 @@ family_past (d ∷ ds) x h =
     other : (d : ℕ) → is_digit d ≡ true → (d == 95) ≡ false
     other d h = grind (arith, nat_tests)
 
+-- in the name of a function with one parameter, the predicate's name comes after the first underscore
 pub numbered_family : (x : List ℕ) (f : Option FilterCode) (b : ℕ) → b ≤ 2 ^ 63 → family (numbered x f b) ≡ x
 numbered_family x None b l = family_past (decimal b) x (number_digits b l)
 numbered_family x (Some f) zero l = refl
 numbered_family x (Some f) (suc b) l = family_past (decimal b) x (number_digits b (omega (arith, l)))
 
+-- so it does in the name of the function that is called from outside
 pub call_family : (x : List ℕ) → family (call_name x) ≡ x
 call_family x = refl
 
@@ -133,6 +140,7 @@ second [] = 0
 second (a ∷ []) = 0
 second (a ∷ b ∷ bs) = b
 
+-- functions with one parameter have different names, where their numbers differ
 pub numbered_differ : (x : List ℕ) (f : Option FilterCode) (i j : ℕ) → i ≤ 2 ^ 63 → j ≤ 2 ^ 63 → numbered x f i ≡ numbered x f j → i ≡ j
 numbered_differ x None i j l m e = block_differs x i j l m e
 numbered_differ x (Some f) zero zero l m e = refl
@@ -140,6 +148,7 @@ numbered_differ x (Some f) zero (suc j) l m e = let q : 102 ≡ 98 = ap second e
 numbered_differ x (Some f) (suc i) zero l m e = let q : 98 ≡ 102 = ap second e in absurd (omega (arith, q))
 numbered_differ x (Some f) (suc i) (suc j) l m e = ap suc (block_differs x i j (omega (arith, l)) (omega (arith, m)) e)
 
+-- no function with one parameter has the name of the one that is called from outside
 pub numbered_no_call : (x : List ℕ) (f : Option FilterCode) (b : ℕ) → numbered x f b ≢ call_name x
 numbered_no_call x None b e = let q : 98 ≡ 110 = ap second e in absurd (omega (arith, q))
 numbered_no_call x (Some f) zero e = let q : 102 ≡ 110 = ap second e in absurd (omega (arith, q))
@@ -152,19 +161,23 @@ other x y h = by_case (bytes_eq x y) refl where
   by_case true e = absurd (h (sym ((bytes_eq-Decides x y).0 e)))
   by_case false e = refl
 
+-- a name that no function has isn't among the names of the functions
 pub away_among : (fs : List Fun) (x : List ℕ) → AreAway fs x → among (names_of fs) x ≡ false
 away_among [] x h = refl
 away_among (f ∷ fs) x h = rw (other x f.name h.0, away_among fs x h.1) refl
 
+-- a name that no function of two lists has, none of both has, appended
 pub away_more : (fs gs : List Fun) (x : List ℕ) → AreAway fs x → AreAway gs x → AreAway (fs ++ gs) x
 away_more [] gs x h k = k
 away_more (f ∷ fs) gs x h k = (h.0, away_more fs gs x h.1 k)
 
+-- a name that differs from that of each number is none of the functions with these numbers
 pub away_one : (name : ℕ → List ℕ) (i : ℕ) (bodies : List Body) (x : List ℕ) → ((j : ℕ) → i ≤ j → j < i + length bodies → name j ≢ x)
     → AreAway (one_funs name i bodies) x
 away_one name i [] x h = tt
 away_one name i (b ∷ bs) x h = (h i (omega arith) (omega arith), away_one name (suc i) bs x (λ j l m. h j (omega (arith, l)) (omega (arith, m))))
 
+-- the names of numbered functions and of others after them differ, where those of each differ and none is in both
 pub distinct_one : (name : ℕ → List ℕ) (i top : ℕ) (bodies : List Body) (rest : List Fun) → i + length bodies ≤ top
     → ((j k : ℕ) → j < top → k < top → name j ≡ name k → j ≡ k) → ((j : ℕ) → j < top → AreAway rest (name j))
     → distinct (names_of rest) ≡ true → distinct (names_of (one_funs name i bodies ++ rest)) ≡ true

@@ -37,6 +37,7 @@ use Rattle.ln_cemit.proofs.Writing.Constants.{two_is, inner_is, minus_is, consta
 abbrev pub hidden : CType → List ℕ → Seen
 hidden t x = record { name = x; kind = t; number = None }
 
+-- a declaration with its value
 abbrev pub shown : CType → List ℕ → ℤ → Seen
 shown t x z = record { name = x; kind = t; number = Some z }
 
@@ -100,6 +101,7 @@ record IsSized (w : Width) (z : ℤ) (x : Sized) : Type 0 where
 sized_says : (w : Width) (z : ℤ) (x : Sized) → sized w z ≡ Some x → IsSized w z x
 sized_says w z x q = let r = when_some _ _ _ q in record { small = within w z r.0; is = r.1 }
 
+-- the operation in C for one on two operands
 abbrev pub op_of : Two → COp
 op_of Plus = op.Add
 op_of Minus = op.Sub
@@ -425,6 +427,7 @@ module _ (name : ℕ → List ℕ) (top : ℕ) (differ : AreNames name top) wher
       ∙ main s e lines (d ∷ ds) (suc n) su ms r.0.stack r.0.locals t x (plus (wide_op line.op line.bound) k) qu r.2 p st' l' (omega (arith, m))
       ∙ ap (λ j. Said (sign_above e x.number) j) (sym (plus_add (wide_op line.op line.bound) (wide_lines lines) k)))
 
+-- where the machine as C has it has a result, the emitted body returns its sign, and no line fails
 pub emitted_means : EmittedMeans
 emitted_means name e s lines x k differ qu q =
     let r = next_some (run (checked s.values) lines (record { stack = []; locals = no_locals })) (λ u. only u.stack) x q in

@@ -67,6 +67,7 @@ narrow_cut : (n : ℕ) (a : Triple) (x h : Held) (m : ℤ) (u : Width) → m ≡
     → Reaches IsNarrow h (if no_wider u W64 then sized W64 (cut_by n m) else None)
 narrow_cut n a x h m u e f q = rw (e, f) (reached a (cut_by n x.number) h q)
 
+-- each local of a filter's machine has the same number, 64 bits wide, in the machine as C has it
 abbrev pub NarrowLocals : (ℕ → Option Held) → (ℕ → Option Sized) → Type 0
 NarrowLocals l m = (j : ℕ) (h : Held) → l j ≡ Some h → Reaches IsNarrow h (m j)
 
@@ -78,6 +79,7 @@ narrow_put l m j v x h f i k = by_case (i == j)
     by_case true q = let r : v ≡ k = cc in rw (← r) f
     by_case false q = h i k q
 
+-- the machine as C has it follows that of a filter, at 64 bits
 pub narrow_follows : (zs : List ℤ) → Follows (exact_filter zs) (checked zs) filter_way IsNarrow NarrowLocals
 narrow_follows zs = record {
   push = λ c a h q. reached a (cut_by a.k c) h q;
@@ -125,6 +127,7 @@ no_wide_step zs (Mul w) a l ys u q = no_two zs Times w a l ys u q
 no_wide_step zs (Neg w) a l ys u q = no_neg zs w a l ys u q
 no_wide_step zs (Cut m) a l ys u q = refl
 
+-- lines that the machine of a filter runs through have no operation at 128 bits
 pub no_wide : (zs : List ℤ) (lines : List (Line Triple)) (s u : State Held (ℕ → Option Held)) → run (exact_filter zs) lines s ≡ Some u
     → wide_lines (ways filter_way lines) ≡ 0
 no_wide zs [] s u q = refl

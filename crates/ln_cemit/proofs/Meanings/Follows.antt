@@ -41,6 +41,7 @@ reached zs enough p w s t k z e h q =
     let f = kept zs enough p w s t k z e h q in
     rw i (record { fits = f; width = ap (λ (y : Known). y.width) r.3 })
 
+-- an integer is in the range from it to itself
 pub number_held : (c : ℤ) → Holds (point c) c
 number_held c = (omega (arith, ints), omega (arith, ints))
 
@@ -96,6 +97,7 @@ put_has zs l m j v x h f i k = by_case (i == j)
     by_case true q = let r : v ≡ k = cc in rw (← r) f
     by_case false q = h i k q
 
+-- the machine as C has it follows the rules on blocks, on each row in range
 pub checked_follows : (vars : List VarInfo) (depth : ℕ) (zs : List ℤ) → AreWithin vars zs
     → Follows (rules vars depth) (checked zs) block_way (Has zs) (HasLocals zs)
 checked_follows vars depth zs h = record {

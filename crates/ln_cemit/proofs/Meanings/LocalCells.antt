@@ -24,6 +24,7 @@ one_local (o ∷ os) (suc j) (suc i) s h =
     same i j true e = grind (arith, nat_tests)
     same i j false e = grind (arith, nat_tests)
 
+-- a cell that is set in the array is a local that is set
 pub locals_set : (os : List (Option Slot)) (j : ℕ) (s : Slot) → j < length os → locals_of (slice_set os j (Some s)) ≡ with_local (locals_of os) j s
 locals_set os j s h = fun_ext (λ i. one_local os j i s h)
 

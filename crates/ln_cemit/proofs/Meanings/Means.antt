@@ -54,6 +54,7 @@ has_either : (b : Bool) (z : ℤ) → has Int (if b then sign_of z else pos 0) �
 has_either true z = has_sign z
 has_either false z = refl
 
+-- the body of a block that follows the rules returns, on each row in range, the sign of the block's value
 pub blocks_say : BlocksSay
 blocks_say name vars zs code differ range r =
     let b = blocks_mean vars zs code range r in
@@ -74,6 +75,7 @@ blocks_say name vars zs code differ range r =
       means = record { says = λ k. touched zs (reads_row (block_lines code)) _ k ∙ says k; small = has_sign z; keeps = λ k. refl };
     }
 
+-- the body of a filter that follows the rules returns, on each row in range, the sign where it decides, else 0
 pub filters_say : FiltersSay
 filters_say name vars zs f differ range r =
     let b = filter_runs vars zs f f.depth (λ k. pos 0) r range (omega arith) in

@@ -27,14 +27,17 @@ pub two_is : (s : Scene) (ds : List Seen) (o : COp) (t : CType) (a b : Expr) (x 
     → value_of s ds b i ≡ Gives t y j → is_same t t ≡ true → value_of s ds (c.Two o a b) k ≡ operated o t x y j
 two_is s ds o t a b x y k i j e f h = rw (e, f, h)
 
+-- an expression that is cast to a type which its value fits
 pub inner_is : (s : Scene) (ds : List Seen) (t u : CType) (a : Expr) (x : ℤ) (k j : Counts) → value_of s ds a k ≡ Gives u x j
     → has t x ≡ true → value_of s ds (c.Inner t a) k ≡ Gives t x j
 inner_is s ds t u a x k j e h = rw (e, h)
 
+-- the opposite of an expression, where it fits the type
 pub minus_is : (s : Scene) (ds : List Seen) (t : CType) (a : Expr) (x : ℤ) (k j : Counts) → value_of s ds a k ≡ Gives t x j
     → has t (neg_ℤ x) ≡ true → value_of s ds (c.Minus a) k ≡ Gives t (neg_ℤ x) (counted t j)
 minus_is s ds t a x k j e h = rw (e, h)
 
+-- a number in m + 1 parts has its value, with 2m wide operations
 pub in_parts_is : (s : Scene) (ds : List Seen) (m n : ℕ) (k : Counts) → n < 2 ^ 127 → value_of s ds (in_parts m n) k ≡ Gives Int128 (pos n) (plus (2 * m) k)
 in_parts_is s ds zero n k h = given_128 n k h
 in_parts_is s ds (suc m) n k h =
@@ -56,6 +59,7 @@ in_parts_is s ds (suc m) n k h =
 short_is : (s : Scene) (ds : List Seen) (n : ℕ) (k : Counts) → n < 2 ^ 63 → value_of s ds (c.Number Int64 n) k ≡ Gives Int64 (pos n) k
 short_is s ds n k h = given_is Int64 (pos n) k (lt_true n (2 ^ 63) h)
 
+-- a constant that fits a width has its value in the type of that width, with the wide operations that are counted for it
 pub constant_is : (s : Scene) (ds : List Seen) (w : Width) (z : ℤ) (k : Counts) → unsigned_abs z ≤ limit w
     → value_of s ds (c.Inner (type_of w) (constant z)) k ≡ Gives (type_of w) z (plus (constant_wide z) k)
 constant_is s ds w (pos n) k h = by_case (is_short n) refl where

@@ -25,6 +25,7 @@ collects f done next all xs i x y h e n g =
     ap (λ z. z ++ map f (drop (i + 1) xs)) n ∙ append_assoc done (y ∷ []) (map f (drop (i + 1) xs)) ∙ ap (λ z. done ++ z ∷ map f (drop (i + 1) xs)) e
     ∙ ap (λ z. done ++ map f z) (sym (from_on xs i x h)) ∙ g
 
+-- at the end something was made of each element
 pub collected : {A C : Type 0} (f : A → C) (done all : List C) (xs : List A) (i : ℕ) → length xs ≤ i → done ++ map f (drop i xs) ≡ all → done ≡ all
 collected f done all xs i h g = sym (append-nil done) ∙ ap (λ z. done ++ map f z) (sym (drop_all i xs h)) ∙ g
 
@@ -36,6 +37,7 @@ keeps x done next all xs i d h n g =
     ∙ ap (λ z. done ++ z) (sym (filter-append (λ j. not (eqb j x)) (get_or xs i d ∷ []) (drop (i + 1) xs)))
     ∙ ap (λ z. done ++ without x z) (sym (from_on xs i d h)) ∙ g
 
+-- at the end all were kept but the one to be omitted
 pub kept_all : (x : ℕ) (done all xs : List ℕ) (i : ℕ) → length xs ≤ i → done ++ without x (drop i xs) ≡ all → done ≡ all
 kept_all x done all xs i h g = sym (append-nil done) ∙ ap (λ z. done ++ without x z) (sym (drop_all i xs h)) ∙ g
 
@@ -47,6 +49,7 @@ guards_more {start} {now} {new} i js k d h g p = record {
   is = λ r. p.is (open_guards i (drop (k + 1) js) r) ∙ ap (λ z. now ++ written (open_guards i z r)) (sym (from_on js k d h)) ∙ g.is r;
 }
 
+-- at the end all comparisons were appended
 pub guards_all : {start now : List ℕ} (i : ℕ) (js : List ℕ) (k : ℕ) → length js ≤ k
     → Goes start now (open_guards i (drop k js)) (open_guards i js) → Puts start now (open_guards i js)
 guards_all {start} {now} i js k h g = record { is = λ r. ap (λ z. now ++ written (open_guards i z r)) (sym (drop_all k js h)) ∙ g.is r }
@@ -56,5 +59,6 @@ pub filter_some : {a b : List ℕ} (name x : List ℕ) (o : Option FilterCode) (
     → Lays a b (one_fun (filter_name name) (filter_body f) ∷ []) → Lays a b (filter_funs x o)
 filter_some {a} {b} name x o f e g p = rw g (subst (λ y. Lays a b (one_fun (filter_name y) (filter_body f) ∷ [])) e p)
 
+-- where there is no filter, nothing was laid out
 pub filter_none : {a : List ℕ} (x : List ℕ) (o : Option FilterCode) → o ≡ None → Lays a a (filter_funs x o)
 filter_none {a} x o g = rw g (lays_none a)

@@ -57,16 +57,19 @@ pushed {a} {b} n wd y z st su e f p =
           (sym r) (record { is = λ t. q.is (spell_body (go (slot n wd ∷ reverse st) ls) t) });
     }
 
+-- the case of a push in `put_operation`
 pub does_push : {a b : List ℕ} (o : Op) (x y : ℤ) (way : Way) (n : ℕ) (st su : List Slot) (os : List (Option Slot)) → o ≡ Push x
     → y ≡ cut_by way.shift x → Moves a b su (λ ls go. pushing decl_name n way.width (c.Inner (type_of way.width) (constant y)) (reverse st) ls go)
     → Does true a b su os (λ go. put_op decl_name o way n (reverse st) (locals_of os) go)
 does_push o x y way n st su os e f m = rw (e, ← f) (record { goes = λ go. m.goes (locals_of os) go })
 
+-- the case of a get in `put_operation`
 pub does_get : {a b : List ℕ} (more : Bool) (o : Op) (j : ℕ) (way : Way) (n : ℕ) (s : Option Slot) (st su : List Slot) (os : List (Option Slot))
     → o ≡ Get j → s ≡ locals_of os j → MayMove more a b su (λ ls go. put_get decl_name way n s (reverse st) ls go)
     → Does more a b su os (λ go. put_op decl_name o way n (reverse st) (locals_of os) go)
 does_get {a} {b} more o j way n s st su os e f m = rw (e, ← f) (record { goes = λ go. m.goes (locals_of os) go })
 
+-- the cell of the array at a place is the local with that number
 pub local_is : (d : Option Slot) (os : List (Option Slot)) (k j : ℕ) → k ≡ j → k < length os → get_or os k d ≡ locals_of os j
 local_is d os k j e l = rw (← e) (sym (ap (λ x. next x (λ y. y)) (slice_get-get_or os k d l)))
 
@@ -78,12 +81,14 @@ line_suc d b (x ∷ xs) [] i o w e h p q = absurd (omega (arith, e))
 line_suc d b (x ∷ xs) (y ∷ ys) zero o w e h p q = let f : o ≡ x = p in let g : w ≡ y = q in rw (f, g) refl
 line_suc d b (x ∷ xs) (y ∷ ys) (suc i) o w e h p q = line_suc d b xs ys i o w (omega (arith, e)) (omega (arith, h)) p q
 
+-- the lines from one on are that line and those after it
 pub line_step : (d : Op) (b : Way) (ops : List Op) (ws : List Way) (i : ℕ) (o : Op) (w : Way) → length ops ≡ length ws → i < length ops
     → o ≡ get_or ops i d → w ≡ get_or ws i b → drop i (lines_of ops ws) ≡ record { op = o; bound = w } ∷ drop (i + 1) (lines_of ops ws)
 line_step d b ops ws i o w e h p q =
     let n : suc i ≡ i + 1 = omega arith in
     line_suc d b ops ws i o w e h p q ∙ ap (λ z. record { op = o; bound = w } ∷ drop z (lines_of ops ws)) n
 
+-- after the last operation there is no line
 pub lines_end : (ops : List Op) (ws : List Way) (i : ℕ) → length ops ≤ i → drop i (lines_of ops ws) ≡ []
 lines_end [] ws zero h = refl
 lines_end [] ws (suc i) h = refl
@@ -91,6 +96,7 @@ lines_end (x ∷ xs) ws zero h = absurd (omega arith)
 lines_end (x ∷ xs) [] (suc i) h = refl
 lines_end (x ∷ xs) (y ∷ ys) (suc i) h = lines_end xs ys i (omega (arith, h))
 
+-- the step of the loop in `put_lines`: one operation was appended, and the naming of what nothing reads is next
 pub loop_step : {start old new : List ℕ} {all : List Token → List Token} (more : Bool) (e : ℕ) (xs ys : List (Line Way)) (i : ℕ) (o : Op) (w : Way)
     (st su : List Slot) (os os' : List (Option Slot)) (u : Option ℕ) → xs ≡ record { op = o; bound = w } ∷ ys → unread o (ops_of ys) i (reverse st) ≡ u
     → Goes start old (spell_body (emitted decl_name e xs i (reverse st) (locals_of os))) all
@@ -122,10 +128,12 @@ ops_behind (o ∷ os) [] i e = absurd (omega (arith, e))
 ops_behind (o ∷ os) (w ∷ ws) zero e = ap (λ z. o ∷ z) (ops_behind os ws 0 (omega (arith, e)))
 ops_behind (o ∷ os) (w ∷ ws) (suc i) e = ops_behind os ws i (omega (arith, e))
 
+-- what nothing reads after an operation, by the remaining operations
 pub unread_is : (o : Op) (ops left : List Op) (ws : List Way) (i : ℕ) (st : List Slot) (u : Option ℕ) → length ops ≡ length ws
     → left ≡ drop (i + 1) ops → u ≡ unread o left i (reverse st) → unread o (ops_of (drop (i + 1) (lines_of ops ws))) i (reverse st) ≡ u
 unread_is o ops left ws i st u e f g = ap (λ z. unread o z i (reverse st)) (ops_behind ops ws (i + 1) e ∙ sym f) ∙ sym g
 
+-- the end of the loop in `put_lines`: after the last line the sign was appended
 pub loop_end : {start old new : List ℕ} {all : List Token → List Token} (e : ℕ) (xs : List (Line Way)) (i : ℕ) (st : List Slot)
     (os : List (Option Slot)) → xs ≡ [] → Goes start old (spell_body (emitted decl_name e xs i (reverse st) (locals_of os))) all
     → Puts old new (spell_body (put_sign decl_name e (reverse st))) → Puts start new all
@@ -140,6 +148,7 @@ pub loop_stop : {start new : List ℕ} {all : List Token → List Token} (more :
 loop_stop true b e p = absurd cc
 loop_stop false b e p = record { is = p.is }
 
+-- where the rest follows, the loop in `put_lines` goes on with it
 pub loop_goes : {start new : List ℕ} {all : List Token → List Token} (more : Bool) (b : Body) → more ≡ true
     → Goes start new (spell_body (rest_or more b)) all → Goes start new (spell_body b) all
 loop_goes true b e p = p
@@ -159,6 +168,7 @@ reads_lines [] ws e = refl
 reads_lines (o ∷ os) [] e = absurd (omega (arith, e))
 reads_lines (o ∷ os) (w ∷ ws) e = ap (λ v. reads o || v) (reads_lines os ws (omega (arith, e)))
 
+-- the lines with their ways are the operations with the ways of their bounds
 pub ways_map : {B : Type 0} (g : B → Way) (ops : List Op) (bs : List B) → ways g (lines_of ops bs) ≡ lines_of ops (map g bs)
 ways_map g [] bs = refl
 ways_map g (o ∷ os) [] = refl
@@ -167,20 +177,25 @@ ways_map g (o ∷ os) (b ∷ bs) = ap (λ z. record { op = o; bound = g b } ∷ 
 touch_none : {a : List ℕ} (v : Bool) (b : Body) → v ≡ true → Goes a a (spell_body b) (spell_body (touching v b))
 touch_none v b e = rw e (record { is = λ r. refl })
 
+-- before a body that reads a value of the row nothing is appended
 pub touched_none : {a : List ℕ} (v : Bool) → v ≡ true → (b : Body) → Goes a a (spell_body b) (spell_body (touching v b))
 touched_none v e b = touch_none v b e
 
+-- before a body that reads none, the statement that names the parameter was appended
 pub touched_put : {a n : List ℕ} (v : Bool) → v ≡ false → Puts a n (spell_body (touching false c.End)) → (b : Body)
     → Goes a n (spell_body b) (spell_body (touching v b))
 touched_put v e p b = rw e (record { is = λ r. p.is (spell_body b r) })
 
+-- where the body reads indices, nothing is appended before it
 pub index_none : {a : List ℕ} (v : Bool) → v ≡ true → (b : Body) → Goes a a (spell_body b) (spell_body (touching_index v b))
 index_none v e b = rw e (record { is = λ r. refl })
 
+-- where it reads none, the statement that names them was appended
 pub index_put : {a n : List ℕ} (v : Bool) → v ≡ false → Puts a n (spell_body (touching_index false c.End)) → (b : Body)
     → Goes a n (spell_body b) (spell_body (touching_index v b))
 index_put v e p b = rw e (record { is = λ r. p.is (spell_body b r) })
 
+-- the body is the statement that names the parameter, where it is needed, and then what is emitted for the lines
 pub body_put : {a m n : List ℕ} (v : Bool) (e : ℕ) (ops : List Op) (ws : List Way) → v ≡ any_reads ops
     → length ops ≡ length ws → ((b : Body) → Goes a m (spell_body b) (spell_body (touching v b)))
     → Puts m n (spell_body (emitted decl_name e (lines_of ops ws) 0 [] no_locals)) → Puts a n (spell_body (body_of decl_name e (lines_of ops ws)))
@@ -189,6 +204,7 @@ body_put {a} {m} {n} v e ops ws q l g p =
     let f : v ≡ reads_row (lines_of ops ws) = q ∙ sym (reads_lines ops ws l) in
     subst (λ u. Puts a n (spell_body (touching u b))) f (record { is = λ r. p.is r ∙ (g b).is r })
 
+-- a function appended for operations and ways is the one for the same operations with their bounds
 pub fun_put : {B : Type 0} {a n : List ℕ} (g : B → Way) (x : List ℕ) (d e : ℕ) (ops os : List Op) (bs : List B) (ws vs : List Way)
     → ops ≡ os → vs ≡ ws → ws ≡ map g bs → d ≡ e → Puts a n (spell_fun (one_fun x (body_of decl_name d (lines_of ops vs))))
     → Puts a n (spell_fun (one_fun x (body_of decl_name e (ways g (lines_of os bs)))))
@@ -207,6 +223,7 @@ tries_next {start} {cur} {new} {all} name numbers k n d b l e g h =
     let i = h (tries (block_name name) answer_name (drop (k + 1) numbers) b) in
     record { is = λ r. i.is r ∙ f.is r }
 
+-- the end of the loop in `put_tries`: no call remains
 pub tries_done : {start cur : List ℕ} {all : List Token → List Token} (name : List ℕ) (numbers : List ℕ) (k : ℕ) (b : Body) → length numbers ≤ k
     → Goes start cur (spell_body (tries (block_name name) answer_name (drop k numbers) b)) all → Goes start cur (spell_body b) all
 tries_done {start} {cur} {all} name numbers k b l g =
@@ -231,11 +248,13 @@ pick_spelled go i (j ∷ js) r =
     (guarded_spelled i js (go i) (lexeme (codes "}") ∷ spell_body (picks go (j ∷ js)) r)
     ∙ ap (λ z. open_guards i js (spell_body (go i) z)) (brace_past (length js) (spell_body (picks go (j ∷ js)) r)))
 
+-- the start of the loop in `put_picks`: a site remains
 pub picks_first : {a : List ℕ} (go : ℕ → Body) (left : List ℕ) → false ≡ (length left == 0)
     → Goes a a (spell_body (picks_on go left)) (spell_body (picks go left))
 picks_first go [] h = absurd (cc)
 picks_first go (i ∷ js) h = record { is = λ r. refl }
 
+-- the step of the loop in `put_picks`: the statements of one more site were appended
 pub picks_next : {start cur new : List ℕ} {all : List Token → List Token} (go : ℕ → Body) (left others : List ℕ) (k place d : ℕ)
     → k < length left → place ≡ get_or left k d → others ≡ drop (k + 1) left
     → Goes start cur (spell_body (picks_on go (drop k left))) all
@@ -247,17 +266,20 @@ picks_next {start} {cur} {new} {all} go left others k place d l e o g p =
     subst (λ z. Goes start new (spell_body (picks_on go z)) all) o
     (record { is = λ r. p.is (spell_body (picks_on go others) r) ∙ sym (ap (λ z. cur ++ written z) (pick_spelled go place others r)) ∙ f.is r })
 
+-- the end of the loop in `put_picks`: no site remains
 pub picks_done : {start cur : List ℕ} {all : List Token → List Token} (go : ℕ → Body) (left : List ℕ) (k : ℕ) → length left ≤ k
     → Goes start cur (spell_body (picks_on go (drop k left))) all → Puts start cur all
 picks_done {start} {cur} {all} go left k l g =
     let f : Goes start cur (spell_body (picks_on go [])) all = subst (λ z. Goes start cur (spell_body (picks_on go z)) all) (drop_all k left l) g in
     record { is = f.is }
 
+-- the case in `put_walked` in which no site is placed any more: the calls of the prefix, and the return of 0
 pub walked_end : {a m n : List ℕ} (name x : List ℕ) (segment : List ℕ → List ℕ) (numbers : List ℕ) (d : ℕ) (p left : List ℕ) → name ≡ x
     → numbers ≡ segment p → d ≡ 0 → ((b : Body) → Goes a m (spell_body b) (spell_body (tries (block_name name) answer_name numbers b)))
     → Puts m n (spell_body says_nothing) → Puts a n (spell_body (walked (block_name x) answer_name segment d p left))
 walked_end name x segment numbers d p left e f z g u = rw (z, ← e, ← f) (record { is = λ r. u.is r ∙ (g says_nothing).is r })
 
+-- the case in `put_walked` in which another site is placed: the calls of the prefix, and the statements of the sites
 pub walked_on : {a m n : List ℕ} (name x : List ℕ) (segment : List ℕ → List ℕ) (numbers : List ℕ) (d e : ℕ) (p left : List ℕ) → name ≡ x
     → numbers ≡ segment p → d ≡ suc e → ((b : Body) → Goes a m (spell_body b) (spell_body (tries (block_name name) answer_name numbers b)))
     → Puts m n (spell_body (picks (λ i. walked (block_name x) answer_name segment e (p ++ i ∷ []) (without i left)) left))
@@ -297,6 +319,7 @@ first-tried : (x : List ℕ) (f : Option FilterCode) (a b : Body) → a ≡ b �
 first-tried x None a b e = e
 first-tried x (Some f) a b e = ap (λ z. c.Group 2 (attempt answer_name (filter_name x)) z) e
 
+-- the body of the function with two parameters: the naming of the indices, the filter's call, and the calls by prefixes
 pub call_put : {a l m n : List ℕ} (p : Part) (sites : ℕ) (v : Bool) → sites ≡ p.shape.sites
     → v ≡ nat_le 2 sites → ((b : Body) → Goes a l (spell_body b) (spell_body (touching_index v b)))
     → ((b : Body) → Goes l m (spell_body b) (spell_body (filter_tried (part_name p) p.filter b)))
@@ -346,6 +369,7 @@ program_put {a} {n = n} p g h u =
     let e = ap (λ z. z ++ two_fun (call_name (part_name p)) (call_body p) ∷ []) (ones-are (part_name p) p.filter p.blocks) in
     subst (λ z. Lays a n z) (sym e) (lays_then (lays_then g h) u)
 
+-- the step of the loop in `put_blocks`: the function of one more block was laid out
 pub blocks_next : {start cur new : List ℕ} {all : List Fun} (name : List ℕ) (cs : List Code) (k : ℕ) (b d : Code) → k < length cs → b ≡ get_or cs k d
     → LaysRest start cur (one_funs (block_name name) k (map block_body (drop k cs))) all → Lays cur new (one_fun (block_name name k) (block_body b) ∷ [])
     → LaysRest start new (one_funs (block_name name) (k + 1) (map block_body (drop (k + 1) cs))) all
@@ -356,6 +380,7 @@ blocks_next {start} {cur} {new} {all} name cs k b d l e g p =
     let n : suc k ≡ k + 1 = omega arith in
     subst (λ z. LaysRest start new (one_funs (block_name name) z (map block_body (drop (k + 1) cs))) all) n (one_laid f p)
 
+-- the end of the loop in `put_blocks`: the functions of all blocks were laid out
 pub blocks_done : {start cur : List ℕ} {all : List Fun} (name : List ℕ) (cs : List Code) (k : ℕ) → length cs ≤ k
     → LaysRest start cur (one_funs (block_name name) k (map block_body (drop k cs))) all → Lays start cur all
 blocks_done {start} {cur} {all} name cs k l g =

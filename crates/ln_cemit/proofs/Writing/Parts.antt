@@ -13,6 +13,7 @@ use Rattle.ln_cemit.specs.Names.{answer_name, decl_name}
 use Rattle.ln_cemit.specs.Puts.{tokens_in}
 use Rattle.ln_cemit.specs.Walked.{attempt, says_nothing}
 
+-- a number in one part more: its quotient by 2^31 in the others, times 2^31, and the remainder
 pub parts_step : {a b : List ℕ} (k n j m r : ℕ) → k ≡ suc j → m ≡ n / 2 ^ 31 → r ≡ n % 2 ^ 31
     → Puts a b (λ z. lexeme (codes "(") ∷ lexeme (codes "(") ∷ spell (in_parts j m) (lexeme (op_text op.Mul)
     ∷ spell (Number Int128 (2 ^ 31)) (lexeme (codes ")") ∷ lexeme (op_text op.Add) ∷ spell (Number Int128 r) (lexeme (codes ")") ∷ z))))
@@ -30,6 +31,7 @@ tokens_written w (c ∷ cs) r = by_case (c == 32) refl (tokens_written [] cs r) 
   by_case true e p q = let s : 32 ≡ c = sym (eqb-true c 32 e) in ap (λ z. w ++ 32 ∷ z) p ∙ ap (λ z. w ++ z ∷ (cs ++ 32 ∷ written r)) s
   by_case false e p q = q ∙ append_assoc w (c ∷ []) (cs ++ 32 ∷ written r)
 
+-- a text that was appended as one token is its tokens, which are parted by blanks
 pub tokens_put : {a b : List ℕ} (t : List ℕ) → Puts a b (λ r. lexeme t ∷ r) → Puts a b (tokens_in [] t)
 tokens_put {a} t p = record { is = λ r. p.is r ∙ ap (λ z. a ++ z) (sym (tokens_written [] t r)) }
 
@@ -45,14 +47,17 @@ never z r = lexeme (codes "if") ∷ lexeme (codes "(")
 abbrev place : List ℕ → List ℕ → List Token → List Token
 place x z r = cast_before Int (lexeme x ∷ lexeme (codes "[") ∷ lexeme z ∷ lexeme (codes "]") ∷ lexeme (codes ")") ∷ lexeme (codes ";") ∷ lexeme (codes "}") ∷ r)
 
+-- the text of the statement that names the parameter is that statement
 pub touch_put : {a b : List ℕ} → Puts a b (tokens_in [] (codes "if ( ( ( int ) 0 ) ) { return ( ( int ) v [ 0 ] ) ; }"))
     → Puts a b (spell_body (touching false End))
 touch_put {a} {b} p = subst (λ z. Puts a b (λ r. never z (place (codes "v") z r))) (sym zero_is) p
 
+-- the text of the statement that names the indices is that statement
 pub touch_index_put : {a b : List ℕ} → Puts a b (tokens_in [] (codes "if ( ( ( int ) 0 ) ) { return ( ( int ) x [ 0 ] ) ; }"))
     → Puts a b (spell_body (touching_index false End))
 touch_index_put {a} {b} p = subst (λ z. Puts a b (λ r. never z (place (codes "x") z r))) (sym zero_is) p
 
+-- the tokens of the statement that names a declaration are that statement
 pub name_put : {a b : List ℕ} (n : ℕ)
     → Puts a b (λ r. never (codes "0") (cast_before Int (lexeme (decl_name n) ∷ lexeme (codes ")") ∷ lexeme (codes ";") ∷ lexeme (codes "}") ∷ r)))
     → Puts a b (spell_body (naming decl_name (Some n) End))
@@ -60,6 +65,7 @@ name_put {a} {b} n p =
     subst (λ z. Puts a b (λ r. never z (cast_before Int (lexeme (decl_name n) ∷ lexeme (codes ")") ∷ lexeme (codes ";") ∷ lexeme (codes "}") ∷ r))))
     (sym zero_is) p
 
+-- the text of the return of 0 is that statement
 pub nothing_put : {a b : List ℕ} → Puts a b (tokens_in [] (codes "return ( ( int ) 0 ) ;")) → Puts a b (spell_body says_nothing)
 nothing_put {a} {b} p =
     subst (λ z. Puts a b (λ r. lexeme (codes "return") ∷ cast_before Int (lexeme z ∷ lexeme (codes ")") ∷ lexeme (codes ";") ∷ r))) (sym zero_is) p
@@ -73,5 +79,6 @@ attempted x z r =
     ∷ cast_before Int (lexeme z ∷ lexeme (codes ")") ∷ lexeme (codes ")") ∷ lexeme (codes ")") ∷ lexeme (codes "{") ∷ lexeme (codes "return")
     ∷ cast_before Int (lexeme answer_name ∷ lexeme (codes ")") ∷ lexeme (codes ";") ∷ lexeme (codes "}") ∷ r))))
 
+-- the tokens of a call and the return of its result, where that isn't 0, are those statements
 pub attempt_put : {a b : List ℕ} (x : List ℕ) → Puts a b (attempted x (codes "0")) → Puts a b (spell_body (attempt answer_name x))
 attempt_put {a} {b} x p = subst (λ z. Puts a b (attempted x z)) (sym zero_is) p

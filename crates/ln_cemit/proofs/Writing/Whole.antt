@@ -42,6 +42,7 @@ one_after old new p h k ps b = record {
 whole_file : (bytes : List ℕ) (ps : List Part) → BeginsFile bytes ps → bytes ≡ laid_text (file_of ps)
 whole_file bytes ps b = sym (append-nil bytes) ∙ b.text [] ∙ ap (λ z. laid_text (file_of z)) (append-nil ps)
 
+-- the text of the file of programs, begun and appended to, is what is promised of their C
 pub begun_is_emitted : BegunIsEmitted
 begun_is_emitted ps bytes a b = file_is_emitted ps bytes a b.kept (whole_file bytes ps b)
 
@@ -50,5 +51,6 @@ pub more_begun : (now : List ℕ) (ps : List Part) (i : ℕ) (p : Part) → i < 
     → BeginsFile now (take i ps ++ p ∷ []) → BeginsFile now (take (i + 1) ps)
 more_begun now ps i p h e b = subst (λ z. BeginsFile now z) (ap (λ q. take i ps ++ q ∷ []) e ∙ sym (take_more ps i p h)) b
 
+-- the end of the loop in `emit`: the text is the file of all programs
 pub all_begun : (now : List ℕ) (ps : List Part) (i : ℕ) → length ps ≤ i → BeginsFile now (take i ps) → BeginsFile now ps
 all_begun now ps i h b = subst (λ z. BeginsFile now z) (take_all i ps h) b

@@ -11,6 +11,7 @@ use Rattle.ln_bound.specs.declared.fitted.Width.TheVariants.{W64}
 use Rattle.ln_code.specs.Numbers.{fits}
 use Rattle.ln_code.specs.Memory.{seen}
 
+-- a number that fits 64 bits has an absolute value of at most 2^63 - 1
 pub fits_64 : (w : Width) (z : ℤ) → w ≡ W64 → fits w z ≡ true → unsigned_abs z ≤ 9223372036854775807
 fits_64 w z e h = leb-true _ _ (rw e at h)
 
@@ -37,9 +38,11 @@ seen-above xs k (suc n) z h =
     let ih : seen (slice_set xs k z) n ≡ seen xs n = seen-above xs k n z (omega arith) in
     rw (get_or-set_other xs k n z (pos 0) ne, ih) refl
 
+-- after a write at the top, the number that was written is seen first, and then what was seen before
 pub seen-push : (xs : List ℤ) (n : ℕ) (z : ℤ) → n < length xs → seen (slice_set xs n z) (suc n) ≡ z ∷ seen xs n
 seen-push xs n z h = rw (get_or-set_same xs n z (pos 0) h, seen-above xs n n z (omega arith)) refl
 
+-- below the top n there are n numbers
 pub seen-length : (xs : List ℤ) (n : ℕ) → length (seen xs n) ≡ n
 seen-length xs zero = refl
 seen-length xs (suc n) = ap suc (seen-length xs n)

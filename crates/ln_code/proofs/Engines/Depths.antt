@@ -19,6 +19,7 @@ deeper blocks i b m n h e q a =
     grown (x ∷ xs) p zero d r = let s : x.depth ≤ m = p zero d (omega arith) in omega (arith, s, q)
     grown (x ∷ xs) p (suc k) d r = grown xs (λ j c l. p (suc j) c (omega arith)) k d (omega arith)
 
+-- a scratch with 256 locals and the larger of two depths, of the blocks and of the filter, is large enough for the part
 pub made_for : (part : Part) (scratch : Scratch) (d f : ℕ) → All (λ (c : Code). c.depth ≤ d) part.blocks
     → IfSome part.filter (λ (c : FilterCode). c.depth ≤ f) → 256 ≤ length scratch.locals.items → length scratch.stack.items ≡ max d f → MadeFor part scratch
 made_for part scratch d f a b l s = record {

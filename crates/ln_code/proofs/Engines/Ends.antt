@@ -21,6 +21,7 @@ ends e rest lines buf top l m d r a =
     let s : is_some (only (seen buf top)) ≡ true = rw (← q) at a in
     rw (← q) (only_seen buf top s)
 
+-- after the last operation of a block, its result is the lowest number of the stack
 pub block_ends : (e : Engine ℕ ℤ (ℕ → ℤ)) (ops : List Op) (i : ℕ) (buf : List ℤ) (top : ℕ) (l m : ℕ → ℤ) → length ops ≤ i →
     run e (plain (drop i ops)) (record { stack = seen buf top; locals = m }) ≡ run e (plain ops) (record { stack = []; locals = l }) →
     IsSome (answer e l (plain ops)) → answer e l (plain ops) ≡ Some (at buf 0)
@@ -28,6 +29,7 @@ block_ends e ops i buf top l m h r a =
     let d : drop i ops ≡ [] = drop_all i ops h in
     ends e (plain (drop i ops)) (plain ops) buf top l m (ap plain d) r a
 
+-- the same of a filter
 pub filter_ends : (e : Engine ℕ ℤ (ℕ → ℤ)) (ops : List Op) (ts : List Triple) (i : ℕ) (buf : List ℤ) (top : ℕ) (l m : ℕ → ℤ) → length ops ≤ i →
     run e (shifted (drop i ops) (drop i ts)) (record { stack = seen buf top; locals = m }) ≡ run e (shifted ops ts) (record { stack = []; locals = l }) →
     IsSome (answer e l (shifted ops ts)) → answer e l (shifted ops ts) ≡ Some (at buf 0)

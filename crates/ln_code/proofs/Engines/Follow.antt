@@ -23,6 +23,7 @@ Stacked R [] (y ∷ ys) = ⊥
 Stacked R (x ∷ xs) [] = ⊥
 Stacked R (x ∷ xs) (y ∷ ys) = R x y × Stacked R xs ys
 
+-- two states stand for each other, in their stacks and in their locals
 pub record Agree {V L W M : Type 0} (R : V → W → Type 0) (K : L → M → Type 0) (s : State V L) (t : State W M) : Type 0 where
   pub stack : Stacked R s.stack t.stack
   pub locals : K s.locals t.locals
@@ -40,6 +41,7 @@ pub record Follows {A V L B W M : Type 0} (e : Engine A V L) (f : Engine B W M) 
   pub put : (l : L) (m : M) (j : ℕ) (x : V) (y : W) → K l m → R x y → K (e.put l j x) (f.put m j y)
   pub room : (n : ℕ) → e.room n ≡ true → f.room n ≡ true
 
+-- where `when` has a result, its test holds and the result is its value
 pub when_some : {A : Type 0} (b : Bool) (a c : A) → when b a ≡ Some c → (b ≡ true) × (a ≡ c)
 when_some true a c h = (refl, cc)
 when_some false a c h = cc

@@ -43,6 +43,7 @@ answer_follows {V = V} {L = L} {W = W} {M = M} e f as_bound R K h l m lines v k 
     by_run (Some u) None g q = absurd (g u refl)
     by_run (Some u) (Some w) g q = only_follows R u.stack w.stack v (g u refl).stack q
 
+-- lines with the bounds that they have are the same lines
 pub same_lines : {A : Type 0} (lines : List (Line A)) → relined (λ (b : A). b) lines ≡ lines
 same_lines [] = refl
 same_lines (x ∷ xs) = ap (λ t. x ∷ t) (same_lines xs)
@@ -61,10 +62,12 @@ shifted_lines [] ts = refl
 shifted_lines (o ∷ os) [] = refl
 shifted_lines (o ∷ os) (a ∷ ts) = ap (λ t. record { op = o; bound = a.k } ∷ t) (shifted_lines os ts)
 
+-- a result that stands for a value is there
 pub reached_some : {V W : Type 0} (R : V → W → Type 0) (v : V) (o : Option W) → Reaches R v o → (w : W) × (o ≡ Some w) × R v w
 reached_some R v None h = absurd h
 reached_some R v (Some w) h = (w, refl, h)
 
+-- an option that holds a value is that of some value
 pub some_is : {V : Type 0} (o : Option V) → IsSome o → (v : V) × (o ≡ Some v)
 some_is None h = cc
 some_is (Some v) h = (v, refl)
@@ -77,6 +80,7 @@ pub record Runs (vars : List VarInfo) (zs : List ℤ) (c : Code) (places : ℕ) 
   pub barely : answer (bare zs places) locals (plain c.ops) ≡ Some (value (values zs) [] what.tree)
   pub fits : Fits zs what (value (values zs) [] what.tree)
 
+-- a block that follows the rules runs on each row in range, where the stack is deep enough
 pub block_runs : (vars : List VarInfo) (zs : List ℤ) (c : Code) (places : ℕ) (locals : ℕ → ℤ) → FollowsRules vars c → AreWithin vars zs
     → c.depth ≤ places → Runs vars zs c places locals
 block_runs vars zs c places locals r range d =
@@ -102,6 +106,7 @@ pub record FilterRuns (vars : List VarInfo) (zs : List ℤ) (f : FilterCode) (pl
   pub holds : HoldsHeld zs what left
   pub error : left.error ≡ left_error f.ops f.triples 0 0
 
+-- a filter that follows the rules runs on each row in range, where the stack is deep enough
 pub filter_runs : (vars : List VarInfo) (zs : List ℤ) (f : FilterCode) (places : ℕ) (locals : ℕ → ℤ) → FollowsFilterRules vars f
     → AreWithin vars zs → f.depth ≤ places → FilterRuns vars zs f places locals
 filter_runs vars zs f places locals r range d =

@@ -13,6 +13,7 @@ use Rattle.ln_code.specs.Bare.{bare}
 use Rattle.ln_code.specs.Memory.{seen, at, TwoReady, leads}
 use Rattle.ln_code.proofs.Engines.Cells.{seen-length}
 
+-- where what goes on with a value has a result, the value is there
 pub next_is_some : {A B : Type 0} (o : Option A) (f : A → Option B) → is_some (next o f) ≡ true → is_some o ≡ true
 next_is_some None f h = cc
 next_is_some (Some a) f h = refl
@@ -101,11 +102,13 @@ set_is zs l m j buf (suc k) h q =
 
 -- ---- where each operation leads
 
+-- an operation that pushes a number finds room on the stack
 pub leads_push : (values buf locals : List ℤ) (top : ℕ) (op : Op) (k : ℕ) (c : ℤ) → op ≡ Push c → IsSome (leads op k values buf top locals) → top < length buf
 leads_push values buf locals top op k c e h =
     let g : is_some (next (Some (cut_by k c)) (pushed (bare values (length buf)) (at locals) (seen buf top))) ≡ true = rw e at h in
     pushed_room values (length buf) (at locals) (Some (cut_by k c)) buf top g
 
+-- and leaves the number, divided by 2^k, on top
 pub push_leads : (values buf locals : List ℤ) (top : ℕ) (op : Op) (k : ℕ) (c : ℤ) (s : List ℤ) → op ≡ Push c →
     IsSome (leads op k values buf top locals) → s ≡ cut_by k c ∷ seen buf top →
     leads op k values buf top locals ≡ Some (record { stack = s; locals = at locals })
@@ -128,12 +131,14 @@ pub record InputReady (v : ℕ) (values buf : List ℤ) (top : ℕ) : Type 0 whe
   pub there : v < length values
   pub room : top < length buf
 
+-- an operation that pushes a variable finds the variable, and room on the stack
 pub leads_input : (values buf locals : List ℤ) (top : ℕ) (op : Op) (k v : ℕ) → op ≡ Input v → IsSome (leads op k values buf top locals)
     → InputReady v values buf top
 leads_input values buf locals top op k v e h =
     let g : is_some (next (slice_get values v) (pushed (bare values (length buf)) (at locals) (seen buf top))) ≡ true = rw e at h in
     record { there = got_there values v (next_is_some _ _ g); room = pushed_room values (length buf) (at locals) (slice_get values v) buf top g }
 
+-- and leaves the variable's value on top
 pub input_leads : (values buf locals : List ℤ) (top : ℕ) (op : Op) (k v : ℕ) (z : ℤ) (s : List ℤ) → op ≡ Input v →
     IsSome (leads op k values buf top locals) → z ≡ slice_index_or values v (pos 0) → s ≡ z ∷ seen buf top →
     leads op k values buf top locals ≡ Some (record { stack = s; locals = at locals })
@@ -142,11 +147,13 @@ input_leads values buf locals top op k v z s e h f q =
     let g : slice_get values v ≡ Some z = got_is values v (pos 0) r.there ∙ ap Some (sym f) in
     rw (e, q, g) (pushed_is values (length buf) (at locals) z buf top r.room)
 
+-- an operation that pushes a local finds room on the stack
 pub leads_get : (values buf locals : List ℤ) (top : ℕ) (op : Op) (k j : ℕ) → op ≡ Get j → IsSome (leads op k values buf top locals) → top < length buf
 leads_get values buf locals top op k j e h =
     let g : is_some (next (Some (at locals j)) (pushed (bare values (length buf)) (at locals) (seen buf top))) ≡ true = rw e at h in
     pushed_room values (length buf) (at locals) (Some (at locals j)) buf top g
 
+-- and leaves the local's value on top
 pub get_leads : (values buf locals : List ℤ) (top : ℕ) (op : Op) (k j : ℕ) (s : List ℤ) → op ≡ Get j →
     IsSome (leads op k values buf top locals) → s ≡ at locals j ∷ seen buf top →
     leads op k values buf top locals ≡ Some (record { stack = s; locals = at locals })
@@ -166,6 +173,7 @@ leads_with values buf locals top Plus w k = refl
 leads_with values buf locals top Minus w k = refl
 leads_with values buf locals top Times w k = refl
 
+-- a sum, difference or product finds two operands, which fit its width as their result does
 pub leads_two : (values buf locals : List ℤ) (top : ℕ) (op : Op) (k : ℕ) (t : Two) (w : Width) → op ≡ op_of t w → top ≤ length buf
     → IsSome (leads op k values buf top locals) → TwoReady t w buf top
 leads_two values buf locals top op k t w e r h =
@@ -173,6 +181,7 @@ leads_two values buf locals top op k t w e r h =
     let g = rw (leads_with values buf locals top t w k) at a in
     two_ready values (at locals) t w k buf top r g
 
+-- and leaves the result in their place
 pub two_leads : (values buf locals : List ℤ) (top : ℕ) (op : Op) (k : ℕ) (t : Two) (w : Width) (s : List ℤ) → op ≡ op_of t w →
     top ≤ length buf → IsSome (leads op k values buf top locals) →
     s ≡ result_of t (at buf (top - 2)) (at buf (top - 1)) ∷ seen buf (top - 2) →
@@ -181,12 +190,14 @@ two_leads values buf locals top op k t w s e r h q =
     let g = leads_two values buf locals top op k t w e r h in
     rw (e, leads_with values buf locals top t w k, q) (two_is values (at locals) t w k buf top g)
 
+-- a negation finds a value that fits its width
 pub leads_neg : (values buf locals : List ℤ) (top : ℕ) (op : Op) (k : ℕ) (w : Width) → op ≡ Neg w → IsSome (leads op k values buf top locals)
     → OneReady (fits w) buf top
 leads_neg values buf locals top op k w e h =
     let g : IsSome (leads (Neg w) k values buf top locals) = rw e at h in
     one_ready values (at locals) (fits w) neg_ℤ buf top g
 
+-- and leaves the negated value in its place
 pub neg_leads : (values buf locals : List ℤ) (top : ℕ) (op : Op) (k : ℕ) (w : Width) (s : List ℤ) → op ≡ Neg w → top ≤ length buf →
     IsSome (leads op k values buf top locals) → s ≡ neg_ℤ (at buf (top - 1)) ∷ seen buf (top - 1) →
     leads op k values buf top locals ≡ Some (record { stack = s; locals = at locals })
@@ -198,11 +209,13 @@ neg_leads values buf locals top op k w s e r h q =
 abbrev pub any : ℤ → Bool
 any z = true
 
+-- a division by 2^n finds a value
 pub leads_cut : (values buf locals : List ℤ) (top : ℕ) (op : Op) (k n : ℕ) → op ≡ Cut n → IsSome (leads op k values buf top locals) → OneReady any buf top
 leads_cut values buf locals top op k n e h =
     let g : IsSome (leads (Cut n) k values buf top locals) = rw e at h in
     one_ready values (at locals) any (cut_by n) buf top g
 
+-- and leaves the quotient in its place
 pub cut_leads : (values buf locals : List ℤ) (top : ℕ) (op : Op) (k n : ℕ) (s : List ℤ) → op ≡ Cut n → top ≤ length buf →
     IsSome (leads op k values buf top locals) → s ≡ cut_by n (at buf (top - 1)) ∷ seen buf (top - 1) →
     leads op k values buf top locals ≡ Some (record { stack = s; locals = at locals })
@@ -210,11 +223,13 @@ cut_leads values buf locals top op k n s e r h q =
     let g = leads_cut values buf locals top op k n e h in
     rw (e, q) (one_is values (at locals) any (cut_by n) buf top r g)
 
+-- an operation that stores into a local finds a value
 pub leads_set : (values buf locals : List ℤ) (top : ℕ) (op : Op) (k j : ℕ) → op ≡ Set j → IsSome (leads op k values buf top locals) → 0 < top
 leads_set values buf locals top op k j e h =
     let g : IsSome (leads (Set j) k values buf top locals) = rw e at h in
     set_ready values (at locals) j buf top g
 
+-- and takes it off the stack, into the local
 pub set_leads : (values buf locals : List ℤ) (top : ℕ) (op : Op) (k j : ℕ) (m : ℕ → ℤ) → op ≡ Set j →
     IsSome (leads op k values buf top locals) → m ≡ (λ i. if i == j then at buf (top - 1) else at locals i) →
     leads op k values buf top locals ≡ Some (record { stack = seen buf (top - 1); locals = m })

@@ -6,6 +6,7 @@ use Rattle.std.proofs.Math.Pow.{pow_mono}
 use mir.Syntax.{w128}
 use Rattle.ln_code.specs.Numbers.{cut_by}
 
+-- the absolute value of a quotient by 2^n is that of the number, divided by 2^n
 pub cut_abs : (n : ℕ) (z : ℤ) → unsigned_abs (cut_by n z) ≡ unsigned_abs z / 2 ^ n
 cut_abs n (pos a) = refl
 cut_abs n (negsuc a) = abs_of (suc a / 2 ^ n)
@@ -36,6 +37,7 @@ halved n a h s =
     let l : q * 2 ^ 1 ≤ q * 2 ^ n = mul-le-mul_left q p in
     omega (arith, m, l, s)
 
+-- minus a natural number of at most 2^126 fits 128 bits
 pub negated_fits : (x : ℕ) → x ≤ 2 ^ 126 → FitsSigned w128 (pos 0 -ℤ pos x)
 negated_fits zero h = record { sfits = omega arith }
 negated_fits (suc n) h =

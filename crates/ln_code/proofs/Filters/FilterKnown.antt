@@ -28,6 +28,7 @@ use Rattle.ln_code.proofs.Engines.Follow.{Reaches, Follows, when_some}
 use Rattle.ln_code.proofs.Following.Known.{InSize, in_size, if_some, next_some}
 use Rattle.ln_code.proofs.Filters.Near.{cut_stands, product_stands, sum_stands, difference_stands, minus_stands, exact_stands}
 
+-- the triple of these three
 abbrev pub at_triple : ℕ → ℕ → ℕ → Triple
 at_triple k h e = record { k = k; h = h; e = e }
 
@@ -56,6 +57,7 @@ pub record Says (k h e size : ℕ) (t : Tree) (a : Triple) (r : FilterKnown) : T
   pub size_fits : size ≤ 170141183460469231731687303715884105727
   pub is : record { triple = a; tree = t; size = size } ≡ r
 
+-- where `filter_known` has a result, what its rule says holds
 pub known_says : (k h e size : ℕ) (t : Tree) (a : Triple) (r : FilterKnown) → filter_known k h e size t a ≡ Some r → Says k h e size t a r
 known_says k h e size t a r q =
     let w = when_some _ _ _ q in
@@ -108,6 +110,7 @@ push_stands c k = weaker (0 + k) (unsigned_abs c / 2 ^ k) (error_after k 0) (at_
 
 -- ---- operations on two
 
+-- the machine reaches z with the error of the triple a, and z stands for the value of what is known
 pub record TwoSays (zs : List ℤ) (a : Triple) (r : FilterKnown) (z : ℤ) : Type 0 where
   pub reached : Reaches (HoldsHeld zs) r (held a z)
   pub held_there : Holds zs r z
@@ -218,6 +221,7 @@ roomy_follows vars depth zs h = record {
 same_reached : {V : Type 0} (o : Option V) (v : V) → o ≡ Some v → Reaches (λ (x y : V). x ≡ y) v o
 same_reached o v q = rw q refl
 
+-- the machine without the limit follows the one with it
 pub exact_follows_roomy : (depth : ℕ) (zs : List ℤ)
     → Follows (roomy zs depth) (exact_filter zs) (λ (a : Triple). a) (λ (x y : Held). x ≡ y) (λ (l m : ℕ → Option Held). l ≡ m)
 exact_follows_roomy depth zs = record {

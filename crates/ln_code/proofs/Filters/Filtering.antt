@@ -33,6 +33,7 @@ filtered-above zs c n a e s blocks list h p q t =
     through-decides zs c left blocks list h ∙ decides-above left _ above
     ∙ ap (λ (x : Sign). Some (record { sign = x; by = Filter; wide = 0; calls = 1 })) (sym t)
 
+-- within its error the filter leaves the verdict to the blocks
 pub filtered-within : (zs : List ℤ) (c : FilterCode) (n : ℤ) (a e : ℕ) (v : Verdict) (blocks : List Code) (list : List ℕ)
     → filter_value zs c ≡ Some (record { number = n; error = e }) → a ≡ unsigned_abs n → a ≤ e → along zs blocks list 0 0 1 ≡ Some v
     → through (Some c) zs blocks list ≡ Some v

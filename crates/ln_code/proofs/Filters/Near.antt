@@ -45,6 +45,7 @@ regroup v h c p q =
         let i : (x -ℤ y) *ℤ z ≡ z *ℤ (x +ℤ neg_ℤ y) = mul_comm (x -ℤ y) z ∙ ap (λ t. z *ℤ t) g in
         omega (arith, ints, e, f, i, mul_comm z x, mul_comm z y)
 
+-- the product of two natural numbers is their product as integers
 pub pos_mul : (m n : ℕ) → pos (m * n) ≡ pos m *ℤ pos n
 pos_mul m n = omega (arith, ints)
 
@@ -59,6 +60,7 @@ error_enough n k e =
     plain : (e c p q : ℕ) → e ≤ c * p → e * q + p * q ≤ (c + 1) * (q * p)
     plain e c p q h = omega (arith, mul-le-mul_right q h)
 
+-- a truncated number that is divided by 2^n still stands for its value, by the triple after the division
 pub cut_stands : (n : ℕ) (a : Triple) (h v : ℤ) → Stands a h v → Stands (cut n a) (cut_by n h) v
 cut_stands n a h v s = record { small = rw cut_abs (div_le s.small); near = near n }
   where
@@ -120,6 +122,7 @@ product_off v w h i p q =
       mul_comm d b,
     )
 
+-- the product of two truncated numbers stands for the product of their values
 pub product_stands : (a b : Triple) (h i v w : ℤ) → Stands a h v → Stands b i w
     → Stands (record { k = a.k + b.k; h = a.h * b.h; e = a.h * b.e + b.h * a.e + a.e * b.e }) (h *ℤ i) (v *ℤ w)
 product_stands a b h i v w s t =
@@ -144,6 +147,7 @@ product_stands a b h i v w s t =
     spread : (H E J F p q : ℕ) → (H * F + J * E + E * F) * (p * q) ≡ (E * p) * (F * q) + (E * p) * (J * q) + (H * p) * (F * q)
     spread H E J F p q = omega arith
 
+-- the sum of two truncated numbers of one k stands for the sum of their values
 pub sum_stands : (k h e i f : ℕ) (y z v w : ℤ) → Stands (record { k = k; h = h; e = e }) y v → Stands (record { k = k; h = i; e = f }) z w
     → Stands (record { k = k; h = h + i; e = e + f }) (y +ℤ z) (v +ℤ w)
 sum_stands k h e i f y z v w s t =
@@ -153,17 +157,20 @@ sum_stands k h e i f y z v w s t =
 abs_difference : (a b : ℤ) (m n : ℕ) → unsigned_abs a ≤ m → unsigned_abs b ≤ n → unsigned_abs (a -ℤ b) ≤ m + n
 abs_difference a b m n h k = omega (arith, ints)
 
+-- and their difference for the difference
 pub difference_stands : (k h e i f : ℕ) (y z v w : ℤ) → Stands (record { k = k; h = h; e = e }) y v
     → Stands (record { k = k; h = i; e = f }) z w → Stands (record { k = k; h = h + i; e = e + f }) (y -ℤ z) (v -ℤ w)
 difference_stands k h e i f y z v w s t =
     let a = abs_difference (v -ℤ y *ℤ pos (2 ^ k)) (w -ℤ z *ℤ pos (2 ^ k)) (e * 2 ^ k) (f * 2 ^ k) s.near t.near in
     record { small = abs_difference y z h i s.small t.small; near = rw (diff_off v w y z (pos (2 ^ k))) (omega (arith, a)) }
 
+-- a number stands for itself, without an error
 pub exact_stands : (m : ℕ) (x : ℤ) → unsigned_abs x ≤ m → Stands (record { k = 0; h = m; e = 0 }) x x
 exact_stands m x h =
     let e : x -ℤ x *ℤ pos 1 ≡ pos 0 = omega (arith, ints) in
     record { small = h; near = rw pow-zero (rw e (omega arith)) }
 
+-- the negation of a truncated number stands for the negation of its value, by the same triple
 pub minus_stands : (a : Triple) (h v : ℤ) → Stands a h v → Stands a (neg_ℤ h) (neg_ℤ v)
 minus_stands a h v s =
     record {
@@ -186,11 +193,13 @@ positive a h v d s =
     plain : (v : ℤ) (m n : ℕ) → unsigned_abs (v -ℤ pos m) ≤ n → n < m → pos 0 <ℤ v
     plain v m n h k = omega (arith, ints)
 
+-- a truncated number that is above 0 by more than its error stands for a value above 0
 pub decides_positive : (a : Triple) (h v : ℤ) → a.e < unsigned_abs h → pos 0 <ℤ h → Stands a h v → pos 0 <ℤ v
 decides_positive a (pos zero) v d g s = omega (arith, ints)
 decides_positive a (pos (suc h)) v d g s = positive a h v d s
 decides_positive a (negsuc h) v d g s = absurd (omega (arith, ints, g))
 
+-- and one that is below 0 by more than its error for a value below 0
 pub decides_negative : (a : Triple) (h v : ℤ) → a.e < unsigned_abs h → h <ℤ pos 0 → Stands a h v → v <ℤ pos 0
 decides_negative a h v d g s =
     let n : pos 0 <ℤ neg_ℤ h = omega (arith, ints, g) in

@@ -41,6 +41,7 @@ pub record InSize (zs : List ℤ) (v : ℕ) (i : VarInfo) : Type 0 where
   pub same : number ≡ values zs v
   pub small : unsigned_abs number ≤ size_of i
 
+-- each variable of a row in range has a value, of at most its size
 pub in_size : (vars : List VarInfo) (zs : List ℤ) → AreWithin vars zs → (v : ℕ) (i : VarInfo) → slice_get vars v ≡ Some i → InSize zs v i
 in_size [] zs h v i e = cc
 in_size (j ∷ js) [] h v i e = absurd h
@@ -59,6 +60,7 @@ pub record InRange (zs : List ℤ) (v : ℕ) (i : VarInfo) : Type 0 where
   pub same : number ≡ values zs v
   pub held : Holds (declared i) number
 
+-- each variable of a row in range has a value in its declared range
 pub in_range : (vars : List VarInfo) (zs : List ℤ) → AreWithin vars zs → (v : ℕ) (i : VarInfo) → slice_get vars v ≡ Some i → InRange zs v i
 in_range [] zs h v i e = cc
 in_range (j ∷ js) [] h v i e = absurd h
@@ -71,36 +73,45 @@ in_range (j ∷ js) (z ∷ zs) h (suc v) i e = let r = in_range js zs h.2 v i e 
 pub abs_neg : (z : ℤ) → unsigned_abs (neg_ℤ z) ≡ unsigned_abs z
 abs_neg z = omega (arith, ints)
 
+-- the limit of each width is at most that of 128 bits
 pub limit_wide : (w : Width) → limit w ≤ limit W128
 limit_wide W64 = omega arith
 limit_wide W128 = omega arith
 
+-- and at most itself
 pub same_limit : (w : Width) → limit w ≤ limit w
 same_limit w = omega arith
 
+-- a width that is no wider has a limit that is no larger
 pub no_wider_limit : (w u : Width) → no_wider w u ≡ true → limit w ≤ limit u
 no_wider_limit W64 W64 h = omega arith
 no_wider_limit W64 W128 h = omega arith
 no_wider_limit W128 W64 h = cc
 no_wider_limit W128 W128 h = omega arith
 
+-- the result of two operands in their ranges is in the range of the operation
 pub two_held : (t : Two) (y z : ℤ) (p q : Range) → Holds p y → Holds q z → Holds (range_of t p q) (result_of t y z)
 two_held Plus y z p q h k = sum_holds p q y z h k
 two_held Minus y z p q h k = difference_holds p q y z h k
 two_held Times y z p q h k = product_holds p q y z h k
 
+-- the test of two integers is true where the first is at most the second
 pub le_test : (a b : ℤ) → a ≤ℤ b → int_le a b ≡ true
 le_test a b h = grind (arith, ints, h)
 
+-- a conjunction is true where both tests are
 pub both : (p q : Bool) → p ≡ true → q ≡ true → (p && q) ≡ true
 both p q h k = rw (h, k) refl
 
+-- the test of a value in a range is true where the value is in the range
 pub holds_test : (p : Range) (z : ℤ) → Holds p z → holds p z ≡ true
 holds_test p z h = both _ _ (le_test _ _ h.0) (le_test _ _ h.1)
 
+-- the test of two ranges is true where the first covers the second
 pub covers_test : (p q : Range) → Covers p q → covers p q ≡ true
 covers_test p q h = both _ _ (le_test _ _ h.0) (le_test _ _ h.1)
 
+-- a value in its range that fits the width is kept
 pub within_is : (p : Range) (w : Width) (z : ℤ) → Holds p z → unsigned_abs z ≤ limit w → within p w z ≡ Some z
 within_is p w z h k = rw (both (holds p z) (fits w z) (holds_test p z h) (le-leb _ _ k)) refl
 
@@ -109,10 +120,12 @@ pub if_some : {A : Type 0} (b : Bool) (o : Option A) (a : A) → (if b then o el
 if_some true o a h = (refl, h)
 if_some false o a h = cc
 
+-- where going on with a value has a result, the value is there, and the result is what it leads to
 pub next_some : {A B : Type 0} (o : Option A) (f : A → Option B) (b : B) → next o f ≡ Some b → (a : A) × (o ≡ Some a) × (f a ≡ Some b)
 next_some None f b h = cc
 next_some (Some a) f b h = (a, refl, h)
 
+-- where `known` has a result, its rule holds, and the result is made of what it was given
 pub known_some : (enough p : Range) (w : Width) (s : ℕ) (t : Tree) (k : Known) → known enough p w s t ≡ Some k
     → Covers p enough × IsIn p w × (s ≤ most) × (record { range = p; width = w; tree = t; size = s } ≡ k)
 known_some enough p w s t k q =

@@ -129,6 +129,7 @@ lets-from done (t ∷ ts) e w s = go (either (nodes_in done t) (nodes_in_lets (d
     go (inl h) f = inl (from done t e w h)
     go (inr h) f = inr (f h)
 
+-- a node of a tree or of its lets is just a member of the list
 pub nodes-are-listed : NodesAreListed
 nodes-are-listed lets t e w = (one, two) where
   done : List Tree

@@ -43,28 +43,35 @@ one-product f a =
 
 -- ---- the same polynomial and the same value
 
+-- two expressions have one polynomial, and one value at each point
 pub record Same (e f : Tree) : Type 0 where
   pub series : normal_coefficient e ≡ normal_coefficient f
   pub values : (x : ℕ → ℤ) → value x [] e ≡ value x [] f
 
+-- an expression has its own
 pub same_self : (e : Tree) → Same e e
 same_self e = record { series = refl; values = λ x. refl }
 
+-- and so has one that equals it
 pub same_is : (e f : Tree) → e ≡ f → Same e f
 same_is e f q = record { series = ap normal_coefficient q; values = λ x. ap (λ (t : Tree). value x [] t) q }
 
+-- the relation is symmetric
 pub same_turned : (e f : Tree) → Same e f → Same f e
 same_turned e f s = record { series = sym s.series; values = λ x. sym (s.values x) }
 
+-- and transitive
 pub same_then : (e f g : Tree) → Same e f → Same f g → Same e g
 same_then e f g s t = record { series = s.series ∙ t.series; values = λ x. s.values x ∙ t.values x }
 
+-- negations of two such expressions are such
 pub same_neg : (e f : Tree) → Same e f → Same (Neg e) (Neg f)
 same_neg e f s = record { series = ap (λ (u : Series). (λ a. neg_ℤ (u a))) s.series; values = λ x. ap neg_ℤ (s.values x) }
 
 both : {A B C : Type 0} (h : A → B → C) (a b : A) (c d : B) → a ≡ b → c ≡ d → h a c ≡ h b d
 both h a b c d p q = ap (λ x. h x c) p ∙ ap (λ y. h b y) q
 
+-- and so are sums, differences and products of two pairs of them
 pub same_two : (k : Two) (e f g h : Tree) → Same e f → Same g h → Same (two_of k e g) (two_of k f h)
 same_two Plus e f g h s t = record {
   series = both (λ (u v : Series). (λ a. u a +ℤ v a)) _ _ _ _ s.series t.series;

@@ -51,12 +51,14 @@ call_runs p block zs ops stack locals s c =
     let d : block.depth ≤ length s.stack.items = subst (λ (b : Code). b.depth ≤ length s.stack.items) c.its.2 (c.made.blocks c.its.0 block c.its.1) in
     block_runs p.shape.vars zs block (length stack) (at locals) f c.row (rw c.stack_is d)
 
+-- on such a call the processor has a result
 pub block_answers : (p : Part) (block : Code) (zs : List ℤ) (ops : List Op) (stack locals : List ℤ) (s : Scratch)
     → BlockCall p block zs ops stack s → IsSome (bare_value (plain ops) zs stack locals)
 block_answers p block zs ops stack locals s c =
     let r = call_runs p block zs ops stack locals s c in
     rw (c.ops_is, r.barely) refl
 
+-- and the result is the block's value
 pub block_gives : (p : Part) (block : Code) (zs : List ℤ) (ops : List Op) (stack locals : List ℤ) (s : Scratch) (z : ℤ)
     → BlockCall p block zs ops stack s → bare_value (plain ops) zs stack locals ≡ Some z → block_value zs block ≡ Some z
 block_gives p block zs ops stack locals s z c h =
@@ -68,6 +70,7 @@ block_gives p block zs ops stack locals s z c h =
 pub its_block : (cs : List Code) (number : ℕ) (block : Code) → number < length cs → block ≡ get_or cs number block → Contains cs block
 its_block cs number block h e = (number, h, sym e)
 
+-- each block with this number has that block's value
 pub the_block : (zs : List ℤ) (cs : List Code) (number : ℕ) (block : Code) (z : ℤ) → number < length cs → block ≡ get_or cs number block →
     block_value zs block ≡ Some z →
     (c : Code) → slice_get cs number ≡ Some c → block_value zs c ≡ Some z
@@ -94,12 +97,14 @@ filter_call_runs p f zs ops triples stack locals s c =
     let d : f.depth ≤ length s.stack.items = if_at (λ (g : FilterCode). g.depth ≤ length s.stack.items) p.filter f c.made.filter c.filter_is in
     filter_runs p.shape.vars zs f (length stack) (at locals) r c.row (rw c.stack_is d)
 
+-- on such a call the processor has a result
 pub filter_answers : (p : Part) (f : FilterCode) (zs : List ℤ) (ops : List Op) (triples : List Triple) (stack locals : List ℤ) (s : Scratch)
     → FilterCall p f zs ops triples stack s → IsSome (bare_value (shifted ops triples) zs stack locals)
 filter_answers p f zs ops triples stack locals s c =
     let r = filter_call_runs p f zs ops triples stack locals s c in
     rw (c.ops_is, c.triples_is, r.barely) refl
 
+-- and the result is what the filter leaves, with the error of the operation that pushed it
 pub filter_gives : (p : Part) (f : FilterCode) (zs : List ℤ) (ops : List Op) (triples : List Triple) (stack locals : List ℤ) (s : Scratch)
     (z : ℤ) → FilterCall p f zs ops triples stack s → bare_value (shifted ops triples) zs stack locals ≡ Some z →
     filter_value zs f ≡ Some (record { number = z; error = left_error f.ops f.triples 0 0 })

@@ -30,6 +30,7 @@ number_within part p k n e size h =
     let f : slice_get (prefixes_of part.shape.sites) n ≡ Some p = rw (← e) h in
     omega (arith, slice_get_within (prefixes_of part.shape.sites) n p f, size)
 
+-- the segment at the number of a prefix is that of the prefix
 pub segment_is : (part : Part) (p : List ℕ) (k n : ℕ) (s : List ℕ) → k ≡ part.shape.sites → part.shape.sites ≤ 5
     → length part.segments ≡ length (prefixes_of part.shape.sites) → slice_get (prefixes_of k) n ≡ Some p → s ≡ get_or part.segments n s → s ≡ segment_of part p
 segment_is part p k n s e few size h i =
@@ -38,6 +39,7 @@ segment_is part p k n s e few size h i =
     let g : slice_get part.segments n ≡ Some s = slice_get-get_or part.segments n s l ∙ ap (λ z. Some z) (sym i) in
     sym (beside_at part.shape.sites part.segments p n s few f g)
 
+-- and it names blocks that are there, where all segments do
 pub segment_named : (part : Part) (p : List ℕ) (k n : ℕ) (s : List ℕ) → k ≡ part.shape.sites
     → length part.segments ≡ length (prefixes_of part.shape.sites) → slice_get (prefixes_of k) n ≡ Some p → s ≡ get_or part.segments n s
     → All (λ t. All (λ m. m < length part.blocks) t) part.segments → All (λ m. m < length part.blocks) s
@@ -113,6 +115,7 @@ list_goes p o j h =
     let q : suc (length o) - j ≡ suc (suc (length o) - (j + 1)) = omega (arith, h) in
     ap (λ n. joined (map (λ i. segment_of p (take i o)) (range_with_len j n))) q
 
+-- past the prefix of all places nothing remains
 pub list_ends : (p : Part) (o : List ℕ) (j : ℕ) → length o < j → list_from p o j ≡ []
 list_ends p o j h =
     let q : suc (length o) - j ≡ 0 = omega (arith, h) in

@@ -7,6 +7,7 @@ use Rattle.ln_code.specs.Part.{Code, block_value, wide_in}
 use Rattle.ln_code.specs.Verdict.{sign_of, settled}
 use Rattle.ln_code.proofs.Verdicts.Calls.{there}
 
+-- a value that isn't 0 decides
 pub settled_other : (z : ℤ) (place wide calls : ℕ) (rest : Option Verdict) → z ≢ pos 0
     → settled z place wide calls rest ≡ Some (record { sign = sign_of z; by = Stage place; wide = wide; calls = calls })
 settled_other (pos zero) place wide calls rest h = absurd (h refl)
@@ -22,8 +23,10 @@ pub record Turn (zs : List ℤ) (cs : List Code) (list : List ℕ) (i n : ℕ) (
   pub value : (b : Code) → slice_get cs n ≡ Some b → block_value zs b ≡ Some z
   pub wide : w ≡ wide_in c.ops
 
+-- so the block with that number is c
 pub block_there : (zs : List ℤ) (cs : List Code) (list : List ℕ) (i n : ℕ) (c : Code) (z : ℤ) (w : ℕ) → Turn zs cs list i n c z w → slice_get cs n ≡ Some c
 block_there zs cs list i n c z w t = there cs n c t.within ∙ ap Some (sym t.block_is)
 
+-- the list from place i on is its number there, and then the list from the next place on
 pub rest_is : (list : List ℕ) (i n : ℕ) → i < length list → n ≡ get_or list i 0 → drop i list ≡ n ∷ drop (i + 1) list
 rest_is list i n h e = rw (drop-cons list i 0, ← e, add-one) refl

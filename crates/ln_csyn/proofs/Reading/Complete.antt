@@ -39,6 +39,7 @@ pub record Closes (ts : List Token) : Type 0 where
   pub is : ts ≡ first ∷ rest
   pub text : first.text ≡ codes ")"
 
+-- what `complete` proves of each sort: within the depth, the reader returns the expression and the rest
 abbrev pub Goal : Sort → ℕ → List Token → List Token → Expr → Type 0
 Goal Whole d ts rest e = parens e ≤ d → expr_at d ts ≡ Some (e, rest)
 Goal (Primary t) d ts rest e = parens e ≤ suc d → Closes rest → primary (expr_at d) t ts ≡ Some (e, rest)

@@ -126,6 +126,7 @@ pub shorter_fun : {ts rest : List Token} {f : Fun} → IsFun ts rest f → lengt
 shorter_fun (own h d) = omega (arith, shorter_head d)
 shorter_fun (shared d) = shorter_head d
 
+-- each of these functions is within the limits
 abbrev pub AllWithin : ℕ → ℕ → List Fun → Type 0
 AllWithin p k [] = Unit {0}
 AllWithin p k (f ∷ fs) = Within p k f × AllWithin p k fs

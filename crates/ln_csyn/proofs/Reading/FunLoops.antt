@@ -34,6 +34,7 @@ abbrev pub before : List Fun → Option (List Fun) → Option (List Fun)
 before fs None = None
 before fs (Some gs) = Some (fs ++ gs)
 
+-- the invariant of the loop over functions: all of them are those read so far, and then what is read from place `at` on
 pub record Read (block : ReadBlock) (ts : List CodeToken) (fs : List Fun) (at : ℕ) : Type 0 where
   pub within : at ≤ length ts
   pub n : ℕ

@@ -29,6 +29,7 @@ onto_more : (fs : List Front) (f : Front) (b : Body) → onto (fs ++ f ∷ []) b
 onto_more [] f b = refl
 onto_more (g ∷ fs) f b = ap g (onto_more fs f b)
 
+-- these statements before what was read
 abbrev pub onto_read : List Front → Option (Body × List Token) → Option (Body × List Token)
 onto_read fs None = None
 onto_read fs (Some y) = Some (onto fs y.0, y.1)
@@ -94,6 +95,7 @@ brace_none (t ∷ ts) v e h = rw (sym e ∙ h) refl
 
 -- ---- a statement leaves less
 
+-- the second list is what remains of the first after one or more tokens
 pub data Leaves : List Token → List Token → Type 0 where
   one : {t : Token} {ts : List Token} → Leaves (t ∷ ts) ts
   more : {t : Token} {ts us : List Token} → Leaves ts us → Leaves (t ∷ ts) us
@@ -187,6 +189,7 @@ leaves p k ts s h =
 
 -- ---- the same from a place on
 
+-- these statements were read of the tokens before place `at`
 pub record Placed (stmt : ReadStmt) (ts : List CodeToken) (fs : List Front) (at : ℕ) : Type 0 where
   pub within : at ≤ length ts
   pub going : Going stmt (tokens_of ts) fs (tokens_of (drop at ts))

@@ -97,10 +97,12 @@ was_named (t ∷ ts) y h = named_by t ts y (is_c_name t.text) refl h
 
 -- ---- expressions
 
+-- what was read is derived from the tokens, with at most this many parentheses round a place
 pub record Sound (s : Sort) (d : ℕ) (ts : List Token) (y : Expr × List Token) : Type 0 where
   pub is : Derives s ts y.1 y.0
   pub within : parens y.0 ≤ d
 
+-- what this way of reading expressions returns is derived, within the depth
 abbrev pub IsSound : ℕ → ReadExpr → Type 0
 IsSound d go = (ts : List Token) (y : Expr × List Token) → go ts ≡ Some y → Sound Whole d ts y
 
@@ -111,6 +113,7 @@ pub record Closes (u : List ℕ) (d : ℕ) (ts : List Token) (y : Expr × List T
   pub is : Derives Whole ts (t ∷ y.1) y.0
   pub within : parens y.0 ≤ d
 
+-- what `closed` reads is an expression with a token of this text after it
 pub closes : (u : List ℕ) (d : ℕ) (go : ReadExpr) → IsSound d go → (ts : List Token) (y : Expr × List Token) → closed u go ts ≡ Some y → Closes u d ts y
 closes u d go hyp ts y h =
     let w = went (go ts) _ y h in

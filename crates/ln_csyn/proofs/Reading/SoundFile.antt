@@ -18,6 +18,7 @@ use Rattle.ln_csyn.proofs.Reading.Sound.{went, chose, some_same, ate, took_type,
 use Rattle.ln_csyn.proofs.Reading.CompleteFile.{Within, AllWithin}
 use Rattle.ln_csyn.specs.Laws.{FileIsSound}
 
+-- the statements that were read are derived, with parentheses and braces within the limits
 pub record SoundBody (p k : ℕ) (ts : List Token) (y : Body × List Token) : Type 0 where
   pub is : IsBody ts y.1 y.0
   pub parens : parens_in y.0 ≤ suc p
@@ -39,9 +40,11 @@ pub record SoundBlock (p k : ℕ) (ts : List Token) (y : Body × ℕ × List Tok
 abbrev pub SoundStmt : ℕ → ℕ → List Token → (Body → Body) × List Token → Type 0
 SoundStmt p k ts s = (y : Body × List Token) → SoundBody p k s.1 y → SoundBody p k ts (s.0 y.0, y.1)
 
+-- what this way of reading a pair of braces returns is derived, within the limits
 abbrev pub IsBlockSound : ℕ → ℕ → ReadBlock → Type 0
 IsBlockSound p k block = (ts : List Token) (y : Body × ℕ × List Token) → block ts ≡ Some y → SoundBlock p k ts y
 
+-- what this way of reading a statement returns is derived together with the statements after it, within the limits
 abbrev pub IsStmtSound : ℕ → ℕ → ReadStmt → Type 0
 IsStmtSound p k stmt = (ts : List Token) (s : (Body → Body) × List Token) → stmt ts ≡ Some s → SoundStmt p k ts s
 
@@ -235,6 +238,7 @@ words_sound ts h e t us rest o b z at left is =
     subst (λ (w : List ℕ). IsHead ts rest o (record { own = o; name = w; indexed = q.x.0; body = b; end = z.line })) n.text j2 in
     subst (λ (w : List ℕ × Bool × List Token). IsHead ts rest o (record { own = o; name = w.0; indexed = w.1; body = b; end = z.line })) s j3
 
+-- a function that was read from its `int` on is derived, within the limits
 pub record SoundHead (p k : ℕ) (o : Bool) (ts : List Token) (y : Fun × List Token) : Type 0 where
   pub is : IsHead ts y.1 o y.0
   pub within : Within p k y.0
@@ -250,6 +254,7 @@ head_sound p k o ts y h =
     subst (λ (z : Fun × List Token). SoundHead p k o ts z) (some_same _ y b.next)
     (record { is = j4; within = record { parens = w.parens; braces = omega (arith, w.braces) } })
 
+-- a function that was read is derived, within the limits
 pub record SoundFun (p k : ℕ) (ts : List Token) (y : Fun × List Token) : Type 0 where
   pub is : IsFun ts y.1 y.0
   pub within : Within p k y.0
@@ -264,6 +269,7 @@ fun_sound p k ts y h =
       | inr g ↦ (let s = head_sound p k false ts y g in record { is = shared s.is; within = s.within })
     ]
 
+-- the functions that were read are a file, within the limits
 pub record SoundFile (p k : ℕ) (ts : List Token) (fs : List Fun) : Type 0 where
   pub is : IsFile ts fs
   pub within : AllWithin p k fs

@@ -39,6 +39,7 @@ pub last_every : (p : ℕ → Bool) (b : ℕ) (bs : List ℕ) → p b ≡ true �
 last_every p b [] h k = h
 last_every p b (c ∷ bs) h k = last_every p c bs (left (p c) (every p bs) k) (right (p c) (every p bs) k)
 
+-- where neither of two tests passes, the first doesn't
 pub or_left : (a b : Bool) → (a || b) ≡ false → a ≡ false
 or_left true b h = absurd (cc)
 or_left false b h = refl
@@ -57,12 +58,15 @@ follows_name l c n f = by_case (is_name_byte c) refl where
 no_digit : (c : ℕ) → is_name_byte c ≡ false → is_digit c ≡ false
 no_digit c h = grind (arith, nat_tests)
 
+-- a digit is a byte of a name
 pub digit_name : (c : ℕ) → is_digit c ≡ true → is_name_byte c ≡ true
 digit_name c h = grind (arith, nat_tests)
 
+-- a letter is a byte of a name
 pub letter_name : (c : ℕ) → is_letter c ≡ true → is_name_byte c ≡ true
 letter_name c h = grind (arith, nat_tests)
 
+-- digits are bytes of a name
 pub every_digit_name : (ds : List ℕ) → every is_digit ds ≡ true → every is_name_byte ds ≡ true
 every_digit_name [] h = refl
 every_digit_name (d ∷ ds) h = rw (digit_name d (left (is_digit d) (every is_digit ds) h), every_digit_name ds (right (is_digit d) (every is_digit ds) h)) refl
@@ -112,6 +116,7 @@ abbrev pub whole : Spot → List ℕ → Spot
 whole s [] = s
 whole s (b ∷ bs) = whole (grown s b) bs
 
+-- the last byte before the spot after further bytes of a token is the last of them
 pub last_is : (s : Spot) (bs : List ℕ) → (whole s bs).last ≡ last_of s.last bs
 last_is s [] = refl
 last_is s (b ∷ bs) = last_is (grown s b) bs
@@ -147,6 +152,7 @@ sign_unbroken b (c ∷ []) p q t =
     rw (e, g) refl
 sign_unbroken b (c ∷ d ∷ bs) p q t = absurd (cc)
 
+-- no byte of a token is a blank
 pub unbroken_by : (b : ℕ) (bs : List ℕ) (u v : Bool) → is_letter b ≡ u → is_digit b ≡ v → is_token (b ∷ bs) ≡ true → unbroken (b ∷ bs) ≡ true
 unbroken_by b bs true v p q t =
     let k : every is_name_byte bs ≡ true = (rw p at t) in
@@ -304,6 +310,7 @@ laid_is_file fs h =
 pub text_is_laid : (text : List ℕ) (fs : List Fun) → is_file fs ≡ true → text ≡ laid_text fs → IsTextOf text fs
 text_is_laid text fs h e = subst (λ (z : List ℕ). IsTextOf z fs) (sym e) (laid_is_file fs h)
 
+-- the file that is read of the laid out text is the one written, up to lines
 pub laid_reads_back : (text : List ℕ) (fs : List Fun) → is_file fs ≡ true → text ≡ laid_text fs → (gs : List Fun) → CText text gs → SameUpToLines gs fs
 laid_reads_back text fs h e gs c =
     let t = text_is_laid text fs h e in

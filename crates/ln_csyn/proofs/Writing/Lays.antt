@@ -44,6 +44,7 @@ fun_laid old new tokens text e h f p = record { is = λ r. h r ∙ ap (λ z. old
 pub lays_none : (old : List ℕ) → Lays old old []
 lays_none old = record { is = λ r. refl }
 
+-- appended functions are laid out as the first and then the others
 pub laid_more : (fs gs : List Fun) (r : List ℕ) → laid_funs (fs ++ gs) r ≡ laid_funs fs (laid_funs gs r)
 laid_more [] gs r = refl
 laid_more (f ∷ fs) gs r = ap (laid_funs (f ∷ [])) (laid_more fs gs r)
@@ -75,6 +76,7 @@ next_laid g xs i x old now new l e p h =
     let d : drop i xs ≡ x ∷ drop (i + 1) xs = drop_more xs i x l ∙ ap (λ z. z ∷ drop (i + 1) xs) (sym e) in
     one_laid (subst (λ z. LaysRest old now (map g z) (map g xs)) d h) p
 
+-- at the end all functions were laid out
 pub end_laid : {X : Type 0} (g : X → Fun) (xs : List X) (i : ℕ) (old now : List ℕ) → length xs ≤ i
     → LaysRest old now (map g (drop i xs)) (map g xs) → Lays old now (map g xs)
 end_laid g xs i old now l h = all_laid (subst (λ z. LaysRest old now (map g z) (map g xs)) (drop_all i xs l) h)

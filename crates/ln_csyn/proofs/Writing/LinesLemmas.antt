@@ -39,6 +39,7 @@ one_flat (return s) = rw (one_flat s) refl
 one_flat_fun : (f g : Fun) → SameFun f g → flat_fun f ≡ flat_fun g
 one_flat_fun f g s = rw (s.own, s.name, s.indexed, one_flat s.body) refl
 
+-- files that are the same up to lines have one flat file
 pub one_flat_file : {fs gs : List Fun} → SameUpToLines fs gs → flat_file fs ≡ flat_file gs
 one_flat_file none = refl
 one_flat_file (one {f = f} {g = g} s r) = rw (one_flat_fun f g s, one_flat_file r) refl
@@ -58,6 +59,7 @@ first_same f g fs gs h = cc
 rest_same : (f g : Fun) (fs gs : List Fun) → f ∷ fs ≡ g ∷ gs → fs ≡ gs
 rest_same f g fs gs h = cc
 
+-- files with one flat file are the same up to lines
 pub same_file : (fs gs : List Fun) → flat_file fs ≡ flat_file gs → SameUpToLines fs gs
 same_file [] [] h = none
 same_file [] (g ∷ gs) h = absurd (cc)
@@ -71,6 +73,7 @@ flat_again b = sym (one_flat (to_flat b))
 flat_fun_again : (f : Fun) → flat_fun (flat_fun f) ≡ flat_fun f
 flat_fun_again f = rw (flat_again f.body) refl
 
+-- a flat file is its own flat file
 pub flat_file_again : (fs : List Fun) → flat_file (flat_file fs) ≡ flat_file fs
 flat_file_again [] = refl
 flat_file_again (f ∷ fs) = rw (flat_fun_again f, flat_file_again fs) refl

@@ -11,9 +11,11 @@ use Rattle.ln_csyn.specs.Lines as l
 abbrev pub Numbers : Type 0
 Numbers = ℕ → ℕ
 
+-- the lines of the tokens after the first
 abbrev pub later : Numbers → Numbers
 later n i = n (suc i)
 
+-- this line for the first token, and these for those after it
 abbrev pub before : ℕ → Numbers → Numbers
 before m n zero = m
 before m n (suc i) = n i
@@ -119,6 +121,7 @@ pub record FileThere (us : List Token) (fs : List Fun) : Type 0 where
   pub is : IsFile us funs
   pub same : SameUpToLines funs fs
 
+-- the tokens of a file, on whatever lines, are a file that is the same up to lines
 pub file_there : {ts : List Token} {fs : List Fun} → IsFile ts fs → (n : Numbers) → FileThere (relined n ts) fs
 file_there g.none n = record { funs = []; is = g.none; same = l.none }
 file_there (g.one d e) n =

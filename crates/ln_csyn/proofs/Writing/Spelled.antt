@@ -43,6 +43,7 @@ spelled_own : (o : Bool) (r s : List Token) → spell_own o (r ++ s) ≡ spell_o
 spelled_own true r s = refl
 spelled_own false r s = refl
 
+-- the tokens of a function before two lists are those before the first list, and then the second
 pub spelled_fun : (f : Fun) (r s : List Token) → spell_fun f (r ++ s) ≡ spell_fun f r ++ s
 spelled_fun f r s =
     let b = ap (λ (z : List Token). lexeme (codes ")") ∷ lexeme (codes "{") ∷ z) (spelled_body f.body (lexeme (codes "}") ∷ r) s) in

@@ -21,6 +21,7 @@ use Rattle.ln_csyn.proofs.Writing.Spells.{left, right, mid, number_is_read, deri
 
 -- ---- a token before a blank is the longest
 
+-- the conjunction of a test with false is false
 pub and_false : (b : Bool) → (b && false) ≡ false
 and_false true = refl
 and_false false = refl
@@ -51,14 +52,17 @@ past [] ys (suc m) l = (m, refl)
 past (b ∷ bs) ys zero l = absurd (omega arith)
 past (b ∷ bs) ys (suc m) l = let r = past bs ys m (omega (arith, l)) in (r.0, ap (λ (z : List ℕ). b ∷ z) r.1)
 
+-- a token has a byte
 pub some_token : (t : List ℕ) → is_token t ≡ true → 0 < length t
 some_token [] h = absurd (cc)
 some_token (b ∷ bs) h = omega arith
 
+-- of a text and what follows it, as many bytes as the text has are the text
 pub front_of : (t ys : List ℕ) → take (length t) (t ++ ys) ≡ t
 front_of [] ys = refl
 front_of (b ∷ bs) ys = ap (λ (z : List ℕ). b ∷ z) (front_of bs ys)
 
+-- past as many bytes as a text has, what follows it remains
 pub back_of : (t ys : List ℕ) → drop (length t) (t ++ ys) ≡ ys
 back_of [] ys = refl
 back_of (b ∷ bs) ys = back_of bs ys
@@ -71,6 +75,7 @@ first_token t ys h = record {
   longest = λ m l w. let r = past t ys m l in rw r.1 (stops t (take r.0 ys) (some_token t h));
 }
 
+-- each of these has the text of a token and is on line 2
 abbrev pub AllTokens : List Token → Type 0
 AllTokens [] = Unit {0}
 AllTokens (t ∷ ts) = (is_token t.text ≡ true) × (t.line ≡ 2) × AllTokens ts
@@ -204,6 +209,7 @@ tokens_own : (o : Bool) (r : List Token) → AllTokens r → AllTokens (spell_ow
 tokens_own false r k = k
 tokens_own true r k = (refl, refl, k)
 
+-- a function whose names are NAMEs and whose numbers are NUMBERs is spelled in tokens
 pub tokens_fun : (f : Fun) (r : List Token) → fun_words f ≡ true → AllTokens r → AllTokens (spell_fun f r)
 tokens_fun f r h k =
     let w = right (is_c_name f.name) (each_expr has_words f.body && each_name is_c_name f.body) h in
@@ -294,6 +300,7 @@ flat_names_of : (fs : List Fun) → names_of (flat_file fs) ≡ names_of fs
 flat_names_of [] = refl
 flat_names_of (f ∷ fs) = ap (λ (z : List (List ℕ)). f.name ∷ z) (flat_names_of fs)
 
+-- the conditions hold of a flat file exactly where they hold of the file
 pub flat_file_keeps : (fs : List Fun) → keeps (flat_file fs) ≡ keeps fs
 flat_file_keeps fs =
     ap (λ (z : List (List ℕ)). distinct z && each_fun (fun_keeps z) (flat_file fs)) (flat_names_of fs)

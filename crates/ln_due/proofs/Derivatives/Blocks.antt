@@ -68,6 +68,7 @@ pub derivative-ops : (ops cost costs terms cover : ℕ) → ops ≤ 4 * (cost + 
     → terms ≤ cover → ops ≤ 4096 * cover + 68
 derivative-ops ops cost costs terms cover h z l k = omega (arith, h, z, l, k)
 
+-- an empty list of lets costs nothing
 pub no-costs : (lets : List Fitted) → lets ≡ [] → costs (map typed lets) ≡ 0
 no-costs lets e = ap (λ (us : List Fitted). costs (map typed us)) e
 
@@ -80,6 +81,7 @@ site-there (i ∷ is) zero h n = go i.site n where
   go (Some s) k = refl
 site-there (i ∷ is) (suc v) h n = site-there is v (omega arith) n
 
+-- exponents that are 0 for each variable without a site are of coordinates of sites
 pub of-sites : (vars : List VarInfo) (a : Pairs) → IsRising a → IsAbove a (length vars)
     → ((v : ℕ) → site_of vars v ≡ None → get_or (vector (length vars) a) v 0 ≡ 0) → AreOfSites vars a
 of-sites vars [] r b h = tt

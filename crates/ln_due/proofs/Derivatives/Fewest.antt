@@ -43,6 +43,7 @@ rest-same t f g l s k = by_case (same_vector t.exponents k) refl where
       let z : factor_at f k ≡ pos 0 +ℤ factor_at f k = omega (arith, ints) in
       z ∙ (rw e at q) ∙ sym (without-other t.exponents k g e)
 
+-- a list with each vector once and without zeros is no longer than any list with the same coefficients
 pub shortest : (f g : List Term) → Once f → HasNoZero f → ((k : List ℕ) → factor_at f k ≡ factor_at g k) → length f ≤ length g
 shortest [] g c z s = omega arith
 shortest (t ∷ f) g c z s =

@@ -261,6 +261,7 @@ through-told None zs blocks list v t = told zs blocks list 0 v t
 through-told (Some f) zs blocks list v (left, e, inl d) = rw e (from-filter left _ v d)
 through-told (Some f) zs blocks list v (left, e, inr b) = rw e (from-blocks left _ v b.0 (told zs blocks list 1 v b.1))
 
+-- a verdict is the machine's exactly where it is the one that is read aloud
 pub verdicts-are-told : VerdictsAreTold
 verdicts-are-told part row v = (to, from) where
   to : IsVerdict part row v → IsTold part row v

@@ -167,6 +167,7 @@ more_under n v top m l a w = by_case (cases_eq w v)
         omega (arith, exponent-plus w (unit_vector n v) m, exponent-unit w n v, a w, less_here v top w e, k)
     by_case (inr o) = omega (arith, exponent-plus w (unit_vector n v) m, exponent-other w n v o, a w, less_other v top w o)
 
+-- the term of variable v alone, over n variables, with the factor 1
 abbrev pub unit_term : ℕ → ℕ → Term
 unit_term n v = record { exponents = unit_vector n v; factor = pos 1 }
 

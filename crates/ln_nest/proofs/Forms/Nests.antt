@@ -83,6 +83,7 @@ divided_some v (t ∷ f) z = by_case (is_positive (exponent_of v t.exponents)) (
     by_case true ih = (z.0, ih)
     by_case false ih = ih
 
+-- the terms without v have no zero factor where the terms have none
 pub free_some : (v : ℕ) (f : List Term) → HasNoZero f → HasNoZero (free_of v f)
 free_some v [] z = tt
 free_some v (t ∷ f) z = by_case (is_positive (exponent_of v t.exponents)) (free_some v f z.1)

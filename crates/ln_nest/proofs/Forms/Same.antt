@@ -29,6 +29,7 @@ times_same n u f g o p q s m h =
     ∙ sym (product_is (factor_at u) (factor_at g) m)
     ∙ sym (factor_at-times n u g o q m h)
 
+-- one term, of variable v alone, over n variables, with the factor 1
 abbrev pub unit_terms : ℕ → ℕ → List Term
 unit_terms n v = record { exponents = unit_vector n v; factor = pos 1 } ∷ []
 

@@ -72,6 +72,7 @@ number_has vars c t e = rw e (record { same = refl; exact = (refl, refl); small 
 abbrev pub input_of : List VarInfo → ℕ → Typed
 input_of vars v = TInput v (ranges vars v) (least (magnitude (ranges vars v)))
 
+-- the tree of a variable is exact, and its magnitude is that of the variable's range
 pub input_has : (vars : List VarInfo) (v : ℕ) (t : Typed) → t ≡ input_of vars v → Has vars t (Input v) (magnitude (ranges vars v))
 input_has vars v t e = rw e (record { same = refl; exact = (refl, refl); small = omega arith })
 

@@ -15,6 +15,7 @@ pub record Fit (n v d : ℕ) (m : List ℕ) : Type 0 where
   pub clear : (w : ℕ) → w < v → exponent_of w m ≡ 0
   pub most : (w : ℕ) → exponent_of w m ≤ d
 
+-- each term has a vector of n exponents of at most d each, those below v being 0
 abbrev pub AllFit : ℕ → ℕ → ℕ → List Term → Type 0
 AllFit n v d [] = Unit {0}
 AllFit n v d (t ∷ f) = Fit n v d t.exponents × AllFit n v d f

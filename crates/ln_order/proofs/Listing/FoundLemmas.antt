@@ -33,6 +33,7 @@ never x y h l = grind (arith, ints)
 self : (x : ℤ) → x ≤ℤ x
 self x = grind (arith, ints)
 
+-- the start of the loop in `least_from`: of itself alone, place j is the least
 pub least_first : (indices : List ℤ) (places : List ℕ) (j n : ℕ) → n ≡ j + 1 → LeastTo indices places j j n
 least_first indices places j n e k l m = let q : k ≡ j = omega (arith, l, m, e) in rw q (self (index_at indices (get_or places j 0)))
 
@@ -145,6 +146,7 @@ module _ (indices : List ℤ) (xs o : List ℕ) (j m : ℕ) (p : ArePlaces xs) (
       front_same (holes.swap xs j m) xs j (length-swap xs j m) (λ k b. swap_before xs j m k within_xs least.within b least.from) in
       take_more_same (holes.swap xs j m) o j 0 there j_within (same ∙ front) (swap_here xs j m within_xs least.within ∙ least_is_next)
 
+-- with the least of the places from j on swapped into place j, one place more is as in the order
 pub one_more : (indices : List ℤ) (xs ys : List ℕ) (j m : ℕ) → IsLeastFrom indices xs j m → ys ≡ holes.swap xs j m → (o : List ℕ)
     → ArePlaces xs → length xs ≡ length indices → IsOrder indices o → take j xs ≡ take j o → take (j + 1) ys ≡ take (j + 1) o
 one_more indices xs ys j m least e o p size order front = ap (take (j + 1)) e ∙ one_more_swapped indices xs o j m p size least order front
@@ -153,16 +155,19 @@ one_more indices xs ys j m least e o p size order front = ap (take (j + 1)) e �
 pub front_of : (n : ℕ) (ys rest : List ℕ) → length ys ≡ n → take n (ys ++ rest) ≡ ys
 front_of n ys rest h = rw (← h) (take-append_seam ys rest)
 
+-- the first places of the array, after those were permuted, are the permuted ones
 pub permuted_front : (n m : ℕ) (array ys rest : List ℕ) → length array ≡ 5 → n ≤ 5 → m ≡ n → IsPermutation (take m array) ys → take n (ys ++ rest) ≡ ys
 permuted_front n m array ys rest five few e p =
     let l : length ys ≡ length (take m array) = length_permutation (take m array) ys p in
     front_of n ys rest (omega (arith, l, length-take m array, five, few, e))
 
+-- and they are places where they were before
 pub permuted_places : (n m : ℕ) (array ys rest : List ℕ) → length array ≡ 5 → n ≤ 5 → m ≡ n → ArePlaces (take n array)
     → IsPermutation (take m array) ys → ArePlaces (take n (ys ++ rest))
 permuted_places n m array ys rest five few e places p =
     rw (permuted_front n m array ys rest five few e p) (places_permuted (take m array) ys (rw e places) p)
 
+-- and they are as many as before
 pub permuted_size : (n m : ℕ) (array ys rest zs : List ℕ) → length array ≡ 5 → n ≤ 5 → m ≡ n → IsPermutation (take m array) ys
     → zs ≡ take n (ys ++ rest) → length zs ≡ length (take n array)
 permuted_size n m array ys rest zs five few e p q =

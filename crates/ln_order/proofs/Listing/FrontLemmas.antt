@@ -20,6 +20,7 @@ at-front (suc j) [] i d h = absurd (omega arith)
 at-front (suc j) (x ∷ o) zero d h = (omega arith, refl)
 at-front (suc j) (x ∷ o) (suc i) d h = let r = at-front j o i d (omega (arith, h)) in (omega (arith, r.0), r.1)
 
+-- a prefix of an order of k sites has at most k places
 pub prefix-size : (k : ℕ) (p : List ℕ) → IsPrefixOf k p → length p ≤ k
 prefix-size k p r = omega (arith, ap length r.front, length-take r.places r.order, r.full.size)
 

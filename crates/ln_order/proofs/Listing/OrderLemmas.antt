@@ -76,5 +76,6 @@ pub first_equal_is : (zs : List ℤ) → MatchOption (first_equal zs) (AllPairs 
 unfolding Told
 first_equal_is zs = told [] 0 zs refl (λ i j d l m. absurd (omega arith))
 
+-- the same of a result that is the first such place, or none
 pub first_equal_says : (zs : List ℤ) (o : Option ℕ) → o ≡ first_equal zs → MatchOption o (AllPairs (λ y z. y ≢ z) zs) (λ k. IsFirstEqual zs k)
 first_equal_says zs o e = subst (λ (x : Option ℕ). MatchOption x (AllPairs (λ y z. y ≢ z) zs) (λ k. IsFirstEqual zs k)) (sym e) (first_equal_is zs)

@@ -65,6 +65,7 @@ module _ (indices : List ℤ) where
       let l : a < length indices = subst (λ (z : ℕ). z < length indices) at.2 (x.each at.0 0 at.1) in
       at-member ys a (each-there (length indices) ys a (order-places indices ys y) l)
 
+-- indices have one order at most
 pub order-unique : OrderIsUnique
 order-unique indices xs ys x y =
     rising-same indices xs ys (rising-from indices xs x.rising) (rising-from indices ys y.rising) (stands indices xs ys x y) (stands indices ys xs y x)

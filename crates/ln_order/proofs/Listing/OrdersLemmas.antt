@@ -58,6 +58,7 @@ in-map f [] y c = absurd (omega (arith, c.1))
 in-map f (x ∷ xs) y (zero, l, e) = (x, (0, omega arith, refl), sym e)
 in-map f (x ∷ xs) y (suc k, l, e) = let r = in-map f xs y (k, omega (arith, l), e) in (r.0, (suc r.1.0, omega (arith, r.1.1), r.1.2), r.2)
 
+-- and the image of each member is among the images
 pub map-in : {A B : Type 0} (f : A → B) (xs : List A) (x : A) → Contains xs x → Contains (map f xs) (f x)
 map-in f xs x (k, l, e) = (k, omega (arith, l, length-map xs f), get_or-map f xs k x (f x) l ∙ ap f e)
 
@@ -94,15 +95,18 @@ member-is (suc k) y c =
 abbrev pub back : ℕ → ℕ → ℕ
 back x j = if nat_lt j x then j else j - 1
 
+-- a site other than x is found again from its place among those other than x
 pub back-past : (x j : ℕ) → j ≢ x → past x (back x j) ≡ j
 back-past x j ne = grind (arith, nat_tests)
 
+-- among k + 1 sites it is below k
 pub back-below : (x j k : ℕ) → j ≢ x → x < suc k → j < suc k → back x j < k
 back-below x j k ne h l = grind (arith, nat_tests)
 
 back-apart : (x i j : ℕ) → i ≢ x → j ≢ x → i ≢ j → back x i ≢ back x j
 back-apart x i j ni nj ne e = ne (sym (back-past x i ni) ∙ ap (past x) e ∙ back-past x j nj)
 
+-- the list of places among those other than x has, at each place, that of the site there
 pub at_back : (x : ℕ) (o : List ℕ) (k d : ℕ) → k < length o → get_or (map (back x) o) k d ≡ back x (get_or o k d)
 at_back x o k d h = get_or-map (back x) o k d d h
 
@@ -137,6 +141,7 @@ module _ (x : ℕ) (o : List ℕ) (p : ArePlaces (x ∷ o)) where
       let m : k < length (map (back x) o) = omega (arith, l, length-map o (back x)) in
       at_past x (map (back x) o) k d m ∙ ap (past x) (at_back x o k d l) ∙ back-past x (get_or o k d) (other k d l)))
 
+-- each order of k sites is in the list of all orders
 pub is-member : (k : ℕ) (o : List ℕ) → IsOrderOf k o → Contains (orders_of k) o
 is-member zero [] p = (0, omega arith, refl)
 is-member zero (x ∷ o) p = absurd (omega (arith, p.size))
@@ -151,15 +156,18 @@ is_less Less = true
 is_less Equal = false
 is_less Greater = false
 
+-- only `Less` passes the test
 pub less_is : (o : Ordering) → is_less o ≡ true → o ≡ Less
 less_is Less e = refl
 less_is Equal e = cc
 less_is Greater e = cc
 
+-- is x before each of these lists?
 abbrev pub before_all : List ℕ → List (List ℕ) → Bool
 before_all x [] = true
 before_all x (y ∷ ys) = is_less (slice_cmp nat_cmp x y) && before_all x ys
 
+-- is each list before all that follow it?
 abbrev pub are_sorted : List (List ℕ) → Bool
 are_sorted [] = true
 are_sorted (x ∷ xs) = before_all x xs && are_sorted xs
@@ -170,6 +178,7 @@ before_all_is x (y ∷ ys) h =
     let p = and_parts (is_less (slice_cmp nat_cmp x y)) (before_all x ys) h in
     (less_is (slice_cmp nat_cmp x y) p.0, before_all_is x ys p.1)
 
+-- then they are strictly sorted
 pub are_sorted_is : (xs : List (List ℕ)) → are_sorted xs ≡ true → IsStrictlySortedBy (slice_cmp nat_cmp) xs
 unfolding IsStrictlySortedBy
 are_sorted_is [] h = tt
@@ -192,6 +201,7 @@ have_number i (o ∷ os) (suc k) d h l =
 abbrev pub fits : ℕ → Bool
 fits k = are_sorted (orders_of k) && have_numbers 0 (orders_of k) && ltb (length (orders_of k)) 121
 
+-- the orders of at most five sites are sorted, have the numbers from 0 on, and are fewer than 121
 pub all_fit : (k : ℕ) → k ≤ 5 → fits k ≡ true
 all_fit zero h = refl
 all_fit (suc zero) h = refl
@@ -230,6 +240,7 @@ pub number_grows : (n : ℕ) (o : List ℕ) → n ≤ number_from n o
 number_grows n [] = omega arith
 number_grows n (x ∷ o) = omega (arith, number_grows (n * suc (length o) + smaller_behind x o) o)
 
+-- the orders of at most 5 sites are just the members of the list, which is sorted
 pub orders-are-all : OrdersAreAll
 orders-are-all k few = (λ o. (member-is k o, is-member k o), orders_sorted k few)
 

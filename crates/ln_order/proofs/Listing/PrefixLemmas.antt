@@ -134,6 +134,7 @@ front-in (suc k) (x ∷ o) (suc j) f h =
 is-prefix : (k : ℕ) (p : List ℕ) → IsPrefixOf k p → Contains (prefixes_of k) p
 is-prefix k p r = rw r.front (front-in k r.order r.places r.full r.within)
 
+-- the prefixes of orders of at most 5 sites are just the members of their list, which is sorted and has `tree_size` members
 pub prefixes-are-all : PrefixesAreAll
 prefixes-are-all k few = ((λ p. (prefix-is k p, is-prefix k p)), are_sorted_is (prefixes_of k) (sorted_all k few), size_all k few)
 
@@ -170,12 +171,14 @@ pub front_number : (k : ℕ) (o : List ℕ) (j : ℕ) → k ≤ 5 → IsOrderOf 
 front_number k o j few p h =
     front-at (prefixes_of k) o (suc k) j (all-at (prefixes_of k) (orders_of k) (suc k) o (stand_all k few) (is-member k o p)) (omega arith)
 
+-- the number of a prefix is below the number of prefixes
 pub front_small : (k : ℕ) (o : List ℕ) (j : ℕ) → k ≤ 5 → IsOrderOf k o → j ≤ k → number_of_front o j < tree_size k
 front_small k o j few p h = omega (arith, slice_get_within (prefixes_of k) (number_of_front o j) (take j o) (front_number k o j few p h), size_all k few)
 
 some_same : {A : Type 0} (x y : A) → Some x ≡ Some y → x ≡ y
 some_same x y e = cc
 
+-- and two prefixes have one number exactly where they are one
 pub fronts-are-prefixes : FrontsArePrefixes
 fronts-are-prefixes k i j o u few p q h l = (
   front_small k o i few p h,
@@ -200,6 +203,7 @@ few_prefixes (suc (suc (suc (suc (suc (suc k)))))) h = absurd (omega arith)
 abbrev pub added : List ℕ → ℕ → ℕ
 added xs i = smaller_behind (get_or xs i 0) (drop (i + 1) xs) * tree_size (length (drop (i + 1) xs))
 
+-- the number from place i on is what place i adds, and 1, and the number from the next place on
 pub front_step : (xs : List ℕ) (i j : ℕ) → i < length xs → i < j
     → number_of_front (drop i xs) (j - i) ≡ suc (added xs i) + number_of_front (drop (i + 1) xs) (j - (i + 1))
 front_step xs i j h l =
@@ -306,5 +310,6 @@ each-at : (ps : List (List ℕ)) (i : ℕ) → each_follows ps ≡ true → suc 
 each-at [] i h l = absurd (omega arith)
 each-at (p ∷ ps) i h l = follow-at p ps i h (omega (arith, l))
 
+-- each prefix in the list for at most 5 sites follows the one before it
 pub fronts-follow : FrontsFollow
 fronts-follow k i few l = each-at (prefixes_of k) i (follow_all k few) l

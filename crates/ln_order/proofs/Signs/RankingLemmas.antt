@@ -26,20 +26,24 @@ member-left [] ys w m = absurd m
 member-left (x ∷ xs) ys w (inl e) = inl e
 member-left (x ∷ xs) ys w (inr m) = inr (member-left xs ys w m)
 
+-- a member of the second of two lists is one of both joined
 pub member-right : (xs ys : List ℕ) (w : ℕ) → Member ys w → Member (xs ++ ys) w
 member-right [] ys w m = m
 member-right (x ∷ xs) ys w m = inr (member-right xs ys w m)
 
+-- a member of two lists joined is one of the first or of the second
 pub member-cases : (xs ys : List ℕ) (w : ℕ) → Member (xs ++ ys) w → Member xs w ⊎ Member ys w
 member-cases [] ys w m = inr m
 member-cases (x ∷ xs) ys w (inl e) = inl (inl e)
 member-cases (x ∷ xs) ys w (inr m) = elim (member-cases xs ys w m) [ inl k ↦ inl (inr k) | inr k ↦ inr k ]
 
+-- a member is at some place of the list
 pub member-at : (xs : List ℕ) (w : ℕ) → Member xs w → (k : ℕ) × (k < length xs) × (get_or xs k 0 ≡ w)
 member-at [] w m = absurd m
 member-at (x ∷ xs) w (inl e) = (0, omega arith, sym e)
 member-at (x ∷ xs) w (inr m) = let r = member-at xs w m in (suc r.0, omega (arith, r.1), r.2)
 
+-- and what is at some place of the list is a member
 pub at-member : (xs : List ℕ) (w : ℕ) → Contains xs w → Member xs w
 at-member [] w c = absurd (omega (arith, c.1))
 at-member (x ∷ xs) w (zero, l, e) = inl (sym e)

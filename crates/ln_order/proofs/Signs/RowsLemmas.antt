@@ -63,6 +63,7 @@ module _ (indices : List ℤ) (order : List ℕ) (p : IsOrder indices order) (wh
       → unsigned_abs (index_at indices s) < unsigned_abs (index_at indices t)
   place-index s t hs ht l = abs-less (index_at indices s) (index_at indices t) (from_0 s hs) (from_0 t ht) (rising s t hs ht l)
 
+-- a row's own indices, from 0 on, give the same order of exponents as the order of its sites
 pub orders-rows : OrdersAreThoseOfRows
 orders-rows sites vars indices order a b h size whole p =
     ((λ e. (e.0, e.1, e.2, e.3, λ w r. e.4 w (to_row w r))), λ e. (e.0, e.1, e.2, e.3, λ w r. e.4 w (to_place w r)))

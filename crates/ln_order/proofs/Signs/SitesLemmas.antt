@@ -20,6 +20,7 @@ same_site-is None (Some t) h = cc
 same_site-is (Some s) None h = cc
 same_site-is (Some s) (Some t) h = ap (λ z. Some z) (eqb-true s t h)
 
+-- a site is the same as itself
 pub same_site-refl : (s : ℕ) → same_site (Some s) (Some s) ≡ true
 same_site-refl s = eq-eqb s s refl
 
@@ -96,6 +97,7 @@ pub record Kept (sites : ℕ) (vars : List VarInfo) : Type 0 where
   pub few_sites : sites ≤ 5
   pub few_vars : length vars ≤ 168
 
+-- and each shape that is laid out keeps it
 pub kept : (sites : ℕ) (vars : List VarInfo) → is_laid_out sites vars ≡ true → Kept sites vars
 kept sites vars h =
     let a = and_parts (in_order 0 0 no_var vars && list_all has_range vars && (count_by starts_site vars == sites) && nat_le sites 5

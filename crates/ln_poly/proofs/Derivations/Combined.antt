@@ -20,6 +20,7 @@ AreApart [] b = Unit {0}
 AreApart (i ∷ a) [] = Unit {0}
 AreApart (i ∷ a) (j ∷ b) = ((i ≡ 0) ⊎ (j ≡ 0)) × AreApart a b
 
+-- there is one way to choose none
 pub binomial-none : (e : ℕ) → binomial e 0 ≡ 1
 binomial-none zero = refl
 binomial-none (suc e) = refl
@@ -65,6 +66,7 @@ length-minus [] a h = refl
 length-minus (k ∷ m) [] h = absurd (omega arith)
 length-minus (k ∷ m) (j ∷ a) h = omega (arith, length-minus m a (omega arith))
 
+-- a scaled derivative is over the same variables
 pub over-derived : (a : List ℕ) (f : List Term) → Over (length a) f → Over (length a) (derived a f)
 over-derived a [] o = tt
 over-derived a (t ∷ f) o = by_case (covers t.exponents a) (over-derived a f o.1) where
@@ -115,6 +117,7 @@ lacks-none : (f : List Term) (m : List ℕ) → Lacks f m → factor_at f m ≡ 
 lacks-none [] m l = refl
 lacks-none (t ∷ f) m l = rw l.0 (omega (arith, ints, lacks-none f m l.1))
 
+-- where like monomials are collected, each vector occurs once
 pub once : (f : List Term) → IsCollected f → Once f
 once [] c = tt
 once (t ∷ f) c = (lacks-none f t.exponents c.0, λ k e. ap (factor_at f) (sym (same_vector-is t.exponents k e)) ∙ lacks-none f t.exponents c.0, once f c.1)

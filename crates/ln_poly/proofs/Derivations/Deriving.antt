@@ -199,6 +199,7 @@ lowered-kept : (a b x y : Pairs) (v n : ℕ) → IsRising a → IsRising b → I
 lowered-kept a b x y v n r s p q h = order-kept a b x y r s p.rising q.rising (λ u e. omega (arith, p.exponents u, q.exponents u, e))
     (λ u l. omega (arith, p.exponents u, q.exponents u, l)) h
 
+-- the step of `derive`: the derivative of the next term is appended, where it has one
 pub deriving-step : (vars : List VarInfo) (f' f out out' : Sparse) (v n i : ℕ) (t : Pairs × ℤ) → f' ≡ f → v < length vars
     → IsPoly f → AreBelow (length vars) f → i < length f' → t ≡ get_or f' i t → IsDeriving out f' (length vars) v n i (sizes vars)
     → (exponent v t.0 < n → out' ≡ out) → (n ≤ exponent v t.0 → IsDerivedPut out' out t v n) → IsDeriving out' f' (length vars) v n (i + 1) (sizes vars)
@@ -264,6 +265,7 @@ pub record AreDerived (out f : Sparse) (k v n : ℕ) (w : ℕ → ℕ) : Type 0 
   pub coefficients : (m : List ℕ) → coefficient_at k out m ≡ factor_at (derivative k v n f) m
   pub size : size_of out ≤ weighted_sum w (derivative k v n f)
 
+-- the end of the loop in `derive`: the derivatives of all terms are appended
 pub deriving-end : (out f' f : Sparse) (k v n i : ℕ) (w : ℕ → ℕ) → f' ≡ f → length f' ≤ i → IsDeriving out f' k v n i w → AreDerived out f k v n w
 deriving-end out f' f k v n i w q h r =
     let a : take i f' ≡ f = take_all i f' h ∙ q in
@@ -299,6 +301,7 @@ kept-room vars v n t l h =
     let x = times-some (unsigned_abs (t.1 *ℤ pos (binomial (exponent v t.0) n))) (monomial_weight (sizes vars) m) some in
     rw (c, binomials-single 0 k v n t.0 (omega arith) (omega arith)) (omega (arith, x))
 
+-- in `derive` the factor of each term's derivative is below 2^127, as the weighted sum of the derivative is
 pub deriving-room : (vars : List VarInfo) (f' f : Sparse) (v n i : ℕ) (t : Pairs × ℤ) → f' ≡ f → v < length vars
     → weighted_sum (sizes vars) (derivative (length vars) v n f) ≤ most → i < length f' → t ≡ get_or f' i t → n ≤ exponent v t.0
     → unsigned_abs (t.1 *ℤ pos (binomial (exponent v t.0) n)) < 2 ^ 127

@@ -28,6 +28,7 @@ pub lowering-above : (out ps : Pairs) (v n i : ℕ) → IsLowering out ps v n i 
 lowering-above out ps v n i r s h = none-above (get_or ps i (0, 0)).0 out r.rising
     (λ u l. omega (arith, r.exponents u, above-none (get_or ps i (0, 0)).0 u (take i ps) (above-take ps i s h) l))
 
+-- an exponent below 128 stays below it, lowered or kept
 pub lowered-small : (p : ℕ × ℕ) (v n k : ℕ) → p.1 < 128 → (p.0 ≡ v → k + n ≡ p.1) → ((p.0 ≡ v → ⊥) → k ≡ p.1) → k < 128
 lowered-small p v n k h a b = by_case (cases_eq p.0 v) where
   by_case : (p.0 ≡ v) ⊎ (p.0 ≡ v → ⊥) → k < 128
@@ -51,6 +52,7 @@ lowering-next out ps v n i k u r s h a b =
     (λ e. above-none (get_or ps i (0, 0)).0 u (take i ps) (above-take ps i s h) (omega arith)) a b
     ∙ ap (λ z. z - power_at u (v, n)) (sym (exponent-more u ps i h))
 
+-- the step of `lowered` where an exponent remains: the pair is appended with it
 pub lowering-push : (out ps : Pairs) (v n i k : ℕ) → IsLowering out ps v n i → IsRising ps → i < length ps
     → ((get_or ps i (0, 0)).0 ≡ v → k + n ≡ (get_or ps i (0, 0)).1) → (((get_or ps i (0, 0)).0 ≡ v → ⊥) → k ≡ (get_or ps i (0, 0)).1)
     → 0 < k → IsLowering (out ++ (((get_or ps i (0, 0)).0, k) ∷ [])) ps v n (i + 1)
@@ -66,6 +68,7 @@ no-power u w = by_case (cases_eq w u) where
   by_case (inl e) = power-here u (w, 0) e
   by_case (inr e) = power-apart u (w, 0) e
 
+-- the step of `lowered` where no exponent remains: the pair is left out
 pub lowering-skip : (out ps : Pairs) (v n i k : ℕ) → IsLowering out ps v n i → IsRising ps → i < length ps
     → ((get_or ps i (0, 0)).0 ≡ v → k + n ≡ (get_or ps i (0, 0)).1) → (((get_or ps i (0, 0)).0 ≡ v → ⊥) → k ≡ (get_or ps i (0, 0)).1)
     → k ≡ 0 → IsLowering out ps v n (i + 1)
@@ -75,6 +78,7 @@ lowering-skip out ps v n i k r s h a b l = record {
   rising = r.rising;
 }
 
+-- the end of the loop in `lowered`: the exponents are those of all pairs, with that of v lowered by n
 pub lowering-end : (out e : Pairs) (v n i : ℕ) → IsLowering out e v n i → length e ≤ i → n ≤ exponent v e → IsLowered out e v n
 lowering-end out e v n i r h l = record {
   exponents = λ u. omega (arith, r.exponents u, ap (exponent u) (take_all i e h), within u (cases_eq v u));

@@ -46,6 +46,7 @@ above-take [] i r h = absurd (omega arith)
 above-take (p ∷ ps) zero r h = tt
 above-take (p ∷ ps) (suc i) r h = (above-at p.0 ps i (omega arith) r.2, above-take ps i r.3 (omega arith))
 
+-- each pair's variable is one of the first n
 pub variable-at : (n : ℕ) (ps : Pairs) (i : ℕ) → IsAbove ps n → i < length ps → (get_or ps i (0, 0)).0 < n
 variable-at n [] i a h = absurd (omega arith)
 variable-at n (p ∷ ps) zero a h = a.0
@@ -103,6 +104,7 @@ pub several-light : (vars : List VarInfo) (f h : Sparse) (ps : Pairs) (i : ℕ) 
 several-light vars f h ps i r l d w =
     omega (arith, next-weight (length vars) f h ps i r l d (sizes vars), derived-light vars (vector (length vars) (take (i + 1) ps)) f w)
 
+-- the end of the loop in `derive_by`: the derivative is by all pairs
 pub several-end : (n : ℕ) (f h : Sparse) (ps a : Pairs) (i : ℕ) → length ps ≤ i → ps ≡ a → IsDerivative n f (take i ps) h → IsDerivative n f a h
 several-end n f h ps a i l e d = subst (λ (q : Pairs). IsDerivative n f q h) (take_all i ps l ∙ e) d
 
@@ -112,6 +114,7 @@ pub first-light : (vars : List VarInfo) (f : Sparse) (ps : Pairs) → IsPoly f �
     → weighted_sum (sizes vars) (derivative (length vars) (get_or ps 0 (0, 0)).0 (get_or ps 0 (0, 0)).1 f) ≤ most
 first-light vars f ps p b r l w = several-light vars f f ps 0 r l (several-init (length vars) f f p b refl) w
 
+-- the derivative with which the loop in `derive_by` begins is that by the first pair
 pub first-step : (n : ℕ) (f g : Sparse) (ps : Pairs) → IsPoly f → AreBelow n f → IsRising ps → 0 < length ps → IsPoly g → AreBelow n g
     → ((m : List ℕ) → coefficient_at n g m ≡ factor_at (derivative n (get_or ps 0 (0, 0)).0 (get_or ps 0 (0, 0)).1 f) m) → IsDerivative n f (take 1 ps) g
 first-step n f g ps p b r l q c e = several-step n f f ps 0 r l (several-init n f f p b refl) g q c e
@@ -124,6 +127,7 @@ none-derived n f h ps a p b e l q = several-end n f h ps a 0 (omega (arith, l)) 
 pub no-length : (n : ℕ) (b : Bool) → b ≡ (n == 0) → b ≡ true → n ≡ 0
 no-length n b e t = eqb-true n 0 (sym e ∙ t)
 
+-- a length that isn't 0 by the test is above 0
 pub some-length : (n : ℕ) (b : Bool) → b ≡ (n == 0) → b ≡ false → 0 < n
 some-length zero b e f = let t : true ≡ false = sym e ∙ f in cc
 some-length (suc n) b e f = omega arith

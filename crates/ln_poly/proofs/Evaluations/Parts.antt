@@ -39,6 +39,7 @@ step y e k B M R h = four (pos (binomial e k)) (pos B) (power_of y (e - k)) M �
 abbrev SaysRest : (ℕ → ℤ) → (ℕ → ℤ) → Pairs → List ℕ → Pairs → List ℕ → Type 0
 SaysRest x y a below qs m = pos (binomials m below) *ℤ monomial (λ u. y (suc u)) (minus m below) ≡ parts x a qs
 
+-- where a monomial covers a, its binomials times the monomial that remains are the product of its pairs' parts
 pub vector-parts : (x y : ℕ → ℤ) (a : Pairs) (v n : ℕ) (ps : Pairs) → ((u : ℕ) → y u ≡ x (v + u)) → From v ps → IsRising ps → IsAbove ps (v + n) →
     covers (exponents_from v n ps) (exponents_from v n a) ≡ true →
     pos (binomials (exponents_from v n ps) (exponents_from v n a)) *ℤ monomial y (minus (exponents_from v n ps) (exponents_from v n a)) ≡ parts x a ps
@@ -147,9 +148,11 @@ all-pass m (q ∷ a) r h v = by_case (cases_eq q.0 v) (all-pass m a r.3 (λ j l.
       omega (arith, i, power-here v q o, all_above-none v a (subst (λ z. AllAbove z a) o r.2))
   by_case (inr o) ih = omega (arith, ih, power-apart v q o)
 
+-- where each pair of a passes, the monomial covers a
 pub passed : (n : ℕ) (m a : Pairs) → IsRising a → Pass m a (length a) → covers (vector n m) (vector n a) ≡ true
 passed n m a r h = covers-more 0 n m a (all-pass m a r h)
 
+-- where the exponent of one variable is below that in a, the monomial doesn't cover a
 pub failed : (n : ℕ) (m a : Pairs) (q : ℕ × ℕ) → q.0 < n → exponent q.0 a ≡ q.1 → exponent q.0 m < q.1 → covers (vector n m) (vector n a) ≡ false
 failed n m a q l e h = covers-less 0 n q.0 m a (omega arith) (omega arith) (omega (arith, e, h))
 

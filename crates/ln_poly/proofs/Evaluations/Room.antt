@@ -46,12 +46,14 @@ pub record IsRaised (z y x : ℤ) (n k : ℕ) : Type 0 where
   pub value : y *ℤ power_of x (n - k) ≡ z *ℤ power_of x n
   pub room : unsigned_abs y * size x ^ (n - k) ≤ most
 
+-- the loop in `raised` begins with the number itself
 pub raised-begin : (z x : ℤ) (n : ℕ) → unsigned_abs z * size x ^ n ≤ most → IsRaised z z x n 0
 raised-begin z x n h = let e : n - 0 ≡ n = omega arith in record { value = ap (λ k. z *ℤ power_of x k) e; room = rw e h }
 
 raised-left : (n k : ℕ) → k < n → n - k ≡ suc (n - (k + 1))
 raised-left n k h = omega arith
 
+-- in `raised` the product with one more factor is within the limit
 pub raised-fits : (z y x : ℤ) (n k : ℕ) → k < n → IsRaised z y x n k → unsigned_abs (y *ℤ x) ≤ most
 raised-fits z y x n k h r =
     let m : ℕ = size x in
@@ -61,6 +63,7 @@ raised-fits z y x n k h r =
     let l : unsigned_abs x ≤ P * m = omega (arith, times-le m P s, (let c : P * m ≡ m * P = omega arith in c)) in
     omega (arith, unsigned_abs-mul y x, mul-le-mul_left (unsigned_abs y) l, ap (λ j. unsigned_abs y * j) p, r.room)
 
+-- the step of `raised`: one factor more
 pub raised-on : (z y x : ℤ) (n k : ℕ) → k < n → IsRaised z y x n k → IsRaised z (y *ℤ x) x n (k + 1)
 raised-on z y x n k h r =
     let m : ℕ = size x in
@@ -73,6 +76,7 @@ raised-on z y x n k h r =
     let c : (unsigned_abs y * m) * P ≡ unsigned_abs y * (P * m) = omega arith in
     record { value = v ∙ r.value; room = omega (arith, q, c, ap (λ j. unsigned_abs y * j) p, r.room) }
 
+-- the end of the loop in `raised`: the number is multiplied by the n-th power of x
 pub raised-end : (z y x : ℤ) (n k : ℕ) → n ≤ k → IsRaised z y x n k → y ≡ z *ℤ power_of x n
 raised-end z y x n k h r = let e : n - k ≡ 0 = omega arith in times-one y ∙ ap (λ j. y *ℤ power_of x j) (sym e) ∙ r.value where
   times-one : (a : ℤ) → a ≡ a *ℤ pos 1
@@ -88,11 +92,13 @@ pair-room z x e k h r =
     let c : (unsigned_abs z * B) * m ^ (e - k) ≡ unsigned_abs z * (B * m ^ (e - k)) = times-assoc (unsigned_abs z) B (m ^ (e - k)) in
     omega (arith, l, c, ap (λ j. j * m ^ (e - k)) (unsigned_abs-mul z (pos B)), r)
 
+-- in `with_pair` the number times the binomial is within the limit
 pub pair-fits : (z x : ℤ) (e k : ℕ) → k ≤ e → unsigned_abs z * (size x + 1) ^ e ≤ most → unsigned_abs (z *ℤ pos (binomial e k)) ≤ most
 pair-fits z x e k h r =
     let m : ℕ = size x in
     omega (arith, times-le (unsigned_abs (z *ℤ pos (binomial e k))) (m ^ (e - k)) (pow-some m (e - k) (omega arith)), pair-room z x e k h r)
 
+-- in `with_pair` the binomial is within the limit, where the number isn't 0
 pub ways-fit : (z x : ℤ) (e k : ℕ) → k ≤ e → (z ≡ pos 0 → ⊥) → unsigned_abs z * (size x + 1) ^ e ≤ most → binomial e k ≤ most
 ways-fit z x e k h n r = omega (arith, pair-fits z x e k h r, unsigned_abs-mul z (pos (binomial e k)), some-times (unsigned_abs z) (binomial e k) (some z n))
   where
@@ -105,9 +111,11 @@ ways-fit z x e k h n r = omega (arith, pair-fits z x e k h r, unsigned_abs-mul z
     some-times zero b h = absurd (omega arith)
     some-times (suc a) b h = omega arith
 
+-- the result of `with_pair`: the number times the binomial times the power that remains
 pub pair-value : (z y x : ℤ) (e k w : ℕ) → w ≡ binomial e k → y ≡ (z *ℤ pos w) *ℤ power_of x (e - k) → y ≡ z *ℤ (pos (binomial e k) *ℤ power_of x (e - k))
 pair-value z y x e k w q h = h ∙ ap (λ j. (z *ℤ pos j) *ℤ power_of x (e - k)) q ∙ mul_assoc z (pos (binomial e k)) (power_of x (e - k))
 
+-- 0 is the product of 0 and any number
 pub zero-times : (z y : ℤ) → z ≡ pos 0 → pos 0 ≡ z *ℤ y
 zero-times z y h = (let c : pos 0 ≡ pos 0 *ℤ y = omega (arith, ints) in c) ∙ ap (λ j. j *ℤ y) (sym h)
 
@@ -120,6 +128,7 @@ row-size (i ∷ is) (z ∷ zs) zero h l = omega (arith, within i.lo z i.hi h.0 h
   within a b c l r = omega (arith, ints)
 row-size (i ∷ is) (z ∷ zs) (suc v) h l = row-size is zs v h.2 (omega (arith, l))
 
+-- a row in range has a value for each variable
 pub row-long : (vars : List VarInfo) (zs : List ℤ) → AreWithin vars zs → length zs ≡ length vars
 row-long [] [] h = refl
 row-long [] (z ∷ zs) h = absurd h

@@ -56,6 +56,7 @@ above-behind n ps zero h = h
 above-behind n [] (suc i) h = tt
 above-behind n (p ∷ ps) (suc i) h = above-behind n ps i h.1
 
+-- each pair's variable is one of the first n
 pub pair-above : (n : ℕ) (ps : Pairs) (i : ℕ) → IsAbove ps n → i < length ps → (get_or ps i (0, 0)).0 < n
 pair-above n [] i h l = absurd (omega arith)
 pair-above n (p ∷ ps) zero h l = h.0
@@ -113,9 +114,11 @@ module _ (vars : List VarInfo) (zs : List ℤ) (a ps : Pairs) (c y : ℤ) (i : �
       let f : unsigned_abs z ≡ unsigned_abs y * unsigned_abs P = ap unsigned_abs q ∙ unsigned_abs-mul y P in
       record { value = v ∙ r.value; room = omega (arith, u, heavy, times-assoc (unsigned_abs y) (w ^ e) W, ap (λ j. j * W) f) }
 
+-- the loop in `product` begins with the term's factor
 pub product-begin : (vars : List VarInfo) (x : ℕ → ℤ) (a ps : Pairs) (c : ℤ) → IsProduct vars x a ps c c 0
 product-begin vars x a ps c = record { value = refl; room = omega arith }
 
+-- the end of the loop in `product`: the factor times what all pairs add, which is at most the term's weight
 pub product-end : (vars : List VarInfo) (x : ℕ → ℤ) (a ps : Pairs) (c y : ℤ) (i : ℕ) → length ps ≤ i → IsProduct vars x a ps c y i
     → (y ≡ c *ℤ parts x a ps) × (unsigned_abs y ≤ unsigned_abs c * pairs_weight (weights vars) ps)
 product-end vars x a ps c y i h r =
@@ -138,6 +141,7 @@ pub record IsSummed (vars : List VarInfo) (x : ℕ → ℤ) (a : Pairs) (f : Spa
       ≡ value x (derived (vector (length vars) a) (terms_of (length vars) f))
   pub room : unsigned_abs sum + total_weight (weights vars) (drop i f) ≤ most
 
+-- the loop in `value_at` begins with 0, where the weight of all terms is within the limit
 pub summed-begin : (vars : List VarInfo) (x : ℕ → ℤ) (a : Pairs) (f : Sparse) → total_weight (weights vars) f ≤ most → IsSummed vars x a f (pos 0) 0
 summed-begin vars x a f h = record { value = omega (arith, ints); room = omega (arith, h) }
 
@@ -145,6 +149,7 @@ total-cons : (w : ℕ → ℕ) (t : Pairs × ℤ) (f : Sparse) → total_weight 
 unfolding total_weight
 total-cons w t f = sum_by-cons (term_weight w) t f
 
+-- the terms from one on weigh as much as that one and those after it
 pub total-at : (w : ℕ → ℕ) (f : Sparse) (i : ℕ) (t : Pairs × ℤ) → i < length f → t ≡ get_or f i t
     → total_weight w (drop i f) ≡ term_weight w t + total_weight w (drop (i + 1) f)
 total-at w f i t h e =
@@ -173,6 +178,7 @@ module _ (vars : List VarInfo) (x : ℕ → ℤ) (a : Pairs) (f : Sparse) (sum :
       ap (λ g. value x (derived A (terms_of n g))) e ∙ term-adds n x a t (terms_of n (drop (i + 1) f)) rising above in
       record { value = omega (arith, ints, r.value, s, q); room = omega (arith, ints, h, total-at (weights vars) f i t there is, r.room) }
 
+-- the end of the loop in `value_at`: the sum is the value of the derivative
 pub summed-end : (vars : List VarInfo) (x : ℕ → ℤ) (a : Pairs) (f : Sparse) (sum : ℤ) (i : ℕ) → length f ≤ i → IsSummed vars x a f sum i
     → sum ≡ value x (derived (vector (length vars) a) (terms_of (length vars) f))
 summed-end vars x a f sum i h r =

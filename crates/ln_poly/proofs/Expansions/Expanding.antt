@@ -19,6 +19,7 @@ use Rattle.ln_poly.proofs.TermLists.Leaves.{one-term}
 use Rattle.ln_poly.proofs.Expansions.Normals.{number-some, power-many, power-many-back, power-more, power-none}
 use Rattle.ln_poly.proofs.Loads.Room.{product-powers, product-room}
 
+-- what is expanded: trees, each with its place in the text
 abbrev pub Nodes : Type 0
 Nodes = List (Span × Tree)
 
@@ -98,6 +99,7 @@ powers-behind n at e j (suc k) s l f = by_case (powers-behind n at e j k s) (cas
   by_case ih (inl h) = let q : j ≡ suc k = omega arith in subst (λ z. StopsExpanding n (powers at e z) s) q f
   by_case ih (inr h) = stop-before n (powers at e k) ((at, Pow e (suc k)) ∷ []) s (ih h f)
 
+-- the step of `raised` that stops: a stop at the next power is one of all powers
 pub powers-stop : (n : ℕ) (at : Span) (e : Tree) (j k : ℕ) (p : Sparse) (s : PolyStop) → j < k → Expands n (powers at e j) (Pow e j) p
     → StopsExpanding n ((at, Mul (Pow e j) e) ∷ []) s → StopsExpanding n (powers at e k) s
 powers-stop n at e j k p s l a f =
@@ -117,5 +119,6 @@ next-light b j k l h = omega (arith, pow-suc b j, lower b (suc j) k l h)
 pub power-room : (f p : Sparse) (k j : ℕ) (r : HasPower f k) → j < k → IsNormal r.n (Pow r.tree j) p → size_of p * size_of f < 2 ^ 127
 power-room f p k j r l q = product-room r.n r.w (Pow r.tree j) r.tree p f r.two r.inputs r.inputs (next-light (weight r.w r.tree) j k l r.light) q r.normal
 
+-- in `raised` no exponent of the next power exceeds 127
 pub power-powers : (f p : Sparse) (k j : ℕ) (r : HasPower f k) → j < k → IsNormal r.n (Pow r.tree j) p → All (λ s. PowersFit s f) p
 power-powers f p k j r l q = product-powers r.n r.w (Pow r.tree j) r.tree p f r.two r.inputs r.inputs (next-light (weight r.w r.tree) j k l r.light) q r.normal

@@ -59,11 +59,13 @@ pub record LetsExpanded (vars : List VarInfo) (whole front rest : List Formula) 
   pub fit : lets_fit (length vars) (length polys) (map (tree vars) rest) ≡ true
   pub light : LetsAreLight (length vars) two (closed_lets vars front) (map (tree vars) rest)
 
+-- the loop in `expand_lets` begins with no let expanded
 pub lets-begin : (vars : List VarInfo) (whole : List Formula) (polys : List Sparse) → polys ≡ [] → lets_fit (length vars) 0 (map (tree vars) whole) ≡ true
     → LetsAreLight (length vars) two [] (map (tree vars) whole) → LetsExpanded vars whole [] whole polys
 lets-begin vars whole polys e f l =
     subst (LetsExpanded vars whole [] whole) (sym e) (record { normal = tt; nodes = []; stands = refl; few = tt; fit = f; light = l })
 
+-- the first of the lets that follow is expanded too
 pub lets-next : (vars : List VarInfo) (whole front rest : List Formula) (f : Formula) (polys : List Sparse) (p : Sparse)
     → LetsExpanded vars whole front (f ∷ rest) polys
     → Expands (length vars) (expanded vars (closed_lets vars front) f) (inlined (closed_lets vars front) (tree vars f)) p
@@ -87,6 +89,7 @@ lets-next vars whole front rest f polys p a h =
 abbrev pub LetsTo : List VarInfo → List Expr → ℕ → List Sparse → Type 0
 LetsTo vars lets j polys = LetsExpanded vars (map formula lets) (map formula (take j lets)) (map formula (drop j lets)) polys
 
+-- the lets from place j on are the one there and those after it
 pub rest-is : (lets : List Expr) (j : ℕ) (e : Expr) → j < length lets → e ≡ get_or lets j e
     → map formula (drop j lets) ≡ formula e ∷ map formula (drop (j + 1) lets)
 rest-is lets j e l h = ap (map formula) (drop_more lets j e l) ∙ ap (λ f. formula f ∷ map formula (drop (j + 1) lets)) (sym h)
@@ -101,6 +104,7 @@ pub lets-at : (vars : List VarInfo) (lets : List Expr) (j : ℕ) (e : Expr) (pol
     → LetsTo vars lets j polys → LetsExpanded vars (map formula lets) (map formula (take j lets)) (formula e ∷ map formula (drop (j + 1) lets)) polys
 lets-at vars lets j e polys l h a = subst (λ fs. LetsExpanded vars (map formula lets) (map formula (take j lets)) fs polys) (rest-is lets j e l h) a
 
+-- the step of `expand_lets`: the polynomial of the let at place j is appended
 pub lets-step : (vars : List VarInfo) (lets : List Expr) (j : ℕ) (e : Expr) (polys more : List Sparse) (p : Sparse) → j < length lets
     → e ≡ get_or lets j e → LetsTo vars lets j polys → Expands (length vars) (expanded vars (closed_lets vars (map formula (take j lets))) (formula e))
     (inlined (closed_lets vars (map formula (take j lets))) (tree vars (formula e))) p → more ≡ polys ++ p ∷ [] → LetsTo vars lets (j + 1) more
@@ -133,10 +137,12 @@ pub next-fit : (vars : List VarInfo) (lets : List Expr) (j : ℕ) (e : Expr) (po
     → LetsTo vars lets j polys → is_fit (length vars) (length polys) (tree vars (formula e)) ≡ true
 next-fit vars lets j e polys l h a = (and_parts (is_fit (length vars) (length polys) (tree vars (formula e))) _ (lets-at vars lets j e polys l h a).fit).0
 
+-- the next let weighs at most 2^127 - 1 at each node, where each variable counts 2
 pub next-light : (vars : List VarInfo) (lets : List Expr) (j : ℕ) (e : Expr) (polys : List Sparse) → j < length lets → e ≡ get_or lets j e
     → LetsTo vars lets j polys → AreLight (length vars) two (closed_lets vars (map formula (take j lets))) (tree vars (formula e))
 next-light vars lets j e polys l h a = (lets-at vars lets j e polys l h a).light.0
 
+-- there are as many normal polynomials as trees
 pub length-normal : (n : ℕ) (ts : List Tree) (fs : List Sparse) → AreNormal n ts fs → length fs ≡ length ts
 length-normal n [] [] a = refl
 length-normal n [] (f ∷ fs) a = absurd a
@@ -164,6 +170,7 @@ length-polys vars es fs a = omega (
   length-trees vars es,
 )
 
+-- the trees of the formulas of expressions are the trees of the expressions
 pub trees-of : (vars : List VarInfo) (es : List Expr) → map (tree vars) (map formula es) ≡ map (tree_of vars) es
 trees-of vars [] = refl
 trees-of vars (e ∷ es) = ap (λ (ts : List Tree). tree_of vars e ∷ ts) (trees-of vars es)
@@ -179,6 +186,7 @@ root-light n w ls (Sub d e) l = l.2
 root-light n w ls (Mul d e) l = l.2
 root-light n w ls (Pow e k) l = l.1
 
+-- the weighted sum of a tree's normal polynomial is within the limit where the tree's weight is
 pub root-weight : (n : ℕ) (w : ℕ → ℕ) (e : Tree) (f : Sparse) → IsLight n w e → IsNormal n e f → weighted_sum w (terms_of n f) ≤ most
 root-weight n w e f l p = omega (arith, l.light, weighted-normal n e (terms_of n f) w l.inputs p.normal (collected n f p.form p.below))
 
@@ -211,11 +219,13 @@ pub pred-fit : (args : List Arg) (vars : List VarInfo) (es : List Expr) (names :
     → lets_fit (length vars) 0 (map (tree vars) (map formula es)) ≡ true
 pred-fit args vars es names root k = rw (trees-of vars es) (parts_of args vars es names root k).fit_lets
 
+-- the root of a predicate is fit after as many lets as there are polynomials
 pub root-fits : (args : List Arg) (vars : List VarInfo) (es : List Expr) (names : ℕ) (root : Expr) (polys : List Sparse)
     → is_pred args vars es names root ≡ true → AreNormal (length vars) (closed_lets vars (map formula es)) polys
     → is_fit (length vars) (length polys) (tree_of vars root) ≡ true
 root-fits args vars es names root polys k a = rw (length-polys vars es polys a) (parts_of args vars es names root k).fit_root
 
+-- where no weight of a predicate's nodes exceeds the limit, its lets and its root are light at each node
 pub pred-light : (args : List Arg) (vars : List VarInfo) (es : List Expr) (names : ℕ) (root : Expr) → is_pred args vars es names root ≡ true
     → HaveWeights (weighed_pred vars (map formula es) (formula root))
     → LetsAreLight (length vars) (weights vars) [] (map (tree vars) (map formula es))

@@ -36,11 +36,13 @@ abbrev pub AreClosed : ℕ → List Tree → Type 0
 AreClosed n [] = Unit {0}
 AreClosed n (t ∷ ts) = InputsBelow n t × AreClosed n ts
 
+-- the closed let at a place is over n variables, and so is the number 0 that is taken past the last one
 pub closed-at : (n : ℕ) (ts : List Tree) (j : ℕ) → AreClosed n ts → InputsBelow n (slice_index_or ts j (Num (pos 0)))
 closed-at n [] j c = tt
 closed-at n (t ∷ ts) zero c = c.0
 closed-at n (t ∷ ts) (suc j) c = closed-at n ts j c.1
 
+-- closed lets over n variables with one more of them are over n variables
 pub closed-more : (n : ℕ) (ts : List Tree) (t : Tree) → AreClosed n ts → InputsBelow n t → AreClosed n (ts ++ t ∷ [])
 closed-more n [] t c i = (i, tt)
 closed-more n (u ∷ ts) t c i = (c.0, closed-more n ts t c.1 i)

@@ -37,17 +37,21 @@ product-some (suc a) (suc b) p q = omega arith
 product-some zero b p q = absurd (omega arith)
 product-some (suc a) zero p q = absurd (omega arith)
 
+-- a number is at most its product with one above 0
 pub times-le : (a b : ℕ) → 0 < b → a ≤ a * b
 times-le a zero h = absurd (omega arith)
 times-le a (suc b) h = omega arith
 
+-- the same with the factors in the other order
 pub times-le-left : (a b : ℕ) → 0 < b → a ≤ b * a
 times-le-left a b h = omega (arith, times-le a b h)
 
+-- where each variable weighs at least 2, the weight of pairs is above 0
 pub pairs-some : (n : ℕ) (w : ℕ → ℕ) (ps : Pairs) → AreTwo n w → IsAbove ps n → 0 < pairs_weight w ps
 pairs-some n w [] t a = omega arith
 pairs-some n w (p ∷ ps) t a = product-some (w p.0 ^ p.1) (pairs_weight w ps) (pow-some (w p.0) p.1 (omega (arith, t p.0 a.0))) (pairs-some n w ps t a.1)
 
+-- a power of a larger base is no smaller
 pub power_le : (a b n : ℕ) → a ≤ b → a ^ n ≤ b ^ n
 power_le a b zero h = omega (arith, pow-zero a, pow-zero b)
 power_le a b (suc n) h = omega (arith, pow-suc a n, pow-suc b n, mul-le _ _ _ _ (power_le a b n h) h)
@@ -79,6 +83,7 @@ size-weight n w (x ∷ f) t b =
       times-le (unsigned_abs x.1) (pairs_weight w x.0) (pairs-some n w x.0 t (All-head (λ z. IsAbove z.0 n) x f b)),
     )
 
+-- a term's factor has an absolute value above 0
 pub factor-some : (z : ℤ) → IsFactor z → 0 < unsigned_abs z
 factor-some z f = by_case (cases_lt 0 (unsigned_abs z)) where
   by_case : (0 < unsigned_abs z) ⊎ (unsigned_abs z ≤ 0) → 0 < unsigned_abs z
@@ -103,6 +108,7 @@ term-exponent n w (x ∷ f) (suc k) d v t b s l =
 pub normal-weight : (n : ℕ) (w : ℕ → ℕ) (e : Tree) (f : Sparse) → InputsBelow n e → IsNormal n e f → total_weight w f ≤ weight w e
 normal-weight n w e f i p = omega (arith, total-weight w n f p.below, weighted-normal n e (terms_of n f) w i p.normal (collected n f p.form p.below))
 
+-- the absolute factors of a normal polynomial add up to at most its tree's weight, where each variable weighs at least 2
 pub normal-size : (n : ℕ) (w : ℕ → ℕ) (e : Tree) (f : Sparse) → AreTwo n w → InputsBelow n e → IsNormal n e f → size_of f ≤ weight w e
 normal-size n w e f t i p = omega (arith, size-weight n w f t p.below, normal-weight n w e f i p)
 
@@ -111,16 +117,19 @@ pub sum-room : (n : ℕ) (w : ℕ → ℕ) (d e : Tree) (f g : Sparse) → AreTw
     → size_of f + size_of g < 2 ^ 127
 sum-room n w d e f g t l p q = omega (arith, l.light, normal-size n w d f t l.inputs.0 p, normal-size n w e g t l.inputs.1 q)
 
+-- a power of 2 that is at most a number below 2^127 has an exponent below 127
 pub two-power : (a b : ℕ) → 2 ^ a ≤ b → b < 2 ^ 127 → a < 127
 two-power a b h l = by_case (cases_lt a 127) where
   by_case : (a < 127) ⊎ (127 ≤ a) → a < 127
   by_case (inl k) = k
   by_case (inr k) = let m : 2 ^ 127 ≤ 2 ^ a = pow-le-pow_right {n = 2} (omega arith) {i = 127} {j = a} k in absurd (omega (arith, m))
 
+-- there is room for the product of two normal polynomials where the product of their trees' weights is within the limit
 pub product-room : (n : ℕ) (w : ℕ → ℕ) (d e : Tree) (f g : Sparse) → AreTwo n w → InputsBelow n d → InputsBelow n e
     → weight w d * weight w e ≤ most → IsNormal n d f → IsNormal n e g → size_of f * size_of g < 2 ^ 127
 product-room n w d e f g t i j l p q = omega (arith, l, mul-le _ _ _ _ (normal-size n w d f t i p) (normal-size n w e g t j q))
 
+-- no exponent of the product exceeds 127 where the product of the trees' weights is within the limit
 pub product-powers : (n : ℕ) (w : ℕ → ℕ) (d e : Tree) (f g : Sparse) → AreTwo n w → InputsBelow n d → InputsBelow n e
     → weight w d * weight w e ≤ most → IsNormal n d f → IsNormal n e g → All (λ s. PowersFit s g) f
 product-powers n w d e f g t i j l p q k x kl m y ml v =

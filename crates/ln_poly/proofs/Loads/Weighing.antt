@@ -60,6 +60,7 @@ weight-single w v (suc n) (suc u) x e q h =
     let f : eqb x v ≡ false = number-other x v (omega arith) in
     rw f (rw pow-zero (omega (arith, weight-single (λ y. w (suc y)) (suc v) n u x e (omega arith) (omega arith))))
 
+-- the weight of pairs is that of their vector
 pub weight-pairs : (w : ℕ → ℕ) (n : ℕ) (ps : Pairs) → IsAbove ps n → monomial_weight w (vector n ps) ≡ pairs_weight w ps
 weight-pairs w n [] a = weight-none w 0 n
 weight-pairs w n (p ∷ ps) a =
@@ -80,15 +81,18 @@ total-weight w n (t ∷ f) a =
       ap (λ z. unsigned_abs t.1 * z) (weight-pairs w n t.0 (All-head (λ z. IsAbove z.0 n) t f a)),
     )
 
+-- one term more adds its weight
 pub total-more : (w : ℕ → ℕ) (f : Sparse) (i : ℕ) (t : Pairs × ℤ) → i < length f → t ≡ get_or f i t
     → total_weight w (take (i + 1) f) ≡ total_weight w (take i f) + term_weight w t
 unfolding total_weight
 total-more w f i t h e = omega (arith, sum_by_more (term_weight w) f i t h, ap (term_weight w) e)
 
+-- the first terms weigh at most as much as all
 pub total-take : (w : ℕ → ℕ) (f : Sparse) (i : ℕ) → total_weight w (take i f) ≤ total_weight w f
 unfolding total_weight
 total-take w f i = sum_by-take-le (term_weight w) f i
 
+-- the empty list of terms weighs 0
 pub total-nil : (w : ℕ → ℕ) → total_weight w [] ≡ 0
 unfolding total_weight
 total-nil w = refl
@@ -111,6 +115,7 @@ times-le : (a b : ℕ) → 0 < b → a ≤ a * b
 times-le a zero h = absurd (omega arith)
 times-le a (suc b) h = omega arith
 
+-- a higher power of a number above 0 is no smaller
 pub pow-le : (m a d : ℕ) → 0 < m → m ^ a ≤ m ^ (a + d)
 pow-le m a d h = rw pow-add (times-le (m ^ a) (m ^ d) (pow-some m d h))
 
@@ -133,11 +138,13 @@ size-some [] v h = absurd (omega arith)
 size-some (i ∷ vars) zero h = omega arith
 size-some (i ∷ vars) (suc v) h = size-some vars v (omega arith)
 
+-- each variable's weight is above 0
 pub grown-some : (n : ℕ) (vars : List VarInfo) (v : ℕ) → v < length vars → 0 < grown n vars v
 grown-some n [] v h = absurd (omega arith)
 grown-some n (i ∷ vars) zero h = omega arith
 grown-some n (i ∷ vars) (suc v) h = grown-some n vars v (omega arith)
 
+-- the weight of each pair's variable is above 0
 pub size-at : (n : ℕ) (vars : List VarInfo) (ps : Pairs) (i : ℕ) → i < length ps → IsAbove ps (length vars) → 0 < grown n vars (get_or ps i (0, 0)).0
 size-at n vars [] i h a = absurd (omega arith)
 size-at n vars (p ∷ ps) zero h a = grown-some n vars p.0 a.0
@@ -170,9 +177,11 @@ pairs-take n vars ps zero a = weight-some (length vars) (grown n vars) (grown-so
 pairs-take n vars [] (suc i) a = omega arith
 pairs-take n vars (p ∷ ps) (suc i) a = mul-le-mul_left (grown n vars p.0 ^ p.1) (pairs-take n vars ps i a.1)
 
+-- the loop in `weight_of_term` begins with the factor
 pub weighed-init : (c : ℕ) (w : ℕ → ℕ) (ps : Pairs) → c ≤ most → IsWeighed c c w ps 0
 weighed-init c w ps h = record { product = omega arith; small = h }
 
+-- the step of `weight_of_term`: the power of one pair more is multiplied in, where the product is within the limit
 pub weighed-step : (p q c : ℕ) (w : ℕ → ℕ) (ps : Pairs) (i : ℕ) → IsWeighed p c w ps i → i < length ps
     → q ≡ p * w (get_or ps i (0, 0)).0 ^ (get_or ps i (0, 0)).1 → q ≤ most → IsWeighed q c w ps (i + 1)
 weighed-step p q c w ps i r h e s = record {
@@ -183,6 +192,7 @@ weighed-step p q c w ps i r h e s = record {
   times-assoc : (a b c : ℕ) → (a * b) * c ≡ a * (b * c)
   times-assoc a b c = omega arith
 
+-- where the product with the next pair's power exceeds the limit, the term's weight does
 pub weighed-heavy : (n p c : ℕ) (vars : List VarInfo) (ps : Pairs) (i : ℕ) → IsAbove ps (length vars) → IsWeighed p c (grown n vars) ps i
     → i < length ps → most < p * grown n vars (get_or ps i (0, 0)).0 ^ (get_or ps i (0, 0)).1 → most < c * pairs_weight (grown n vars) ps
 weighed-heavy n p c vars ps i a r h q =
@@ -192,9 +202,11 @@ weighed-heavy n p c vars ps i a r h q =
       times-assoc : (a b c : ℕ) → (a * b) * c ≡ a * (b * c)
       times-assoc a b c = omega arith
 
+-- the end of the loop in `weight_of_term`: the product is the factor times the weight of all pairs
 pub weighed-end : (p c : ℕ) (w : ℕ → ℕ) (ps : Pairs) (i : ℕ) → IsWeighed p c w ps i → length ps ≤ i → p ≡ c * pairs_weight w ps
 weighed-end p c w ps i r h = r.product ∙ ap (λ z. c * pairs_weight w z) (take_all i ps h)
 
+-- the step of `scaled`: one factor more
 pub scaled-step : (w m k p q : ℕ) → p ≡ w * m ^ k → q ≡ p * m → q ≡ w * m ^ (k + 1)
 scaled-step w m k p q e f = f ∙ ap (λ t. t * m) e ∙ times-assoc w (m ^ k) m ∙ ap (λ t. w * t) (sym (ap (λ t. m ^ t) (add-one k) ∙ pow-suc m k)) where
   times-assoc : (a b c : ℕ) → (a * b) * c ≡ a * (b * c)
@@ -209,6 +221,7 @@ heavy-end n vars' vars f' f i t s p q b h e x y =
     subst (λ v. most < total_weight (grown n v) f) p (subst (λ g. most < total_weight (grown n vars') g) q (total-heavy (grown n vars') f' i t s h e x y)) in
     omega (arith, z, total-weight (grown n vars) (length vars) f b)
 
+-- the end of the loop in `total`: the sum is the weighted sum
 pub sum-end : (n : ℕ) (vars' vars : List VarInfo) (f' f : Sparse) (i s : ℕ) → vars' ≡ vars → f' ≡ f → AreBelow (length vars) f
     → length f' ≤ i → s ≡ total_weight (grown n vars') (take i f') → s ≡ weighted_sum (grown n vars) (terms_of (length vars) f)
 sum-end n vars' vars f' f i s p q b h x =
@@ -255,6 +268,7 @@ pub as-sizes : (o : Option ℕ) (vars : List VarInfo) (f : List Term)
     → MatchOption o (most < weighted_sum (sizes vars) f) (λ s. (s ≡ weighted_sum (sizes vars) f) × (s ≤ most))
 as-sizes o vars f h = as_sum o (weighted_sum (grown 0 vars) f) (weighted_sum (sizes vars) f) (same_sum (grown 0 vars) (sizes vars) (grown-none vars) f) h
 
+-- the sum that `heft` has is the w-weighted one
 pub as-weights : (o : Option ℕ) (vars : List VarInfo) (f : List Term)
     → MatchOption o (most < weighted_sum (grown 1 vars) f) (λ s. (s ≡ weighted_sum (grown 1 vars) f) × (s ≤ most))
     → MatchOption o (most < weighted_sum (weights vars) f) (λ s. (s ≡ weighted_sum (weights vars) f) × (s ≤ most))

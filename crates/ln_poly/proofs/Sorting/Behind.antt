@@ -17,6 +17,7 @@ low-none [] b e = tt
 low-none (p ∷ a) [] e = (tt, low-none a [] e)
 low-none (p ∷ a) (q ∷ b) e = absurd (omega (arith, e))
 
+-- a first list without a pair is below any second one
 pub none-low : (a b : Pairs) → length a ≡ 0 → AreLow a b
 none-low [] b e = tt
 none-low (p ∷ a) b e = absurd (omega (arith, e))
@@ -36,6 +37,7 @@ low-last (p ∷ o ∷ a) (q ∷ b) (suc i) r s h k l =
 low-test : (x y : ℕ) → nat_lt x y ≡ true → x < y
 low-test x y e = grind (arith, nat_tests)
 
+-- the test in `are_low`: where the last variable of the first is below the first of the second, each is below each
 pub low-tested : (a b : Pairs) → IsRising a → IsRising b → 0 < length a → 0 < length b
     → nat_lt (get_or a (length a - 1) (0, 0)).0 (get_or b 0 (0, 0)).0 ≡ true → AreLow a b
 low-tested a b r s h k t = low-last a b (length a - 1) r s (omega (arith, h)) k (low-test (get_or a (length a - 1) (0, 0)).0 (get_or b 0 (0, 0)).0 t)
@@ -54,19 +56,23 @@ above-append : (a b : Pairs) (v : ℕ) → IsAbove a v → IsAbove b v → IsAbo
 above-append [] b v h k = k
 above-append (p ∷ a) b v h k = (h.0, above-append a b v h.1 k)
 
+-- in `behind` all pairs so far are below the next one
 pub behind-above : (out a b : Pairs) (i : ℕ) → out ≡ a ++ take i b → AreLow a b → IsRising b → i < length b → IsAbove out (get_or b i (0, 0)).0
 behind-above out a b i e l r h =
     subst (λ z. IsAbove z (get_or b i (0, 0)).0) (sym e) (above-append a (take i b) (get_or b i (0, 0)).0 (above-more a b i l r h) (above-take b i r h))
 
+-- each exponent of rising pairs is above 0
 pub positive-at : (ps : Pairs) (i : ℕ) → IsRising ps → i < length ps → 0 < (get_or ps i (0, 0)).1
 positive-at [] i r h = absurd (omega arith)
 positive-at (p ∷ ps) zero r h = r.0
 positive-at (p ∷ ps) (suc i) r h = positive-at ps i r.3 (omega arith)
 
+-- the step of `behind`: one pair of the second is appended
 pub behind-step : (out out' a b : Pairs) (i : ℕ) → out ≡ a ++ take i b → i < length b → out' ≡ out ++ (get_or b i (0, 0) ∷ []) → out' ≡ a ++ take (i + 1) b
 behind-step out out' a b i e h p =
     p ∙ ap (λ z. z ++ (get_or b i (0, 0) ∷ [])) e ∙ append_assoc a (take i b) (get_or b i (0, 0) ∷ []) ∙ ap (λ z. a ++ z) (sym (take_more b i (0, 0) h))
 
+-- the end of the loop in `behind`: all pairs of the second are appended
 pub behind-end : (out a b : Pairs) (i : ℕ) → out ≡ a ++ take i b → length b ≤ i → out ≡ a ++ b
 behind-end out a b i e h = e ∙ ap (λ z. a ++ z) (take_all i b h)
 
@@ -83,11 +89,14 @@ rising-append : (a b : Pairs) → IsRising a → IsRising b → AreLow a b → I
 rising-append [] b r s l = s
 rising-append (p ∷ a) b r s l = (r.0, r.1, all-append p.0 a b r.2 l.0, rising-append a b r.3 s l.1)
 
+-- the exponents of one list of pairs followed by another are the sums of those of both
 pub behind-exponents : (e a b : Pairs) → e ≡ a ++ b → (v : ℕ) → exponent v e ≡ exponent v a + exponent v b
 behind-exponents e a b q v = ap (exponent v) q ∙ exponent-append v a b
 
+-- the same where the second list comes first
 pub turned-exponents : (e a b : Pairs) → e ≡ b ++ a → (v : ℕ) → exponent v e ≡ exponent v a + exponent v b
 turned-exponents e a b q v = omega (arith, behind-exponents e b a q v)
 
+-- rising pairs followed by rising pairs of higher variables rise
 pub behind-rising : (e a b : Pairs) → e ≡ a ++ b → IsRising a → IsRising b → AreLow a b → IsRising e
 behind-rising e a b q r s l = subst IsRising (sym q) (rising-append a b r s l)

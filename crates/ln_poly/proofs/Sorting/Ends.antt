@@ -35,6 +35,7 @@ unfolding IsStrictlySortedBy
 front-sorted [] t s = tt
 front-sorted (y ∷ xs) t s = (before-front y.0 xs t s.0, front-sorted xs t s.1)
 
+-- the last element of a list with one more appended is that one
 pub last-at : (xs : Sparse) (t d : Pairs × ℤ) → get_or (xs ++ (t ∷ [])) (length (xs ++ (t ∷ [])) - 1) d ≡ t
 last-at xs t d = get_or_push xs t d (length (xs ++ (t ∷ [])) - 1) (omega (arith, length_push xs t))
 
@@ -118,6 +119,7 @@ pub taken-first : (f f' g : Sparse) (r : Option (Pairs × ℤ)) (k : ℕ) → f 
 taken-first f f' g (Some t) k e v l h = subst (λ z. IsTaken z g f' g t) (sym e) (taken-one f' g t (subst (λ z. EndsLater z g) e h))
 taken-first f f' g None k e v l h = (absent k f l (λ s. no-some (v.1 s)), nothing g (λ s. no-some (v.1 (omega (arith, l, (h s).0)))))
 
+-- the last term of the second list is taken, where that list ends later
 pub taken-second : (f g g' : Sparse) (r : Option (Pairs × ℤ)) (k : ℕ) → g ≡ g' ++ option_to_list r → (IsSome r ↔ (0 < k)) → k ≡ length g
     → EndsLater g f → MatchOption r ((f ≡ []) × (g ≡ [])) (λ t. IsTaken f g f g' t)
 taken-second f g g' r k e v l h = by_case r (taken-first g g' f r k e v l h) where
@@ -155,6 +157,7 @@ both-room f f' g g' (Some a) (Some b) e p h = omega (arith, h, ap size_of e, ap 
 there : (f : Sparse) (s d : Pairs × ℤ) → 0 < length f → get_or f (length f - 1) d ≡ get_or f (length f - 1) s
 there f s d l = get_or_default f (length f - 1) d s (omega arith)
 
+-- the order of the last terms decides which list ends later, or that both end alike
 pub compared : (f g : Sparse) (s t : Pairs × ℤ) (r : Ordering) → 0 < length f → 0 < length g
     → r ≡ pairs_cmp (get_or f (length f - 1) s).0 (get_or g (length g - 1) t).0 → MatchOrdering r (EndsLater g f) (EndAlike f g) (EndsLater f g)
 compared f g s t Less l k e = λ _. (k, λ d h. rw (there f s d l, there g t h k) (sym e))

@@ -13,6 +13,7 @@ use Rattle.ln_poly.proofs.Sorting.Gathering.{int_eq-is}
 abbrev pub same_term : Pairs × ℤ → Pairs × ℤ → Bool
 same_term x y = same_pairs x.0 y.0 && int_eq x.1 y.1
 
+-- polynomials that pass the test, term by term, are equal
 pub same_terms-is : (xs ys : Sparse) → pointwise same_term xs ys ≡ true → xs ≡ ys
 same_terms-is [] [] h = refl
 same_terms-is [] (y ∷ ys) h = cc
@@ -29,6 +30,7 @@ same_terms-is (x ∷ xs) (y ∷ ys) h =
 same_pairs-refl : (e : Pairs) → same_pairs e e ≡ true
 same_pairs-refl e = same_pairs-ties e e ∙ ap is_eq (tied_itself pairs_cmp-total e)
 
+-- a polynomial passes the test with itself
 pub same_terms-refl : (xs : Sparse) → pointwise same_term xs xs ≡ true
 same_terms-refl [] = refl
 same_terms-refl (x ∷ xs) = rw (same_pairs-refl x.0, int_eq_equiv.refl x.1, same_terms-refl xs) refl

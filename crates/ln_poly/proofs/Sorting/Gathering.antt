@@ -48,6 +48,7 @@ some_factor t h = λ e. let f : not (int_eq (pos 0) (pos 0)) ≡ true = rw e at 
   false-true : false ≡ true → ⊥
   false-true e = cc
 
+-- leaving out zeros changes no coefficient
 pub filtered-coefficient : (n : ℕ) (m : List ℕ) (xs : Sparse) → coefficient_at n (filter has_factor xs) m ≡ coefficient_at n xs m
 filtered-coefficient n m [] = refl
 filtered-coefficient n m (x ∷ xs) = by_case (has_factor x) refl (filtered-coefficient n m xs) where
@@ -56,6 +57,7 @@ filtered-coefficient n m (x ∷ xs) = by_case (has_factor x) refl (filtered-coef
   by_case true e h = omega (arith, ints, h, coefficient_at-cons n m x xs, coefficient_at-cons n m x (filter has_factor xs))
   by_case false e h = omega (arith, ints, h, coefficient_at-cons n m x xs, ap (λ z. part_at n (x.0, z) m) (zero_factor x e), part-zero n m x.0)
 
+-- leaving out zeros adds nothing to the sum of the absolute factors
 pub filtered-size : (xs : Sparse) → size_of (filter has_factor xs) ≤ size_of xs
 filtered-size [] = omega arith
 filtered-size (x ∷ xs) = by_case (has_factor x) (filtered-size xs) where

@@ -18,6 +18,7 @@ sorted-cons : (t : Pairs × ℤ) (zs : Sparse) → IsBeforeAll t.0 zs → IsStri
 unfolding IsStrictlySortedBy
 sorted-cons t zs b s = (b, s)
 
+-- the loop in `merge` begins with both lists whole and nothing done
 pub merging-init : (f g : Sparse) → AreSorted f → AreSorted g → AreRising f → AreRising g → IsMerging f g [] f g
 merging-init f g s r a b = record {
   coefficients = λ n m. omega (arith, ints, coefficient_at-nil n m);
@@ -73,6 +74,7 @@ merging-drop f g f' g' done f0 g0 t m r e =
       factors = m.factors;
     }
 
+-- the step of `merge`: the term that was taken is appended to the reversed result, unless it is 0
 pub merging-step : (f g f' g' out out' f0 g0 : Sparse) (t : Pairs × ℤ) → IsMerging f g (reverse out) f0 g0 → IsTaken f g f' g' t
     → size_of f0 + size_of g0 < 2 ^ 127 → (t.1 ≡ pos 0 → out' ≡ out) → (t.1 ≢ pos 0 → out' ≡ out ++ (t ∷ [])) → IsMerging f' g' (reverse out') f0 g0
 merging-step f g f' g' out out' f0 g0 t m r room x y = by_case (zero_cases t.1) where
@@ -89,6 +91,7 @@ pub record IsMergedPoly (h f0 g0 : Sparse) : Type 0 where
   pub form : IsPoly h
   pub below : (k : ℕ) → AreBelow k f0 → AreBelow k g0 → AreBelow k h
 
+-- the end of the loop in `merge`: both lists are empty, and what is done is their sum
 pub merging-end : (f g h f0 g0 : Sparse) → IsMerging f g h f0 g0 → f ≡ [] → g ≡ [] → IsMergedPoly h f0 g0
 merging-end f g h f0 g0 m e q = record {
   coefficients = λ n k. omega (arith, ints, m.coefficients n k, ap (λ z. coefficient_at n z k) e, ap (λ z. coefficient_at n z k) q, coefficient_at-nil n k);

@@ -24,6 +24,7 @@ lower-all : (v : ℕ) (ps : Pairs) → Lower v ps → IsRising ps → AllAbove v
 lower-all v [] h r = tt
 lower-all v (q ∷ qs) h r = (h, above-lower v q.0 qs h r.2)
 
+-- the first pair of the first list is picked, where its variable is the lowest
 pub pick-left : (p : ℕ × ℕ) (la lb : Pairs) → IsRising (p ∷ la) → IsRising lb → Lower p.0 lb → Picks (p ∷ la) lb la lb p.0 p.1
 pick-left p la lb r s h = record {
   exponents = λ w. omega arith;
@@ -37,6 +38,7 @@ pick-left p la lb r s h = record {
   rising_right = s;
 }
 
+-- the first pair of the second list is picked, where its variable is the lowest
 pub pick-right : (q : ℕ × ℕ) (la lb : Pairs) → IsRising la → IsRising (q ∷ lb) → Lower q.0 la → Picks la (q ∷ lb) la lb q.0 q.1
 pick-right q la lb r s h = record {
   exponents = λ w. omega arith;
@@ -50,6 +52,7 @@ pick-right q la lb r s h = record {
   rising_right = s.3;
 }
 
+-- the first pairs of both lists are picked together, where they have the same variable
 pub pick-both : (p q : ℕ × ℕ) (la lb : Pairs) → IsRising (p ∷ la) → IsRising (q ∷ lb) → p.0 ≡ q.0 → Picks (p ∷ la) (q ∷ lb) la lb p.0 (p.1 + q.1)
 pick-both p q la lb r s e = record {
   exponents = λ w. omega (arith, add w);
@@ -76,6 +79,7 @@ left-at a lb i h r s l =
     let r' : IsRising (get_or a i (0, 0) ∷ drop (i + 1) a) = subst IsRising e r in
     subst (λ z. Picks z lb (drop (i + 1) a) lb (get_or a i (0, 0)).0 (get_or a i (0, 0)).1) (sym e) (pick-left (get_or a i (0, 0)) (drop (i + 1) a) lb r' s l)
 
+-- the pair at place j of the second list is picked, where its variable is the lowest
 pub right-at : (la b : Pairs) (j : ℕ) → j < length b → IsRising la → IsRising (drop j b) → Lower (get_or b j (0, 0)).0 la
     → Picks la (drop j b) la (drop (j + 1) b) (get_or b j (0, 0)).0 (get_or b j (0, 0)).1
 right-at la b j h r s l =
@@ -83,6 +87,7 @@ right-at la b j h r s l =
     let s' : IsRising (get_or b j (0, 0) ∷ drop (j + 1) b) = subst IsRising e s in
     subst (λ z. Picks la z la (drop (j + 1) b) (get_or b j (0, 0)).0 (get_or b j (0, 0)).1) (sym e) (pick-right (get_or b j (0, 0)) la (drop (j + 1) b) r s' l)
 
+-- the pairs at places i and j are picked together, where they have the same variable
 pub both-at : (a b : Pairs) (i j : ℕ) → i < length a → j < length b → IsRising (drop i a) → IsRising (drop j b) → (get_or a i (0, 0)).0 ≡ (get_or b j (0, 0)).0
     → Picks (drop i a) (drop j b) (drop (i + 1) a) (drop (j + 1) b) (get_or a i (0, 0)).0 ((get_or a i (0, 0)).1 + (get_or b j (0, 0)).1)
 both-at a b i j h k r s l =
@@ -112,6 +117,7 @@ first-picked a b i j p m h l e = rw e (record {
   further = omega arith;
 })
 
+-- the result of `lowest` where the second list alone has the lowest variable
 pub second-picked : (a b : Pairs) (i j : ℕ) (p : Pick) → MayPick a b i j → j < length b → (i < length a → (get_or b j (0, 0)).0 < (get_or a i (0, 0)).0)
     → p ≡ record { v = (get_or b j (0, 0)).0; e = (get_or b j (0, 0)).1; i = i; j = j + 1 } → IsPicked a b i j p
 second-picked a b i j p m h l e = rw e (record {
@@ -121,6 +127,7 @@ second-picked a b i j p m h l e = rw e (record {
   further = omega arith;
 })
 
+-- the result of `lowest` where both lists have the lowest variable
 pub both-picked : (a b : Pairs) (i j : ℕ) (p : Pick) → MayPick a b i j → i < length a → j < length b → (get_or a i (0, 0)).0 ≡ (get_or b j (0, 0)).0
     → p ≡ record { v = (get_or a i (0, 0)).0; e = (get_or a i (0, 0)).1 + (get_or b j (0, 0)).1; i = i + 1; j = j + 1 } → IsPicked a b i j p
 both-picked a b i j p m h k l e = rw e (record {
@@ -164,10 +171,12 @@ low-push : (out la la' : Pairs) (v e : ℕ) → ((w : ℕ) → AllAbove w la →
 low-push [] la la' v e k a h = (h, tt)
 low-push (q ∷ out) la la' v e k a h = (k q.0 a.0, low-push out la la' v e k a.1 h)
 
+-- an appended pair adds its exponent to that of its variable
 pub exponent-push : (w : ℕ) (xs : Pairs) (p : ℕ × ℕ) → exponent w (xs ++ (p ∷ [])) ≡ exponent w xs + power_at w p
 exponent-push w [] p = omega arith
 exponent-push w (x ∷ xs) p = omega (arith, exponent-push w xs p)
 
+-- the step of `merged`: the picked pair is appended
 pub merged-step : (out a b : Pairs) (i j i' j' v e : ℕ) → IsMerged out a b i j → Picks (drop i a) (drop j b) (drop i' a) (drop j' b) v e
     → i' ≤ length a → j' ≤ length b → e < 128 → IsMerged (out ++ ((v, e) ∷ [])) a b i' j'
 merged-step out a b i j i' j' v e m p x y z = record {
@@ -181,6 +190,7 @@ merged-step out a b i j i' j' v e m p x y z = record {
   rising = rising-push out v e m.rising (picked-above out (drop i a) (drop j b) (drop i' a) (drop j' b) v e m.low_left m.low_right p) p.positive z;
 }
 
+-- the end of the loop in `merged`: each exponent is the sum of those in both lists
 pub merged-end : (out a b : Pairs) (i j : ℕ) → IsMerged out a b i j → length a ≤ i → length b ≤ j → (w : ℕ) → exponent w out ≡ exponent w a + exponent w b
 merged-end out a b i j m h k w =
     let x : exponent w (drop i a) ≡ 0 = ap (exponent w) (drop_all i a h) in
@@ -192,6 +202,7 @@ pub merged-small : (out a b : Pairs) (i j : ℕ) → IsMerged out a b i j → ((
     → exponent v (drop i a) + exponent v (drop j b) < 128
 merged-small out a b i j m h v = omega (arith, m.exponents v, h v)
 
+-- in `merged` there is a pair to pick while one remains
 pub may-pick : (out a b : Pairs) (i j : ℕ) → IsMerged out a b i j → i + j < length a + length b
     → ((v : ℕ) → exponent v a + exponent v b < 128) → MayPick a b i j
 may-pick out a b i j m h s =
@@ -204,6 +215,7 @@ above-none k v (p ∷ ps) a h = let ne : eqb p.0 v ≡ false = no p.0 v (omega (
   no : (x y : ℕ) → x < y → eqb x y ≡ false
   no x y l = grind (arith, nat_tests)
 
+-- where no variable from k on has an exponent, all variables of rising pairs are below k
 pub none-above : (k : ℕ) (ps : Pairs) → IsRising ps → ((v : ℕ) → k ≤ v → exponent v ps ≡ 0) → IsAbove ps k
 none-above k [] r h = tt
 none-above k (p ∷ ps) r h = (first, none-above k ps r.3 (λ v l. omega (arith, h v l))) where

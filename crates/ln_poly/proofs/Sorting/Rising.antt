@@ -8,6 +8,7 @@ use Rattle.std.specs.Ordering.{on}
 use Rattle.ln_tree.specs.Exps.{Pairs, pairs_cmp}
 use Rattle.ln_poly.specs.Sparse.{AreSorted, Sparse}
 
+-- the empty list of terms is sorted
 pub none-sorted : AreSorted []
 unfolding IsStrictlySortedBy
 none-sorted = tt
@@ -34,6 +35,7 @@ first-before e [] i d h a = absurd (omega arith)
 first-before e (x ∷ xs) zero d h a = a.0
 first-before e (x ∷ xs) (suc i) d h a = first-before e xs i d (omega arith) a.1
 
+-- of two terms of a sorted list, the earlier one has the lower monomial
 pub sorted-at : (xs : Sparse) (j i : ℕ) (d e : Pairs × ℤ) → j < i → i < length xs
     → IsStrictlySortedBy (on (λ (t : Pairs × ℤ). t.0) pairs_cmp) xs → pairs_cmp (get_or xs j d).0 (get_or xs i e).0 ≡ Less
 unfolding IsStrictlySortedBy

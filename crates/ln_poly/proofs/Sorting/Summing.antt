@@ -17,6 +17,7 @@ use Rattle.ln_poly.proofs.TermLists.Coefficients.{coefficient_at-more, coefficie
 pub stands-same : (xs : Sparse) (i : ℕ) (x t : Pairs × ℤ) (b : Bool) → i < length xs → b ≡ same_pairs (get_or xs i x).0 t.0 → b ≡ true → (get_or xs i t).0 ≡ t.0
 stands-same xs i x t b h s r = sym (ap (λ (z : Pairs × ℤ). z.0) (get_or_default xs i x t h)) ∙ same_pairs-is (get_or xs i x).0 t.0 (sym s ∙ r)
 
+-- the result of `put_at` and `put_in` where the term was added to one of f with its exponents
 pub put_in-added : (f' f more : Sparse) (t : Pairs × ℤ) → exps_of f' ≡ exps_of f
     → ((n : ℕ) (m : List ℕ) → coefficient_at n f' m ≡ coefficient_at n f m +ℤ part_at n t m) → size_of f' ≤ size_of f + unsigned_abs t.1
     → IsPutIn f' more f more t
@@ -29,6 +30,7 @@ put_in-added f' f more t e a s = record {
   put = inl refl;
 }
 
+-- the result of `put_at` where the term was appended to the others
 pub put_in-pushed : (f more : Sparse) (t : Pairs × ℤ) → IsPutIn f (more ++ (t ∷ [])) f more t
 put_in-pushed f more t = record {
   exps = refl;
@@ -51,6 +53,7 @@ spread-init f g = record {
   before = λ e _. All-nil (λ y. pairs_cmp y.0 e ≡ Less);
 }
 
+-- in `spread` there is room to add the next term
 pub spread-room : (f more old g : Sparse) (i : ℕ) (t : Pairs × ℤ) (k : ℕ) → IsSpread f more old g i → i < length g → t ≡ get_or g i t
     → size_of old + size_of g < k → size_of f + unsigned_abs t.1 < k
 spread-room f more old g i t k r h e room = omega (arith, r.size, size-next g i t h e, room)
@@ -69,6 +72,7 @@ more-before more' more g i t q (inl p) b e k = subst (λ z. AllBefore z e) (sym 
 more-before more' more g i t q (inr p) b e k = subst (λ z. AllBefore z e) (sym p)
     (All-push (λ y. pairs_cmp y.0 e ≡ Less) more t (b e (λ j d l. k j d (omega arith))) (subst (λ z. pairs_cmp z.0 e ≡ Less) (sym q) (k i t (omega arith))))
 
+-- the step of `spread`: the next term of g is added to one of f or appended
 pub spread-step : (f' more' f more old g : Sparse) (i : ℕ) (t : Pairs × ℤ) → IsSpread f more old g i → i < length g → t ≡ get_or g i t
     → IsPutIn f' more' f more t → IsSpread f' more' old g (i + 1)
 spread-step f' more' f more old g i t r h e p = record {
@@ -81,10 +85,12 @@ spread-step f' more' f more old g i t r h e p = record {
   before = more-before more' more g i t e p.put r.before;
 }
 
+-- the end of the loop in `spread`: the coefficients of f and of what was appended add up to those of the sum
 pub spread-coefficient : (f more old g : Sparse) → IsSpread f more old g (length g) → (n : ℕ) (m : List ℕ)
     → coefficient_at n f m +ℤ coefficient_at n more m ≡ coefficient_at n old m +ℤ coefficient_at n g m
 spread-coefficient f more old g r n m = r.coefficients n m ∙ ap (λ z. coefficient_at n old m +ℤ coefficient_at n z m) (take_all (length g) g (omega arith))
 
+-- the end of the loop in `spread`: the absolute factors of both add up to at most those of the two polynomials
 pub spread-size : (f more old g : Sparse) → IsSpread f more old g (length g) → size_of f + size_of more ≤ size_of old + size_of g
 spread-size f more old g r = omega (arith, r.size, ap size_of (take_all (length g) g (omega arith)))
 
@@ -93,5 +99,6 @@ pub none-left : (xs : Sparse) (k : ℕ) (b : Bool) → b ≡ eqb k 0 → b ≡ t
 none-left [] k b e t l = refl
 none-left (x ∷ xs) k b e t l = absurd (omega (arith, eqb-true k 0 (sym e ∙ t)))
 
+-- an empty list of terms adds nothing to a coefficient
 pub alone : (n : ℕ) (m : List ℕ) (xs ys : Sparse) → ys ≡ [] → coefficient_at n xs m ≡ coefficient_at n xs m +ℤ coefficient_at n ys m
 alone n m xs ys e = omega (arith, ints, ap (λ z. coefficient_at n z m) e, coefficient_at-nil n m)

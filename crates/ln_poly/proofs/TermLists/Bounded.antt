@@ -120,6 +120,7 @@ more-terms n acc f g i k r q l b =
       many = omega (arith, few, e, l, p.all, length-map left (λ t. t.exponents), length-vectors n acc);
     }
 
+-- where the test of `are_too_many` holds in `parts_of`, the product has more than k terms
 pub takes-more : (terms acc f g f' g' : Sparse) (i k : ℕ) → IsRows acc f g i → IsPoly acc → terms ≡ acc → f ≡ f' → g ≡ g'
     → k + (length f - i) * length g < length terms → TakesMore f' g' k
 takes-more terms acc f g f' g' i k r q t u v l = subst (λ z. TakesMore z g' k) u
@@ -140,14 +141,17 @@ joined i j f f' e h = ap (λ z. take i f ++ z) e ∙ take-take i (j - i) j f (om
 joined-size : (i j : ℕ) (f f' : Sparse) → f' ≡ take (j - i) (drop i f) → i ≤ j → size_of (take i f) + size_of f' ≡ size_of (take j f)
 joined-size i j f f' e h = sym (size-append (take i f) f') ∙ ap size_of (joined i j f f' e h)
 
+-- there is room for the product of a part of the terms where there is room for that of all
 pub part-room : (i j : ℕ) (f f' g : Sparse) → f' ≡ take (j - i) (drop i f) → i ≤ j → size_of f * size_of g < 2 ^ 127 → size_of f' * size_of g < 2 ^ 127
 part-room i j f f' g e h room =
     let l : size_of f' ≤ size_of f = omega (arith, joined-size i j f f' e h, size-take f j) in
     omega (arith, room, mul-le-mul_left (size_of g) l)
 
+-- no exponent of the products of a part of the terms exceeds 127 where none of those of all does
 pub part-powers : (i j : ℕ) (f f' g : Sparse) → f' ≡ take (j - i) (drop i f) → All (λ s. PowersFit s g) f → All (λ s. PowersFit s g) f'
 part-powers i j f f' g e a = subst (All (λ s. PowersFit s g)) (sym e) (All-take (λ s. PowersFit s g) (j - i) (drop i f) (All-drop (λ s. PowersFit s g) i f a))
 
+-- there is room for the sum of the rows so far and those of the next part
 pub sum-room : (acc part f f' g : Sparse) (i j : ℕ) → IsRows acc f g i → IsRows part f' g (length f') → f' ≡ take (j - i) (drop i f) → i ≤ j
     → size_of f * size_of g < 2 ^ 127 → size_of acc + size_of part < 2 ^ 127
 sum-room acc part f f' g i j r p e h room =

@@ -14,17 +14,21 @@ pub coefficient_at-nil : (n : ℕ) (m : List ℕ) → coefficient_at n [] m ≡ 
 unfolding coefficient_at
 coefficient_at-nil n m = refl
 
+-- a list's coefficient is what its first term adds and the coefficient of the others
 pub coefficient_at-cons : (n : ℕ) (m : List ℕ) (t : Pairs × ℤ) (xs : Sparse) → coefficient_at n (t ∷ xs) m ≡ part_at n t m +ℤ coefficient_at n xs m
 unfolding coefficient_at part_at
 coefficient_at-cons n m t xs = refl
 
+-- the coefficient of one list followed by another is the sum of both
 pub coefficient_at-append : (n : ℕ) (m : List ℕ) (xs ys : Sparse) → coefficient_at n (xs ++ ys) m ≡ coefficient_at n xs m +ℤ coefficient_at n ys m
 coefficient_at-append n m [] ys = omega (arith, ints, coefficient_at-nil n m)
 coefficient_at-append n m (x ∷ xs) ys = omega (arith, ints, coefficient_at-append n m xs ys, coefficient_at-cons n m x xs, coefficient_at-cons n m x (xs ++ ys))
 
+-- an appended term adds its part to the coefficient
 pub coefficient_at-push : (n : ℕ) (m : List ℕ) (xs : Sparse) (t : Pairs × ℤ) → coefficient_at n (xs ++ (t ∷ [])) m ≡ coefficient_at n xs m +ℤ part_at n t m
 coefficient_at-push n m xs t = omega (arith, ints, coefficient_at-append n m xs (t ∷ []), coefficient_at-cons n m t [], coefficient_at-nil n m)
 
+-- the first i + 1 terms have the coefficient of the first i and what term i adds
 pub coefficient_at-more : (n : ℕ) (m : List ℕ) (xs : Sparse) (i : ℕ) (d : Pairs × ℤ) → i < length xs
     → coefficient_at n (take (i + 1) xs) m ≡ coefficient_at n (take i xs) m +ℤ part_at n (get_or xs i d) m
 coefficient_at-more n m [] i d h = absurd (omega arith)
@@ -34,6 +38,7 @@ coefficient_at-more n m (x ∷ xs) (suc i) d h =
     rw add-one at (coefficient_at-more n m xs i d (omega arith)) in
     rw add-one (omega (arith, ints, ih, coefficient_at-cons n m x (take (suc i) xs), coefficient_at-cons n m x (take i xs)))
 
+-- a term that is replaced no longer adds its part; the new one adds its own
 pub coefficient_at-set : (n : ℕ) (m : List ℕ) (xs : Sparse) (i : ℕ) (t d : Pairs × ℤ) → i < length xs
     → coefficient_at n (set xs i t) m +ℤ part_at n (get_or xs i d) m ≡ coefficient_at n xs m +ℤ part_at n t m
 coefficient_at-set n m [] i t d h = absurd (omega arith)
@@ -68,36 +73,44 @@ pub size-nil : size_of [] ≡ 0
 unfolding size_of
 size-nil = refl
 
+-- a list's size is the absolute factor of its first term and the size of the others
 pub size-cons : (t : Pairs × ℤ) (xs : Sparse) → size_of (t ∷ xs) ≡ unsigned_abs t.1 + size_of xs
 unfolding size_of
 size-cons t xs = sum_by-cons (λ z. unsigned_abs z.1) t xs
 
+-- the size of one list followed by another is the sum of both
 pub size-append : (xs ys : Sparse) → size_of (xs ++ ys) ≡ size_of xs + size_of ys
 unfolding size_of
 size-append xs ys = sum_by-append (λ z. unsigned_abs z.1) xs ys
 
+-- an appended term adds its absolute factor to the size
 pub size-push : (xs : Sparse) (t : Pairs × ℤ) → size_of (xs ++ (t ∷ [])) ≡ size_of xs + unsigned_abs t.1
 unfolding size_of
 size-push xs t = sum_by_push (λ z. unsigned_abs z.1) xs t
 
+-- the first i + 1 terms have the size of the first i and the absolute factor of term i
 pub size-more : (xs : Sparse) (i : ℕ) (d : Pairs × ℤ) → i < length xs → size_of (take (i + 1) xs) ≡ size_of (take i xs) + unsigned_abs (get_or xs i d).1
 unfolding size_of
 size-more xs i d h = sum_by_more (λ t. unsigned_abs t.1) xs i d h
 
+-- the first terms have at most the size of all
 pub size-take : (xs : Sparse) (i : ℕ) → size_of (take i xs) ≤ size_of xs
 unfolding size_of
 size-take xs i = sum_by-take-le (λ t. unsigned_abs t.1) xs i
 
+-- no absolute factor exceeds the size
 pub factor-small : (xs : Sparse) (i : ℕ) (d : Pairs × ℤ) → i < length xs → unsigned_abs (get_or xs i d).1 ≤ size_of xs
 unfolding size_of
 factor-small xs i d h = get_or-le-sum_by (λ t. unsigned_abs t.1) xs i d h
 
+-- the same of a term that was read from the list
 pub item-small : (xs : Sparse) (i : ℕ) (x : Pairs × ℤ) → i < length xs → x ≡ get_or xs i x → unsigned_abs x.1 ≤ size_of xs
 item-small xs i x h e = let f : unsigned_abs x.1 ≡ unsigned_abs (get_or xs i x).1 = ap (λ z. unsigned_abs z.1) e in omega (arith, f, factor-small xs i x h)
 
 abs_add : (x y : ℤ) → unsigned_abs (x +ℤ y) ≤ unsigned_abs x + unsigned_abs y
 abs_add x y = omega (arith, ints)
 
+-- a number that is added to a factor adds at most its absolute value to the size
 pub size-set : (xs : Sparse) (i : ℕ) (e : Pairs) (a b c : ℤ) → i < length xs → (e, a) ≡ get_or xs i (e, a) → c ≡ a +ℤ b
     → size_of (set xs i (e, c)) ≤ size_of xs + unsigned_abs b
 unfolding size_of
@@ -116,6 +129,7 @@ size-next xs i x h e =
 alike : (xs : Sparse) (i : ℕ) (x t : Pairs × ℤ) → i < length xs → x ≡ get_or xs i x → (get_or xs i t).0 ≡ t.0 → x.0 ≡ t.0
 alike xs i x t h e s = ap (λ (z : Pairs × ℤ). z.0) (e ∙ get_or_default xs i x t h) ∙ s
 
+-- where t is added to a term with its exponents, the coefficients are those with t appended
 pub adds-term : (n : ℕ) (m : List ℕ) (xs : Sparse) (i : ℕ) (x t : Pairs × ℤ) (c : ℤ) → i < length xs → x ≡ get_or xs i x
     → (get_or xs i t).0 ≡ t.0 → c ≡ x.1 +ℤ t.1 → coefficient_at n (set xs i (x.0, c)) m ≡ coefficient_at n xs m +ℤ part_at n t m
 adds-term n m xs i x t c h e s f = set-adds n m xs i x.0 x.1 t.1 c h e f ∙ ap (λ z. coefficient_at n xs m +ℤ part_at n (z, t.1) m) (alike xs i x t h e s)

@@ -40,6 +40,7 @@ lacks-zero : (f : List Term) (m : List ℕ) → Lacks f m → factor_at f m ≡ 
 lacks-zero [] m l = refl
 lacks-zero (t ∷ f) m l = rw l.0 (omega (arith, ints, lacks-zero f m l.1))
 
+-- the coefficient at a term's vector isn't 0, where like monomials are collected and no factor is 0
 pub in-nonzero : (f : List Term) (m : List ℕ) → IsCollected f → AreNonzero f → In (vectors f) m → factor_at f m ≢ pos 0
 in-nonzero [] m c z i e = i
 in-nonzero (t ∷ f) m c z (inl q) e =
@@ -60,21 +61,25 @@ nonzero-in (t ∷ f) m h = by_case (nonzero-in f m) (same_vector t.exponents m) 
   by_case ih true q = inl (sym (same_vector-is t.exponents m q))
   by_case ih false q = inr (ih (λ e. h (rw q (omega (arith, ints, e)))))
 
+-- where like monomials are collected, no two terms have the same vector
 pub distinct-vectors : (f : List Term) → IsCollected f → AreDistinct (vectors f)
 distinct-vectors [] c = tt
 distinct-vectors (t ∷ f) c = (lacks-not_in f t.exponents c.0, distinct-vectors f c.1)
 
+-- each vector of terms over n variables has n exponents
 pub over-length : (n : ℕ) (f : List Term) (m : List ℕ) → Over n f → In (vectors f) m → length m ≡ n
 over-length n [] m o i = absurd i
 over-length n (t ∷ f) m o (inl e) = rw e o.0
 over-length n (t ∷ f) m o (inr i) = over-length n f m o.1 i
 
+-- no factor of a polynomial is 0
 pub nonzero-terms : (n : ℕ) (f : Sparse) → IsPoly f → AreNonzero (terms_of n f)
 nonzero-terms n f p = go f p.factors where
   go : (g : Sparse) → All (λ t. IsFactor t.1) g → AreNonzero (terms_of n g)
   go [] a = tt
   go (t ∷ g) a = ((All-head (λ z. IsFactor z.1) t g a).0, go g (All-tail (λ z. IsFactor z.1) t g a))
 
+-- there are as many vectors as terms
 pub length-vectors : (n : ℕ) (f : Sparse) → length (vectors (terms_of n f)) ≡ length f
 length-vectors n [] = refl
 length-vectors n (t ∷ f) = ap suc (length-vectors n f)
@@ -139,6 +144,7 @@ many-terms n e f p l = record {
 pub no-terms-zero : (n : ℕ) (e : Tree) (f : Sparse) → IsNormal n e f → f ≡ [] → IsZeroFault n e
 no-terms-zero n e f p h m l d = sym (p.normal.coefficients m l) ∙ ap (λ (g : Sparse). factor_at (terms_of n g) m) h
 
+-- the normal polynomial of a root that is 0 has no term
 pub zero-no-terms : (n : ℕ) (e : Tree) (f : Sparse) → IsNormal n e f → IsZeroFault n e → f ≡ []
 zero-no-terms n e [] p z = refl
 zero-no-terms n e (t ∷ f) p z =
@@ -156,9 +162,11 @@ zero-no-terms n e (t ∷ f) p z =
 pub counted-few : (n : ℕ) (at : Span) (e : Tree) (f : Sparse) → length f ≤ 1024 → IsNormal n e f → Expands n ((at, e) ∷ []) e f
 counted-few n at e f l p = record { normal = p; terms = l; few = (few-terms n e f p l, tt) }
 
+-- in `counted` a node with more than 1,024 terms is the first that has too many
 pub counted-many : (n : ℕ) (at : Span) (e : Tree) (f : Sparse) → 1024 < length f → IsNormal n e f → IsTermsFault n ((at, e) ∷ []) at
 counted-many n at e f l p = record { before = []; node = e; after = []; stands = refl; few = tt; many = many-terms n e f p l }
 
+-- where the test for more than 1,024 fails, there are at most 1,024
 pub few_test : (n : ℕ) → nat_lt 1024 n ≡ false → n ≤ 1024
 few_test n h = by_case (cases_lt 1024 n) where
   test_lt : (a b : ℕ) → a < b → nat_lt a b ≡ true

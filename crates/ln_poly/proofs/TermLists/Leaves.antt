@@ -15,9 +15,11 @@ strict-one : (t : Pairs × ℤ) → IsStrictlySortedBy (on (λ (t : Pairs × ℤ
 unfolding IsStrictlySortedBy
 strict-one t = (tt, tt)
 
+-- the empty list of terms is a polynomial
 pub no-terms : IsPoly []
 no-terms = record { sorted = strict-nil; rising = All-nil (λ t. IsRising t.0); factors = All-nil (λ t. IsFactor t.1) }
 
+-- one term with rising pairs and a factor other than 0, below 2^127, is a polynomial
 pub one-term : (e : Pairs) (c : ℤ) → IsRising e → c ≢ pos 0 → unsigned_abs c < 2 ^ 127 → IsPoly ((e, c) ∷ [])
 one-term e c r n f = record {
   sorted = strict-one (e, c);

@@ -23,6 +23,7 @@ part-negated n m t = by_case (same_vector (vector n t.0) m) where
   by_case true = refl
   by_case false = refl
 
+-- each coefficient has the other sign
 pub coefficient-negated : (n : ℕ) (m : List ℕ) (f : Sparse) → coefficient_at n (negated f) m ≡ neg_ℤ (coefficient_at n f m)
 coefficient-negated n m [] = omega (arith, ints, coefficient_at-nil n m)
 coefficient-negated n m (t ∷ f) =
@@ -31,15 +32,18 @@ coefficient-negated n m (t ∷ f) =
 abs-negated : (z : ℤ) → unsigned_abs (neg_ℤ z) ≡ unsigned_abs z
 abs-negated z = omega (arith, ints)
 
+-- the sum of the absolute factors is the same
 pub size-negated : (f : Sparse) → size_of (negated f) ≡ size_of f
 size-negated [] = refl
 size-negated (t ∷ f) = omega (arith, size-cons t f, size-cons (t.0, neg_ℤ t.1) (negated f), abs-negated t.1, size-negated f)
 
+-- the pairs still rise
 pub rising-negated : (f : Sparse) → AreRising f → AreRising (negated f)
 rising-negated [] r = All-nil (λ t. IsRising t.0)
 rising-negated (t ∷ f) r = All-cons (λ z. IsRising z.0) (t.0, neg_ℤ t.1) (negated f) (All-head (λ z. IsRising z.0) t f r)
     (rising-negated f (All-tail (λ z. IsRising z.0) t f r))
 
+-- the variables are still below n
 pub below-negated : (n : ℕ) (f : Sparse) → AreBelow n f → AreBelow n (negated f)
 below-negated n [] r = All-nil (λ t. IsAbove t.0 n)
 below-negated n (t ∷ f) r = All-cons (λ z. IsAbove z.0 n) (t.0, neg_ℤ t.1) (negated f) (All-head (λ z. IsAbove z.0 n) t f r)
@@ -65,6 +69,7 @@ factors-negated [] h = All-nil (λ t. IsFactor t.1)
 factors-negated (t ∷ f) h = All-cons (λ z. IsFactor z.1) (t.0, neg_ℤ t.1) (negated f) (factor-negated t.1 (All-head (λ z. IsFactor z.1) t f h))
     (factors-negated f (All-tail (λ z. IsFactor z.1) t f h))
 
+-- a polynomial with the other sign is a polynomial
 pub poly-negated : (f : Sparse) → IsPoly f → IsPoly (negated f)
 poly-negated f p = record { sorted = sorted-negated f p.sorted; rising = rising-negated f p.rising; factors = factors-negated f p.factors }
 
@@ -85,14 +90,17 @@ pub record IsNegated (out xs : Sparse) (i : ℕ) : Type 0 where
   pub terms : out ≡ negated (take i xs) ++ drop i xs
   pub long : length out ≡ length xs
 
+-- the loop in `negate` begins with no sign changed
 pub negated-init : (xs : Sparse) → IsNegated xs xs 0
 negated-init xs = record { terms = refl; long = refl }
 
+-- in `negate` the next factor is as it was: other than 0 and below 2^127
 pub negated-factor : (out xs : Sparse) (i : ℕ) (e : Pairs) (z : ℤ) → IsNegated out xs i → i < length xs → (e, z) ≡ get_or out i (e, z)
     → All (λ t. IsFactor t.1) xs → IsFactor z
 negated-factor out xs i e z r h k a =
     subst (λ (t : Pairs × ℤ). IsFactor t.1) (sym (k ∙ ap (λ s. get_or s i (e, z)) r.terms ∙ negate-there xs i (e, z) h)) (a i (e, z) h)
 
+-- the step of `negate`: the next factor has the other sign
 pub negated-step : (out xs : Sparse) (i : ℕ) (e : Pairs) (z w : ℤ) → IsNegated out xs i → i < length xs → (e, z) ≡ get_or out i (e, z)
     → w ≡ neg_ℤ z → IsNegated (set out i (e, w)) xs (i + 1)
 negated-step out xs i e z w r h k t = record {
@@ -112,6 +120,7 @@ turned z f = ap (λ y. to_z w128 (of_z w128 (pos 0 -ℤ y))) (to_z-of_z w128 z (
     minus : pos 0 -ℤ z ≡ neg_ℤ z
     minus = omega (arith, ints)
 
+-- the end of the loop in `negate`: all factors have the other sign
 pub negated-end : (out xs : Sparse) → IsNegated out xs (length xs) → out ≡ negated xs
 negated-end out xs r = r.terms ∙ whole xs where
   whole : (ys : Sparse) → negated (take (length ys) ys) ++ drop (length ys) ys ≡ negated ys

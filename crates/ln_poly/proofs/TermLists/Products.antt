@@ -18,6 +18,7 @@ use Rattle.ln_poly.specs.Rows.{AreProducts, IsProduct, IsProductPut, IsRow, IsRo
 use Rattle.ln_poly.proofs.TermLists.Coefficients.{coefficient_at-nil, coefficient_at-push, item-small, size-more, size-nil, size-push, size-take}
 use Rattle.ln_poly.proofs.Sorting.Merging.{above-none, none-above}
 
+-- a sum over one element more adds what that element adds
 pub sum_over-more : {A : Type 0} (f : A → ℤ) (xs : List A) (i : ℕ) (d : A) → i < length xs
     → sum_over f (take (i + 1) xs) ≡ sum_over f (take i xs) +ℤ f (get_or xs i d)
 sum_over-more f [] i d h = absurd (omega arith)
@@ -32,6 +33,7 @@ pub copies-more : (old now now' f : Sparse) (i : ℕ) (t : Pairs × ℤ) → i <
 copies-more old now now' f i t h e p q =
     q ∙ ap (λ z. z ++ (t ∷ [])) p ∙ append_assoc old (take i f) (t ∷ []) ∙ ap (λ z. old ++ z) (ap (λ z. take i f ++ (z ∷ [])) e ∙ sym (take_more f i t h))
 
+-- the end of the loop in `put_all`: all terms are appended
 pub copies-end : (old now f : Sparse) (i : ℕ) → length f ≤ i → now ≡ old ++ take i f → now ≡ old ++ f
 copies-end old now f i h p = p ∙ ap (λ z. old ++ z) (take_all i f h)
 
@@ -41,6 +43,7 @@ pub vector-plus : (v n : ℕ) (a b c : Pairs) → ((u : ℕ) → exponent u c �
 vector-plus v zero a b c h = refl
 vector-plus v (suc n) a b c h = rw (h v, vector-plus (suc v) n a b c h) refl
 
+-- a vector of n exponents has the length n
 pub length-vector : (v n : ℕ) (a : Pairs) → length (exponents_from v n a) ≡ n
 length-vector v zero a = refl
 length-vector v (suc n) a = ap suc (length-vector (suc v) n a)
@@ -60,6 +63,7 @@ row_at-nil : (n : ℕ) (m : List ℕ) (s : Pairs × ℤ) → row_at n m s [] ≡
 unfolding row_at
 row_at-nil n m s = refl
 
+-- the loop in `put_row` begins with no product appended
 pub row-init : (old g : Sparse) (s : Pairs × ℤ) → IsRow old old s g 0
 row-init old g s = record {
   coefficients = λ n m. omega (arith, ints, row_at-nil n m s);
@@ -72,6 +76,7 @@ row-init old g s = record {
 abs-is : (s t : Pairs × ℤ) → unsigned_abs (s.1 *ℤ t.1) ≡ unsigned_abs s.1 * unsigned_abs t.1
 abs-is s t = unsigned_abs-mul s.1 t.1
 
+-- the factor of the next product of a row is below 2^127
 pub row-room : (old g : Sparse) (s t : Pairs × ℤ) (i : ℕ) → i < length g → t ≡ get_or g i t
     → size_of old + unsigned_abs s.1 * size_of g < 2 ^ 127 → unsigned_abs (s.1 *ℤ t.1) < 2 ^ 127
 row-room old g s t i h e room = omega (arith, abs-is s t, mul-le-mul_left (unsigned_abs s.1) (item-small g i t h e))
@@ -99,6 +104,7 @@ alone-step out out' g s t i h e p a =
     products-push s x t (take i g) out a (record { exponents = p.exponents; rising = p.rising; factor = refl }) in
     subst (λ z. AreProducts s z out') (sym more) (subst (AreProducts s (take i g ++ (t ∷ []))) (sym p.put) all)
 
+-- the step of `put_row`: the product with the next term of g is appended
 pub row-step : (out out' old g : Sparse) (s t : Pairs × ℤ) (i : ℕ) → IsRow out old s g i → i < length g → t ≡ get_or g i t
     → IsProductPut out' out s t → IsRow out' old s g (i + 1)
 row-step out out' old g s t i r h e p = record {
@@ -136,12 +142,14 @@ rows-total f s i h e = let k : unsigned_abs s.1 ≡ unsigned_abs (get_or f i s).
 mul-le-mul_right' : (a b k : ℕ) → a ≤ b → a * k ≤ b * k
 mul-le-mul_right' a b k h = omega (arith, mul-le-mul_left k h)
 
+-- there is room for one row more
 pub rows-room : (out f g : Sparse) (s : Pairs × ℤ) (i : ℕ) → IsRows out f g i → i < length f → s ≡ get_or f i s
     → size_of f * size_of g < 2 ^ 127 → size_of out + unsigned_abs s.1 * size_of g < 2 ^ 127
 rows-room out f g s i r h e room =
     let l : size_of (take i f) + unsigned_abs s.1 ≤ size_of f = omega (arith, rows-total f s i h e, size-take f (i + 1)) in
     omega (arith, r.size, room, mul-le-mul_right' (size_of (take i f) + unsigned_abs s.1) (size_of f) (size_of g) l)
 
+-- one row more
 pub rows-step : (out out' f g : Sparse) (s : Pairs × ℤ) (i : ℕ) → IsRows out f g i → i < length f → s ≡ get_or f i s
     → IsRow out' out s g (length g) → IsRows out' f g (i + 1)
 rows-step out out' f g s i r h e p = record {
@@ -165,6 +173,7 @@ unfolding row_at
 row_times n m s [] = refl
 row_times n m s (t ∷ g) = omega (arith, ints, row_times n m s g)
 
+-- the sums of all rows are the coefficients of the product of the two lists of terms
 pub rows_times : (n : ℕ) (m : List ℕ) (f g : Sparse) → sum_over (λ s. row_at n m s g) f ≡ factor_at (times (terms_of n f) (terms_of n g)) m
 rows_times n m [] g = refl
 rows_times n m (s ∷ f) g =
@@ -177,6 +186,7 @@ rows_times n m (s ∷ f) g =
           (times (terms_of n f) (terms_of n g)),
     )
 
+-- the terms of a list of pairs and factors are over n variables
 pub over-terms : (n : ℕ) (f : Sparse) → Over n (terms_of n f)
 over-terms n [] = tt
 over-terms n (t ∷ f) = (length-vector 0 n t.0, over-terms n f)
@@ -191,6 +201,7 @@ rows-product out f g r n m h =
     ∙ rows_times n m f g
     ∙ factor_at-times n (terms_of n f) (terms_of n g) (over-terms n f) (over-terms n g) m h
 
+-- the size of all rows is at most the product of the two sizes
 pub rows-size : (out f g : Sparse) → IsRows out f g (length f) → size_of out ≤ size_of f * size_of g
 rows-size out f g r = omega (arith, r.size, ap (λ q. size_of q * size_of g) (take_all (length f) f (omega arith)))
 
@@ -203,5 +214,6 @@ pub powers-at : (s : Pairs × ℤ) (g : Sparse) (i : ℕ) (t : Pairs × ℤ) →
     → exponent v s.0 + exponent v t.0 < 128
 powers-at s g i t f h e = subst (λ z. (v : ℕ) → exponent v s.0 + exponent v z.0 < 128) (sym e) (f i t h)
 
+-- the end of the loop in `put_row`: the row has the products with all terms of g
 pub row-end : (out old : Sparse) (s : Pairs × ℤ) (g : Sparse) (i : ℕ) → i ≡ length g → IsRow out old s g i → IsRow out old s g (length g)
 row-end out old s g i h r = subst (IsRow out old s g) h r

@@ -42,6 +42,7 @@ by-columns : (n : ℕ) (m : List ℕ) (f g : Sparse) → sum_over (λ s. row_at 
 by-columns n m [] g = columns-none n m g
 by-columns n m (s ∷ f) g = ap (λ z. row_at n m s g +ℤ z) (by-columns n m f g) ∙ column-more n m s f g
 
+-- the products with a row for each term of g are those with a row for each term of f
 pub rows-turned : (out f g : Sparse) → IsRows out g f (length g) → IsRows out f g (length f)
 rows-turned out f g r = record {
   coefficients = λ n m. r.coefficients n m ∙ ap (sum_over (λ s. row_at n m s f)) (take_all (length g) g (omega arith)) ∙ by-columns n m g f
@@ -64,6 +65,7 @@ product-turned n f g m h =
     ∙ sym (rows_times n m g f) ∙ by-columns n m g f ∙ rows_times n m f g
     ∙ factor_at-times n (terms_of n f) (terms_of n g) (over-terms n f) (over-terms n g) m h
 
+-- where the product of g and f has more than k terms, that of f and g has
 pub more-turned : (f g : Sparse) (k : ℕ) → TakesMore g f k → TakesMore f g k
 more-turned f g k h = λ n bf bg. let r : HasMoreTerms n g f k = h n bg bf in record {
   vectors = r.vectors;
@@ -73,10 +75,12 @@ more-turned f g k h = λ n bf bg. let r : HasMoreTerms n g f k = h n bg bf in re
   many = r.many;
 }
 
+-- the same of a product that was given up
 pub none-turned : (o : Option Sparse) (f g : Sparse) (k : ℕ) → IfNone o (TakesMore g f k) → IfNone o (TakesMore f g k)
 none-turned None f g k h = more-turned f g k h
 none-turned (Some x) f g k h = h
 
+-- there is room for the product of f and g in either order
 pub room-turned : (f g : Sparse) → size_of f * size_of g < 2 ^ 127 → size_of g * size_of f < 2 ^ 127
 room-turned f g h = omega (arith, h)
 
@@ -86,10 +90,12 @@ pub some-product : (o : Option Sparse) (f g : Sparse) → IfSome o (λ h. IsRows
 some-product None f g r = r
 some-product (Some h) f g r = rows-product h f g r
 
+-- a product that was found has at most the product of the two sizes
 pub some-size : (o : Option Sparse) (f g : Sparse) → IfSome o (λ h. IsRows h f g (length f)) → IfSome o (λ h. size_of h ≤ size_of f * size_of g)
 some-size None f g r = r
 some-size (Some h) f g r = rows-size h f g r
 
+-- the variables of a product that was found are below n where those of f and g are
 pub some-below : (o : Option Sparse) (f g : Sparse) → IfSome o (λ h. IsRows h f g (length f))
     → IfSome o (λ h. (n : ℕ) → AreBelow n f → AreBelow n g → AreBelow n h)
 some-below None f g r = r

@@ -27,6 +27,7 @@ drop_field (f ∷ fs) (suc at) x rest h = drop_field fs at x rest h
 pub one_name : (fields : List (List ℕ)) (at : ℕ) (x : List ℕ) → field_at fields at ≡ Some x → StandAt (x ∷ []) fields at (at + 1)
 one_name fields at x h = let p = field_drop fields at x h in (p.0 ∙ rw (add-one at) refl, λ l. omega (arith, p.1))
 
+-- where the field at a place isn't the first of some names, they aren't there
 pub no_name : (fields : List (List ℕ)) (at : ℕ) (x : List ℕ) (more : List (List ℕ)) → (field_at fields at ≡ Some x → ⊥)
     → (rest : List (List ℕ)) → drop at fields ≢ (x ∷ more) ++ rest
 no_name fields at x more ne rest h = ne (drop_field fields at x (more ++ rest) h)
@@ -102,6 +103,7 @@ arg_stop f xs i x fields mid h e p q k =
 pub all_stand : (names fields : List (List ℕ)) (to : ℕ) → StandAt names fields 0 to → to ≡ length fields → fields ≡ names
 all_stand names fields to p e = p.0 ∙ rw (drop_all to fields (omega (arith, e)), append-nil) refl
 
+-- where the fields are just the names, the place after the names is the end of the fields
 pub all_read : (names fields : List (List ℕ)) (to : ℕ) → StandAt names fields 0 to → fields ≡ names → to ≡ length fields
 all_read names fields to p e =
     let rest : drop to fields ≡ [] = append_cancel_left names (drop to fields) [] (sym p.0 ∙ e ∙ sym (append-nil names)) in

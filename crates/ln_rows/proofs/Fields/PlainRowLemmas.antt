@@ -48,6 +48,7 @@ pub record Reading (vars : List VarInfo) (text : List ℕ) (index0 value0 : List
   pub going : v < length vars → Stands text fields rest
   pub gone : v ≡ length vars → Gives text fields rest
 
+-- before any variable
 pub reading_none : (vars : List VarInfo) (text : List ℕ) (index value : List ℤ) → 0 < length vars → length index ≡ 5 → length value ≡ 168
     → Reading vars text index value 0 0 text index value
 reading_none vars text index value some five all = record {

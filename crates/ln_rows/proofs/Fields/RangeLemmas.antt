@@ -32,6 +32,7 @@ pub record Sizes (sites : ℕ) (vars : List VarInfo) : Type 0 where
   pub few_sites : sites ≤ 5
   pub few_vars : length vars ≤ 168
 
+-- variables that are laid out for a number of sites have as many, at most 5, and are at most 168
 pub sizes : (sites : ℕ) (vars : List VarInfo) → is_laid_out sites vars ≡ true → Sizes sites vars
 sizes sites vars h =
     let a = and_parts (in_order 0 0 no_var vars && list_all has_range vars && (count_by starts_site vars == sites) && nat_le sites 5
@@ -155,6 +156,7 @@ size_ok : (b : Bool) (x : Result Row RowStop) (r : Row) → (if b then x else Er
 size_ok true x r h = (refl, h)
 size_ok false x r h = absurd (cc)
 
+-- a record of which a row is read has no fault, and the row is what its columns say
 pub is_row : (sites : ℕ) (vars : List VarInfo) (fields : List (List ℕ)) (r : Row) → read_row sites vars fields ≡ Ok r → IsRow sites vars fields r
 is_row sites vars fields r h =
     let p = size_ok (length fields == length (columns vars)) _ r h in

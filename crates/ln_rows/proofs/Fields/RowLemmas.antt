@@ -34,6 +34,7 @@ said_by lo hi z (Some y) k b same h = go (int_le lo y && int_le y hi) h where
   go true e = cc
   go false e = absurd (cc)
 
+-- a field with a number within a range says that number
 pub said_is : (lo hi z : ℤ) (field : List ℕ) (k : ℕ) → in_column k (number_in lo hi field) ≡ Ok z → said field ≡ z
 said_is lo hi z field k h = said_by lo hi z (integer_value field) k (λ y. int_le lo y && int_le y hi) (λ y. refl) h
 

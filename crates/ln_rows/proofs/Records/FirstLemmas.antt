@@ -99,6 +99,7 @@ next_gives s xs p e =
     rw (add-one (length xs), e)
     (ap (λ (q : Records). p.0 ∷ q) (next_left xs p (if_first (next_record default_config s [] [] xs) p (λ q. IsShorter xs q) e (shorter s [] [] xs))))
 
+-- where the bytes have no next record from a state, they have no records from it
 pub next_none : (s : State) (xs : List ℕ) → next_record default_config s [] [] xs ≡ None → records_from default_config (length xs + 1) s xs ≡ []
 unfolding records_from
 next_none s xs e = rw (add-one (length xs), e) refl
@@ -149,6 +150,7 @@ count s all field (c ∷ xs) = by_end (is_end (step default_config s c).1)
     by_end true h = omega (arith, one_more (step default_config s c).1)
     by_end false h = widen _ h
 
+-- the first record of a text has at most one field more than the text has bytes
 pub few_fields : (text : List ℕ) (fields : List (List ℕ)) (rest : List ℕ) → Gives text fields rest → length fields ≤ length text + 1
 few_fields text fields rest g =
     let p : Read = (fields, g.state, rest) in
@@ -161,6 +163,7 @@ pub past_feed : (xs : List ℕ) → first_of (10 ∷ xs) ≡ first_of xs
 unfolding next_record
 past_feed xs = refl
 
+-- the same for a return
 pub past_return : (xs : List ℕ) → first_of (13 ∷ xs) ≡ first_of xs
 unfolding next_record
 past_return xs = refl

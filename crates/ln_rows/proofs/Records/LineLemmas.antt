@@ -188,9 +188,11 @@ pub record Splits (line : List ℕ) (most : ℕ) (kept : List (List ℕ)) (rest 
   pub is : fields_in line ≡ kept ++ fields_in rest
   pub few : length kept ≤ most
 
+-- at the start no field is kept, and the whole line remains
 pub splits_none : (line : List ℕ) (most : ℕ) (kept : List (List ℕ)) → kept ≡ [] → Splits line most kept line
 splits_none line most kept e = record { is = ap (λ (k : List (List ℕ)). k ++ fields_in line) (sym e); few = omega (arith, ap length e) }
 
+-- one more field is kept, up to the next comma
 pub splits_more : (line : List ℕ) (most : ℕ) (kept kept2 : List (List ℕ)) (rest : List ℕ) (size : ℕ) → Splits line most kept rest
     → length kept < most → size < length rest → list_all is_no_comma (take size rest) ≡ true → is_no_comma (get_or rest size 0) ≡ false
     → kept2 ≡ kept ++ (take size rest ∷ []) → Splits line most kept2 (drop (suc size) rest)
@@ -205,6 +207,7 @@ splits_more line most kept kept2 rest size s l m all comma k = record {
       ap (λ (xs : List ℕ). take size rest ++ xs) (sym (drop-cons rest size 0 m)) ∙ take-append-drop size rest in
       ap fields_in (sym whole) ∙ fields_to [] (take size rest) (get_or rest size 0) (drop (suc size) rest) all (a_comma (get_or rest size 0) comma)
 
+-- the same, with the rest after the comma as a slice of the bytes that remained
 pub splits_on : (line : List ℕ) (most : ℕ) (kept kept2 : List (List ℕ)) (rest : List ℕ) (size : ℕ) → Splits line most kept rest
     → length kept < most → size < length rest → list_all is_no_comma (take size rest) ≡ true → is_no_comma (get_or rest size 0) ≡ false
     → kept2 ≡ kept ++ (take size rest ∷ []) → Splits line most kept2 (take (length rest - (size + 1)) (drop (size + 1) rest))
@@ -212,6 +215,7 @@ splits_on line most kept kept2 rest size s l m all comma k =
     subst (λ (xs : List ℕ). Splits line most kept2 xs) (ap (λ (n : ℕ). drop n rest) (sym (add-one size)) ∙ sym (take_rest rest (size + 1)))
     (splits_more line most kept kept2 rest size s l m all comma k)
 
+-- from a place on, at most n bytes remain of at most n
 pub rest_within : (rest : List ℕ) (k n : ℕ) → length rest ≤ n → length (take (length rest - k) (drop k rest)) ≤ n
 rest_within rest k n h = let e = length-take (length rest - k) (drop k rest) in omega (arith, e, h)
 
@@ -220,10 +224,12 @@ take_front : (xs ys : List (List ℕ)) (n : ℕ) → n ≡ length xs → xs ≡ 
 take_front [] ys n e = ap (λ (k : ℕ). take k ys) (sym e)
 take_front (x ∷ xs) ys n e = ap (λ (zs : List (List ℕ)). x ∷ zs) (take_front xs ys (length xs) refl) ∙ ap (λ (k : ℕ). take k (x ∷ (xs ++ ys))) (sym e)
 
+-- where there is room for no more fields, those kept are the first of the line
 pub splits_full : (line : List ℕ) (most : ℕ) (kept : List (List ℕ)) (rest : List ℕ) → Splits line most kept rest → most ≤ length kept
     → kept ≡ take most (fields_in line)
 splits_full line most kept rest s l = take_front kept (fields_in rest) most (omega (arith, s.few, l)) ∙ ap (take most) (sym s.is)
 
+-- with the last field, those kept are the fields of the line, as many as there is room for
 pub splits_all : (line : List ℕ) (most : ℕ) (kept kept2 : List (List ℕ)) (rest : List ℕ) (size : ℕ) → Splits line most kept rest
     → length kept < most → size ≡ length rest → list_all is_no_comma (take size rest) ≡ true
     → kept2 ≡ kept ++ (take size rest ∷ []) → kept2 ≡ take most (fields_in line)

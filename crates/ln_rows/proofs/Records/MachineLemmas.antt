@@ -31,6 +31,7 @@ moves s t a c all field xs e f n =
     (fields_after (step default_config s c).1 all field) (field_after (step default_config s c).1 c field) xs) e
     ∙ ap (λ (b : Action). next_record default_config t (fields_after b all field) (field_after b c field) xs) f
 
+-- a step whose action ends the record returns its fields
 pub comes_out : (s : State) (a : Action) (c : ℕ) (all : List (List ℕ)) (field xs : List ℕ) → (step default_config s c).1 ≡ a → is_end a ≡ true
     → next_record default_config s all field (c ∷ xs) ≡ Some (fields_after a all field, (step default_config s c).0, xs)
 comes_out s a c all field xs f n =

@@ -99,6 +99,7 @@ pub record EndsWith (all : List (List ℕ)) (field text rest : List ℕ) : Type 
   pub between : IsBetween state
   pub ends : next_record default_config st.InField all field text ≡ Some (all ++ field ∷ [], state, rest)
 
+-- at the end of a record, its last field and the record end
 pub end_goes : (all : List (List ℕ)) (field text rest : List ℕ) → PastEnd text rest → EndsWith all field text rest
 end_goes all field text rest (inl (inl e)) = record {
   state = st.StartRecord;
@@ -162,6 +163,7 @@ signed_number text from lo hi z rest e h =
       says = ap (within lo hi) (minus_value d ds (some_digits d ds a)) ∙ s;
     }
 
+-- the number of one or more digits without a sign
 pub plain_number : (text : List ℕ) (lo hi z : ℤ) (rest : List ℕ) → HasSigned false text lo hi z rest → HasNumber text lo hi z rest
 plain_number text lo hi z rest h = by_digits h.digits.digits h.digits.is h.digits.all (ap (λ n. within lo hi (Some (pos n))) (sym h.digits.value) ∙ h.says)
   where
@@ -184,6 +186,7 @@ pub record Read (text : List ℕ) (most at n : ℕ) : Type 0 where
   pub value : n ≡ decimal_value (take at text)
   pub all : list_all is_ascii_digit (take at text) ≡ true
 
+-- before any digit
 pub read_none : (text : List ℕ) (most : ℕ) → most ≤ length text → most ≤ 18 → Read text most 0 0
 read_none text most a b = record { within_ = omega arith; inside = a; few = b; value = refl; all = refl }
 
@@ -208,6 +211,7 @@ read_fits text most at n r l =
     let wide : 10 ^ at ≤ 10 ^ 17 = pow-le-pow_right ten most_ in
     omega (arith, below, wide)
 
+-- the value of the digits read so far is below 10^18
 pub read_small : (text : List ℕ) (most at n : ℕ) → Read text most at n → n < 10 ^ 18
 read_small text most at n r =
     let below = read_below text most at n r in
@@ -216,6 +220,7 @@ read_small text most at n r =
     let wide : 10 ^ at ≤ 10 ^ 18 = pow-le-pow_right ten most_ in
     omega (arith, below, wide)
 
+-- one more digit is read
 pub read_more : (text : List ℕ) (most at n d : ℕ) → Read text most at n → at < most → is_ascii_digit (get_or text at 0) ≡ true
     → d ≡ get_or text at 0 - 48 → Read text most (at + 1) (n * 10 + d)
 read_more text most at n d r l h e =
@@ -228,6 +233,7 @@ read_more text most at n d r l h e =
       all = list_all_more is_ascii_digit text at 0 inside ∙ ap (λ b. b && is_ascii_digit (get_or text at 0)) r.all ∙ h;
     }
 
+-- the text begins with the digits read so far, and they have this value
 pub read_digits : (text : List ℕ) (most at n : ℕ) → Read text most at n → HasDigits text n (take (length text - at) (drop at text))
 read_digits text most at n r = record {
   digits = take at text;

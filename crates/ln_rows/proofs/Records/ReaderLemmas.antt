@@ -80,6 +80,7 @@ known_after : (a : Option Read) (xs : List ℕ) (k : Option (List ℕ)) (c : Con
 known_after a xs None c s t found fields h = absurd h
 known_after a xs (Some ys) c s t found fields h = (ys, refl)
 
+-- equal results have equal values
 pub ok_same : {T E : Type 0} {a b : T} → ◌≡◌ {A = Result T E} (Ok a) (Ok b) → a ≡ b
 ok_same {a = a} h = ap (λ (r : Result _ _). elim r [ Ok x ↦ x | Err e ↦ a ]) h
 

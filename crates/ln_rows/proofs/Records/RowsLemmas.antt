@@ -35,6 +35,7 @@ no_mark (a ∷ []) h = refl
 no_mark (a ∷ b ∷ []) h = refl
 no_mark (a ∷ b ∷ c ∷ rest) h = absurd (omega (arith, h))
 
+-- the first three bytes of a text decide whether they are a byte order mark, which is then dropped
 pub mark_by : (xs : List ℕ) (m : Bool) → 3 ≤ length xs → m ≡ is_bom (get_or xs 0 0) (get_or xs 1 0) (get_or xs 2 0)
     → strip_bom xs ≡ (if m then drop 3 xs else xs)
 unfolding strip_bom
@@ -59,6 +60,7 @@ row_taken vars old o text behind rest r view none same h = record {
   read = h.read;
 }
 
+-- bytes whose length is 0 are none
 pub no_bytes : (xs : List ℕ) → (length xs == 0) ≡ true → xs ≡ []
 no_bytes [] h = refl
 no_bytes (x ∷ xs) h = absurd (omega (arith, eqb-true (length (x ∷ xs)) 0 h))
@@ -92,11 +94,13 @@ pub takes_none : (most : ℕ) (found : Bool) (old new : Records) (kept : List (L
 takes_none most false old new kept t e = t
 takes_none most true old new kept t e = absurd (true≢false e)
 
+-- a read that finds a record takes the first of the remaining ones
 pub takes_some : (most : ℕ) (found : Bool) (old new : Records) (kept : List (List ℕ)) → TakesWithin most found old new kept → found ≡ true
     → TakesFirst most old new kept
 takes_some most true old new kept t e = t
 takes_some most false old new kept t e = absurd (true≢false (sym e))
 
+-- a read with room for 2^64 - 1 fields keeps all of a record's
 pub takes_all : (most : ℕ) (found : Bool) (old new : Records) (kept : List (List ℕ)) → TakesWithin most found old new kept
     → most ≡ 2 ^ 64 - 1 → Takes found old new kept
 takes_all most false old new kept t e = t
@@ -137,6 +141,7 @@ row_cut sites vars all most h = by_size (cases_lt most (length all)) where
       let long : length all ≢ length (columns vars) = λ e. omega (arith, e, h, large) in
       not_fields sites vars (take most all) cut ∙ sym (not_fields sites vars all long)
 
+-- the result on the first fields of a record, with room for more than the columns, is that on the record
 pub read_cut : {T : Type 0} (sites : ℕ) (vars : List VarInfo) (all kept : List (List ℕ)) (most : ℕ) (read : Result T RowStop) (r : code.Row)
     → kept ≡ take most all → length (columns vars) < most → IsReadAs sites vars kept read r → IsReadAs sites vars all read r
 read_cut {T = T} sites vars all kept most read r k h s =

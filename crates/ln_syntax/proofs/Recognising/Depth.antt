@@ -45,6 +45,7 @@ inside [] j k is = absurd (cc)
 inside (t ∷ ts) zero k is = omega arith
 inside (t ∷ ts) (suc j) k is = let h = inside ts j k is in omega (arith, h)
 
+-- where no parenthesis before the end is nested too deep, none is
 pub shallow_all : (ts : List Token) → ShallowTo ts (length ts) → IsShallow ts
 shallow_all ts h = λ j p. h j (inside ts j ParL p) p
 

@@ -46,6 +46,7 @@ atom_first (name n) m = cc
 atom_first (input n d x) m = cc
 atom_first (parens n d c) m = cc
 
+-- a power doesn't begin with a minus sign
 pub power_first : {ts : List Token} {i j : ℕ} {e : Tree} → Derives ts Power i j e → Is ts i Minus → ⊥
 power_first (plain d) m = atom_first d m
 power_first (power d c n) m = atom_first d m

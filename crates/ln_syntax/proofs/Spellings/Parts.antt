@@ -40,6 +40,7 @@ end_rises : {ts : List Token} {i j : ℕ} {e : RawEnd} → End ts i j e → i < 
 end_rises (plain m) = omega arith
 end_rises (minus m n) = omega arith
 
+-- a range ends after its beginning
 pub range_rises : {ts : List Token} {i j : ℕ} {r : RawRange} → Range ts i j r → i < j
 range_rises (range l d h) = let a = end_rises l in let b = end_rises h in omega arith
 
@@ -55,6 +56,7 @@ lets_rise : {ts : List Token} {i j : ℕ} {ls : List RawLet} → Lets ts i j ls 
 lets_rise no_let = omega arith
 lets_rise (a_let p q r e s t) = let a = (no_semi e.1).rises in let b = lets_rise t in omega arith
 
+-- an item ends after its beginning
 pub item_rises : {ts : List Token} {i j : ℕ} {x : Item} → IsItem ts i j x → i < j
 item_rises (site a b c d e) = let r = coords_rise d in omega arith
 item_rises (param a b c d e) = let r = range_rises d in omega arith
@@ -71,6 +73,7 @@ high_by {ts = ts} {j = j} {k = k} (range {j = q} {b = b} l m h) d =
     let e : suc q ≡ j + 1 = omega arith in
     record { to = k; value = b; derives = subst (λ (w : ℕ). End ts w k b) e h }
 
+-- in a range, after the low end and the dots comes the high end
 pub high_there : {ts : List Token} {i j : ℕ} {a : RawEnd} → HasRange ts i → End ts i j a → HasEnd ts (j + 1)
 high_there h d = high_by h.derives d
 
@@ -112,6 +115,7 @@ pub record CoordsRead (ts : List Token) (at i : ℕ) (cs : List RawCoord) : Type
   pub done : Coords ts at i cs
   pub rest : HasCoords ts i
 
+-- no coordinate is read at the start
 pub coords_begin : {ts : List Token} {at : ℕ} → HasCoords ts at → CoordsRead ts at at []
 coords_begin h = record { done = no_coord; rest = h }
 
@@ -160,6 +164,7 @@ coord_more_by {ts = ts} {at = at} {i = i} {j = j} {k = k} {cs = cs} {r = r} {sp 
       rest = record { to = k; value = es; derives = subst (λ (w : ℕ). Coords ts w k es) g t; stops = b };
     }
 
+-- one more coordinate is read, with its semicolon
 pub coord_more : {ts : List Token} {at i j : ℕ} {cs : List RawCoord} {r : RawRange} {sp : Span} → CoordsRead ts at i cs → Is ts i Name
     → sp ≡ span_at ts i → Range ts (i + 2) j r
     → CoordsRead ts at (j + 1) (cs ++ (record { name = sp; range = r } ∷ []))
@@ -246,6 +251,7 @@ pub record LetsRead (ts : List Token) (at i : ℕ) (ls : List RawLet) : Type 0 w
   pub done : Lets ts at i ls
   pub rest : HasLets ts i
 
+-- no let is read at the start
 pub lets_begin : {ts : List Token} {at : ℕ} → HasLets ts at → LetsRead ts at at []
 lets_begin h = record { done = no_let; rest = h }
 
@@ -291,6 +297,7 @@ let_more_by {ts = ts} {at = at} {i = i} {j = j} {k = k} {ls = ls} {sp = sp} a (a
       rest = record { to = k; value = us; derives = subst (λ (u : ℕ). Lets ts u k us) g t; stops = s };
     }
 
+-- one more let is read, with its semicolon
 pub let_more : {ts : List Token} {at i j : ℕ} {ls : List RawLet} {sp : Span} → LetsRead ts at i ls → Is ts i Let → sp ≡ span_at ts (i + 1)
     → IsExpr ts (i + 3) j → Is ts j Semi
     → LetsRead ts at (j + 1) (ls ++ (record { name = sp; value = record { from = i + 3; to = j } } ∷ []))
@@ -324,6 +331,7 @@ site_by {ts = ts} {i = i} {k = k} {sp = sp} {ds = ds} (site {j = j} {c = c} {cs 
 site_by (param a b m d e) n q x y = absurd (cc)
 site_by (predicate a b m d e f g h v s r) n q x y = absurd (cc)
 
+-- a name and all coordinates make the item of a site type
 pub site_read : {ts : List Token} {i k : ℕ} {sp : Span} {ds : List RawCoord} → HasItem ts i → Is ts i Site → sp ≡ span_at ts (i + 1)
     → Coords ts (i + 3) k ds → Is ts k BraceR → IsItem ts i (k + 1) (SiteItem sp ds)
 site_read h n q x y = site_by h.derives n q x y
@@ -363,6 +371,7 @@ param_by {ts = ts} {i = i} {k = k} {sp = sp} {r = r} (param {j = j} {r = t} a b 
     item_is (param a b m d e) v (ap (λ (w : Span). ParamItem w t) q2 ∙ ap (λ (w : RawRange). ParamItem sp w) s.value)
 param_by (predicate a b m d e f g h v s r) n q y = absurd (cc)
 
+-- a name and a range make the item of a param
 pub param_read : {ts : List Token} {i k : ℕ} {sp : Span} {r : RawRange} → HasItem ts i → Is ts i Param → sp ≡ span_at ts (i + 1)
     → Range ts (i + 3) k r → IsItem ts i (k + 1) (ParamItem sp r)
 param_read h n q y = param_by h.derives n q y
@@ -434,6 +443,7 @@ pred_by {ts = ts} {i = i} {j = j} {k = k} {l = l} {sp = sp} {us = us} {vs = vs} 
     let o3 : suc a2 ≡ k + 1 = omega arith in
     item_is (predicate a b m d e f g h v s r) x (rw (q2, t.value, t2.value, o3, t3) refl)
 
+-- a name, the arguments, the lets and the sign expression make the item of a predicate
 pub pred_read : {ts : List Token} {i j k l : ℕ} {sp : Span} {us : List RawArg} {vs : List RawLet} → HasItem ts i → (Is ts i Site → ⊥)
     → (Is ts i Param → ⊥) → sp ≡ span_at ts (i + 1)
     → Args ts (i + 3) j us → Is ts j ParR → Lets ts (j + 2) k vs → Is ts k Sign → IsExpr ts (k + 1) l → Is ts l Semi
@@ -446,6 +456,7 @@ pub record ItemsRead (ts : List Token) (i : ℕ) (xs : List Item) : Type 0 where
   pub others : List Item
   pub rest : Items ts i (length ts) others
 
+-- no item is read at the start
 pub items_begin : {ts : List Token} → (xs : List Item) × Spelt ts xs → ItemsRead ts 0 []
 items_begin t = record { done = no_item; others = t.0; rest = t.1 }
 
@@ -460,6 +471,7 @@ item_more_by {ts = ts} {j = j} {k = k} a (an_item {xs = zs} h t) q d =
     let p = (item_same h d).place in
     record { done = items_with a d; others = zs; rest = subst (λ (w : ℕ). Items ts j w zs) q (subst (λ (w : ℕ). Items ts w k zs) p t) }
 
+-- one more item is read
 pub item_more : {ts : List Token} {i j : ℕ} {xs : List Item} {x : Item} → ItemsRead ts i xs → IsItem ts i j x → ItemsRead ts j (xs ++ (x ∷ []))
 item_more r d = item_more_by r.done r.rest refl d
 

@@ -25,6 +25,7 @@ least Sum = 1
 least (Factors f) = 0
 least (Terms f) = 0
 
+-- a derivation ends at least that many tokens after its beginning
 pub grows : {ts : List Token} {s : Sort} {i j : ℕ} {e : Tree} → Derives ts s i j e → i + least s ≤ j
 grows (number n) = omega arith
 grows (name n) = omega arith

@@ -35,13 +35,16 @@ pub no_refused : (ws : List (List ℕ)) → ((n : ℕ) → 1 ≤ n → n < 2 ^ 3
 no_refused ws f (line.Refused n) h = f n h.range.0 h.range.1 (rest h.words)
 no_refused ws f l h = absurd (let k = h.kind in cc)
 
+-- the same of a `row` line
 pub no_row : (ws : List (List ℕ)) → ((n : ℕ) → 1 ≤ n → n < 2 ^ 32 → ws ≡ decimal n ∷ [] → ⊥) → NoArgs kind.Row ws
 no_row ws f (line.Row n) h = f n h.range.0 h.range.1 (rest h.words)
 no_row ws f l h = absurd (let k = h.kind in cc)
 
+-- a number from 1 to 2^32 - 1 alone makes a `refused` line
 pub is_refused : (ws : List (List ℕ)) (n : ℕ) → 1 ≤ n → n < 2 ^ 32 → ws ≡ decimal n ∷ [] → HasArgs kind.Refused ws (line.Refused n)
 is_refused ws n l h e = record { kind = refl; words = ap (λ (z : List (List ℕ)). codes "refused" ∷ z) e; range = (l, h) }
 
+-- and a `row` line
 pub is_row : (ws : List (List ℕ)) (n : ℕ) → 1 ≤ n → n < 2 ^ 32 → ws ≡ decimal n ∷ [] → HasArgs kind.Row ws (line.Row n)
 is_row ws n l h e = record { kind = refl; words = ap (λ (z : List (List ℕ)). codes "row" ∷ z) e; range = (l, h) }
 
@@ -68,6 +71,7 @@ no_more ws ps more us y p e g f (line.At exps z) h =
     f (rest (sym g ∙ s.1))
 no_more ws ps more us y p e g f l h = absurd (let k = h.kind in cc)
 
+-- exponents, a colon and a value alone make an `at` line
 pub is_at : (ws : List (List ℕ)) (ps : List (ℕ × ℕ)) (more us : List (List ℕ)) (z : ℤ) → Each IsExponent ps → ws ≡ map exponent_word ps ++ codes ":" ∷ more
     → more ≡ signed_decimal z ∷ us → us ≡ [] → unsigned_abs z < 2 ^ 127 → HasArgs kind.At ws (line.At ps z)
 is_at ws ps more us z p e g f r = record {
@@ -82,14 +86,17 @@ pub no_word : (ws : List (List ℕ)) → ws ≡ [] → NoArgs kind.Sign ws
 no_word ws e (line.Sign t) h = absurd (let q = sym e ∙ rest h.words in cc)
 no_word ws e l h = absurd (let k = h.kind in cc)
 
+-- its word is a sign
 pub no_sign : (ws : List (List ℕ)) (w : List ℕ) (more : List (List ℕ)) → ws ≡ w ∷ more → ((t : Sign) → w ≡ sign_word t → ⊥) → NoArgs kind.Sign ws
 no_sign ws w more e f (line.Sign t) h = f t (head (sym e ∙ rest h.words))
 no_sign ws w more e f l h = absurd (let k = h.kind in cc)
 
+-- and nothing follows it
 pub no_end : (ws : List (List ℕ)) (w : List ℕ) (more : List (List ℕ)) → ws ≡ w ∷ more → (more ≡ [] → ⊥) → NoArgs kind.Sign ws
 no_end ws w more e f (line.Sign t) h = f (rest (sym e ∙ rest h.words))
 no_end ws w more e f l h = absurd (let k = h.kind in cc)
 
+-- a sign alone makes a `sign` line
 pub is_sign : (ws : List (List ℕ)) (w : List ℕ) (more : List (List ℕ)) (t : Sign) → ws ≡ w ∷ more → w ≡ sign_word t → more ≡ []
     → HasArgs kind.Sign ws (line.Sign t)
 is_sign ws w more t e f g = record {

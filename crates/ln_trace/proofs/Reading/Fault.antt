@@ -32,14 +32,17 @@ fine Between = tt
 fine Opened = ((tt, omega arith), (tt, tt))
 fine Within = (tt, tt)
 
+-- the texts of lines and of more lines are the texts of both joined
 pub map_append : (xs ys : List TraceLine) → map text_of_line (xs ++ ys) ≡ map text_of_line xs ++ map text_of_line ys
 map_append [] ys = refl
 map_append (x ∷ xs) ys = ap (λ (w : List (List ℕ)). text_of_line x ∷ w) (map_append xs ys)
 
+-- lines within the ranges, and more of them, are within the ranges
 pub each_append : (xs ys : List TraceLine) → Each IsLine xs → Each IsLine ys → Each IsLine (xs ++ ys)
 each_append [] ys p q = q
 each_append (x ∷ xs) ys p q = (p.0, each_append xs ys p.1 q)
 
+-- lines within the ranges that lead somewhere from the start are the first of a trace
 pub front : (ls : List TraceLine) (s : State) → Each IsLine ls → goes start ls ≡ Some s → IsFront (texts_of ls)
 front ls s p e = (
   map text_of_line (finish s),
@@ -61,6 +64,7 @@ record Behind (done : List TraceLine) (t : State) (ts : List (List ℕ)) (ls : L
   ranges : Each IsLine rest
   ends : goes (Some t) rest ≡ start
 
+-- lines that lead somewhere begin in some state
 pub some_next : (o : Option State) (ls : List TraceLine) (t : State) → goes o ls ≡ Some t → (u : State) × (o ≡ Some u)
 some_next None ls t e = let n = goes_none ls in absurd (cc)
 some_next (Some u) ls t e = (u, refl)
@@ -129,6 +133,7 @@ long done ts = ap suc (by done)
     by [] = omega arith
     by (d ∷ done) = let h = by done in omega arith
 
+-- after lines that lead to a state, a text that the state refuses is the form fault
 pub fault_at : (bytes : List ℕ) (done : List TraceLine) (s : State) (t : List ℕ) (ts : List (List ℕ)) (at : ℕ) → lines bytes ≡ texts_of done ++ (t ∷ ts)
     → Each IsLine done → goes start done ≡ Some s → RefusesText s t → at ≡ length done + 2 → IsFormFault bytes at
 fault_at bytes done s t ts at w p e f n =
@@ -146,6 +151,7 @@ fault_at bytes done s t ts at w p e f n =
       unfinished = λ h. absurd (omega arith);
     }
 
+-- where all lines lead to a state in which no trace ends, the form fault is one more than there are lines
 pub fault_end : (bytes : List ℕ) (done : List TraceLine) (s : State) (at : ℕ) → lines bytes ≡ texts_of done → Each IsLine done
     → goes start done ≡ Some s → is_end s ≡ false → at ≡ length done + 2 → IsFormFault bytes at
 fault_end bytes done s at w p e n a =

@@ -57,6 +57,7 @@ pub record SoFar (bs : List ℕ) (s : State) (text : List ℕ) (n : ℕ) : Type 
   pub counted : n ≡ length done + 2
   pub few : n + length text ≤ length bs + 2
 
+-- before the loop only the first line has been read
 pub so_far_first : (bs : List ℕ) (behind : ℕ) (text : List ℕ) → lines bs ≡ first_line ∷ lines (drop behind bs) → text ≡ drop behind bs → SoFar bs Between text 2
 so_far_first bs behind text e q =
     let l : length text ≡ length bs - behind = ap length q ∙ length-drop behind bs in
@@ -72,6 +73,7 @@ texts_more bs done l text more t b =
 walked_more : (done : List TraceLine) (l : TraceLine) (s t : State) → goes start done ≡ Some s → next_of s l ≡ Some t → goes start (done ++ (l ∷ [])) ≡ Some t
 walked_more done l s t e f = goes_append start done (l ∷ []) ∙ ap (λ o. next_at o l) e ∙ f
 
+-- the step of the loop in `check`: one line more
 pub so_far_more : (bs : List ℕ) (s : State) (text : List ℕ) (n : ℕ) (l : TraceLine) (t : State) (k : ℕ) (more : List ℕ) → SoFar bs s text n
     → Begins s text l t k → more ≡ drop k text → SoFar bs t more (n + 1)
 so_far_more bs s text n l t k more h b e =
@@ -86,6 +88,7 @@ so_far_more bs s text n l t k more h b e =
       few = omega (arith, h.few, b.some, b.within);
     }
 
+-- where the line at the start is refused, its number is that of the form fault
 pub so_far_fault : (bs : List ℕ) (s : State) (text : List ℕ) (n : ℕ) → SoFar bs s text n → NoneBegins s text → IsFormFault bs n
 so_far_fault bs s text n h b =
     fault_at bs h.done s b.first b.behind n (h.texts ∙ ap (λ x. texts_of h.done ++ x) b.same) h.ranges h.walked b.refused h.counted
@@ -94,6 +97,7 @@ all_read : (bs text : List ℕ) (done : List TraceLine) → lines bs ≡ texts_o
 all_read bs [] done t h = t ∙ append-nil (texts_of done)
 all_read bs (b ∷ text) done t h = absurd (omega arith)
 
+-- and so is the number after the last line, where no trace ends in the state
 pub so_far_short : (bs : List ℕ) (s : State) (text : List ℕ) (n : ℕ) → SoFar bs s text n → length text ≡ 0 → is_end s ≡ false → IsFormFault bs n
 so_far_short bs s text n h e f = fault_end bs h.done s n (all_read bs text h.done h.texts e) h.ranges h.walked f h.counted
 
@@ -101,6 +105,7 @@ is_between : (s : State) → is_end s ≡ true → Some s ≡ start
 is_between Between f = refl
 is_between s f = absurd (cc)
 
+-- where one does, the bytes are a trace, of which all lines but the first remain
 pub so_far_whole : (bs : List ℕ) (behind : ℕ) (s : State) (text : List ℕ) (n : ℕ) → lines bs ≡ first_line ∷ lines (drop behind bs)
     → SoFar bs s text n → length text ≡ 0 → is_end s ≡ true → IsOpened bs (record { state = Between; line = 2; text = drop behind bs })
 so_far_whole bs behind s text n e h l f =
@@ -143,12 +148,14 @@ goes_on u w l t k b c d (x ∷ xs) h =
       };
     }
 
+-- the line at the start is the first of those that remain, and is taken
 pub taken : (u w : Unread) (l : TraceLine) (t : State) (k : ℕ) → Begins u.state u.text l t k → w.line ≡ u.line + 1 → w.state ≡ t
     → w.text ≡ drop k u.text → IsTaken u l w
 taken u w l t k b m c d =
     let n : length w.text ≡ length u.text - k = ap length d ∙ length-drop k u.text in
     record { goes_on = goes_on u w l t k b c d; next = m; shorter = omega (arith, b.some, b.within) }
 
+-- where no text remains, no line does
 pub none_left : (u : Unread) (ls : List TraceLine) → AreLeft u ls → length u.text ≡ 0 → ls ≡ []
 none_left u ls h e = by u.text ls e h.texts
   where
@@ -165,6 +172,7 @@ still_unread u w l t k h b m c d =
     let n : length w.text ≡ length u.text - k = ap length d ∙ length-drop k u.text in
     record { rest = r.behind; left = r.left; few = omega (arith, h.few, b.some, b.within) }
 
+-- of a trace that was opened some lines remain, few enough that each has a number
 pub opened_unread : (bs : List ℕ) (u : Unread) → length bs ≤ 67108864 → length u.text ≤ length bs → IsOpened bs u → IsUnread u
 opened_unread bs u l m h = record { rest = h.read; left = h.left; few = omega (arith, h.second) }
 
@@ -173,6 +181,7 @@ opened_unread bs u l m h = record { rest = h.read; left = h.left; few = omega (a
 abbrev pub Gathered : Unread → Unread → List TraceLine → Type 0
 Gathered old now read = (ls : List TraceLine) → AreLeft old ls → (behind : List TraceLine) × (ls ≡ read ++ behind) × AreLeft now behind
 
+-- the step of the loop in `all_lines`: one line more
 pub gathered_more : (old u w : Unread) (read more : List TraceLine) (l : TraceLine) → Gathered old u read → IsTaken u l w
     → more ≡ read ++ (l ∷ []) → Gathered old w more
 gathered_more old u w read more l g t q ls h =
@@ -180,6 +189,7 @@ gathered_more old u w read more l g t q ls h =
     let k = t.goes_on p.0 p.2 in
     (k.behind, p.1 ∙ ap (λ x. read ++ x) k.first ∙ sym (append_assoc read (l ∷ []) k.behind) ∙ ap (λ x. x ++ k.behind) (sym q), k.left)
 
+-- at the end of the loop in `all_lines` the lines that were read are all
 pub gathered_all : (old u : Unread) (read : List TraceLine) → Gathered old u read → ((ls : List TraceLine) → AreLeft u ls → ls ≡ [])
     → (ls : List TraceLine) → AreLeft old ls → read ≡ ls
 gathered_all old u read g f ls h =

@@ -16,6 +16,7 @@ no_earlier : (bytes : List ℕ) (m n : ℕ) → IsFormFault bytes m → IsFormFa
 no_earlier bytes m n f g h =
     f.refused (omega (arith, f.number, g.number, g.within)) (fewer m g.before (lines bytes) (omega (arith, g.number)) g.front)
 
+-- bytes have one form fault at most
 pub one_fault : (bytes : List ℕ) (m n : ℕ) → IsFormFault bytes m → IsFormFault bytes n → m ≡ n
 one_fault bytes m n f g = by (three m n)
   where

@@ -41,6 +41,7 @@ none P k e = absurd (cc)
 is_word : (s : State) (w : List ℕ) (j k : Kind) → may s j ≡ true → bytes_eq w (word_of j) ≡ true → Some j ≡ Some k → Stands s w k
 is_word s w j k m t e = subst (λ x. Stands s w x) (some e) (record { word = equal_bytes w (word_of j) t; may = m })
 
+-- the kind of a first word in a state has that word and is allowed there
 pub sound : (s : State) (w : List ℕ) (k : Kind) → kind_in s w ≡ Some k → Stands s w k
 sound Between w k e =
     pick (Stands Between w) (bytes_eq w (codes "refused")) (Some kind.Refused) (if bytes_eq w (codes "row") then Some kind.Row else None) k
@@ -52,6 +53,7 @@ sound Within w k e =
     (is_word Within w kind.At k refl)
     (pick (Stands Within w) (bytes_eq w (codes "sign")) (Some kind.Sign) None k (is_word Within w kind.Sign k refl) (none (Stands Within w) k)) e
 
+-- and a kind that is allowed in a state is that of its word there
 pub complete : (s : State) (k : Kind) → may s k ≡ true → kind_in s (word_of k) ≡ Some k
 complete Between kind.Refused m = refl
 complete Between kind.Row m = refl
@@ -113,6 +115,7 @@ pub no_exponent_here : (all : List (List ℕ)) (done : List (ℕ × ℕ)) (w : L
     → (ps : List (ℕ × ℕ)) (r : List (List ℕ)) → Each IsExponent ps → all ≡ map exponent_word ps ++ codes ":" ∷ r → ⊥
 no_exponent_here all done w here next e g d f k ps r p q = no_exponent done w next ps r d p (sym (e ∙ ap (λ z. map exponent_word done ++ z) g) ∙ q) f k
 
+-- where the loop over exponents has read all words, there is no colon
 pub no_colon_left : (all : List (List ℕ)) (done : List (ℕ × ℕ)) (here : List (List ℕ)) → all ≡ map exponent_word done ++ here → here ≡ []
     → Each IsExponent done → (ps : List (ℕ × ℕ)) (r : List (List ℕ)) → Each IsExponent ps → all ≡ map exponent_word ps ++ codes ":" ∷ r → ⊥
 no_colon_left all done here e g d ps r p q = no_end done ps r d (sym (e ∙ ap (λ z. map exponent_word done ++ z) g ∙ append-nil (map exponent_word done)) ∙ q)
@@ -154,6 +157,7 @@ sign_plain Minus = refl
 sign_plain Zero = refl
 sign_plain Plus = refl
 
+-- no word of a line has a blank
 pub words_plain : (l : TraceLine) → IsLine l → ArePlain (words_of l)
 words_plain (line.Refused n) p = (refl, (decimal_plain n (omega (arith, p.1)), tt))
 words_plain (line.Row n) p = (refl, (decimal_plain n (omega (arith, p.1)), tt))
@@ -199,9 +203,11 @@ same_line s x y t u a b p q e =
 pub line_words : (body : List ℕ) (l : TraceLine) → IsLine l → body ++ (10 ∷ []) ≡ text_of_line l → words body ≡ words_of l
 line_words body l q e = ap words (snoc_same body (parted (words_of l)) e) ∙ read_words l q
 
+-- and a body with the words of a line is, with a line feed, the text of the line
 pub words_line : (body : List ℕ) (l : TraceLine) → words body ≡ words_of l → body ++ (10 ∷ []) ≡ text_of_line l
 words_line body l e = ap (λ (x : List ℕ). x ++ (10 ∷ [])) (sym (parted_words body) ∙ ap parted e)
 
+-- two lines that are allowed in one state and have one text are one
 pub one_line : (s : State) (x y : TraceLine) (t u : State) → next_of s x ≡ Some t → next_of s y ≡ Some u → IsLine x → IsLine y
     → text_of_line x ≡ text_of_line y → x ≡ y
 one_line s x y t u a b p q e = same_line s x y t u a b p q (sym (read_words x p) ∙ line_words (parted (words_of x)) y q e)
@@ -217,11 +223,13 @@ found s k w args ws l e g h =
       goes = ap (λ (b : Bool). if b then Some (after (kind_of l)) else None) (subst (λ x. may s x ≡ true) (sym h.kind) r.may) ∙ ap (λ x. Some (after x)) h.kind;
     }
 
+-- where the first word is that of no kind in the state, the state refuses the words
 pub no_kind : (s : State) (w : List ℕ) (args ws : List (List ℕ)) → ws ≡ w ∷ args → kind_in s w ≡ None → Refuses s ws
 no_kind s w args ws e g l t r =
     let a : w ≡ word_of (kind_of l) = first_of l w args (sym e ∙ r.spelled) in
     let c : None ≡ Some (kind_of l) = sym g ∙ ap (kind_in s) a ∙ complete s (kind_of l) (live s l t r.goes).0 in absurd (cc)
 
+-- where the other words are those of no line of its kind, the state refuses the words
 pub no_args : (s : State) (k : Kind) (w : List ℕ) (args ws : List (List ℕ)) → ws ≡ w ∷ args → kind_in s w ≡ Some k → NoArgs k args → Refuses s ws
 no_args s k w args ws e g h l t r =
     let a : w ≡ word_of (kind_of l) = first_of l w args (sym e ∙ r.spelled) in

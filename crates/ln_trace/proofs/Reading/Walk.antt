@@ -9,13 +9,16 @@ use Rattle.ln_trace.specs.Form.{SomeAts, WholeRecords}
 use Rattle.ln_trace.specs.Form as form
 pub use Rattle.ln_trace.specs.Reading.{goes, next_at, next_of}
 
+-- where the lines of a trace begin: between records
 abbrev pub start : Option State
 start = Some Between
 
+-- lines and more lines lead where the second lead from where the first do
 pub goes_append : (o : Option State) (xs ys : List TraceLine) → goes o (xs ++ ys) ≡ goes (goes o xs) ys
 goes_append o [] ys = refl
 goes_append o (x ∷ xs) ys = goes_append (next_at o x) xs ys
 
+-- from nowhere, lines lead nowhere
 pub goes_none : (ls : List TraceLine) → goes None ls ≡ None
 goes_none [] = refl
 goes_none (l ∷ ls) = goes_none ls
@@ -24,6 +27,7 @@ ats : {xs r : List TraceLine} → SomeAts xs r → (goes (Some Opened) xs ≡ go
 ats form.SomeAts.last = (refl, refl)
 ats (form.SomeAts.more d) = let r = ats d in (r.1, r.1)
 
+-- whole records lead from the start back to it
 pub whole : {xs : List TraceLine} → WholeRecords xs → goes start xs ≡ start
 whole form.WholeRecords.none = refl
 whole (form.WholeRecords.refused d) = whole d
@@ -69,5 +73,6 @@ builds Within (At exps z ∷ xs) e = again (at exps z xs (builds Within xs e))
 builds Within (Sign t ∷ xs) e = ended (builds Between xs e)
 builds Within (x ∷ xs) e = dead xs e
 
+-- and lines that do so are whole records
 pub is_form : (xs : List TraceLine) → goes start xs ≡ start → WholeRecords xs
 is_form xs e = builds Between xs e
