@@ -36,11 +36,12 @@ loaded_lets vars ps ss [] = []
 loaded_lets vars ps ss (f ∷ fs) = loaded vars ps ss f ++ loaded_lets vars (ps ++ range_over (ranges vars) ps (tree vars f) ∷ [])
     (ss ++ size_over ss (tree vars f) ∷ []) fs
 
--- the ranges and the sizes of lets, each over the lets before it, after these
+-- the ranges of lets, each over the lets before it, after these ranges
 abbrev pub ranges_of_lets : List VarInfo → List Range → List Formula → List Range
 ranges_of_lets vars ps [] = ps
 ranges_of_lets vars ps (f ∷ fs) = ranges_of_lets vars (ps ++ range_over (ranges vars) ps (tree vars f) ∷ []) fs
 
+-- the sizes of lets, each over the lets before it, after these sizes
 abbrev pub sizes_of_lets : List VarInfo → List ℕ → List Formula → List ℕ
 sizes_of_lets vars ss [] = ss
 sizes_of_lets vars ss (f ∷ fs) = sizes_of_lets vars (ss ++ size_over ss (tree vars f) ∷ []) fs

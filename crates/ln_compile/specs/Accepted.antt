@@ -7,10 +7,11 @@ pub use Rattle.ln_poly.specs.OfPred.{expanded_of, loaded_of, root_of}
 pub use Rattle.ln_stage.specs.Sound.{AreSound, IsHeavyFault, IsSound, IsStagesFault}
 use Rattle.ln_parse.specs.Text.{TextOf}
 
--- its lets and its root as they are in the source
+-- the lets of a predicate as they are in the source
 abbrev pub lets_of : PredOf → List Tree
 lets_of p = map (tree p.vars) p.lets
 
+-- its root as it is in the source, where a let is a variable
 abbrev pub own_root : PredOf → Tree
 own_root p = tree p.vars p.root
 

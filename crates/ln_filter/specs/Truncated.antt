@@ -12,13 +12,15 @@ use Rattle.ln_filter.specs.Steady.{HasFilter}
 abbrev pub leaf_number : ℕ → ℤ → ℤ
 leaf_number m z = cut_by (excess m) z
 
--- of operands with the triples a and b and the truncated numbers y and z: those of a sum and a difference are aligned first
+-- of the sum of operands with the triples a and b and the truncated numbers y and z, which are aligned first
 abbrev pub sum_number : Triple → Triple → ℤ → ℤ → ℤ
 sum_number a b y z = cut_by (excess (sum_of a b).h) (cut_by (b.k - a.k) y +ℤ cut_by (a.k - b.k) z)
 
+-- of their difference: they are aligned as for the sum
 abbrev pub difference_number : Triple → Triple → ℤ → ℤ → ℤ
 difference_number a b y z = cut_by (excess (sum_of a b).h) (cut_by (b.k - a.k) y -ℤ cut_by (a.k - b.k) z)
 
+-- of their product, which needs no alignment
 abbrev pub product_number : Triple → Triple → ℤ → ℤ → ℤ
 product_number a b y z = cut_by (excess (product_of a b).h) (y *ℤ z)
 

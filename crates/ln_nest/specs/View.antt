@@ -29,14 +29,16 @@ abbrev pub abs_total : List Term → ℕ
 abs_total [] = 0
 abs_total (t ∷ f) = unsigned_abs t.factor + abs_total f
 
--- the opposite of a tree, and the product and the sum of two, with their ranges and widths
+-- the opposite of a tree, with its range and width
 abbrev pub opposite_of : Typed → Typed
 opposite_of x = TNeg x (opposite (pair x)) (wider (width x) (least (magnitude (opposite (pair x)))))
 
+-- the product of two trees, with its range and width
 abbrev pub times_of : Typed → Typed → Typed
 times_of x y = TTwo Times x y (product (pair x) (pair y))
     (wider (wider (width x) (width y)) (least (magnitude (product (pair x) (pair y)))))
 
+-- the sum of two trees, with its range and width
 abbrev pub plus_of : Typed → Typed → Typed
 plus_of x y = TTwo Plus x y (sum (pair x) (pair y)) (wider (wider (width x) (width y)) (least (magnitude (sum (pair x) (pair y)))))
 

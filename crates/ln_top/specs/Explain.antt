@@ -45,6 +45,7 @@ pub data ExplainPart (g : Given) (out err : List ℕ) : Type 0 where
 abbrev pub ExplainRest : Given → Said → Type 0
 ExplainRest g said = ExplainSaid g (record { end = said.end; out = first_line ++ said.out; err = said.err })
 
+-- what may be written after the first line where memory ran out
 abbrev pub ExplainRestPart : Given → List ℕ → List ℕ → Type 0
 ExplainRestPart g out err = ExplainPart g (first_line ++ out) err
 

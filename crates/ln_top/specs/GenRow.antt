@@ -28,10 +28,11 @@ index_by j word = pos (word % 2 ^ 32 * 8 + j)
 abbrev pub value_by : ℤ → ℤ → ℕ → ℤ
 value_by lo hi word = lo +ℤ pos (word % (unsigned_abs (hi -ℤ lo) + 1))
 
--- the ends of the part of a range from -2 to 2
+-- the low end of the part of a range from -2 to 2
 abbrev pub low_part : ℤ → ℤ
 low_part lo = if int_lt lo (neg_ℤ (pos 2)) then neg_ℤ (pos 2) else lo
 
+-- its high end
 abbrev pub high_part : ℤ → ℤ
 high_part hi = if int_lt (pos 2) hi then pos 2 else hi
 

@@ -58,13 +58,15 @@ abbrev pub with_verdicts : List Verdict → Result Sign RowStop → Result Multi
 with_verdicts vs (Ok s) = Ok (record { sign = s; verdicts = vs })
 with_verdicts vs (Err stop) = Err stop
 
--- the room that eight deciders, a line of them, and a piece with one more line fit in
+-- the room that eight deciders fit in, in bytes
 abbrev pub deciders_room : ℕ
 deciders_room = 328
 
+-- the room that a line fits in: a sign and a blank before the deciders
 abbrev pub product_room : ℕ
 product_room = 330
 
+-- the room that a piece with one more line fits in
 abbrev pub product_piece : ℕ
 product_piece = 65866
 

@@ -46,10 +46,11 @@ abbrev pub HeaderIs : List (List ℕ) → Records → Records → Bool → Type 
 HeaderIs names old new true = old ≡ names ∷ new
 HeaderIs names old new false = IsWrongHeader names old
 
--- this many bytes are gathered before they are written, and there is room for a line more
+-- this many bytes are gathered before they are written
 abbrev pub piece : ℕ
 piece = 65536
 
+-- the room for them and one more line
 abbrev pub piece_room : ℕ
 piece_room = 65600
 

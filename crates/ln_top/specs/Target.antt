@@ -37,10 +37,11 @@ pub record Belongs (rank : Rank) (pred : Pred) (program : Part) : Type 0 where
 abbrev pub pred_in : TargetOf → PredOf
 pred_in t = pred_of t.pred
 
--- the row of the predicate that these arrays hold, and that it is in range
+-- the row of the predicate that these arrays hold
 abbrev pub row_in : TargetOf → code.Row → Row
 row_in t r = row_of t.pred.shape.sites t.pred.shape.vars r
 
+-- that row is in range
 abbrev pub IsInRange : TargetOf → code.Row → Type 0
 IsInRange t r = InRange t.pred.shape.sites t.pred.shape.vars (row_in t r)
 

@@ -1,6 +1,6 @@
 //! Tests that sources are compiled, or refused for the right reason at the right place.
 use ln_base::Span;
-use ln_compile::{Compiled, Refusal};
+use ln_compile::Compiled;
 use ln_sample::{ORIENT, SQUARES, compile_text};
 use std::alloc::Global;
 use std::test::Fail;

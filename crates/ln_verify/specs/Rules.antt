@@ -57,6 +57,7 @@ in_range x t s = record { range = range x.pair; width = x.width; tree = t; size 
 pub no_variable : (v : Version) (vars : List VarInfo) (k : ℕ) (p : Range) → None ≡ slice_get vars k → (block_rules v vars).input k p ≡ None
 no_variable v vars k p e = ap (λ (o : Option VarInfo). next o (λ i. known (v.range i) p (least (magnitude p)) (v.size i) (Input k))) (sym e)
 
+-- the rules of a block keep a stack and locals as every machine does
 pub block_stack : (v : Version) (vars : List VarInfo) → HasStack (block_rules v vars)
 block_stack v vars = record { got = λ l j. refl; put = λ l j k. refl; room = λ m. refl }
 
@@ -69,5 +70,6 @@ in_triple a t s = record { triple = a; tree = t; size = s }
 pub no_number : (v : Version) (vars : List VarInfo) (k : ℕ) (a : Triple) → None ≡ slice_get vars k → (triple_rules v vars).input k a ≡ None
 no_number v vars k a e = ap (λ (o : Option VarInfo). next o (λ i. filter_known 0 (size_of i) 0 (v.size i) (Input k) a)) (sym e)
 
+-- the rules of a filter keep a stack and locals as every machine does
 pub triple_stack : (v : Version) (vars : List VarInfo) → HasStack (triple_rules v vars)
 triple_stack v vars = record { got = λ l j. refl; put = λ l j k. refl; room = λ m. refl }

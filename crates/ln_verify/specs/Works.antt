@@ -49,8 +49,10 @@ BenchLed v vars old op p ok new = Led in_range tree_of block_rules v vars old op
 abbrev pub FilterStack : Type 0
 FilterStack = Stack (Value Triple)
 
+-- the stack and the locals are for a state
 abbrev pub IsTray : ℕ → FilterStack → State FilterKnown (ℕ → Option FilterKnown) → Type 0
 IsTray n b s = IsState (IsFor in_triple n) b.values.items b.locals.items s
 
+-- what an operation does to them
 abbrev pub TrayLed : Version → List VarInfo → FilterStack → Op → Triple → Bool → FilterStack → Type 0
 TrayLed v vars old op a ok new = Led in_triple filter_tree_of triple_rules v vars old op a ok new

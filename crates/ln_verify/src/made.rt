@@ -1,7 +1,7 @@
 //! The results of operations: a value, where the rule of the line holds and what it would push is small.
 //!
 //! The rules on limits and running sizes are tested first, then exponents; only then a polynomial is worked out, which is known to fit.
-ghost use Rattle.std.specs.Prelude.{◌≡◌, ◌≤◌, ℕ, List, Option, IfOk, OnSome, length, Some};
+ghost use Rattle.std.specs.Prelude.{◌≤◌, ℕ, List, Option, IfOk, OnSome, length, Some};
 ghost use Rattle.ln_algebra.specs.Tree.{Tree};
 ghost use Rattle.ln_interval.specs.Range.{most};
 ghost use Rattle.ln_tree.specs.declared.shape.VarInfo.{VarInfo as Info};

@@ -16,13 +16,15 @@ tally_of (Signs w) = w.plus ∷ w.zero ∷ w.minus ∷ []
 tally_of (Deciders w) = w.filter ∷ w.plain ∷ w.stages ∷ w.nothing ∷ w.deepest ∷ []
 tally_of (First w) = w
 
--- before any row: of signs, of deciders, and of the first n perturbed rows
+-- before any row: the state of a watcher of signs
 abbrev pub signs : State
 signs = record { kind = 1; tally = 0 ∷ 0 ∷ 0 ∷ [] }
 
+-- the state of a watcher of deciders
 abbrev pub deciders : State
 deciders = record { kind = 2; tally = 0 ∷ 0 ∷ 0 ∷ 0 ∷ 0 ∷ [] }
 
+-- the state of a watcher of the first n perturbed rows
 abbrev pub first : ℕ → State
 first n = record { kind = 3; tally = n ∷ [] }
 

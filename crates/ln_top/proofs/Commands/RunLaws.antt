@@ -264,6 +264,7 @@ pub record Sheet : Type 0 where
   pub names : List (List ℕ)
   pub records : Records
 
+-- a sheet from its parts
 abbrev pub sheet : PredOf → List (List ℕ) → Records → Sheet
 sheet p names records = record { pred = p; names = names; records = records }
 

@@ -52,10 +52,11 @@ pub record Reading (B : Type 0) : Type 0 where
   pub kind : B → ℕ
   pub tally : B → List ℕ
 
--- the state of a watcher, and those of a list of them
+-- the state of a watcher
 abbrev pub state_in : {B : Type 0} → Reading B → B → State
 state_in w b = record { kind = w.kind b; tally = w.tally b }
 
+-- the states of a list of watchers
 abbrev pub states_in : {B : Type 0} → Reading B → List B → List State
 states_in w items = states_of w.kind w.tally items
 

@@ -12,10 +12,11 @@ pub record Written (S : Type 0) : Type 0 where
   pub err : List ℕ
   pub left : S
 
--- what a step writes of a record, and what records come to one after the other
+-- what a step writes of a record
 abbrev pub StepTo : {S R : Type 0} → Step S R → S → R → Written S → Type 0
 StepTo step s r a = step s r a.out a.err a.left
 
+-- what records come to one after the other
 abbrev pub LinesTo : {S R : Type 0} → Step S R → S → List R → Written S → Type 0
 LinesTo step s records a = Lines step s records a.out a.err a.left
 

@@ -49,7 +49,7 @@ pub record Progress : Type 0 where
   pub index : List ℤ
   pub value : List ℤ
 
--- so many variables have been made in the arrays of a row
+-- the first variables have been made in the arrays of a row, as far as the progress says
 pub record Filled (m : Making) (p : Progress) : Type 0 where
   pub front : Front m.number (columns m.vars) m.first p.site (columns (drop p.v m.vars)) p.from (take p.site p.index) (take p.v p.value)
   pub size : p.v + p.site + length (columns (drop p.v m.vars)) ≡ length (columns m.vars)

@@ -54,31 +54,36 @@ width-most W128 = omega arith
 pub not-fit : (p r : Range) (w : Width) (s : ℕ) (t : Tree) → FitsNot r → known p r w s t ≡ None
 not-fit p r w s t h = not-ruled p r w s t (λ a. let l = width-most w in let m = a.1.1 in h (a.1.0, omega (arith, l, m)))
 
--- the ends on a line: of no pair, or of this one
+-- the ends on a line, which are those of no pair
 pub no-ends : (o : Option Pair) (p : Range) → o ≡ None → AreEnds o p → FitsNot p
 no-ends None p e h = h
 no-ends (Some b) p e h = cc
 
+-- the ends on a line, which are those of this pair
 pub the-ends : (o : Option Pair) (b : Pair) (p : Range) → o ≡ Some b → AreEnds o p → range b ≡ p
 the-ends o b p e h = subst (λ (q : Option Pair). AreEnds q p) e h
 
 -- ---- the widths of operands
--- nothing is known on either side of a test
+-- where nothing is known, nothing is known after a test
 pub none-if : {A : Type 0} (b : Bool) (o : Option A) → o ≡ None → (if b then o else None) ≡ None
 none-if true o h = h
 none-if false o h = refl
 
+-- where a test fails, nothing is known
 pub none-then : {A : Type 0} (b : Bool) (o : Option A) → b ≡ false → (if b then o else None) ≡ None
 none-then true o e = cc
 none-then false o e = refl
 
+-- where nothing is known, nothing is known after two tests
 pub none-either : {A : Type 0} (b c : Bool) (o : Option A) → o ≡ None → (if b && c then o else None) ≡ None
 none-either b c o h = none-if (b && c) o h
 
+-- where the first of two tests fails, nothing is known
 pub none-left : {A : Type 0} (b c : Bool) (o : Option A) → b ≡ false → (if b && c then o else None) ≡ None
 none-left true c o e = cc
 none-left false c o e = refl
 
+-- where the second of two tests fails, nothing is known
 pub none-right : {A : Type 0} (b c : Bool) (o : Option A) → c ≡ false → (if b && c then o else None) ≡ None
 none-right b true o e = cc
 none-right true false o e = refl

@@ -1,6 +1,6 @@
 -- Proves what a rule on a range means where it holds, and when it holds.
-use Rattle.std.proofs.Common.{◌≡◌, ℕ, ℤ, ◌≤◌, ◌-◌, ◌^◌, Bool, true, false, refl, arith, ◌&&◌, ap}
-use Rattle.std.specs.Prelude.{Some, min, nat_le, int_le, ◌≤ℤ◌}
+use Rattle.std.proofs.Common.{◌≡◌, ℕ, ℤ, ◌≤◌, Bool, true, false, refl, arith, ◌&&◌, ap}
+use Rattle.std.specs.Prelude.{Some, nat_le, int_le, ◌≤ℤ◌}
 use Rattle.std.proofs.lemmas.Bool.{and_parts, leb-true, le-leb}
 use Rattle.std.proofs.lemmas.Int.{ints}
 use Rattle.ln_algebra.specs.Tree.{Tree}
@@ -73,11 +73,3 @@ pub range-ordered : (t : Two) (p q : Range) → IsOrdered p → IsOrdered q → 
 range-ordered Plus p q h g = sum_ordered p q h g
 range-ordered Minus p q h g = difference_ordered p q h g
 range-ordered Times p q h g = product_ordered p q
-
--- a number that is worked out up to 2^128 - 1
-pub under-most : (s b : ℕ) → s ≡ min b (2 ^ 128 - 1) → b ≤ most → s ≡ b
-under-most s b e h = omega (arith, e, h)
-
--- and where it is at most 2^127 - 1 it is exact
-pub not-most : (s b : ℕ) → s ≡ min b (2 ^ 128 - 1) → s ≤ most → s ≡ b
-not-most s b e h = omega (arith, e, h)
