@@ -15,6 +15,7 @@ use Rattle.ln_direct.specs.declared.point.Point.{Point}
 use Rattle.ln_direct.specs.declared.row.Row.{Row}
 use Rattle.ln_direct.specs.Points.{IsAt}
 use Rattle.ln_direct.specs.Rows.{IsBest, IsBestAt, sites_of, values_of}
+use Rattle.ln_direct.specs.Table.{IsLimit}
 use Rattle.ln_direct.specs.Vectors.{vector}
 
 -- ---- one vector more
@@ -148,3 +149,20 @@ row-point row point e d = record { perturbs = λ v. rw d (tested (ltb v 4) (get_
   tested : (b : Bool) (i : ℕ) → is_some (if b then Some i else None) ≡ b
   tested true i = refl
   tested false i = refl
+
+-- ---- what is too large
+-- a limit of at most 4 is the degree
+pub small-degree : (e : Tree) (d : ℕ) → IsLimit e d → d ≤ 4 → degree_of e ≤ 4
+small-degree e d h l = omega (arith, h, l)
+
+-- with a limit above 4 the degree is above 4
+pub large-degree : (e : Tree) (d : ℕ) → IsLimit e d → (d ≤ 4 → ⊥) → 4 < degree_of e
+large-degree e d h n = by_case (cases_lt 4 (degree_of e)) where
+  by_case : (4 < degree_of e) ⊎ (degree_of e ≤ 4) → 4 < degree_of e
+  by_case (inl i) = i
+  by_case (inr i) = absurd (n (omega (arith, h, i)))
+
+-- a fact that holds of whole tables, or numbers are too large
+pub complete : (l w f : Type 0) → l ⊎ w → (w → f) → l ⊎ f
+complete l w f (inl h) g = inl h
+complete l w f (inr h) g = inr (g h)

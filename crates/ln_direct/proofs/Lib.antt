@@ -1,6 +1,9 @@
 pub mod Digits
+pub mod Magnitudes
 pub mod Splitting
+pub mod Bounded
 pub mod Filling
+pub mod Operands
 pub mod Comparing
 pub mod Firsts
 pub mod Listings

@@ -9,8 +9,9 @@ use Rattle.ln_algebra.specs.Tree.{Tree, degree_of}
 use Rattle.ln_algebra.specs.Vector.{covers, total_degree}
 use Rattle.ln_direct.specs.declared.point.Point.{Point}
 use Rattle.ln_direct.specs.Points.{IsAt}
+use Rattle.ln_direct.specs.Sizes.{HasLarge, IsTooLarge}
 use Rattle.ln_direct.specs.Vectors.{vector}
-use Rattle.std.specs.Prelude.{None, leb}
+use Rattle.std.specs.Prelude.{Err, IfOk, IfSome, IsSome, MatchOption, None, Ok, Option, Result, Some, leb}
 use Rattle.ln_direct.proofs.Digits.{vector-none, vector-step}
 use Rattle.ln_direct.proofs.Firsts.{digits-number, number, vector-length}
 
@@ -69,3 +70,12 @@ origin point e d = record { perturbs = λ v. rw d refl; values = λ v. rw e (non
   none (suc (suc (suc zero))) = refl
   none (suc (suc (suc (suc zero)))) = refl
   none (suc (suc (suc (suc (suc v))))) = refl
+
+-- ---- the list
+-- the list of the covered vectors, or none where numbers are too large
+pub listed : {A B : Type 0} (P : A → Type 0) (e : Tree) (r : Result (Option A) B) → HasLarge (λ _. true) (λ _. pos 0) e ⊎ IfOk r IsSome
+    → IfOk r (λ o. IfSome o P) → IfOk r (λ o. MatchOption o (IsTooLarge (λ _. true) (λ _. pos 0) e) P)
+listed P e (Ok (Some v)) h i = i
+listed P e (Ok None) (inl h) i = inr h
+listed P e (Ok None) (inr h) i = absurd (cc h)
+listed P e (Err s) h i = tt

@@ -44,7 +44,7 @@ mapped P Q h None i = tt
 mapped P Q h (Some x) i = h x i
 
 -- the digits of a digit and more
-digits-one : (k b m : ℕ) → (k ≡ 0 → ⊥) → m < 5 → vector k (m + 5 * b) ≡ m ∷ vector (k - 1) b
+pub digits-one : (k b m : ℕ) → (k ≡ 0 → ⊥) → m < 5 → vector k (m + 5 * b) ≡ m ∷ vector (k - 1) b
 digits-one k b m n l =
     let e : (m + 5 * b) % 5 ≡ m = omega arith in
     let d : (m + 5 * b) / 5 ≡ b = omega arith in

@@ -1,5 +1,5 @@
 -- The first vector of a row.
-use Rattle.std.specs.Prelude.{◌≡◌, ◌≢◌, ◌<◌, ℕ, ℤ, pos, ltb, List, Option, Some, None, is_some, if◌then◌else◌}
+use Rattle.std.specs.Prelude.{◌≡◌, ◌≢◌, ◌<◌, ℕ, Bool, ℤ, pos, ltb, List, Option, Some, None, is_some, if◌then◌else◌}
 use Rattle.std.specs.Prelude.{slice_index, slice_index_or}
 use Rattle.ln_algebra.specs.Coefficient.{Series}
 use Rattle.ln_algebra.specs.Earlier.{IsOver, RanksBefore, Sites}
@@ -12,6 +12,7 @@ use Rattle.ln_direct.specs.declared.row.First.{First}
 use Rattle.ln_direct.specs.declared.row.First.TheVariants.{At, TooLarge, Zero}
 use Rattle.ln_direct.specs.declared.row.Row.{Row}
 use Rattle.ln_direct.specs.declared.table.Table.{Table}
+use Rattle.ln_direct.specs.Sizes.{IsTooLarge}
 use Rattle.ln_direct.specs.Table.{IsTable}
 use Rattle.ln_direct.specs.Vectors.{vector}
 
@@ -29,9 +30,14 @@ sites_of row = record { site = λ v. if ltb v 4 then Some (slice_index row.indic
 abbrev pub values_of : Row → ℕ → ℤ
 values_of row v = slice_index_or row.values v (pos 0)
 
+-- The variables of sites, which are perturbed.
+abbrev pub owned : Row → ℕ → Bool
+owned row v = is_some ((sites_of row).site v)
+
 -- What is returned is the first vector of the expression on a row, with its coefficient, or no vector has another coefficient than 0.
+-- `TooLarge` is returned only where the degree exceeds 4 or numbers may exceed 128 bits.
 abbrev pub IsFound : Rank → Row → Tree → First → Type 0
-IsFound rank row e TooLarge = Unit {0}
+IsFound rank row e TooLarge = IsTooLarge (owned row) (values_of row) e
 IsFound rank row e Zero = (a : List ℕ) → IsOver 5 (sites_of row) a → perturbed (sites_of row) (values_of row) e a ≡ pos 0
 IsFound rank row e (At a c) =
     IsFirstIn (Before rank (sites_of row)) 5 (sites_of row) (values_of row) e (vector 5 a)
@@ -57,4 +63,4 @@ IsBest rank sites f n (Some m) = IsBestAt rank sites f n m.0 m.1
 -- ---- tables
 -- The table is that of the expression on a row.
 abbrev pub IsTableOn : Row → Tree → Table → Type 0
-IsTableOn row e t = IsTable (λ v. is_some ((sites_of row).site v)) (values_of row) e t
+IsTableOn row e t = IsTable 625 (owned row) (values_of row) e t

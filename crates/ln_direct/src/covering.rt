@@ -1,12 +1,13 @@
 //! Lists the vectors that a monomial of the normal polynomial covers.
-ghost use Rattle.std.specs.Prelude.{◌≡◌, ◌≤◌, ◌↔◌, IfOk, IfSome, IsTrue, pos, true, ◌≢◌};
-ghost use Rattle.ln_algebra.specs.Coefficient.{normal_coefficient};
+ghost use Rattle.std.specs.Prelude.{◌≡◌, ◌≤◌, ◌↔◌, IfOk, IfSome, IsSome, IsTrue, MatchOption, pos, true, ◌≢◌};
+ghost use Rattle.ln_algebra.specs.Coefficient.{Series, normal_coefficient};
 ghost use Rattle.ln_algebra.specs.Stage.{Covered};
 ghost use Rattle.ln_algebra.specs.Tree.{Tree, degree_of};
 ghost use Rattle.ln_algebra.specs.Vector.{covers};
 ghost use Rattle.ln_direct.specs.Listing.{AreAll};
 ghost use Rattle.ln_direct.specs.Parts.{tree_of};
-ghost use Rattle.ln_direct.specs.Tables.{AreOf};
+ghost use Rattle.ln_direct.specs.Sizes.{IsTooLarge};
+ghost use Rattle.ln_direct.specs.Tables.{AreOf, IsWhole};
 ghost use Rattle.ln_direct.specs.Vectors.{vector};
 
 use crate::part::Part;
@@ -42,8 +43,9 @@ fn is_over(c: i128, m: usize, a: usize) -> bool
 
 // Does a monomial cover a, unless a coefficient is missing?
 fn is_covered(normal: &[i128], a: usize) -> Option<bool>
-    ensures { (e : Tree) → AreOf (normal_coefficient e) normal.now → degree_of e ≤ 4 →
+    ensures covers { (e : Tree) → AreOf (normal_coefficient e) normal.now → degree_of e ≤ 4 →
         IfSome result (λ t. IsTrue t ↔ Covered 5 e (vector 5 a)) }
+    ensures missing { (m : Series) → IsWhole 3125 m normal.now → IsSome result }
 {
     'monomials: for m in 0..VECTORS {
         let c = entry(normal, m)?;
@@ -56,8 +58,9 @@ fn is_covered(normal: &[i128], a: usize) -> Option<bool>
 
 // All vectors over the coordinates that a monomial covers, unless a coefficient is missing.
 fn all_covered(alloc: Global, normal: &[i128]) -> Result<Option<Vec<usize>>, NoMemory>
-    ensures { (e : Tree) → AreOf (normal_coefficient e) normal.now → degree_of e ≤ 4 →
+    ensures covers { (e : Tree) → AreOf (normal_coefficient e) normal.now → degree_of e ≤ 4 →
         IfOk result (λ o. IfSome o (λ all. AreAll (λ a. Covered 5 e (vector 5 a)) 625 all.items)) }
+    ensures missing { (m : Series) → IsWhole 3125 m normal.now → IfOk result IsSome }
 {
     let mut all = Vec::new(alloc);
     'vectors: for a in 0..OVER_SITES {
@@ -71,10 +74,11 @@ fn all_covered(alloc: Global, normal: &[i128]) -> Result<Option<Vec<usize>>, NoM
     Ok(Some(all))
 }
 
-/// The vectors over the four coordinates, with exponents up to 4, that a monomial of the normal polynomial covers. None where a number
-/// exceeds 128 bits or the degree exceeds 4.
+/// The vectors over the four coordinates, with exponents up to 4, that a monomial of the normal polynomial covers. None only where the
+/// degree exceeds 4 or numbers may exceed 128 bits, as `coefficients` says.
 pub fn covered(alloc: Global, parts: &[Part]) -> Result<Option<Vec<usize>>, NoMemory>
-    ensures { IfOk result (λ o. IfSome o (λ all. AreAll (λ a. Covered 5 (tree_of parts.now) (vector 5 a)) 625 all.items)) }
+    ensures { IfOk result (λ o. MatchOption o (IsTooLarge (λ _. true) (λ _. pos 0) (tree_of parts.now))
+        (λ all. AreAll (λ a. Covered 5 (tree_of parts.now) (vector 5 a)) 625 all.items)) }
 {
     let origin = Point {
         values: [0; 5],

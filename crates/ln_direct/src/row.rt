@@ -1,5 +1,5 @@
 //! Finds the first vector of a row, by comparing all vectors over the coordinates.
-ghost use Rattle.std.specs.Prelude.{◌≡◌, ◌↔◌, ◌<◌, ◌≤◌, ◌+◌, ℕ, IfOk, IfSome, IsTrue, pos, slice_index, slice_index_or};
+ghost use Rattle.std.specs.Prelude.{◌≡◌, ◌↔◌, ◌<◌, ◌≤◌, ◌+◌, ℕ, ◌⊎◌, IfOk, IfSome, IsSome, IsTrue, pos, slice_index, slice_index_or};
 ghost use Rattle.ln_algebra.specs.Coefficient.{Series};
 ghost use Rattle.ln_algebra.specs.Earlier.{Earlier, RanksBefore};
 ghost use Rattle.ln_algebra.specs.Orders.{Before, GradedEarlier, Rank};
@@ -8,8 +8,9 @@ ghost use Rattle.ln_algebra.specs.Tree.{Tree, degree_of};
 ghost use Rattle.ln_direct.specs.Parts.{tree_of};
 ghost use Rattle.ln_direct.specs.Listing.{IsCount};
 ghost use Rattle.ln_direct.specs.declared.row.Row.{Row};
-ghost use Rattle.ln_direct.specs.Rows.{DecidesAt, IsBest, IsTableOn, IsFound, rank_of, sites_of, values_of};
-ghost use Rattle.ln_direct.specs.Tables.{AreOf};
+ghost use Rattle.ln_direct.specs.Rows.{DecidesAt, IsBest, IsTableOn, IsFound, owned, rank_of, sites_of, values_of};
+ghost use Rattle.ln_direct.specs.Sizes.{HasLarge};
+ghost use Rattle.ln_direct.specs.Tables.{AreOf, IsWhole};
 ghost use Rattle.ln_direct.specs.Vectors.{vector};
 
 use crate::part::Part;
@@ -37,8 +38,8 @@ pub enum Order {
     Degree,
 }
 
-/// The first vector of a row and its coefficient; or that no vector has another coefficient than 0; or that a number exceeds 128 bits
-/// or the degree exceeds 4.
+/// The first vector of a row and its coefficient; or that no vector has another coefficient than 0; or that the degree exceeds 4 or numbers
+/// may exceed 128 bits, as `coefficients` says.
 #[derive(Clone, Copy)]
 pub enum First {
     TooLarge,
@@ -175,7 +176,8 @@ impl Row {
 
     // The first of all vectors over the coordinates whose coefficient isn't 0, unless a coefficient is missing.
     fn first_among(&self, order: Order, entries: &[i128]) -> Option<Option<(usize, i128)>>
-        ensures { (f : Series) → AreOf f entries.now → IfSome result (IsBest (rank_of order) (sites_of self.now) f 625) }
+        ensures best { (f : Series) → AreOf f entries.now → IfSome result (IsBest (rank_of order) (sites_of self.now) f 625) }
+        ensures missing { (m : Series) → IsWhole 625 m entries.now → IsSome result }
     {
         let mut best = None;
         'vectors: for a in 0..OVER_SITES {
@@ -223,7 +225,7 @@ impl Row {
 
 // What was found among all vectors.
 fn found(best: Option<Option<(usize, i128)>>) -> First
-    ensures { (rank : Rank) (row : Row) (e : Tree) → degree_of e ≤ 4 →
+    ensures { (rank : Rank) (row : Row) (e : Tree) → degree_of e ≤ 4 → HasLarge (owned row) (values_of row) e ⊎ IsSome best →
         IfSome best (IsBest rank (sites_of row) (perturbed (sites_of row) (values_of row) e) 625) → IsFound rank row e result }
 {
     match best {

@@ -1,13 +1,14 @@
 //! The coefficients of an expression, part by part.
-ghost use Rattle.std.specs.Prelude.{◌≡◌, ◌<◌, ◌≤◌, ◌+◌, ◌*◌, ◌+ℤ◌, ◌-ℤ◌, neg_ℤ, pos, max, ℕ, ℤ, Bool, List, []};
-ghost use Rattle.std.specs.Prelude.{IfOk, IfSome, Some, slice_get, true};
+ghost use Rattle.std.specs.Prelude.{◌≡◌, ◌<◌, ◌≤◌, ◌+ℤ◌, ◌-ℤ◌, ◌⊎◌, ◌↔◌, neg_ℤ, pos, ℕ, ℤ, Bool, List, [], length};
+ghost use Rattle.std.specs.Prelude.{IfOk, IfSome, IsTrue, Some, slice_get};
 ghost use Rattle.ln_algebra.specs.Coefficient.{coefficient, constant, variable};
-ghost use Rattle.ln_algebra.specs.Tree.{Tree, Num, Pow, degree_of};
+ghost use Rattle.ln_algebra.specs.Tree.{Tree, Num, Pow};
 ghost use Rattle.ln_algebra.specs.Vector.{total_degree};
 ghost use Rattle.ln_direct.specs.Parts.{combined, operand, tree_of, tree_of_part, trees_after};
 ghost use Rattle.ln_direct.specs.Points.{IsAt};
-ghost use Rattle.ln_direct.specs.Table.{AreTables, IsEntry, IsList, IsTable};
-ghost use Rattle.ln_direct.specs.Tables.{AreOf};
+ghost use Rattle.ln_direct.specs.Sizes.{HasLarge, IsHeld};
+ghost use Rattle.ln_direct.specs.Table.{AreOperands, AreTables, IsEntry, IsLimit, IsList, IsNoPower, IsTable};
+ghost use Rattle.ln_direct.specs.Tables.{AreOf, IsEntryUpTo};
 ghost use Rattle.ln_direct.specs.Vectors.{vector};
 
 use crate::part::Part;
@@ -20,11 +21,11 @@ use std::alloc::Global;
 /// How many vectors there are of five exponents up to 4.
 pub(crate) const VECTORS: usize = 3125;
 
-/// The coefficients of an expression at the first vectors, up to the first that exceeds 128 bits, and a number that its degree doesn't
-/// exceed, if there is one of 64 bits.
+/// The degree of an expression, or 2^64 - 1 where it exceeds that, and its coefficients at the first vectors, up to the first that exceeds
+/// 128 bits.
 #[derive(Drop)]
 pub(crate) struct Table {
-    pub(crate) limit: Option<usize>,
+    pub(crate) limit: usize,
     pub(crate) entries: Vec<i128>,
 }
 
@@ -49,14 +50,16 @@ fn variable(point: &Point, v: usize, a: usize) -> i128
 }
 
 fn minus(e: &[i128], a: usize) -> Option<i128>
-    ensures { IfSome result (λ z. (x : ℤ) × (slice_get e.now a ≡ Some x) × (z ≡ neg_ℤ x)) }
+    ensures value { IfSome result (λ z. (x : ℤ) × (slice_get e.now a ≡ Some x) × (z ≡ neg_ℤ x)) }
+    ensures held { (m : ℤ) → IsEntryUpTo e.now a m → IsHeld m result }
 {
     let x = entry(e, a)?;
     x.checked_neg()
 }
 
 fn sum(left: &[i128], right: &[i128], a: usize) -> Option<i128>
-    ensures { IfSome result (λ z. (x : ℤ) × (y : ℤ) × (slice_get left.now a ≡ Some x) × (slice_get right.now a ≡ Some y) × (z ≡ x +ℤ y)) }
+    ensures value { IfSome result (λ z. (x : ℤ) × (y : ℤ) × (slice_get left.now a ≡ Some x) × (slice_get right.now a ≡ Some y) × (z ≡ x +ℤ y)) }
+    ensures held { (m n : ℤ) → IsEntryUpTo left.now a m → IsEntryUpTo right.now a n → IsHeld (m +ℤ n) result }
 {
     let x = entry(left, a)?;
     let y = entry(right, a)?;
@@ -64,75 +67,41 @@ fn sum(left: &[i128], right: &[i128], a: usize) -> Option<i128>
 }
 
 fn difference(left: &[i128], right: &[i128], a: usize) -> Option<i128>
-    ensures { IfSome result (λ z. (x : ℤ) × (y : ℤ) × (slice_get left.now a ≡ Some x) × (slice_get right.now a ≡ Some y) × (z ≡ x -ℤ y)) }
+    ensures value { IfSome result (λ z. (x : ℤ) × (y : ℤ) × (slice_get left.now a ≡ Some x) × (slice_get right.now a ≡ Some y) × (z ≡ x -ℤ y)) }
+    ensures held { (m n : ℤ) → IsEntryUpTo left.now a m → IsEntryUpTo right.now a n → IsHeld (m +ℤ n) result }
 {
     let x = entry(left, a)?;
     let y = entry(right, a)?;
     x.checked_sub(y)
 }
 
-// The larger of two limits.
-fn larger(left: Option<usize>, right: Option<usize>) -> Option<usize>
-    ensures { (l r : Tree) → IfSome left (λ d. degree_of l ≤ d) → IfSome right (λ d. degree_of r ≤ d) →
-        IfSome result (λ d. max (degree_of l) (degree_of r) ≤ d) }
-{
-    let x = left?;
-    let y = right?;
-    Some(x.max(y))
-}
-
-// The sum of two limits.
-fn together(left: Option<usize>, right: Option<usize>) -> Option<usize>
-    ensures { (l r : Tree) → IfSome left (λ d. degree_of l ≤ d) → IfSome right (λ d. degree_of r ≤ d) →
-        IfSome result (λ d. degree_of l + degree_of r ≤ d) }
-{
-    let x = left?;
-    let y = right?;
-    x.checked_add(y)
-}
-
-// n times a limit.
-fn repeated(limit: Option<usize>, n: u8) -> Option<usize>
-    ensures { (e : Tree) → IfSome limit (λ d. degree_of e ≤ d) → IfSome result (λ d. n * degree_of e ≤ d) }
-{
-    let x = limit?;
-    usize::from(n).checked_mul(x)
-}
-
-// A number that the degree of a part doesn't exceed.
-fn limit_of(part: Part, left: Option<usize>, right: Option<usize>) -> Option<usize>
-    ensures { (l r : Tree) → IfSome left (λ d. degree_of l ≤ d) → IfSome right (λ d. degree_of r ≤ d) →
-        IfSome result (λ d. degree_of (combined part l r) ≤ d) }
+// The limit of a part, from those of its operands.
+fn limit_of(part: Part, left: usize, right: usize) -> usize
+    ensures { (l r : Tree) → IsLimit l left → IsLimit r right → IsLimit (combined part l r) result }
 {
     match part {
-        Part::Number(_) => Some(0),
-        Part::Input(_) => Some(1),
+        Part::Number(_) => 0,
+        Part::Input(_) => 1,
         Part::Minus(_) => left,
-        Part::Sum(_, _) => larger(left, right),
-        Part::Difference(_, _) => larger(left, right),
-        Part::Product(_, _) => together(left, right),
-        Part::Power(_, n) => repeated(left, n),
+        Part::Sum(_, _) => left.max(right),
+        Part::Difference(_, _) => left.max(right),
+        Part::Product(_, _) => left.saturating_add(right),
+        Part::Power(_, n) => usize::from(n).saturating_mul(left),
     }
 }
 
-// Is the degree known to be at most 4?
-pub(crate) fn is_small(limit: Option<usize>) -> bool
-    ensures { (n : ℕ) → IfSome limit (λ d. n ≤ d) → result ≡ true → n ≤ 4 }
+// Is the degree at most 4?
+pub(crate) fn is_small(limit: usize) -> bool
+    ensures { IsTrue result ↔ limit ≤ 4 }
 {
-    match limit {
-        Some(d) => d <= 4,
-        None => false,
-    }
+    limit <= 4
 }
 
 // Is the total degree of a vector above a limit?
-fn is_past(limit: Option<usize>, a: usize) -> bool
-    ensures { result ≡ true → (d : ℕ) × (limit ≡ Some d) × (d < total_degree (vector 5 a)) }
+fn is_past(limit: usize, a: usize) -> bool
+    ensures { IsTrue result ↔ limit < total_degree (vector 5 a) }
 {
-    match limit {
-        Some(d) => d < degree(5, a),
-        None => false,
-    }
+    limit < degree(5, a)
 }
 
 // The coefficient of a part at a vector, from those of its operands. A power is made of products.
@@ -169,12 +138,12 @@ fn coefficients_of(
     right: &Table,
     point: &Point,
 ) -> Result<Vec<i128>, NoMemory>
-    ensures { IfOk result (λ t. IsList part left.now right.now point.now t.items) }
+    ensures { IfOk result (λ t. IsList size size part left.now right.now point.now t.items) }
 {
     let mut all = Vec::new(alloc);
-    'vectors: for _ in 0..size {
-        let Some(c) = coefficient_of(part, left, right, point, all.len()) else {
-            break;
+    'vectors: for a in 0..size {
+        let Some(c) = coefficient_of(part, left, right, point, a) else {
+            return Ok(all);
         };
         all.push(c)?;
     }
@@ -190,8 +159,8 @@ fn table_over(
     right: &Table,
     point: &Point,
 ) -> Result<Table, NoMemory>
-    ensures { (p : ℕ → Bool) (x : ℕ → ℤ) (l r : Tree) → IsAt point.now p x → IsTable p x l left.now → IsTable p x r right.now →
-        IfOk result (IsTable p x (combined part l r)) }
+    ensures { (p : ℕ → Bool) (x : ℕ → ℤ) (l r : Tree) → IsNoPower part → AreOperands size p x l r left.now right.now point.now →
+        IfOk result (IsTable size p x (combined part l r)) }
 {
     let entries = coefficients_of(alloc, size, part, left, right, point)?;
     let limit = limit_of(part, left.limit, right.limit);
@@ -200,7 +169,8 @@ fn table_over(
 
 // The table of a power: the number 1, and from there the product of the power before it and the base.
 fn power(alloc: Global, size: usize, base: &Table, n: u8, point: &Point) -> Result<Table, NoMemory>
-    ensures { (p : ℕ → Bool) (x : ℕ → ℤ) (e : Tree) → IsAt point.now p x → IsTable p x e base.now → IfOk result (IsTable p x (Pow e n)) }
+    ensures { (p : ℕ → Bool) (x : ℕ → ℤ) (e : Tree) → IsAt point.now p x → IsTable size p x e base.now →
+        IfOk result (IsTable size p x (Pow e n)) }
 {
     let mut power = table_over(alloc, size, Part::Number(1), base, base, point)?;
     'factors: for _ in 0..n {
@@ -211,9 +181,9 @@ fn power(alloc: Global, size: usize, base: &Table, n: u8, point: &Point) -> Resu
 }
 
 // The table of an operand, which is the number 0 where there is none.
-pub(crate) fn at<'a>(all: &'a [Table], place: Option<usize>, zero: &'a Table) -> &'a Table
-    ensures { (p : ℕ → Bool) (x : ℕ → ℤ) (done : List Tree) → AreTables p x all.now done → IsTable p x (Num (pos 0)) zero.now →
-        IsTable p x (operand done place) result.now }
+fn at<'a>(all: &'a [Table], place: Option<usize>, zero: &'a Table) -> &'a Table
+    ensures { (n : ℕ) (p : ℕ → Bool) (x : ℕ → ℤ) (done : List Tree) → AreTables n p x all.now done → IsTable n p x (Num (pos 0)) zero.now →
+        IsTable n p x (operand done place) result.now }
 {
     match place {
         Some(k) => match all.get(k) {
@@ -224,44 +194,54 @@ pub(crate) fn at<'a>(all: &'a [Table], place: Option<usize>, zero: &'a Table) ->
     }
 }
 
-// The table of the number 0 without an entry.
-pub(crate) fn nothing(alloc: Global) -> Table
-    ensures { (p : ℕ → Bool) (x : ℕ → ℤ) → IsTable p x (Num (pos 0)) result }
+// The table of the number 0.
+fn nothing(alloc: Global, size: usize) -> Result<Table, NoMemory>
+    ensures { (p : ℕ → Bool) (x : ℕ → ℤ) → IfOk result (IsTable size p x (Num (pos 0))) }
 {
-    Table {
-        limit: Some(0),
-        entries: Vec::new(alloc),
-    }
+    let entries = vec![in alloc; 0i128; size]?;
+    Ok(Table { limit: 0, entries })
 }
 
-// The table of a part over the tables of the parts before it.
+// The table of a part over the tables of the parts before it and that of the number 0.
 fn table_of(
     alloc: Global,
     size: usize,
     part: Part,
     all: &[Table],
+    zero: &Table,
     point: &Point,
 ) -> Result<Table, NoMemory>
-    ensures { (p : ℕ → Bool) (x : ℕ → ℤ) (done : List Tree) → IsAt point.now p x → AreTables p x all.now done →
-        IfOk result (IsTable p x (tree_of_part done part)) }
+    ensures { (p : ℕ → Bool) (x : ℕ → ℤ) (done : List Tree) → IsAt point.now p x → AreTables size p x all.now done →
+        IsTable size p x (Num (pos 0)) zero.now → IfOk result (IsTable size p x (tree_of_part done part)) }
 {
-    let zero = nothing(alloc);
     let (left, right) = part.operands();
-    let left = at(all, left, &zero);
-    let right = at(all, right, &zero);
+    let left = at(all, left, zero);
+    let right = at(all, right, zero);
     match part {
         Part::Power(_, n) => power(alloc, size, left, n, point),
-        _ => table_over(alloc, size, part, left, right, point),
+        Part::Number(_)
+        | Part::Input(_)
+        | Part::Minus(_)
+        | Part::Sum(_, _)
+        | Part::Difference(_, _)
+        | Part::Product(_, _) => table_over(alloc, size, part, left, right, point),
     }
 }
 
 // The tables of all parts.
-fn tables(alloc: Global, size: usize, parts: &[Part], point: &Point) -> Result<Vec<Table>, NoMemory>
-    ensures { (p : ℕ → Bool) (x : ℕ → ℤ) → IsAt point.now p x → IfOk result (λ all. AreTables p x all.items (trees_after [] parts.now)) }
+fn tables(
+    alloc: Global,
+    size: usize,
+    parts: &[Part],
+    zero: &Table,
+    point: &Point,
+) -> Result<Vec<Table>, NoMemory>
+    ensures { (p : ℕ → Bool) (x : ℕ → ℤ) → IsAt point.now p x → IsTable size p x (Num (pos 0)) zero.now →
+        IfOk result (λ all. AreTables size p x all.items (trees_after [] parts.now)) }
 {
     let mut all = Vec::new(alloc);
     'parts: for part in parts {
-        let next = table_of(alloc, size, *part, &all, point)?;
+        let next = table_of(alloc, size, *part, &all, zero, point)?;
         all.push(next)?;
     }
     Ok(all)
@@ -274,19 +254,24 @@ pub(crate) fn whole(
     parts: &[Part],
     point: &Point,
 ) -> Result<Table, NoMemory>
-    ensures { (p : ℕ → Bool) (x : ℕ → ℤ) → IsAt point.now p x → IfOk result (IsTable p x (tree_of parts.now)) }
+    ensures { (p : ℕ → Bool) (x : ℕ → ℤ) → IsAt point.now p x → IfOk result (IsTable size p x (tree_of parts.now)) }
 {
-    let mut all = tables(alloc, size, parts, point)?;
+    let zero = nothing(alloc, size)?;
+    let mut all = tables(alloc, size, parts, &zero, point)?;
     match all.pop() {
         Some(table) => Ok(table),
-        None => Ok(nothing(alloc)),
+        None => Ok(zero),
     }
 }
 
 /// The coefficients of an expression at a point, at the first 3125 vectors: number a of the list is that at the vector of the digits of a
-/// in base 5, the exponent of input 0 last in the number. The list is shorter where a coefficient exceeds 128 bits.
+/// in base 5, the exponent of input 0 last in the number. The list is shorter only where numbers may exceed 128 bits: where a coefficient of
+/// the expression or a part of it, with a plus in place of each minus, is 2^127 or more at the absolute values.
 pub fn coefficients(alloc: Global, parts: &[Part], point: &Point) -> Result<Vec<i128>, NoMemory>
-    ensures { (p : ℕ → Bool) (x : ℕ → ℤ) → IsAt point.now p x → IfOk result (λ all. AreOf (coefficient p x (tree_of parts.now)) all.items) }
+    ensures values { (p : ℕ → Bool) (x : ℕ → ℤ) → IsAt point.now p x →
+        IfOk result (λ all. AreOf (coefficient p x (tree_of parts.now)) all.items) }
+    ensures all { (p : ℕ → Bool) (x : ℕ → ℤ) → IsAt point.now p x →
+        IfOk result (λ all. HasLarge p x (tree_of parts.now) ⊎ (length all.items ≡ 3125)) }
 {
     let table = whole(alloc, VECTORS, parts, point)?;
     Ok(table.entries)

@@ -8,7 +8,7 @@ use Rattle.ln_direct.proofs.Firsts.{found-none, found-one}
 use Rattle.ln_direct.proofs.row.found.Goals as goal
 
 pub returns-in-Some-first : goal.returns-in-Some-first
-returns-in-Some-first c rank row e l h =
+returns-in-Some-first c rank row e l k h =
     let f = perturbed (sites_of row) (values_of row) e in
     let fits : FitsSigned w128 c.in-Some-first.c = search rules in
     let i : c.args.best ≡ Some (Some (c.in-Some-first.a, c.in-Some-first.c)) = c.in-Some.is ∙ ap (λ (o : Option (ℕ × ℤ)). Some o) c.in-Some-first.is in
@@ -16,7 +16,7 @@ returns-in-Some-first c rank row e l h =
     (found-one rank row e l c.in-Some-first.a c.in-Some-first.c m, to_z-of_z w128 c.in-Some-first.c fits ∙ m.value)
 
 pub returns-in-None-first : goal.returns-in-None-first
-returns-in-None-first c rank row e l h =
+returns-in-None-first c rank row e l k h =
     let f = perturbed (sites_of row) (values_of row) e in
     let i : c.args.best ≡ Some None = c.in-Some.is ∙ ap (λ (o : Option (ℕ × ℤ)). Some o) c.in-None-first.is in
     found-none rank row e l (subst (λ (o : Option (Option (ℕ × ℤ))). IfSome o (IsBest rank (sites_of row) f 625)) i h)

@@ -6,15 +6,8 @@ use Rattle.ln_direct.specs.Table.{IsTable}
 use Rattle.ln_direct.proofs.table.table_of.Goals as goal
 
 pub returns-in-Power : goal.returns-in-Power
-returns-in-Power c p x done i a =
-    let left = c.at-left.ensures p x done a (c.nothing-zero.ensures p x) in
+returns-in-Power c p x done i a z =
+    let left = c.at-left.ensures c.args.size p x done a z in
     let e : tree_of_part done c.args.part ≡ Pow (operand done c.operands-left.result.0) c.in-Power.n =
     c.operands-left.ensures done ∙ ap (λ q. combined q (operand done c.operands-left.result.0) (operand done c.operands-left.result.1)) c.in-Power.is in
-    subst (λ (t : Tree). IfOk c.power.result (IsTable p x t)) (sym e) (c.power.ensures p x (operand done c.operands-left.result.0) i left)
-
-pub returns : goal.returns
-returns c p x done i a =
-    let left = c.at-left.ensures p x done a (c.nothing-zero.ensures p x) in
-    let right = c.at-right.ensures p x done a (c.nothing-zero.ensures p x) in
-    subst (λ (t : Tree). IfOk c.table_over.result (IsTable p x t)) (sym (c.operands-left.ensures done))
-    (c.table_over.ensures p x (operand done c.operands-left.result.0) (operand done c.operands-left.result.1) i left right)
+    subst (λ (t : Tree). IfOk c.power.result (IsTable c.args.size p x t)) (sym e) (c.power.ensures p x (operand done c.operands-left.result.0) i left)
