@@ -53,11 +53,13 @@ module _ (rank : Rank) (row : Row) (f : Series) where
         let q : k ≡ a = omega arith in
         absurd (n (subst (λ (j : ℕ). Before rank (sites_of row) (vector 5 j) (vector 5 b)) q g))
 
+  -- where a first vector was found and the next one, whose value isn't 0, is before it, the next one is the first
   pub takes-in : (best : Option (ℕ × ℤ)) (a b : ℕ) (c d z : ℤ) → best ≡ Some (b, d) → z ≡ c → (c ≡ pos 0 → ⊥) → c ≡ f (vector 5 a)
       → Before rank (sites_of row) (vector 5 a) (vector 5 b) → IsBest rank (sites_of row) f a best → IsBestAt rank (sites_of row) f (a + 1) a z
   takes-in best a b c d z q e n v h m =
       takes a b c d z e n v h (subst (λ (o : Option (ℕ × ℤ)). IsBest rank (sites_of row) f a o) q m)
 
+  -- where a first vector was found and the next one isn't before it, it stays the first
   pub keeps-in : (best : Option (ℕ × ℤ)) (a b : ℕ) (d : ℤ) → best ≡ Some (b, d) → (Before rank (sites_of row) (vector 5 a) (vector 5 b) → ⊥)
       → IsBest rank (sites_of row) f a best → IsBest rank (sites_of row) f (a + 1) best
   keeps-in best a b d q n m =

@@ -17,15 +17,18 @@ use Rattle.ln_direct.proofs.Firsts.{digits-number, number, vector-length}
 
 -- ---- digit by digit
 module _ (k m a : ℕ) where
+  -- a vector without exponents covers another without any
   pub covers-none : k ≡ 0 → true ≡ covers (vector k m) (vector k a)
   covers-none e = rw (vector-none k m e, vector-none k a e) refl
 
+  -- where the first digit of m is at least that of a, the other digits decide whether m covers a
   pub covers-here : (r : Bool) → (k ≡ 0 → ⊥) → a % 5 ≤ m % 5 → r ≡ covers (vector (k - 1) (m / 5)) (vector (k - 1) (a / 5))
       → r ≡ covers (vector k m) (vector k a)
   covers-here r n l h =
       let e : leb (a % 5) (m % 5) ≡ true = le-leb (a % 5) (m % 5) l in
       rw (vector-step k m n, vector-step k a n, e) h
 
+  -- where the first digit of m is below that of a, m doesn't cover a
   pub covers-not : (k ≡ 0 → ⊥) → m % 5 < a % 5 → false ≡ covers (vector k m) (vector k a)
   covers-not n l =
       let e : leb (a % 5) (m % 5) ≡ false = lt-leb (a % 5) (m % 5) l in

@@ -66,10 +66,12 @@ module _ (ps : List Part) (which : List ℕ) (r : Row) (k : ℕ) (h : k < length
       let q : f.place ≡ get_or which k 0 = cc in
       rw (← q) f.there
 
+  -- the scratch of the factor at hand is made for it
   pub made-here : (ss : List Scratch) (s : Scratch) → AreMadeFor ps which ss → (p : Part) → slice_get ps (get_or which k 0) ≡ Some p
       → MadeFor p (get_or ss k s)
   made-here ss s m p e = m.made k p (get_or ss k s) (factor-here p e) (there-at ss k s (omega (arith, h, m.size)))
 
+  -- the row is in range for the factor at hand
   pub range-here : IsRowOfFactors ps which r → (p : Part) → slice_get ps (get_or which k 0) ≡ Some p
       → InRange p.shape.sites p.shape.vars (row_of p.shape.sites p.shape.vars r)
   range-here o p e = let a = o.alike k p (factor-here p e) in rw (a.0, a.1) o.range
@@ -87,11 +89,12 @@ module _ (ps : List Part) (which : List ℕ) (r : Row) (k : ℕ) (h : k < length
         let w : s ≡ t = cc in
         subst (λ (u : Scratch). MadeFor p u) w (new p (place-here p g))
 
-  -- its verdict is filled in, after those before it
+  -- the verdicts at the first n places are those of the factors on the row
   abbrev pub AreFilled : ℕ → List Verdict → Type 0
   AreFilled n vs = (j : ℕ) (p : Part) (v : Verdict) → j < n → IsFactor ps which j p → slice_get vs j ≡ Some v
       → IsVerdict p (row_of p.shape.sites p.shape.vars r) v
 
+  -- the verdict of the factor at hand is filled in, after those before it
   pub filled-more : (vs : List Verdict) (v : Verdict) → length vs ≡ length which → AreFilled k vs
       → ((p : Part) → slice_get ps (get_or which k 0) ≡ Some p → IsVerdict p (row_of p.shape.sites p.shape.vars r) v)
       → AreFilled (k + 1) (set vs k v)

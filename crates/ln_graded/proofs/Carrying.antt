@@ -73,6 +73,7 @@ module _ (k : ℕ) (vars : List VarInfo) (f : Sparse) (st : Staged) (blocks : Li
       (get_or (vectors_of (length vars) st) m.0 [])) here s in
       subst (λ (q : List (List ℕ)). IsStageListBy (GradedEarlier (sites_of vars o)) (length vars) (sites_of vars o) (IsMonomialOf (length vars) f) q) (v ∙ u) t
 
+  -- there are exactly as many blocks as the stages have exponents
   pub as-many : length blocks ≡ length st.exps
   as-many = omega (arith, ap length made, length-map blocks (λ (c : Code). vector (length vars) c.exps), length-map st.exps (vector (length vars)))
 
@@ -82,6 +83,7 @@ module _ (k : ℕ) (vars : List VarInfo) (f : Sparse) (st : Staged) (blocks : Li
       (λ list. map (block_vector (length vars) st.exps) list) st.lists (λ list. map-same (block_vector (length vars)
       (map (λ (c : Code). c.exps) blocks)) (block_vector (length vars) st.exps) list (same-at (length vars) blocks st.exps made))
 
+  -- the lists that the part joins for all orders are, as exponent vectors of its blocks, those of the stages
   pub own-vectors : map (λ list. map (block_vector (length vars) (map (λ (c : Code). c.exps) blocks)) list) (map own (orders_of k))
       ≡ vectors_of (length vars) st
   own-vectors = ap (map (λ list. map (block_vector (length vars) (map (λ (c : Code). c.exps) blocks)) list)) (sym own-lists) ∙ same-vectors

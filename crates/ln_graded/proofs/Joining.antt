@@ -50,6 +50,7 @@ few-ops filter own ops cover len heavy h k l m n = omega (arith, h, k, l, m, n)
 module _ (s : Shape) (f : Sparse) (p : Part) (st : Staged) (blocks : List Code) (poly : IsGradable s.vars f) (b : Begins s f p)
     (k : IsProgram p) (stages : AreGradedStagesOf s.sites s.vars f st)
     (light : stage_weight (length s.vars) f (vectors_of (length s.vars) st) ≤ 131072) (made : AreBlocksOf s.vars f b.own st.exps blocks) where
+  -- the program by total degree: over the shape, with the filter of p, these blocks and the segments of the stages
   abbrev pub part : Part
   part = record { shape = s; filter = p.filter; blocks = blocks; segments = st.segments }
 
@@ -70,6 +71,7 @@ module _ (s : Shape) (f : Sparse) (p : Part) (st : Staged) (blocks : List Code) 
   lighter : length st.exps ≤ stage_weight (length s.vars) f (vectors_of (length s.vars) st)
   lighter = members.light-blocks ByDegree s.sites s.vars f (vectors_of (length s.vars) st) stages.lists st.exps stages.first_sight poly.form poly.below
 
+  -- its blocks and filter follow the rules, its operations are few enough, and each list names blocks of its own, none twice
   pub is-program : IsProgram part
   is-program = record {
     blocks = λ j d l. (made.each j d l).rules;
@@ -85,6 +87,7 @@ module _ (s : Shape) (f : Sparse) (p : Part) (st : Staged) (blocks : List Code) 
   its-vectors : map (vectors part) (lists_of part) ≡ vectors_of (length s.vars) st
   its-vectors = own-vectors s.sites s.vars f st blocks stages made.vectors
 
+  -- it is p by total degree: it has p's filter and block 0, and its lists are the stage lists by total degree
   pub is-graded : IsGraded s f p part
   is-graded = record {
     shape = refl;
@@ -100,6 +103,7 @@ module _ (s : Shape) (f : Sparse) (p : Part) (st : Staged) (blocks : List Code) 
     whole = λ o j q l. ap (λ n. beside (prefixes_of n) st.segments (take j o)) (sym stages.sites) ∙ stages.whole o j q l;
   }
 
+  -- its lists have no more stages, and no more weight, than those of the stages that it was made from
   pub is-within : IsWithin s f (stage_count (vectors_of (length s.vars) st)) (stage_weight (length s.vars) f (vectors_of (length s.vars) st)) part
   is-within = record {
     count = omega (arith, ap stage_count its-vectors);

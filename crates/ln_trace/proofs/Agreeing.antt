@@ -147,6 +147,7 @@ module _ (s : Subject) (differ : RowsDiffer s) (some : HaveStages s) where
       (go-behind s (Between k (fields ∷ records)) (Between (k + 1) records) (Between (k + suc (length records)) []) front rest
       (record-go k (k + 1) fields records front refl ex) g)
 
+  -- lines that explain each record, from the first on, are an agreed trace
   pub explained-agreed : (records : Records) (lines : List TraceLine) → AreExplained s 1 records lines → IsAgreed s records lines
   explained-agreed records lines h =
       let w : 0 + length records ≡ length records = omega arith in

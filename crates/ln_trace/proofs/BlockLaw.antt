@@ -82,6 +82,7 @@ module _ (p : Part) (e : Tree) (zs : List ℤ) (sites : Sites) where
       get_or-map (λ (c : Code). c.exps) p.blocks k no_code [] i ∙ ap (λ (c : Code). c.exps) g in
       (ap (vector (length vars)) (t.same ∙ sym m), some-same z (perturbed sites x e (stage_at p k)) (sym t.value ∙ ap (block_value zs) (sym b) ∙ h.value))
 
+  -- the lines of a list of blocks are its stages with their coefficients, up to the first that isn't 0, and the sign along them
   pub along : {ks : List ℕ} {lines : List TraceLine} → Tell p zs ks lines → Computes p e zs sites ks → Along vars sites x e (vectors p ks) lines
   along none_left c = record { pairs = []; sign = Zero; all = refl; are = tt; right = refl }
   along (it_decides k ks exps z t n) c =

@@ -89,11 +89,13 @@ module _ (p : Part) (zs : List ℤ) (segment old now new : List ℕ) (i n : ℕ)
   here : (rest : List ℕ) → TellOn p zs (segment ++ rest) (n ∷ (drop (i + 1) segment ++ rest)) old now
   here rest = subst (λ (y : List ℕ). TellOn p zs (segment ++ rest) y old now) (ahead segment rest i n h e) (so_far rest)
 
+  -- with the line of one more block of a segment, what is out goes up to the block after it
   pub segment-on : ((rest : List ℕ) → TellOn p zs (n ∷ rest) rest now new) → (rest : List ℕ)
       → TellOn p zs (segment ++ rest) (drop (i + 1) segment ++ rest) old new
   segment-on f rest = on-on p zs (segment ++ rest) (n ∷ (drop (i + 1) segment ++ rest)) (drop (i + 1) segment ++ rest) old now new
       (here rest) (f (drop (i + 1) segment ++ rest))
 
+  -- where a block of a segment decides, all is out, whatever blocks come after the segment
   pub segment-told : ((rest : List ℕ) → IsTold p zs (n ∷ rest) now new) → (rest : List ℕ) → IsTold p zs (segment ++ rest) old new
   segment-told f rest = on-told p zs (segment ++ rest) (n ∷ (drop (i + 1) segment ++ rest)) old now new (here rest) (f (drop (i + 1) segment ++ rest))
 
@@ -108,9 +110,11 @@ module _ (p : Part) (zs : List ℤ) (o segment list old now new : List ℕ) (j :
   from-here : TellOn p zs list (segment ++ list_from p o (j + 1)) old now
   from-here = subst (λ (y : List ℕ). TellOn p zs list y old now) (list_goes p o j h ∙ ap (λ y. y ++ list_from p o (j + 1)) (sym there)) so_far
 
+  -- with the lines of one more segment, what is out goes up to the next segment of the order's list
   pub list-on : ((rest : List ℕ) → TellOn p zs (segment ++ rest) rest now new) → TellOn p zs list (list_from p o (j + 1)) old new
   list-on f = on-on p zs list (segment ++ list_from p o (j + 1)) (list_from p o (j + 1)) old now new from-here (f (list_from p o (j + 1)))
 
+  -- where a segment decides, all lines of the order's list are out
   pub list-told : ((rest : List ℕ) → IsTold p zs (segment ++ rest) now new) → IsTold p zs list old new
   list-told f = on-told p zs list (segment ++ list_from p o (j + 1)) old now new from-here (f (list_from p o (j + 1)))
 

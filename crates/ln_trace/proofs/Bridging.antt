@@ -49,11 +49,12 @@ module _ (s : Shape) (row : Row) (places : List ℕ) (range : InRange s.sites s.
   pub next-may : (zs : List ℤ) (a : List ℕ) (z : ℤ) → Next zs a z → MayStand (length s.vars) (sites_of s.vars places) e stood a
   next-may zs a z n = record { zeros = n.zeros; later = last-to stood a n.later; members = λ b k l. n.members b (stage-from b k) ((same b a).1 l) }
 
-  -- each stage stood, by either
+  -- where each stage by the row's own indices stood, each stage by the order did
   pub all-to : ((b : List ℕ) → IsStage (length s.vars) (row_sites s.vars row.index) e b → In (vectors_in stood) b) → (b : List ℕ)
       → IsStage (length s.vars) (sites_of s.vars places) e b → In (vectors_in stood) b
   all-to h b k = h b (stage-from b k)
 
+  -- where each stage by the order stood, each stage by the row's own indices did
   pub all-from : ((b : List ℕ) → IsStage (length s.vars) (sites_of s.vars places) e b → In (vectors_in stood) b) → (b : List ℕ)
       → IsStage (length s.vars) (row_sites s.vars row.index) e b → In (vectors_in stood) b
   all-from h b k = h b (stage-to b k)

@@ -49,6 +49,7 @@ bool-apart : (x : Bool) → x ≡ true → x ≡ false → ⊥
 bool-apart x y z = cc
 
 module _ (s : Shape) (e : Tree) (f : Sparse) (st : Staged) (records : Records) (ls : List TraceLine) (d : Desk) where
+  -- with no row open and no record seen, what is held is for the place before the first line
   pub stands-first : d.inside ≡ false → d.seen ≡ 0 → Stands s e st records ls records d 0
   stands-first a b = record { here = Between 0 records; come = refl; is = (a, b, refl) }
 
@@ -109,10 +110,12 @@ pub record Midway (s : Shape) (e : Tree) (st : Staged) (records : Records) (ls :
   pub stands : Stands s e st records ls rows d at
 
 module _ (s : Shape) (e : Tree) (f : Sparse) (st : Staged) (records : Records) (ls : List TraceLine) (d : Desk) where
+  -- at the start no row is open, no record was seen, and all lines from line 2 of the file on remain
   pub midway-first : (u : Unread) → u.line ≡ 2 → d.inside ≡ false → d.seen ≡ 0 → AreLeft u ls → Midway s e st records ls records d u
   midway-first u n a b h = record { at = 0; number = n; within = omega arith; left = h; stands = stands-first s e f st records ls d a b }
 
   module _ (rows : Records) (u : Unread) (p : HasPoly s e f) (m : Midway s e st records ls rows d u) where
+    -- after a line that keeps its rule, what is held is for the place it leads to, and the other lines remain
     pub midway-more : (l : TraceLine) (w : Unread) (left : Records) (new : Desk) → IsTaken u l w → Led s f st rows d l true left new
         → Midway s e st records ls left new w
     midway-more l w left new t h =
@@ -127,6 +130,7 @@ module _ (s : Shape) (e : Tree) (f : Sparse) (st : Staged) (records : Records) (
           stands = stands-more s e f st records ls d rows p m.at m.stands l left new y.less y.here h;
         }
 
+    -- a line that is taken and fails its rule is the first that does
     pub midway-stops : (l : TraceLine) (w : Unread) (left : Records) (new : Desk) (n : ℕ) → IsTaken u l w
         → Led s f st rows d l false left new → n + 1 ≡ w.line → IsFirstFault (subject_of s e) records ls n
     midway-stops l w left new n t h q =
@@ -137,11 +141,13 @@ module _ (s : Shape) (e : Tree) (f : Sparse) (st : Staged) (records : Records) (
     at-end : (w : Unread) → Takes u None w → m.at ≡ length ls
     at-end w t = none-left ls m.at (t.0 (drop m.at ls) m.left) m.within
 
+    -- where the lines end within a row, or with records to come, the first fault is at the end of the file
     pub midway-lacks : (w : Unread) (n : ℕ) → Takes u None w → n ≡ w.line → ((d.inside ≡ false) × (rows ≡ []) → ⊥) → IsFirstFault (subject_of s e) records ls n
     midway-lacks w n t q a =
         let k : w.line ≡ u.line = ap (λ (x : Unread). x.line) t.1 in
         stands-lacks s e f st records ls d rows p m.at m.stands n (at-end w t) (omega (arith, q, k, m.number)) a
 
+    -- where the lines end after the last record, the trace is agreed, over as many records as were seen
     pub midway-ends : (w : Unread) → Takes u None w → d.inside ≡ false → rows ≡ [] → IsJudged (subject_of s e) records ls (Agreed d.seen)
     midway-ends w t a b = stands-ends s e f st records ls d rows p m.at m.stands (at-end w t) a b
 

@@ -65,6 +65,7 @@ module _ (s : Subject) (n : ℕ) (fields : List (List ℕ)) (differ : RowsDiffer
       ap (λ (xs : List (Pairs × ℤ)). line.Row n ∷ at_lines xs ++ line.Sign t ∷ []) p
       ∙ ap (λ (z : Sign). line.Row n ∷ at_lines qs ++ line.Sign z ∷ []) (sign-one t u i)
 
+  -- only one list of lines explains a record
   pub explains-one : (ls ks : List TraceLine) → Explains s n fields ls → Explains s n fields ks → ls ≡ ks
   explains-one _ _ (no_row x e) (no_row y f) = refl
   explains-one _ _ (no_row x e) (a_row row list ps t r st of_ sg) = absurd (not-both row x _ r e)

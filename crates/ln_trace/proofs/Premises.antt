@@ -106,9 +106,11 @@ module _ (s : Shape) (f : Sparse) (st : Staged) (h : IsCase s f st) (o : List �
       all-left (length s.vars) (sites_of s.vars o) e _
       (subst (λ (q : List (List ℕ)). IsStageList (length s.vars) (sites_of s.vars o) e q) (as-vectors (segments_from (segment_of st) o 0)) l)
 
+  -- the beginning of the first segment is a place in the list of an order
   pub spot-first : IsSpot st o (record { sites = 0; at = 0 })
   spot-first = record { sites = omega arith; at = omega arith }
 
+  -- in an order no two sites have the same place
   pub differ : IndicesDiffer (sites_of s.vars o)
   differ = orders-differ s.sites s.vars o s.kept order
 

@@ -83,10 +83,12 @@ none-left-earlier sites left a q = subst (λ l. NoneIsEarlier sites l a) (sym q)
 -- ---- the rest after it
 module _ (n : ℕ) (sites : Sites) (a : List ℕ) (e : Tree) (stood : Stood) (z : ℤ) (differ : IndicesDiffer sites) (over : IsOver n sites a)
     (m : MayStand n sites e stood a) where
+  -- once a vector stood that is the first remaining stage, those after it remain
   pub was-first : (left : List (List ℕ)) (b : List ℕ) (rest : List (List ℕ)) → left ≡ b ∷ rest → b ≡ a → IsLeft n sites e stood left
       → IsLeft n sites e ((a, z) ∷ stood) rest
   was-first left b rest q s h = first-stands n sites e stood rest a z (subst (IsLeft n sites e stood) (q ∙ ap (λ c. c ∷ rest) s) h)
 
+  -- once a vector stood that isn't the first remaining stage, the same stages remain
   pub was-other : (left : List (List ℕ)) (b : List ℕ) (rest : List (List ℕ)) → left ≡ b ∷ rest → (b ≡ a → ⊥) → IsLeft n sites e stood left
       → IsLeft n sites e ((a, z) ∷ stood) left
   was-other left b rest q s h = other-stands n sites e differ stood left a z over h none (λ i. out (subst (λ l. In l a) q i)) where
@@ -103,6 +105,7 @@ module _ (n : ℕ) (sites : Sites) (a : List ℕ) (e : Tree) (stood : Stood) (z 
     out (inl y) = s (sym y)
     out (inr y) = at-first (sorted.in_order.0 a y)
 
+  -- where no stage remained, none remains once one more vector stood
   pub was-none : (left : List (List ℕ)) → left ≡ [] → IsLeft n sites e stood left → IsLeft n sites e ((a, z) ∷ stood) left
   was-none left q h =
       other-stands n sites e differ stood left a z over h ((first-left n sites e differ stood left a h).1 m.members) (λ i. subst (λ l. In l a) q i)

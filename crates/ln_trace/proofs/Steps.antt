@@ -127,6 +127,7 @@ module _ (s : Shape) (f : Sparse) (st : Staged) (old : Records) (d : Desk) where
     go e (Between seen left) i q r = h (i.0, r.number ∙ ap (λ k. k + 1) (sym i.1))
     go e (Within seen left row stood) i q r = r
 
+  -- `refused` fails where no record is next, or the next one is a row
   pub refused-other : (n : ℕ) (x : Next) (rows : Records) (r : code.Row) (new : Desk) → (x ≡ next.Fault → ⊥)
       → IsNextOf s.sites s.vars x old rows r → Led s f st old d (line.Refused n) false rows new
   refused-other n x rows r new other k = refuses (line.Refused n) rows new (go x other k) where
@@ -139,6 +140,7 @@ module _ (s : Shape) (f : Sparse) (st : Staged) (old : Records) (d : Desk) where
         let same : k.0 ≡ r.fields = heads k.0 r.fields rows r.behind (sym k.1 ∙ i.2 ∙ r.next) in
         ok-err (read_row s.sites s.vars k.0) _ r.stop k.2 (ap (read_row s.sites s.vars) same ∙ r.refused)
 
+  -- where no row is open, `refused` with the number of the next record leads on if that record is invalid
   pub refused-goes : (n : ℕ) (x : Next) (rows : Records) (r : code.Row) → d.inside ≡ false → n ≡ d.seen + 1 → x ≡ next.Fault
       → IsNextOf s.sites s.vars x old rows r
       → Led s f st old d (line.Refused n) true rows
@@ -161,6 +163,7 @@ module _ (s : Shape) (f : Sparse) (st : Staged) (old : Records) (d : Desk) where
     go e (Between seen left) i q r = h (i.0, r.number ∙ ap (λ k. k + 1) (sym i.1))
     go e (Within seen left row stood) i q r = r
 
+  -- `row` fails where no record is next, or the next one is invalid
   pub row-other : (n : ℕ) (x : Next) (rows : Records) (r : code.Row) (new : Desk) → (x ≡ next.Read → ⊥)
       → IsNextOf s.sites s.vars x old rows r → Led s f st old d (line.Row n) false rows new
   row-other n x rows r new other k = refuses (line.Row n) rows new (go x other k) where
@@ -173,10 +176,12 @@ module _ (s : Shape) (f : Sparse) (st : Staged) (old : Records) (d : Desk) where
         let same : k.0 ≡ r.fields = heads k.0 r.fields rows r.behind (sym k.1 ∙ i.2 ∙ r.next) in
         ok-err (read_row s.sites s.vars r.fields) r.row k.2 r.read (ap (read_row s.sites s.vars) (sym same) ∙ k.3)
 
+  -- what is held after `row`: an open row with its number and order, at the beginning of the order's list, where no vector stood
   abbrev pub opened : ℕ → code.Row → Order → Desk
   opened n r o =
       record { inside = true; seen = n; row = r; order = o; spot = record { sites = 0; at = 0 }; last = record { exps = None; zero = true }; sign = d.sign }
 
+  -- where no row is open, `row` with the number of the next record opens it if that record is a row
   pub row-goes : (n : ℕ) (x : Next) (rows : Records) (r : code.Row) (o : Order) (new : Desk) → IsCase s f st → d.inside ≡ false
       → n ≡ d.seen + 1 → x ≡ next.Read → IsNextOf s.sites s.vars x old rows r → IsOrder (take s.sites r.index) (order_places o)
       → new ≡ opened n r o → Led s f st old d (line.Row n) true rows new
@@ -205,6 +210,7 @@ module _ (s : Shape) (f : Sparse) (st : Staged) (old : Records) (d : Desk) where
     go e (Between seen left) i q r = r
     go e (Within seen left row stood) i q r = clash d.inside i.0 b
 
+  -- `at` fails where its variables don't rise, or one of them is no coordinate of a site
   pub at-unread : (a : Pairs) (z : ℤ) (rows : Records) (new : Desk) → (IsRising a → AreOfSites s.vars a → ⊥) → Led s f st old d (line.At a z) false rows new
   at-unread a z rows new h = refuses (line.At a z) rows new go where
     go : (e : Tree) (here : Place) → IsHere s e st old d here → (q : Place) → Rule (subject_of s e) here (line.At a z) q → ⊥
@@ -222,6 +228,7 @@ module _ (s : Shape) (f : Sparse) (st : Staged) (old : Records) (d : Desk) where
       (map (vector (length s.vars)) (left_at st (order_places d.order) d.spot)) →
       IsTrue ok ↔ IsNext (length s.vars) (row_sites s.vars r.index) (values zs) e stood (vector (length s.vars) a) z
 
+  -- a test keeps its meaning where its result, its value and the row's values are replaced by equal ones
   pub tests-of : (r ok : Bool) (a : Pairs) (w z : ℤ) (zs ys : List ℤ) → r ≡ ok → w ≡ z → zs ≡ ys → Tests r a w zs → Tests ok a z ys
   tests-of r ok a w z zs ys p e q t = subst (λ (o : Bool). Tests o a z ys) p (subst (λ (y : ℤ). Tests r a y ys) e (subst (λ (xs : List ℤ). Tests r a w xs) q t))
 
@@ -236,6 +243,7 @@ module _ (s : Shape) (f : Sparse) (st : Staged) (old : Records) (d : Desk) where
       (t e stood (row_of s.sites s.vars d.row) refl at.range at.order (differ-at at) p.inputs p.normal
       (sites-over s.vars (row_of s.sites s.vars d.row).index a sites) i.last i.left)
 
+  -- `at` fails where its test comes to false
   pub at-refused : (a : Pairs) (z : ℤ) (rows : Records) (new : Desk) → IsAtRow s st d → AreOfSites s.vars a
       → Tests false a z (take (length s.vars) d.row.values) → Led s f st old d (line.At a z) false rows new
   at-refused a z rows new at sites t = record { holds = λ e. absurd (false-true e); gone = go } where
@@ -253,10 +261,12 @@ module _ (s : Shape) (f : Sparse) (st : Staged) (old : Records) (d : Desk) where
       IsLeft (length s.vars) (sites_of s.vars (order_places d.order)) e ((vector (length s.vars) a, z) ∷ stood)
       (map (vector (length s.vars)) (left_at st (order_places d.order) spot))
 
+  -- what is held after `at`: these exponents as the last ones, whether their value is 0, its sign, and the place in the list
   abbrev pub behind : Pairs → Spot → Bool → Sign → Desk
   behind a spot b0 t =
       record { inside = d.inside; seen = d.seen; row = d.row; order = d.order; spot = spot; last = record { exps = Some a; zero = b0 }; sign = t }
 
+  -- `at` leads on where its test comes to true, and the place is moved to where the remaining stages begin
   pub at-goes : (a : Pairs) (z : ℤ) (spot : Spot) (b0 : Bool) (t : Sign) (new : Desk) → IsAtRow s st d → IsRising a → AreOfSites s.vars a
       → Tests true a z (take (length s.vars) d.row.values)
       → IsSpot st (order_places d.order) spot → Passes a spot → (b0 ≡ true) ↔ (t ≡ Zero) → sign_number t ≡ sign_of z → d.inside ≡ true
@@ -304,6 +314,7 @@ module _ (s : Shape) (f : Sparse) (st : Staged) (old : Records) (d : Desk) where
     go e (Between seen left) i q r = r
     go e (Within seen left row stood) i q r = clash d.inside i.0 b
 
+  -- `sign` fails where no vector stood before it, or its sign isn't that of the last value
   pub sign-unsaid : (t : Sign) (rows : Records) (new : Desk) → ((d.last.exps ≡ None → ⊥) × (t ≡ d.sign) → ⊥) → Led s f st old d (line.Sign t) false rows new
   sign-unsaid t rows new h = refuses (line.Sign t) rows new go where
     go : (e : Tree) (here : Place) → IsHere s e st old d here → (q : Place) → Rule (subject_of s e) here (line.Sign t) q → ⊥
@@ -312,6 +323,7 @@ module _ (s : Shape) (f : Sparse) (st : Staged) (old : Records) (d : Desk) where
     go e (Within seen left row (p ∷ stood)) i q r =
         h (λ o. none-last (length s.vars) d.last.exps d.last.zero p stood i.3.last o, number-one t d.sign (r.signed.0 ∙ sym i.3.sign))
 
+  -- `sign` fails where the last value is 0 and some stage remains
   pub sign-too-soon : (t : Sign) (rows : Records) (new : Desk) → IsAtRow s st d
       → ((d.last.zero ≡ true → left_at st (order_places d.order) d.spot ≡ []) → ⊥) → Led s f st old d (line.Sign t) false rows new
   sign-too-soon t rows new at h = refuses (line.Sign t) rows new go where
@@ -328,9 +340,11 @@ module _ (s : Shape) (f : Sparse) (st : Staged) (old : Records) (d : Desk) where
         (all-to s row (order_places d.order) range order e (p ∷ stood)
         (r.signed.1 ((last-zero (length s.vars) d.last.exps d.last.zero p stood i.3.last).0 z)))))
 
+  -- what is held after `sign`: the same, with no row open
   abbrev pub closed : Desk
   closed = record { inside = false; seen = d.seen; row = d.row; order = d.order; spot = d.spot; last = d.last; sign = d.sign }
 
+  -- `sign` closes the row where its sign is that of the last value, and this value isn't 0 or no stage remains
   pub sign-goes : (t : Sign) → IsAtRow s st d → d.inside ≡ true → (d.last.exps ≡ None → ⊥) → t ≡ d.sign
       → (d.last.zero ≡ true → left_at st (order_places d.order) d.spot ≡ []) → Led s f st old d (line.Sign t) true old closed
   sign-goes t at b some same whole = record { holds = λ y i. absurd (false-true i); gone = go } where

@@ -41,6 +41,7 @@ module _ (n : ℕ) (sites : Sites) (x : ℕ → ℤ) (e : Tree) where
       by_order (inr (inr l)) =
           absurd (f.1.nonzero (told-value stood f.0 t h.zeros (h.members f.0 (first-stage-in n sites (Earlier sites) x e below f.0 f.1) l)))
 
+    -- the sign that may follow vectors written by the rules is the perturbed sign
     pub told-signed : (stood : Stood) (s : ℤ) → AreTold n sites x e stood → IsSigned n sites e stood s → IsPerturbedSign n sites x e s
     told-signed [] s t h = absurd h
     told-signed (p ∷ stood) s t h = by_case (zero_cases p.1) where
@@ -142,12 +143,14 @@ module _ (n : ℕ) (sites : Sites) (x : ℕ → ℤ) (e : Tree) where
             (decides (perturbed sites x e a) (sign_along sites x e rest) z, λ y. absurd (z y)) in
             (q, subst (λ ats. Leads n sites x e stood ats q) (sym g) l, s)
 
+    -- a stage list with its coefficients, up to the first that isn't 0, goes by the rules, and so does the sign along it
     pub list-told : (list : List (List ℕ)) → IsStageList n sites e list → list ≢ [] → Ends [] list
     list-told list h some =
         told-along [] list (record { stages = h.stages; all = λ b s. inr (h.all b s); in_order = h.in_order; later = λ b i. tt; zeros = tt }) (λ q. some)
 
 -- ---- the remaining members
 module _ (n : ℕ) (sites : Sites) (e : Tree) where
+  -- before any vector stood, all stages of the list remain
   pub all-left : (list : List (List ℕ)) → IsStageList n sites e list → IsLeft n sites e [] list
   all-left list h = record { stages = h.stages; all = λ b s. inr (h.all b s); in_order = h.in_order; apart = λ b c i. absurd i }
 
@@ -169,10 +172,12 @@ module _ (n : ℕ) (sites : Sites) (e : Tree) where
     first-left-told stood [] a h all = tt
     first-left-told stood (c ∷ left) a h all = λ l. order-3.irreflexive c (h.apart c c (all c (h.stages c (inl refl)) l) (inl refl))
 
+    -- the first remaining stage isn't earlier than a vector exactly where each stage earlier than that vector stood
     pub first-left : (stood : Stood) (left : List (List ℕ)) (a : List ℕ) → IsLeft n sites e stood left
         → NoneIsEarlier sites left a ↔ ((b : List ℕ) → IsStage n sites e b → Earlier sites b a → In (vectors_in stood) b)
     first-left stood left a h = (first-left-tells stood left a h, first-left-told stood left a h)
 
+    -- where a vector is no remaining stage and none of these is earlier than it, the same stages remain once it stood
     pub other-stands : (stood : Stood) (left : List (List ℕ)) (a : List ℕ) (z : ℤ) → IsOver n sites a → IsLeft n sites e stood left
         → NoneIsEarlier sites left a → (In left a → ⊥) → IsLeft n sites e ((a, z) ∷ stood) left
     other-stands stood left a z o h none out = record { stages = h.stages; all = λ b s. there b (h.all b s); in_order = h.in_order; apart = apart } where
@@ -204,10 +209,12 @@ module _ (n : ℕ) (sites : Sites) (e : Tree) where
     none-left-told stood [] h all = refl
     none-left-told stood (c ∷ left) h all = absurd (irreflexive c (h.apart c c (all c (h.stages c (inl refl))) (inl refl)))
 
+    -- no stage remains exactly where each stage stood
     pub none-left : (stood : Stood) (left : List (List ℕ)) → IsLeft n sites e stood left
         → (left ≡ []) ↔ ((b : List ℕ) → IsStage n sites e b → In (vectors_in stood) b)
     none-left stood left h = (none-left-tells stood left h, none-left-told stood left h)
 
+  -- once the first remaining stage stood, those after it remain
   pub first-stands : (stood : Stood) (left : List (List ℕ)) (a : List ℕ) (z : ℤ) → IsLeft n sites e stood (a ∷ left) → IsLeft n sites e ((a, z) ∷ stood) left
   first-stands stood left a z h = record { stages = λ b i. h.stages b (inr i); all = λ b s. there b (h.all b s); in_order = h.in_order.1; apart = apart } where
     there : (b : List ℕ) → In (vectors_in stood) b ⊎ In (a ∷ left) b → In (vectors_in ((a, z) ∷ stood)) b ⊎ In left b

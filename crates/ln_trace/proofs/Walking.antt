@@ -14,6 +14,7 @@ use Rattle.ln_trace.specs.Trace.{Between, Place, Rule, Subject, Within}
 use Rattle.ln_trace.specs.Judge.{FailsAt, Go, IsAgreed, IsFirstFault}
 
 module _ (s : Subject) where
+  -- lines that lead to a place, with one more that leads on from it, lead to where that line does
   pub go-more : (p here next : Place) (ls : List TraceLine) (i : ℕ) (d : TraceLine) → i < length ls → Go s p (take i ls) here
       → Rule s here (get_or ls i d) next → Go s p (take (suc i) ls) next
   go-more p here next [] i d h g r = absurd (omega arith)
@@ -28,6 +29,7 @@ module _ (s : Subject) where
   cons-fails (Between seen left) l ls h = h
   cons-fails (Within seen left row stood) l ls h = h
 
+  -- a line that leads nowhere from the place that the lines before it lead to is the first that fails
   pub stops : (records : Records) (ls : List TraceLine) (i : ℕ) (d : TraceLine) (here : Place) → i < length ls
       → Go s (Between 0 records) (take i ls) here → ((q : Place) → Rule s here (get_or ls i d) q → ⊥) → IsFirstFault s records ls (i + 2)
   stops records ls i d here h g f = record {
@@ -39,6 +41,7 @@ module _ (s : Subject) where
     fails = subst (FailsAt s here) (sym (drop-cons ls i d h)) (fails-cons here (get_or ls i d) (drop (suc i) ls) f);
   }
 
+  -- where all lines lead to a place at which a trace may not end, its end is the first fault
   pub lacks-here : (records : Records) (ls : List TraceLine) (here : Place) → Go s (Between 0 records) (take (length ls) ls) here
       → FailsAt s here [] → IsFirstFault s records ls (length ls + 2)
   lacks-here records ls here g h = record {
@@ -50,6 +53,7 @@ module _ (s : Subject) where
     fails = subst (FailsAt s here) (sym (drop_all (length ls) ls (omega arith))) h;
   }
 
+  -- where all lines lead between records and some record remains, the end is the first fault
   pub lacks : (records : Records) (ls : List TraceLine) (seen : ℕ) (left : Records)
       → Go s (Between 0 records) (take (length ls) ls) (Between seen left) → left ≢ [] → IsFirstFault s records ls (length ls + 2)
   lacks records ls seen left g h = lacks-here records ls (Between seen left) g h
@@ -89,6 +93,7 @@ module _ (s : Subject) where
       let d : seen + 0 ≡ 0 + length records = go-size (Between 0 records) (Between seen []) ls (all-of records ls seen g) in
       omega (arith, d)
 
+  -- where all lines lead to the place after the last record, the trace is agreed
   pub ends : (records : Records) (ls : List TraceLine) (seen : ℕ) → Go s (Between 0 records) (take (length ls) ls) (Between seen []) → IsAgreed s records ls
   ends records ls seen g = subst (λ k. Go s (Between 0 records) ls (Between k [])) (counts records ls seen g) (all-of records ls seen g)
 
@@ -132,6 +137,7 @@ module _ (s : Subject) where
   none-past p here there (x ∷ ls) (suc i) (suc j) h l (t, u, g) f (w, v, k) =
       none-past t here there ls i j (omega (arith, h)) (omega (arith, l)) g f (subst (λ q. Go s q (take j ls) there) (one-place p w t x v u) k)
 
+  -- an agreed trace has no first line that fails
   pub not-both : (records : Records) (ls : List TraceLine) (n : ℕ) → IsAgreed s records ls → IsFirstFault s records ls n → ⊥
   not-both records ls n a f = by_case (cases_order f.at (length ls)) where
     by_case : (f.at ≡ length ls) ⊎ ((f.at < length ls) ⊎ (length ls < f.at)) → ⊥
@@ -145,6 +151,7 @@ module _ (s : Subject) where
         (subst (λ k. Go s (Between 0 records) k (Between (length records) [])) (sym (take_all (length ls) ls (omega arith))) a)
     by_case (inr (inr l)) = absurd (omega (arith, l, f.within))
 
+  -- only one line of a trace is the first that fails
   pub one-fault : (records : Records) (ls : List TraceLine) (m n : ℕ) → IsFirstFault s records ls m → IsFirstFault s records ls n → m ≡ n
   one-fault records ls m n f g = by_case (cases_order f.at g.at) where
     by_case : (f.at ≡ g.at) ⊎ ((f.at < g.at) ⊎ (g.at < f.at)) → m ≡ n

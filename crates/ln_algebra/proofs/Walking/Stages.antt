@@ -161,6 +161,7 @@ module _ (before : List ℕ → List ℕ → Type 0) (n : ℕ) (sites : Sites) (
   cut-to : (a : List ℕ) → IsCutOf N a → IsCutOf M a
   cut-to a l = record { monomial = from a l.monomial; only = λ m k c. l.only m (to m k) c }
 
+  -- a stage by the monomials of the one set is a stage by those of the other
   pub stage-to : (a : List ℕ) → IsStageBy before n sites M a → IsStageBy before n sites N a
   stage-to a s = record {
     over = s.over;

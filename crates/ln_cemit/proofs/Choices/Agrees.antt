@@ -82,6 +82,7 @@ module _ (zs : List ℤ) (cs : List Code) where
   abbrev sign_at : ℕ → ℤ
   sign_at b = block_sign zs (slice_get cs b)
 
+  -- where the blocks of a list have values, the verdict along it has the first sign that isn't 0, and counts the calls up to there
   pub along_agrees : (ns : List ℕ) (place wide calls : ℕ) → ((n : ℕ) → Member ns n → Valued zs cs n)
       → Agrees (along zs cs ns place wide calls) (decided sign_at ns) calls
   along_agrees [] place wide calls h =

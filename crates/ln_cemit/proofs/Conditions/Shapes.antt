@@ -321,36 +321,42 @@ module _ (name : ℕ → List ℕ) (top : ℕ) where
       (λ su ms g' l'. named_shape (suc n) (unread x.op (ops_of xs) n ss) (emitted name e xs (suc n) su ms)
       (unread_good n x.op (ops_of xs) ss (free n lt) g) (shape_from free e xs (suc n) su ms b p.1 (omega (arith, m)) g' l'))
 
+  -- what is emitted for lines has this shape, where the names are NAMEs and the numbers are within their limits
   pub shape_is : ((i : ℕ) → i < top → is_c_name (name i) ≡ true) → (e : ℕ) (lines : List (Line Way)) → e ≤ most_number
       → are_fine lines ≡ true → length lines ≤ top → Shape 0 (emitted name e lines 0 [] no_locals)
   shape_is free e lines b h m = shape_from free e lines 0 [] no_locals b h (omega (arith, m)) tt (λ j s q. cc)
 
   -- ---- what follows from the shape
 
+  -- a test that each emitted expression passes is passed by each expression of the body
   pub exprs_pass : (q : Expr → Bool) → ((x : Expr) → IsOut name is_c_name x → q x ≡ true) → (n : ℕ) (b : Body) → Shape n b → each_expr q b ≡ true
   exprs_pass q h n b (none m) = refl
   exprs_pass q h n b (back m x o) = rw (h x o) refl
   exprs_pass q h n b (decl m t x r lt o s) = rw (h x o, exprs_pass q h (suc m) r s) refl
   exprs_pass q h n b (idle m i r f s) = rw (h (c.Number Int 0) zero_out, h (c.Name Int (name i)) (name_out i f), exprs_pass q h m r s) refl
 
+  -- a test that each of the first `top` names passes is passed by the name of each declaration
   pub names_pass : (q : List ℕ → Bool) → ((i : ℕ) → i < top → q (name i) ≡ true) → (n : ℕ) (b : Body) → Shape n b → each_name q b ≡ true
   names_pass q h n b (none m) = refl
   names_pass q h n b (back m x o) = refl
   names_pass q h n b (decl m t x r lt o s) = rw (h m lt, names_pass q h (suc m) r s) refl
   names_pass q h n b (idle m i r f s) = names_pass q h m r s
 
+  -- at most one brace is round a place in the body, the body's own not counted
   pub few_braces : (n : ℕ) (b : Body) → Shape n b → braces_in b ≤ 1
   few_braces n b (none m) = omega arith
   few_braces n b (back m x o) = omega arith
   few_braces n b (decl m t x r lt o s) = few_braces (suc m) r s
   few_braces n b (idle m i r f s) = omega (arith, few_braces m r s)
 
+  -- at most 12 parentheses are round a place of the body
   pub few_parens : (n : ℕ) (b : Body) → Shape n b → parens_in b ≤ 12
   few_parens n b (none m) = omega arith
   few_parens n b (back m x o) = omega (arith, leb-true (parens x) 12 (flat_out name is_c_name x o))
   few_parens n b (decl m t x r lt o s) = omega (arith, leb-true (parens x) 12 (flat_out name is_c_name x o), few_parens (suc m) r s)
   few_parens n b (idle m i r f s) = omega (arith, few_parens m r s)
 
+  -- no name is declared twice in a pair of braces within the body
   pub none_within : (n : ℕ) (b : Body) → Shape n b → differ_within b ≡ true
   none_within n b (none m) = refl
   none_within n b (back m x o) = refl
@@ -369,6 +375,7 @@ module _ (name : ℕ → List ℕ) (top : ℕ) where
   later differ i n b lt (decl m t x r h o s) = rw (other_name differ i m lt h, later differ i (suc m) r (omega (arith, lt)) s) refl
   later differ i n b lt (idle m j r f s) = later differ i m r lt s
 
+  -- where the first `top` names differ, no name is declared twice directly in the body
   pub all_differ : AreNames name top → (n : ℕ) (b : Body) → Shape n b → distinct (direct b) ≡ true
   all_differ differ n b (none m) = refl
   all_differ differ n b (back m x o) = refl

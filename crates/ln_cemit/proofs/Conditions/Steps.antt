@@ -48,6 +48,7 @@ module _ (own : List ℕ) where
   few_braces n b (compare m i j a r p q s t) = let h = few_braces m a s in let k = few_braces (suc m) r t in omega (arith, h, k)
   few_braces n b (touch m r s) = let h = few_braces (suc m) r s in omega (arith, h)
 
+  -- at most 4 parentheses are round a place of the statements
   pub few_parens : (n : ℕ) (b : Body) → Steps own n b → parens_in b ≤ 4
   few_parens n b (none m) = omega arith
   few_parens n b (back m) = omega arith
@@ -55,6 +56,7 @@ module _ (own : List ℕ) where
   few_parens n b (compare m i j a r p q s t) = let h = few_parens m a s in let k = few_parens (suc m) r t in omega (arith, h, k)
   few_parens n b (touch m r s) = let h = few_parens (suc m) r s in omega (arith, h)
 
+  -- the statements divide by nothing but NUMBERs above 0
   pub all_divide : (n : ℕ) (b : Body) → Steps own n b → each_expr divides b ≡ true
   all_divide n b (none m) = refl
   all_divide n b (back m) = refl
@@ -62,6 +64,7 @@ module _ (own : List ℕ) where
   all_divide n b (compare m i j a r p q s t) = rw (all_divide m a s, all_divide (suc m) r t) refl
   all_divide n b (touch m r s) = all_divide (suc m) r s
 
+  -- the names and numbers in the expressions are NAMEs and NUMBERs, where the name for the calls' results is a NAME
   pub all_words : is_c_name own ≡ true → (n : ℕ) (b : Body) → Steps own n b → each_expr has_words b ≡ true
   all_words o n b (none m) = refl
   all_words o n b (back m) = refl
@@ -69,6 +72,7 @@ module _ (own : List ℕ) where
   all_words o n b (compare m i j a r p q s t) = rw (le-leb i most_number p, le-leb j most_number q, all_words o m a s, all_words o (suc m) r t) refl
   all_words o n b (touch m r s) = all_words o (suc m) r s
 
+  -- each declaration's name passes a test that the name for the calls' results passes
   pub all_names : (q : List ℕ → Bool) → q own ≡ true → (n : ℕ) (b : Body) → Steps own n b → each_name q b ≡ true
   all_names q o n b (none m) = refl
   all_names q o n b (back m) = refl
@@ -76,6 +80,7 @@ module _ (own : List ℕ) where
   all_names q o n b (compare m i j a r h k s t) = rw (all_names q o m a s, all_names q o (suc m) r t) refl
   all_names q o n b (touch m r s) = all_names q o (suc m) r s
 
+  -- nothing is declared directly in the body: each declaration is in braces of its own
   pub none_direct : (n : ℕ) (b : Body) → Steps own n b → direct b ≡ []
   none_direct n b (none m) = refl
   none_direct n b (back m) = refl
@@ -83,6 +88,7 @@ module _ (own : List ℕ) where
   none_direct n b (compare m i j a r h k s t) = none_direct (suc m) r t
   none_direct n b (touch m r s) = none_direct (suc m) r s
 
+  -- no name is declared twice in a pair of braces within the body
   pub none_alike : (n : ℕ) (b : Body) → Steps own n b → differ_within b ≡ true
   none_alike n b (none m) = refl
   none_alike n b (back m) = refl
@@ -90,6 +96,7 @@ module _ (own : List ℕ) where
   none_alike n b (compare m i j a r h k s t) = rw (none_direct m a s, none_alike m a s, none_alike (suc m) r t) refl
   none_alike n b (touch m r s) = none_alike (suc m) r s
 
+  -- the statements are on one line
   pub is_flat : (n : ℕ) (b : Body) → Steps own n b → flat b ≡ b
   is_flat n b (none m) = refl
   is_flat n b (back m) = refl
@@ -104,6 +111,7 @@ module _ (own : List ℕ) where
   room_for zero = 2
   room_for (suc d) = raised 5 (room_for d)
 
+  -- for any number of remaining sites at least 2 braces are allowed
   pub above_one : (d : ℕ) → (k : ℕ) × (room_for d ≡ suc (suc k))
   above_one zero = (0, refl)
   above_one (suc d) = (raised 3 (room_for d), refl)
@@ -163,10 +171,12 @@ module _ (own : List ℕ) where
           let r = above_one k in
           tries_steps (room_for k) r.0 before (walked block own segment k [] (range_with_len 0 k)) r.1 h (walked_steps k [] (range_with_len 0 k) few small)
 
+  -- the statements stay such statements where one that names the indices, and is never reached, is put before them
   pub touch_steps : (n : ℕ) (t : Bool) (b : Body) → Steps own (suc n) b → Steps own (suc n) (touching_index t b)
   touch_steps n true b s = s
   touch_steps n false b s = touch n b s
 
+  -- at most 27 braces are allowed for at most 5 remaining sites
   pub room_few : (k : ℕ) → k ≤ 5 → room_for k ≤ 27
   room_few zero h = omega arith
   room_few (suc zero) h = omega arith

@@ -136,6 +136,7 @@ module _ (p : Part) (zs indices : List ℤ) (order : List ℕ) (j : ℕ) (segmen
     (size : length order ≡ length indices) (within : j ≤ length indices)
     (front : (o : List ℕ) → IsOrder indices o → take j order ≡ take j o) (segment_there : segment ≡ segment_of p (take j order))
     (so_far : (o : List ℕ) → IsOrder indices o → IsMet zs p.blocks (along zs p.blocks (list_of p o) 0 0 entered) (list_from p o j) met) where
+  -- in each order of the indices, what was met so far goes on with this segment and then with those of the longer prefixes
   pub met_here : (o : List ℕ) → IsOrder indices o → IsMet zs p.blocks (along zs p.blocks (list_of p o) 0 0 entered) (segment ++ list_from p o (j + 1)) met
   met_here o r =
       let q : segment ≡ segment_of p (take j o) = segment_there ∙ ap (segment_of p) (front o r) in
@@ -143,6 +144,7 @@ module _ (p : Part) (zs indices : List ℤ) (order : List ℕ) (j : ℕ) (segmen
       list_goes p o j (omega (arith, within, r.size)) ∙ ap (λ y. y ++ list_from p o (j + 1)) (sym q) in
       subst (λ (y : List ℕ). IsMet zs p.blocks (along zs p.blocks (list_of p o) 0 0 entered) y met) g (so_far o r)
 
+  -- where no two indices are equal there is an order of them, and so a list that goes on with this segment
   pub has_met : AllPairs (λ y z. y ≢ z) indices → HasMet zs p.blocks segment met
   has_met d =
       let x = order-exists indices d in

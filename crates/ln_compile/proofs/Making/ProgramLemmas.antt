@@ -67,12 +67,14 @@ module _ (p : Pred) (f : Sparse) (st : Staged) (blocks : List Code) (light : Are
     (filter : Option FilterCode) (own : IsFilterOf (pred_of p) filter) (rules : IfSome filter (FollowsFilterRules p.shape.vars))
     (whole : IfSome filter (CarriesWhole p.shape.vars (terms_of (length p.shape.vars) f))) (short : ops_in_filter filter ≤ 1048640)
     (pushes : IfSome filter (FilterPushesSmall p.shape.vars)) where
+  -- the program that the predicate's filter and blocks make, with the segments of its stages
   abbrev pub part : Part
   part = record { shape = p.shape; filter = filter; blocks = blocks; segments = st.segments }
 
   as-many : length blocks ≡ length st.exps
   as-many = blocks-length (length p.shape.vars) blocks st.exps made.vectors
 
+  -- the program has at most 65,536 blocks
   pub few-blocks : length blocks ≤ 65536
   few-blocks = omega (arith, as-many, stages-few p.shape.sites p.shape.vars f st stages, count)
 
@@ -84,6 +86,7 @@ module _ (p : Pred) (f : Sparse) (st : Staged) (blocks : List Code) (light : Are
   own-vectors = ap (map (λ list. map (block_vector (length p.shape.vars) (map (λ (c : Code). c.exps) blocks)) list)) own-lists
       ∙ same-vectors p.shape st blocks made.vectors
 
+  -- the program follows the rules, has fewer than 2^32 operations, and no list of it is empty or names a block twice
   pub is-program : IsProgram part
   is-program = record {
     blocks = λ k d l. (made.each k d l).block.rules;
@@ -101,6 +104,7 @@ module _ (p : Pred) (f : Sparse) (st : Staged) (blocks : List Code) (light : Are
         (subst (λ n. All (IsList n) st.lists) (sym as-many) (lists-are p.shape.sites p.shape.vars f st stages normal.form normal.below some)) h;
   }
 
+  -- the program carries the predicate's root, begins with the block of the source's own expression, and has the predicate's filter
   pub is-program-of : IsProgramOf (pred_of p) part
   is-program-of = record {
     name = refl;

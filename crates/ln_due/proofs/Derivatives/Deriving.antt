@@ -62,6 +62,7 @@ module _ (n : ℕ) (f h : Sparse) (a : Pairs) (d : IsDerivative n f a h) where
   unfolding coefficient_at
   same m = everywhere n (terms_of n h) (derived (vector n a) (terms_of n f)) (over-terms n h) over-whole d.coefficients m
 
+  -- where the sum of f weighted by one more than each variable's size is at most 2^127 - 1, so is the derivative's weighted by the sizes
   pub derivative-light : (vars : List VarInfo) → length vars ≡ n → weighted_sum (weights vars) (terms_of n f) ≤ most
       → weighted_sum (sizes vars) (terms_of n h) ≤ most
   derivative-light vars e w =
@@ -80,12 +81,14 @@ module _ (n : ℕ) (f h : Sparse) (a : Pairs) (d : IsDerivative n f a h) where
     go [] z = tt
     go (t ∷ g) z = ((All-head (λ y. IsFactor y.1) t g z).0, go g (All-tail (λ y. IsFactor y.1) t g z))
 
+  -- the derivative has at most as many terms as f has terms that cover a
   pub derivative-few : length h ≤ covering n f (vector n a)
   derivative-few =
       let s : length (terms_of n h) ≤ length (derived (vector n a) (terms_of n f)) =
       shortest (terms_of n h) (derived (vector n a) (terms_of n f)) (once (terms_of n h) (collected n h d.form d.below)) no-zero same in
       omega (arith, s, length-map h (term_of n), length-derived n f (vector n a))
 
+  -- where each term of f has a total degree of at most k, so has each term of the derivative
   pub derivative-degrees : (k : ℕ) → All (λ t. total_degree (vector n t.0) ≤ k) f → All (λ t. degree (vector n t.0) ≤ k) h
   derivative-degrees k z =
       back h (each-has (λ m. total_degree m ≤ k) (terms_of n h) (derived (vector n a) (terms_of n f))

@@ -29,6 +29,7 @@ prefix-below k p r = subst (λ z. All (λ x. x < k) z) (sym r.front)
     (λ i d h. (let a = at-front r.places r.order i d h in let b = r.full.each.within i d a.0 in omega (arith, a.1, b, r.full.size)))
 
 module _ (all : List Front) (k : ℕ) (e : map front_places all ≡ prefixes_of k) where
+  -- each member of the list is a prefix of an order of k sites
   pub front-is-prefix : (i : ℕ) (d : Front) → i < length all → IsPrefixOf k (front_places (get_or all i d))
   front-is-prefix i d h =
       let at : get_or (map front_places all) i [] ≡ front_places (get_or all i d) = get_or-map front_places all i d [] h in
@@ -36,8 +37,10 @@ module _ (all : List Front) (k : ℕ) (e : map front_places all ≡ prefixes_of 
       let q : get_or (prefixes_of k) i [] ≡ front_places (get_or all i d) = ap (λ z. get_or z i []) (sym e) ∙ at in
       subst (IsPrefixOf k) q (prefix-is k (get_or (prefixes_of k) i []) (Contains-get_or (prefixes_of k) i [] l))
 
+  -- each prefix of the orders of fewer than 5 sites has fewer than 5 places
   pub sizes_small : k < 5 → All (λ p. length (front_places p) < 5) all
   sizes_small few i d h = omega (arith, prefix-size k (front_places (get_or all i d)) (front-is-prefix i d h), few)
 
+  -- each place in a prefix of the orders of fewer than 5 sites is below 5
   pub places_small : k < 5 → All (λ p. All (λ x. x < 5) (front_places p)) all
   places_small few i d h m x l = omega (arith, prefix-below k (front_places (get_or all i d)) (front-is-prefix i d h) m x l, few)

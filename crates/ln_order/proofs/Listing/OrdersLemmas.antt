@@ -111,6 +111,7 @@ pub at_back : (x : ℕ) (o : List ℕ) (k d : ℕ) → k < length o → get_or (
 at_back x o k d h = get_or-map (back x) o k d d h
 
 module _ (x : ℕ) (o : List ℕ) (p : ArePlaces (x ∷ o)) where
+  -- in an order that begins with x, no later site is x
   pub other : (k d : ℕ) → k < length o → get_or o k d ≢ x
   other k d h e = p.differ 0 (suc k) d (omega arith) (omega (arith, h)) (sym e)
 
@@ -218,6 +219,7 @@ module _ (k : ℕ) (few : k ≤ 5) where
       let b = and_parts (are_sorted (orders_of k)) (have_numbers 0 (orders_of k)) a.0 in
       (b.0, b.1, a.1)
 
+  -- the list of all orders of at most 5 sites is strictly sorted
   pub orders_sorted : IsStrictlySortedBy (slice_cmp nat_cmp) (orders_of k)
   orders_sorted = are_sorted_is (orders_of k) the_fits.0
 
@@ -228,6 +230,7 @@ module _ (k : ℕ) (few : k ≤ 5) where
       let n : number_from 0 o ≡ c.0 = ap (number_from 0) (sym c.2) ∙ have_number 0 (orders_of k) c.0 o the_fits.1 c.1 ∙ omega arith in
       rw n (slice_get-get_or (orders_of k) c.0 o c.1 ∙ ap (λ z. Some z) c.2)
 
+  -- the number of an order of at most 5 sites is below 121
   pub number_small : (o : List ℕ) → IsOrderOf k o → number_from 0 o < 121
   number_small o p =
       let c = is-member k o p in

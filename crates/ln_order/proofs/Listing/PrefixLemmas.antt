@@ -215,10 +215,12 @@ module _ (xs : List ℕ) (n i j : ℕ) (few : length xs ≤ 5) (p : ArePlaces xs
   the-order : IsOrderOf (length xs) xs
   the-order = record { size = refl; each = p }
 
+  -- a step of the loop over the places of a prefix leads to a number below 327
   pub step_small : i < j → n + number_of_front (drop i xs) (j - i) ≡ number_of_front xs j → n + suc (added xs i) < 327
   step_small l e =
       omega (arith, front_step xs i j (omega (arith, l, within)) l, e, front_small (length xs) xs j few the-order within, few_prefixes (length xs) few)
 
+  -- after a step the number so far and that of the remaining places still sum up to the prefix's number
   pub step_kept : i < j → n + number_of_front (drop i xs) (j - i) ≡ number_of_front xs j
       → (n + (1 + added xs i)) + number_of_front (drop (i + 1) xs) (j - (i + 1)) ≡ number_of_front xs j
   step_kept l e = omega (arith, front_step xs i j (omega (arith, l, within)) l, e)
@@ -227,15 +229,18 @@ module _ (xs : List ℕ) (n i j : ℕ) (few : length xs ≤ 5) (p : ArePlaces xs
   front-zero [] = refl
   front-zero (x ∷ o) = refl
 
+  -- after the last place the number so far is that of the prefix
   pub done_is : j ≤ i → n + number_of_front (drop i xs) (j - i) ≡ number_of_front xs j → n ≡ number_of_front xs j
   done_is l e =
       let q : j - i ≡ 0 = omega (arith, l) in
       let z : number_of_front (drop i xs) (j - i) ≡ 0 = ap (number_of_front (drop i xs)) q ∙ front-zero (drop i xs) in
       omega (arith, e, z)
 
+  -- after the last place the prefix is at the number so far in the list of all prefixes
   pub done_there : j ≤ i → n + number_of_front (drop i xs) (j - i) ≡ number_of_front xs j → slice_get (prefixes_of (length xs)) n ≡ Some (take j xs)
   done_there l e = rw (done_is l e) (front_number (length xs) xs j few the-order within)
 
+  -- after the last place the number so far is below the number of all prefixes
   pub done_small : j ≤ i → n + number_of_front (drop i xs) (j - i) ≡ number_of_front xs j → n < tree_size (length xs)
   done_small l e = rw (done_is l e) (front_small (length xs) xs j few the-order within)
 

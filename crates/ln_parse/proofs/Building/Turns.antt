@@ -53,11 +53,12 @@ module _ (args : List Arg) (k : ℕ) where
       → n + count_by is_site_said (map arg_of (drop (k + 1) args)) ≡ count_by is_site_said (map arg_of args)
   one_seen s n x q h inv = rw (add-one k) (h (map arg_of (drop (suc k) args)) ∙ rw (drop_item args k x q, add-one k) at inv)
 
-  -- after the last argument
+  -- after the last argument the variables so far are all variables
   pub all_args : (sites : List SiteOf) (params : List CoordOf) (s : ℕ) (vars all : List VarInfo) → length args ≤ k
       → vars ++ vars_behind sites params k s (map arg_of (drop k args)) ≡ all → vars ≡ all
   all_args sites params s vars all l inv = sym (append-nil vars) ∙ rw (drop_all k args l) at inv
 
+  -- after the last argument the sites that were counted are all sites
   pub all_seen : (s all : ℕ) → length args ≤ k → s + count_by is_site_said (map arg_of (drop k args)) ≡ all → s ≡ all
   all_seen s all l inv = let e : s + count_by is_site_said [] ≡ all = rw (drop_all k args l) at inv in omega (arith, e)
 

@@ -79,6 +79,7 @@ module _ (n : ℕ) (f h : Sparse) (ps : Pairs) (i : ℕ) (r : IsRising ps) (l : 
       (length-vector 0 n (p ∷ [])) (apart-from 0 n p.0 p.1 (take i ps) (above-take ps i r l)) (over-terms n f) (over-terms n h) d.coefficients m k
       ∙ ap (λ a. factor_at (derived a (terms_of n f)) m) (vector-more n ps i l)
 
+  -- the derivative, by the next pair, of the derivative by the first i pairs is the derivative by one pair more
   pub several-step : (g : Sparse) → IsPoly g → AreBelow n g
       → ((m : List ℕ) → coefficient_at n g m ≡ factor_at (derivative n (get_or ps i (0, 0)).0 (get_or ps i (0, 0)).1 h) m)
       → IsDerivative n f (take (i + 1) ps) g

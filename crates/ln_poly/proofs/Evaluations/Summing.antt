@@ -87,6 +87,7 @@ module _ (vars : List VarInfo) (zs : List ℤ) (a ps : Pairs) (c y : ℤ) (i : �
   times-le k zero h = absurd (omega arith)
   times-le k (suc j) h = omega arith
 
+  -- there is room for the product so far times what the next pair adds, where the term's weight is within the limit
   pub product-room : unsigned_abs c * pairs_weight (weights vars) ps ≤ most
       → unsigned_abs y * (size (values zs (get_or ps i (0, 0)).0) + 1) ^ (get_or ps i (0, 0)).1 ≤ most
   product-room h =
@@ -99,6 +100,7 @@ module _ (vars : List VarInfo) (zs : List ℤ) (a ps : Pairs) (c y : ℤ) (i : �
       mul-le-mul_left (unsigned_abs y) (let t : (size (values zs (get_or ps i (0, 0)).0) + 1) ^ e ≤ w ^ e * W = omega (arith, p, q) in t) in
       omega (arith, s, heavy, h)
 
+  -- where no more is taken off than the pair's exponent, the product so far times what the pair adds is that of one pair more
   pub product-on : (z : ℤ) → exponent (get_or ps i (0, 0)).0 a ≤ (get_or ps i (0, 0)).1 → z ≡ y *ℤ part (values zs) a (get_or ps i (0, 0))
       → IsProduct vars (values zs) a ps c z (i + 1)
   product-on z k q =
@@ -164,9 +166,11 @@ term-light w f i t s h e l = omega (arith, total-at w f i t h e, l)
 
 module _ (vars : List VarInfo) (x : ℕ → ℤ) (a : Pairs) (f : Sparse) (sum : ℤ) (i : ℕ) (t : Pairs × ℤ) (there : i < length f)
     (is : t ≡ get_or f i t) (r : IsSummed vars x a f sum i) where
+  -- a value that isn't above the next term's weight keeps the sum within the limit
   pub sum-fits : (z : ℤ) → unsigned_abs z ≤ term_weight (weights vars) t → unsigned_abs (sum +ℤ z) ≤ most
   sum-fits z h = omega (arith, ints, h, total-at (weights vars) f i t there is, r.room)
 
+  -- the sum so far with the value of the next term is that of one term more
   pub summed-on : (z : ℤ) → IsRising t.0 → IsAbove t.0 (length vars) → z ≡ term_value (length vars) x a t
       → unsigned_abs z ≤ term_weight (weights vars) t → IsSummed vars x a f (sum +ℤ z) (i + 1)
   summed-on z rising above q h =

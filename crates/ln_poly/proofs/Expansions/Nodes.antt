@@ -23,18 +23,19 @@ use Rattle.ln_poly.proofs.Expansions.Expanding.{Nodes, few-both, one-expands, st
 use Rattle.ln_poly.proofs.Loads.Room.{normal-size, product-powers, product-room, sum-room, two-sizes}
 
 module _ (vars : List VarInfo) (ls : List Tree) (F : Formula) where
-  -- a node over one operand
+  -- a node over one operand is expanded where the operand is and then the rest of its nodes are
   pub one-ok : (x : Formula) (ys : Nodes) (c : Tree) (f : Sparse) (r : Result Sparse PolyStop) → expanded vars ls F ≡ expanded vars ls x ++ ys
       → inlined ls (tree vars F) ≡ c → Expands (length vars) (expanded vars ls x) (inlined ls (tree vars x)) f → IfOk r (λ h. Expands (length vars) ys c h)
       → IfOk r (λ h. Expands (length vars) (expanded vars ls F) (inlined ls (tree vars F)) h)
   one-ok x ys c f r a b p k = rw (a, b) (IfOk-weaker r _ _ (λ h q. one-expands (length vars) (expanded vars ls x) ys (inlined ls (tree vars x)) c f h p q) k)
 
+  -- where no node of the operand has too many terms, a stop in the rest of the nodes is the stop of the whole
   pub one-err : (x : Formula) (ys : Nodes) (r : Result Sparse PolyStop) → expanded vars ls F ≡ expanded vars ls x ++ ys
       → HaveFewTerms (length vars) (expanded vars ls x) → IfErr r (λ s. StopsExpanding (length vars) ys s)
       → IfErr r (λ s. StopsExpanding (length vars) (expanded vars ls F) s)
   one-err x ys r a p k = rw a (MatchResult-weaker r k (λ h t. tt) (λ s q. stop-behind (length vars) (expanded vars ls x) ys s p q))
 
-  -- a node over two
+  -- a node over two operands is expanded where both are and then the rest of its nodes are
   pub two-ok : (x y : Formula) (zs : Nodes) (c : Tree) (f g : Sparse) (r : Result Sparse PolyStop)
       → expanded vars ls F ≡ expanded vars ls x ++ expanded vars ls y ++ zs → inlined ls (tree vars F) ≡ c
       → Expands (length vars) (expanded vars ls x) (inlined ls (tree vars x)) f
@@ -43,12 +44,14 @@ module _ (vars : List VarInfo) (ls : List Tree) (F : Formula) where
   two-ok x y zs c f g r a b p q k = rw (a, b) (IfOk-weaker r _ _
       (λ h t. two-expand (length vars) (expanded vars ls x) (expanded vars ls y) zs (inlined ls (tree vars x)) (inlined ls (tree vars y)) c f g h p q t) k)
 
+  -- where no node of either operand has too many terms, a stop in the rest of the nodes is the stop of the whole
   pub two-err : (x y : Formula) (zs : Nodes) (r : Result Sparse PolyStop) → expanded vars ls F ≡ expanded vars ls x ++ expanded vars ls y ++ zs
       → HaveFewTerms (length vars) (expanded vars ls x) → HaveFewTerms (length vars) (expanded vars ls y)
       → IfErr r (λ s. StopsExpanding (length vars) zs s) → IfErr r (λ s. StopsExpanding (length vars) (expanded vars ls F) s)
   two-err x y zs r a p q k = rw a (MatchResult-weaker r k (λ h t. tt) (λ s t. stop-behind (length vars)
       (expanded vars ls x ++ expanded vars ls y) zs s (few-both (length vars) (expanded vars ls x) (expanded vars ls y) p q) t))
 
+  -- where no node of the first operand has too many terms, a stop in the second is the stop of the whole
   pub second-stops : (x y : Formula) (zs : Nodes) (s : PolyStop) → expanded vars ls F ≡ expanded vars ls x ++ expanded vars ls y ++ zs
       → HaveFewTerms (length vars) (expanded vars ls x) → StopsExpanding (length vars) (expanded vars ls y) s
       → StopsExpanding (length vars) (expanded vars ls F) s
@@ -57,6 +60,7 @@ module _ (vars : List VarInfo) (ls : List Tree) (F : Formula) where
 
 -- ---- room
 module _ (vars : List VarInfo) (ls : List Tree) where
+  -- where no node of a negation weighs too much, the absolute factors of its operand's polynomial sum up to less than 2^127
   pub neg-room : (d : Tree) (f : Sparse) → AreLight (length vars) two ls (Neg d) → IsNormal (length vars) (inlined ls d) f → size_of f < 2 ^ 127
   neg-room d f l p = omega (arith, l.1.light, normal-size (length vars) two (inlined ls d) f (two-sizes (length vars)) l.1.inputs p)
 
@@ -78,6 +82,7 @@ module _ (vars : List VarInfo) (ls : List Tree) where
   mul-powers d e f g l p q =
       product-powers (length vars) two (inlined ls d) (inlined ls e) f g (two-sizes (length vars)) l.2.inputs.0 l.2.inputs.1 l.2.light p q
 
+  -- where no node of a power weighs too much, there is room for that power of its operand's polynomial
   pub pow-room : (d : Tree) (k : ℕ) (f : Sparse) → AreLight (length vars) two ls (Pow d k) → IsNormal (length vars) (inlined ls d) f → HasPower f k
   pow-room d k f l p =
       record { n = length vars; w = two; tree = inlined ls d; two = two-sizes (length vars); inputs = l.1.inputs; light = l.1.light; normal = p }
@@ -94,12 +99,14 @@ module _ (vars : List VarInfo) (ls : List Tree) where
   light-two Minus d e l = (l.0, l.1)
   light-two Times d e l = (l.0, l.1)
 
+  -- what is expanded of an operation on two: the nodes of the first operand, those of the second, and then the operation itself
   pub expanded-two : (k : Two) (at : Span) (x y : Formula) → expanded vars ls (formula_of k at x y)
       ≡ (expanded vars ls x ++ expanded vars ls y) ++ (at, two_of k (inlined ls (tree vars x)) (inlined ls (tree vars y))) ∷ []
   expanded-two Plus at x y = refl
   expanded-two Minus at x y = refl
   expanded-two Times at x y = refl
 
+  -- to substitute the lets in an operation on two is to substitute them in both operands
   pub inlined-two : (k : Two) (at : Span) (x y : Formula)
       → inlined ls (tree vars (formula_of k at x y)) ≡ two_of k (inlined ls (tree vars x)) (inlined ls (tree vars y))
   inlined-two Plus at x y = refl
@@ -116,6 +123,7 @@ module _ (vars : List VarInfo) (ls : List Tree) where
     pub second_light : AreLight (length vars) two ls (tree vars y)
     pub room : (f g : Sparse) → IsNormal (length vars) (inlined ls (tree vars x)) f → IsNormal (length vars) (inlined ls (tree vars y)) g → HaveRoom k f g
 
+  -- the operands of an operation that fits, with no node that weighs too much, are such too, and there is room for its result
   pub are-ready : (j : ℕ) (t : ℕ) (k : Two) (at : Span) (e x y : Formula) → e ≡ formula_of k at x y → node_count e ≡ t
       → is_fit (length vars) j (tree vars e) ≡ true → AreLight (length vars) two ls (tree vars e) → AreReady j t k e x y
   are-ready j t k at e x y q d h l =

@@ -44,6 +44,7 @@ vector-unit v (suc n) (suc u) x q = let f : eqb x v ≡ false = other x v u q in
 
 -- ---- leaves
 module _ (n : ℕ) where
+  -- a polynomial over n variables with the normal coefficients of an expression is its normal polynomial
   pub normal-of : (e : Tree) (f : Sparse) → IsPoly f → AreBelow n f
       → ((m : List ℕ) → length m ≡ n → coefficient_at n f m ≡ normal_coefficient e m) → IsNormal n e f
   unfolding coefficient_at
@@ -68,10 +69,11 @@ module _ (n : ℕ) where
   one-below : (ps : Pairs) (c : ℤ) → IsAbove ps n → AreBelow n ((ps, c) ∷ [])
   one-below ps c a = All-cons (λ t. IsAbove t.0 n) (ps, c) [] a (All-nil (λ t. IsAbove t.0 n))
 
-  -- a number
+  -- the number 0 has the polynomial without terms
   pub number-none : IsNormal n (Num (pos 0)) []
   number-none = normal-of (Num (pos 0)) [] no-terms (All-nil (λ t. IsAbove t.0 n)) (λ m h. none-coefficient m ∙ sym (normal_is n (Num (pos 0)) tt m h))
 
+  -- a number that isn't 0 and is within the limit has the polynomial of one term without exponents
   pub number-some : (c : ℤ) → IsPoly (([], c) ∷ []) → IsNormal n (Num c) (([], c) ∷ [])
   number-some c p = normal-of (Num c) (([], c) ∷ []) p (one-below [] c tt)
       (λ m h. some-coefficient [] (zeros n) c m (vector-none 0 n) ∙ sym (normal_is n (Num c) tt m h))
@@ -91,14 +93,17 @@ module _ (n : ℕ) where
       by_case true = refl
       by_case false = refl
 
+  -- a polynomial with the sums of two operands' coefficients is the normal polynomial of their sum
   pub add-normal : (d e : Tree) (f g h : Sparse) → IsNormal n d f → IsNormal n e g → IsPoly h → AreBelow n h
       → ((m : List ℕ) → coefficient_at n h m ≡ coefficient_at n f m +ℤ coefficient_at n g m) → IsNormal n (Add d e) h
   add-normal d e f g h p q r b c = normal-of (Add d e) h r b (λ m l. omega (arith, ints, c m, coefficients-of d f p m l, coefficients-of e g q m l))
 
+  -- a polynomial with the differences of two operands' coefficients is the normal polynomial of their difference
   pub sub-normal : (d e : Tree) (f g h : Sparse) → IsNormal n d f → IsNormal n e g → IsPoly h → AreBelow n h
       → ((m : List ℕ) → coefficient_at n h m ≡ coefficient_at n f m -ℤ coefficient_at n g m) → IsNormal n (Sub d e) h
   sub-normal d e f g h p q r b c = normal-of (Sub d e) h r b (λ m l. omega (arith, ints, c m, coefficients-of d f p m l, coefficients-of e g q m l))
 
+  -- a polynomial with the coefficients of the product of two operands' polynomials is the normal polynomial of their product
   pub mul-normal : (d e : Tree) (f g h : Sparse) → IsNormal n d f → IsNormal n e g → IsPoly h → AreBelow n h
       → ((m : List ℕ) → length m ≡ n → coefficient_at n h m ≡ product (coefficient_at n f) (coefficient_at n g) m) → IsNormal n (Mul d e) h
   mul-normal d e f g h p q r b c =
@@ -123,18 +128,21 @@ module _ (n : ℕ) where
         many = h.many;
       }
 
-  -- e^0 is 1, and e^(k + 1) is e^k times e
+  -- e^0 has the polynomial of 1
   pub power-none : (e : Tree) (f : Sparse) → IsNormal n (Num (pos 1)) f → IsNormal n (Pow e 0) f
   power-none e f p = normal-of (Pow e 0) f p.form p.below (coefficients-of (Num (pos 1)) f p)
 
+  -- e^(k + 1) has the polynomial of e^k times e
   pub power-more : (e : Tree) (k : ℕ) (f : Sparse) → IsNormal n (Mul (Pow e k) e) f → IsNormal n (Pow e (suc k)) f
   power-more e k f p = normal-of (Pow e (suc k)) f p.form p.below (coefficients-of (Mul (Pow e k) e) f p)
 
+  -- e^(k + 1) has too many terms where e^k times e has
   pub power-many : (e : Tree) (k : ℕ) → HasTooManyTerms n (Mul (Pow e k) e) → HasTooManyTerms n (Pow e (suc k))
   power-many e k h = record { vectors = h.vectors; distinct = h.distinct; monomials = λ m i. of_product m (h.monomials m i); many = h.many } where
     of_product : (m : List ℕ) → IsMonomial n (Mul (Pow e k) e) m → IsMonomial n (Pow e (suc k)) m
     of_product m t = record { size = t.size; nonzero = t.nonzero }
 
+  -- e^k times e has too many terms where e^(k + 1) has
   pub power-many-back : (e : Tree) (k : ℕ) → HasTooManyTerms n (Pow e (suc k)) → HasTooManyTerms n (Mul (Pow e k) e)
   power-many-back e k h = record { vectors = h.vectors; distinct = h.distinct; monomials = λ m i. of_power m (h.monomials m i); many = h.many } where
     of_power : (m : List ℕ) → IsMonomial n (Pow e (suc k)) m → IsMonomial n (Mul (Pow e k) e) m
@@ -149,22 +157,26 @@ module _ (n : ℕ) where
   let-normal (e ∷ es) (f ∷ fs) zero d a l = a.0
   let-normal (e ∷ es) (f ∷ fs) (suc j) d a l = let-normal es fs j d a.1 (omega arith)
 
+  -- with one let and its normal polynomial more, each polynomial is still that of its let
   pub lets-more : (es : List Tree) (fs : List Sparse) (e : Tree) (f : Sparse) → AreNormal n es fs → IsNormal n e f → AreNormal n (es ++ e ∷ []) (fs ++ f ∷ [])
   lets-more [] [] e f a p = (p, tt)
   lets-more [] (g ∷ fs) e f a p = absurd a
   lets-more (d ∷ es) [] e f a p = absurd a
   lets-more (d ∷ es) (g ∷ fs) e f a p = (a.0, lets-more es fs e f a.1 p)
 
+  -- the polynomial of a number below 2^127 in size has no term where the number is 0, else one without exponents
   pub number-normal : (c : ℤ) (f : Sparse) → unsigned_abs c < 2 ^ 127 → (c ≡ pos 0 → f ≡ []) → (c ≢ pos 0 → f ≡ ([], c) ∷ []) → IsNormal n (Num c) f
   number-normal c f l h k = by_case (zero_cases c) where
     by_case : (c ≡ pos 0) ⊎ (c ≡ pos 0 → ⊥) → IsNormal n (Num c) f
     by_case (inl e) = subst (λ z. IsNormal n (Num z) f) (sym e) (subst (IsNormal n (Num (pos 0))) (sym (h e)) number-none)
     by_case (inr d) = subst (IsNormal n (Num c)) (sym (k d)) (number-some c (one-term [] c tt d l))
 
+  -- the polynomial of one of the n variables is its first power with the factor 1
   pub input-at : (v : ℕ) (f : Sparse) → v < n → f ≡ ((v, 1) ∷ [], pos 1) ∷ [] → IsNormal n (Input v) f
   input-at v f l h =
       subst (IsNormal n (Input v)) (sym h) (input-normal v l (one-term ((v, 1) ∷ []) (pos 1) (omega arith, omega arith, tt, tt) (λ e. cc) (omega arith)))
 
+  -- the polynomial at the place of a let is the normal polynomial of that let
   pub let-at : (es : List Tree) (fs : List Sparse) (j : ℕ) (d f : Sparse) → AreNormal n es fs → j < length fs → f ≡ get_or fs j d
       → IsNormal n (slice_index_or es j (Num (pos 0))) f
   let-at es fs j d f a l h = subst (IsNormal n (slice_index_or es j (Num (pos 0)))) (sym h) (let-normal es fs j d a l)

@@ -107,6 +107,7 @@ module _ (vars : List VarInfo) where
     pub closed : AreClosed (length vars) (inlined_after done (map (tree vars) fs))
     pub weigh : map (weight (weights vars)) (inlined_after done (map (tree vars) fs)) ≡ let_weights vars (map (weight (weights vars)) done) fs
 
+  -- this holds of fit lets after closed ones where the weight of none of their nodes is too large
   pub light-lets : (k : ℕ) (done : List Tree) (fs : List Formula) → AreClosed (length vars) done → lets_fit (length vars) k (map (tree vars) fs) ≡ true
       → HaveWeights (weighed_lets vars (map (weight (weights vars)) done) fs) → LightLets done fs
   light-lets k done [] a g l = record { lets = tt; closed = a; weigh = refl }

@@ -76,6 +76,7 @@ module _ (vars : List VarInfo) where
     pub closed : AreClosed (length vars) (inlined_after done (map (tree vars) fs))
     pub weigh : map (weight two) (inlined_after done (map (tree vars) fs)) ≡ sizes_of_lets vars (map (weight two) done) fs
 
+  -- this holds of fit lets after closed ones where the load of none of their nodes is too large
   pub light-lets : (ps : List Range) (k : ℕ) (done : List Tree) (fs : List Formula) → AreClosed (length vars) done
       → lets_fit (length vars) k (map (tree vars) fs) ≡ true → HaveWeights (loaded_lets vars ps (map (weight two) done) fs) → LightLets done fs
   light-lets ps k done [] a g l = record { lets = tt; closed = a; weigh = refl }

@@ -214,14 +214,17 @@ leaf-left f kept p (suc d) h = refl
 
 module _ (f : Sparse) (vs kept p : List ℕ) (s : IsStep f vs kept p) (more : 0 < length vs) (d e : ℕ) (small : e < 128) (within : e ≤ d)
     (h : List ℕ) (eh : h ≡ high f (get_or vs 0 0) e kept) where
+  -- where no remaining term has the exponent e or more in the first variable, nothing is listed from e on
   pub at-none : length h ≡ 0 → listed_degree_from f vs kept p d e ≡ ([], false)
   unfolding listed_degree_from
   at-none z = ends-none f vs kept p s more d e small within h eh z
 
+  -- where no term with the exponent e or more reaches the remaining degree in the other variables, the next exponent follows
   pub at-skips : 0 < length h → any_reaches f (drop 1 vs) (d - e) h ≡ false → listed_degree_from f vs kept p d e ≡ listed_degree_from f vs kept p d (e + 1)
   unfolding listed_degree_from
   at-skips some n = skips f vs kept p s more d e small within h eh some n
 
+  -- terms with the exponent e or more, if there are any, are those that remain at the next step, where the variable has the exponent e
   pub at-step : 0 < length h → (q : List ℕ) → q ≡ set p (get_or vs 0 0) e → (r : List ℕ) → r ≡ drop 1 vs → IsStep f r h q
   at-step some q eq r er = goes-step f vs kept p s more d e small within h eh some q eq r er (d - e) refl
 
@@ -350,6 +353,7 @@ module _ (f : Sparse) (vs kept p : List ℕ) (limit d : ℕ) (within : d < limit
 -- the same, as the code has it
 module _ (f : Sparse) (vs kept p : List ℕ) (limit d : ℕ) (within : d < limit) (t T : Tallied)
     (all : see_all (length p) f t (listed_layers f vs kept p (limit - d) d).0 ≡ T) where
+  -- where listing one degree stops, so does listing all from it on: a limit that is exceeded stays so
   pub layer-stops : (x : StageStop) → IsStoppedBy x (IsOver (see_all (length p) f t (listed_degree f vs kept p d).0)) → IsStoppedBy x (IsOver T)
   unfolding listed_degree listed_layers
   layer-stops x o = stopped-more x (over-here f vs kept p limit d within t T all) o

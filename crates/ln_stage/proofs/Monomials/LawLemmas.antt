@@ -11,10 +11,12 @@ use Rattle.ln_poly.specs.Sparse.{Sparse, coefficient_at, terms_of}
 use Rattle.ln_stage.specs.StageList.{IsMonomialOf, ListIsUnique, ListsAreThoseOfTrees}
 
 module _ (n : ℕ) (e : Tree) (f : Sparse) (h : IsNormalOf n e (terms_of n f)) where
+  -- a monomial of the normal polynomial is one of the expression
   pub to_tree : (m : List ℕ) → IsMonomialOf n f m → IsMonomial n e m
   unfolding coefficient_at
   to_tree m k = record { size = k.size; nonzero = λ z. k.nonzero (h.coefficients m k.size ∙ z) }
 
+  -- a monomial of the expression is one of its normal polynomial
   pub of_tree : (m : List ℕ) → IsMonomial n e m → IsMonomialOf n f m
   unfolding coefficient_at
   of_tree m k = record { size = k.size; nonzero = λ z. k.nonzero (sym (h.coefficients m k.size) ∙ z) }

@@ -310,6 +310,7 @@ pub record IsAllSeenBy (L : List ℕ → List (List ℕ)) (n : ℕ) (f : Sparse)
   pub heavy : (tallied_by L n f t ps).heavy ≡ t.heavy
 
 module _ (L : List ℕ → List (List ℕ)) (n : ℕ) (f : Sparse) where
+  -- what is kept after the lists at several places is what their vectors in order of first sight make up
   pub seen-by : (bs : List (List ℕ)) (t : Tallied) (ps : List (List ℕ)) → t.exps ≡ map pairs_of bs → t.list ≡ [] → Sized n bs
       → AllSized n (map L ps) → IsAllSeenBy L n f bs t ps
   unfolding tallied_by numbers_by

@@ -83,6 +83,7 @@ module _ (k : ℕ) (vars : List VarInfo) (f : Sparse) (few : k ≤ 5) (laid : is
   abbrev pub found : List (List (List ℕ))
   found = map (list_of vars f) (orders_of k)
 
+  -- each list that is found is the stage list of its order
   pub found-lists : AreStageLists k vars f found
   found-lists = record {
     size = length-map (orders_of k) (list_of vars f);

@@ -175,6 +175,7 @@ weighs-each n f (a ∷ as') h = omega (arith, h.0, weighs-each n f as' h.1)
 -- ---- the distinct members of the lists of all orders, as exponents
 module _ (rank : Rank) (k : ℕ) (vars : List VarInfo) (f : Sparse) (ls : List (List (List ℕ))) (s : AreStageListsIn rank k vars f ls)
     (exps : List Pairs) (sight : map (vector (length vars)) exps ≡ first_seen ls) where
+  -- no distinct member has an exponent of a variable without a site
   pub of-sites : All (λ e. IsOfSites vars (vector (length vars) e)) exps
   of-sites =
       let a : AllAre (IsOfSites vars) ls = all-are (IsOfSites vars) ls (λ j h b i. ((s.each j h).stages b i).over.of_sites) in
@@ -251,10 +252,12 @@ module _ (rank : Rank) (k : ℕ) (vars : List VarInfo) (f : Sparse) (st : Staged
   there : j < length (vectors_of (length vars) st)
   there = omega (arith, h, length-map st.lists (λ list. map (block_vector (length vars) st.exps) list))
 
+  -- no number is in the list of an order twice
   pub list-once : AllPairs (λ m n. m ≢ n) (get_or st.lists j x)
   list-once = numbers-differ rank (sites_of vars (get_or (orders_of k) j [])) (block_vector (length vars) st.exps) (get_or st.lists j x)
       (subst (IsSortedIn (Before rank (sites_of vars (get_or (orders_of k) j [])))) here (s.each j there).in_order)
 
+  -- the list of an order isn't empty
   pub list-filled : 0 < length (get_or st.lists j x)
   list-filled = omega (
     arith,

@@ -207,6 +207,7 @@ module _ (vars : List VarInfo) (f : Sparse) where
       let same : take j p ≡ take j q = sym (take-less j (length q - 1) p le) ∙ ap (take j) w.shared ∙ take-less j (length q - 1) q le in
       h j (omega (arith, l, w.near)) ∙ ap (is_cut_at vars f) same
 
+  -- where each prefix in a list follows the one before it, the cuts kept up to one of them are those that the next one needs
   pub cuts-go : (ps : List (List ℕ)) (i : ℕ) (p : List ℕ) (rest : List (List ℕ)) (cuts : List Bool)
       → ((i : ℕ) → suc i < length ps → Follows (get_or ps i []) (get_or ps (suc i) [])) → drop i ps ≡ p ∷ rest
       → AreCuts vars f (length p + 1) p cuts → AreCutsFor vars f rest cuts

@@ -140,10 +140,12 @@ ends f vs kept p e h = let z : 128 - e ≡ 0 = omega arith in rw z refl
 
 module _ (f : Sparse) (vs kept p : List ℕ) (s : IsStep f vs kept p) (more : 0 < length vs) (e : ℕ) (small : e < 128) (h : List ℕ)
     (eh : h ≡ high f (get_or vs 0 0) e kept) where
+  -- where no remaining term has the exponent e or more in the first variable, nothing is listed from e on
   pub from-none : length h ≡ 0 → listed_from f vs kept p e ≡ ([], false)
   unfolding listed_from
   from-none z = ends-none f vs kept p s more e small h eh (128 - e) z refl
 
+  -- terms with the exponent e or more, if there are any, are those that remain at the next step, where the variable has the exponent e
   pub from-step : 0 < length h → (q : List ℕ) → q ≡ set p (get_or vs 0 0) e → (r : List ℕ) → r ≡ drop 1 vs → IsStep f r h q
   from-step some q eq r er = goes-step f vs kept p s more e small h eh some q eq r er
 

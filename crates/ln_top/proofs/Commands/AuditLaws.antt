@@ -55,19 +55,23 @@ use Rattle.ln_top.proofs.Steps.Prepared.{one_numbered}
 -- ---- two ways to see what is given are one
 module _ (g : Given) (p q : PredOf) (names others : List (List ℕ)) (rs ss : Records) (t u : List ℕ)
     (h : HasTrace g p names rs t) (k : HasTrace g q others ss u) where
+  -- a trace is audited by only one predicate
   pub same_pred : p ≡ q
   same_pred = ap (λ (xs : List PredOf). elim xs [ [] ↦ p | x ∷ rest ↦ x ]) (sym h.pred ∙ k.pred)
 
+  -- the columns have only one list of names
   pub same_names : names ≡ others
   same_names = h.columns ∙ ap (columns_of g.table) same_pred ∙ sym k.columns
 
   texts : h.rows ∷ t ∷ [] ≡ k.rows ∷ u ∷ []
   texts = sym h.texts ∙ k.texts
 
+  -- the rows file has only one list of records
   pub same_records : rs ≡ ss
   same_records =
       sym h.are ∙ ap records_in (ap (λ (xs : List (List ℕ)). elim xs [ [] ↦ h.rows | x ∷ rest ↦ x ]) texts) ∙ k.are
 
+  -- only one text is the trace
   pub same_trace : t ≡ u
   same_trace = ap (λ (xs : List (List ℕ)). elim xs [ [] ↦ t | x ∷ rest ↦ elim rest [ [] ↦ t | y ∷ more ↦ y ] ]) texts
 
@@ -112,18 +116,21 @@ module _ (g : Given) (p q : PredOf) (names others : List (List ℕ)) (rs ss : Re
   rows : rs ≡ ss
   rows = tail_same (same_records g p q names others (names ∷ rs) (others ∷ ss) t u h k)
 
+  -- whether the trace is agreed doesn't depend on the way to see what is given
   pub moved_right : IsRightTrace p rs t → IsRightTrace q ss u
   moved_right r =
       subst (λ (v : List ℕ). IsRightTrace q ss v) (same_trace g p q names others (names ∷ rs) (others ∷ ss) t u h k)
       (subst (λ (xs : Records). IsRightTrace q xs t) rows
       (subst (λ (x : PredOf). IsRightTrace x rs t) (same_pred g p q names others (names ∷ rs) (others ∷ ss) t u h k) r))
 
+  -- the line at which the trace is first wrong doesn't depend on the way to see what is given
   pub moved_wrong : (at : ℕ) → IsWrongAt p rs t at → IsWrongAt q ss u at
   moved_wrong at r =
       subst (λ (v : List ℕ). IsWrongAt q ss v at) (same_trace g p q names others (names ∷ rs) (others ∷ ss) t u h k)
       (subst (λ (xs : Records). IsWrongAt q xs t at) rows
       (subst (λ (x : PredOf). IsWrongAt x rs t at) (same_pred g p q names others (names ∷ rs) (others ∷ ss) t u h k) r))
 
+  -- the text of the line `agreed N` doesn't depend on the way to see what is given
   pub same_count : agreed_text (length rs) ≡ agreed_text (length ss)
   same_count = ap (λ (xs : Records). agreed_text (length xs)) rows
 

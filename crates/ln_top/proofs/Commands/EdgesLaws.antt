@@ -277,6 +277,7 @@ module _ (r : Ready) (g : Given) (t : TargetOf) (points : List code_point) (stan
   rest_of o ps (edges.fault xs n f h i) e = absurd (subst IsStop e tt)
   rest_of o ps (edges.points xs qs f h i) e = (xs, subst (ArePointsOf holds.type.coords xs) (ap (value_or ps) e) i)
 
+  -- the points that are held are points of the type of the program's three sites
   pub points_for : ArePointsFor t.program points
   points_for =
       let a = rest_of (gives (map (point_of (length holds.type.coords)) points)) (map (point_of (length holds.type.coords)) points)
@@ -474,6 +475,7 @@ header_wrong names (first ∷ rest) w = λ e. w rest (ap (λ (f : List (List ℕ
 
 module _ (r : Ready) (s : Site) (bytes : List ℕ) (old : Records) (type : (g : Given) → StandsFor r g → IsTypeOf g (site_of s))
     (texts : (g : Given) → StandsFor r g → g.texts ≡ bytes ∷ []) (are : records_in bytes ≡ old) where
+  -- records after a right header that are read as points are the points of the file that is given
   pub return_points : (now : Records) (points : List code_point) → old ≡ site_columns s.name (Some s) ∷ now
       → ((all : Records) → all ≡ point_names (site_of s) ∷ now
       → ReadsPoints (site_of s) all (gives (map (point_of (length (site_of s).coords)) points)))
@@ -481,16 +483,19 @@ module _ (r : Ready) (s : Site) (bytes : List ℕ) (old : Records) (type : (g : 
   return_points now points e h g k =
       points_held g s (type g k) bytes old points (texts g k) are (h old (header_right s old now e))
 
+  -- where the records after a right header stop the command, the file that is given stops it
   pub return_stop : (now : Records) (x : Stop) → old ≡ site_columns s.name (Some s) ∷ now
       → ((all : Records) → all ≡ point_names (site_of s) ∷ now → Halts (ReadsPoints (site_of s) all) ⊥ x)
       → (g : Given) → StandsFor r g → StopsPoints g x
   return_stop now x e h g k = points_stop g s (type g k) bytes old x (texts g k) are (h old (header_right s old now e))
 
+  -- a points file that doesn't begin with the right header stops the command as one with a wrong header
   pub return_wrong : ((rest : Records) → old ≡ site_columns s.name (Some s) ∷ rest → ⊥)
       → (g : Given) → StandsFor r g → StopsPoints g (stop.Tell Header)
   return_wrong w g k =
       points_stop g s (type g k) bytes old (stop.Tell Header) (texts g k) are
       (header_stops s old (header_wrong (site_columns s.name (Some s)) old w))
 
+  -- where memory runs out the command stops, whatever the points file is
   pub return_short : (g : Given) → StandsFor r g → StopsPoints g stop.Memory
   return_short g k = points_stop g s (type g k) bytes old stop.Memory (texts g k) are short

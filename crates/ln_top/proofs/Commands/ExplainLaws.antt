@@ -166,12 +166,13 @@ module _ (t : TargetOf) (g : Given) (given : IsGivenBy g t) (told : AreTold (pre
         owed = whole records h all.out all.err all.left all.lines;
       }
 
-  -- the lines of all records stand, or the work ended early
+  -- where the lines of all records were written, what is required is carried out
   pub ends_carried : {records : Records} {right : Bool} {z : ℕ} {was now : Streams}
       → HasRecords g (pred_in t) t.names (t.names ∷ records) → HasRun (task records) (Ok right) z was now
       → IsCarriedOut (task records) (Ok (end_of right)) was now
   ends_carried {records = records} {now = now} h r = end_carried (by_lines records h) r (wrote_nothing now.faults now.shown now.shown refl)
 
+  -- where the work ended early, what was written is a beginning of what is required
   pub stops_carried : {records : Records} {early : Early} {z : ℕ} {was now : Streams}
       → HasRecords g (pred_in t) t.names (t.names ∷ records) → HasRun (task records) (Err early) z was now
       → IsCarriedOut (task records) (Err early) was now

@@ -230,6 +230,7 @@ module _ (S : List SiteOf) (P : List CoordOf) where
   shapes_same p [] h k e = tt
   shapes_same p (q ∷ qs) h k e = (shape_same p q h k.0 e.0, shapes_same p qs h k.1 e.1)
 
+  -- predicates with the arguments of the first are over its sites and variables
   pub alike_over : (p : PredOf) (others : List PredOf) → Every (PredParts S P) (p ∷ others) → are_alike (p ∷ others) ≡ true
       → Every (IsOver p.sites p.vars) (p ∷ others)
   alike_over p others h e =
@@ -270,6 +271,7 @@ module _ (t : Table) (numbers : List ℕ) (pred : Pred) where
       by_numbers (i ∷ is) [] n l e = absurd n
       by_numbers (i ∷ is) (p ∷ ps) n l e = (ps, ap (λ (x : PredOf). x ∷ ps) (same_at t.preds i pred p e n.0))
 
+  -- named predicates of one shape, from one to eight, are factors: their programs keep the rules, over the same variables
   pub factors_fit : (names : List (List ℕ)) (programs : List Part) (which : List ℕ)
       → AreMadeAt (map pred_of t.preds) programs which numbers → HaveOneShape (map pred_of t.preds) numbers → 1 ≤ length numbers
       → length numbers ≤ 8 → slice_get t.preds (slice_index_or numbers 0 0) ≡ Some pred
@@ -291,6 +293,7 @@ module _ (t : Table) (numbers : List ℕ) (pred : Pred) where
         few = subst (λ (n : ℕ). n ≤ 8) (sym (stand_length m.numbers which numbers m.stand)) few;
       }
 
+  -- they are the predicates that are given, with the names of the columns and, for each, its program
   pub factors_given : (g : Given) (f : FactorsOf) → g.table ≡ view t → AreNumbered (map pred_of t.preds) numbers g.preds
       → 1 ≤ length numbers → slice_get t.preds (slice_index_or numbers 0 0) ≡ Some pred → f.pred ≡ pred → f.names ≡ names_of t f.pred
       → ((ps : List PredOf) → AreNumbered (map pred_of t.preds) numbers ps → AreProgramsAt f.programs f.which ps) → AreGivenBy g f

@@ -63,16 +63,19 @@ module _ (preds : List Pred) (i : ℕ) (q : Pred) (f : Sparse) (at : slice_get p
   here : slice_get (map pred_of preds) i ≡ Some (pred_of q)
   here = slice_get-map pred_of preds i ∙ ap (option_map pred_of) at
 
+  -- the polynomial of the predicate with this number is that of the predicate found there
   pub polynomial_here : IsPolynomialOf (pred_of q) f
   polynomial_here = o (pred_of q) here
 
   same : (p : PredOf) → slice_get (map pred_of preds) i ≡ Some p → pred_of q ≡ p
   same p e = same_Some (pred_of q) p (sym here ∙ e)
 
+  -- where its stage lists by total degree pass no limit, the predicate with this number has few stages
   pub few_at : ((lists : List (List (List ℕ))) → AreStageListsIn ByDegree q.shape.sites q.shape.vars f lists
       → Passes (length q.shape.vars) f 262144 131072 lists → ⊥) → (p : PredOf) → slice_get (map pred_of preds) i ≡ Some p → HasFewGraded p
   few_at h p e = subst HasFewGraded (same p e) (few_is (pred_of q) f polynomial_here h)
 
+  -- where its stage lists by total degree pass a limit, the predicate with this number has too many stages
   pub many_at : ((lists : List (List (List ℕ))) × AreStageListsIn ByDegree q.shape.sites q.shape.vars f lists
       × Passes (length q.shape.vars) f 262144 131072 lists) → (p : PredOf) → slice_get (map pred_of preds) i ≡ Some p → HasFewGraded p → ⊥
   many_at s p e h = many_is (pred_of q) f polynomial_here s (subst HasFewGraded (sym (same p e)) h)
@@ -133,6 +136,7 @@ module _ (p : PredOf) (f : Sparse) (part : Part) (poly : IsPolynomialOf p f) (o 
   terms : terms_of (length p.vars) o.poly ≡ terms_of (length part.shape.vars) f
   terms = ap (terms_of (length p.vars)) one ∙ ap (λ (vs : List VarInfo). terms_of (length vs) f) (sym o.vars)
 
+  -- the predicate's polynomial is one that a program by total degree can be made of
   pub gradable : IsGradable part.shape.vars f
   gradable = subst (λ (vs : List VarInfo). IsGradable vs f) (sym o.vars) (record {
     form = poly.normal.form;
@@ -143,6 +147,7 @@ module _ (p : PredOf) (f : Sparse) (part : Part) (poly : IsPolynomialOf p f) (o 
     weight = poly.weight;
   })
 
+  -- block 0 of the predicate's program has no exponents and computes the polynomial, as a program by total degree needs it
   pub begins : Begins part.shape f part
   begins = record {
     shape = refl;
@@ -156,6 +161,7 @@ module _ (p : PredOf) (f : Sparse) (part : Part) (poly : IsPolynomialOf p f) (o 
     short = o.begins.short;
   }
 
+  -- a program by total degree that is made from the predicate's program implements the predicate in that order of infinitesimals
   pub answers : (q : Part) → IsGraded part.shape f part q → AnswersFor ByDegree p q
   answers q g = record {
     sites = ap (λ (z : Shape). z.sites) g.shape ∙ o.sites;
@@ -173,11 +179,14 @@ module _ (preds : List Pred) (i : ℕ) (l : i < length preds) (f : Sparse) (part
   some_pred : (p : PredOf) × (slice_get (map pred_of preds) i ≡ Some p)
   some_pred = let q = there_at preds i l in (pred_of q.0, slice_get-map pred_of preds i ∙ ap (option_map pred_of) q.1)
 
+  -- the polynomial of the predicate with this number is one that a program by total degree can be made of
   pub gradable_at : IsGradable part.shape.vars f
   gradable_at = gradable some_pred.0 f part (poly some_pred.0 some_pred.1) (o some_pred.0 some_pred.1)
 
+  -- block 0 of the program of the predicate with this number has no exponents and computes the polynomial
   pub begins_at : Begins part.shape f part
   begins_at = begins some_pred.0 f part (poly some_pred.0 some_pred.1) (o some_pred.0 some_pred.1)
 
+  -- a program by total degree made from that of the predicate with this number implements it in that order of infinitesimals
   pub answers_at : (q : Part) → IsGraded part.shape f part q → (p : PredOf) → slice_get (map pred_of preds) i ≡ Some p → AnswersFor ByDegree p q
   answers_at q g p e = answers p f part (poly p e) (o p e) q g

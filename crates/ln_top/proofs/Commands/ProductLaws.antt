@@ -247,11 +247,12 @@ module _ (t : FactorsOf) (fits : AreFactors t) (g : Given) (given : AreGivenBy g
           product.first (pred_of t.pred) t.names done left
           (subst (λ (rs : Records). HasRecords g (pred_of t.pred) t.names (t.names ∷ rs)) e h) d
 
-  -- the lines of all records stand, or the work ended early
+  -- where the lines of all records were written, what is required is carried out
   pub ends_carried : {records : Records} {right : Bool} {was now : Streams} → HasRecords g (pred_of t.pred) t.names (t.names ∷ records)
       → HasRun (task records) (Ok right) tt was now → IsCarriedOut (task records) (Ok (end_of right)) was now
   ends_carried {records = records} {now = now} h r = end_carried (by_lines records h) r (wrote_nothing now.faults now.shown now.shown refl)
 
+  -- where the work ended early, what was written is a beginning of what is required
   pub stops_carried : {records : Records} {early : Early} {was now : Streams} → HasRecords g (pred_of t.pred) t.names (t.names ∷ records)
       → HasRun (task records) (Err early) tt was now → IsCarriedOut (task records) (Err early) was now
   stops_carried {records = records} h r = early_carried (by_lines records h) r

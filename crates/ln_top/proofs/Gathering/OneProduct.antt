@@ -79,6 +79,7 @@ module _ (q : Pred) (ps : List PredOf) (over : Every (IsOver q.shape.sites q.sha
   says_one (refused_ s e) (refused_ t f) =
       ap (λ (z : RowStop). product_text names (Err z)) (same_stop s t (read_row q.shape.sites q.shape.vars fields) e f)
 
+  -- for a record of a product only one text is required on Out, and only one on Err
   pub one_product : (o out e err : List ℕ) (w x y z : Unit {0}) → ProductStep (pred_of q) ps names w fields o e y
       → ProductStep (pred_of q) ps names x fields out err z → (o ≡ out) × (e ≡ err)
   one_product o out e err w x y z s t =

@@ -151,6 +151,7 @@ module _ (part : Part) (e : Tree) (f : Sparse) (kept : IsProgram part)
   next_lists (o ∷ os) k h =
       (next_list k o (h 0 k o (omega arith) refl), next_lists os (suc k) (λ i j p e q. h (suc i) j p (omega (arith, e)) q))
 
+  -- what a listing states of a program is valid, where the program can be listed and what it pushes is small
   pub good_part : IsListable part → PushesSmall part → IsGoodPart version_2 (subject_of part f) (written_of part)
   good_part l p = record {
     filter = good_filters (subject_of part f) part.filter l.filter kept.filter p.filter carries.filter;

@@ -79,6 +79,7 @@ module _ (rank : Rank) (p : Pred) (row : Row) where
   abbrev root : Tree
   root = root_of (pred_of p)
 
+  -- without params an accepted predicate doesn't have the sign 0 on a row in range, whichever the order of infinitesimals
   pub never_zero_in : InRange p.shape.sites p.shape.vars row → IsSound (pred_of p) → All (λ i. i.site ≢ None) p.shape.vars
       → (s : Sign) → RowSign rank p.shape.vars root row (sign_number s) → s ≢ Zero
   never_zero_in range sound all s d q = by_sign d

@@ -135,6 +135,7 @@ module _ (part : Part) (kept : IsProgram part) where
       let b = codes_back part.shape.vars part.blocks kept.blocks in
       (λ i. through (a i) zs (b i) list) ∙ through_deeper part.filter zs part.blocks list
 
+  -- a verdict on a row by what the listing states is one by the program itself
   pub verdict_back : (row : Row) (v : Verdict) → IsVerdict (part_of part.shape (written_of part)) row v → IsVerdict part row v
   verdict_back row v h = record {
     places = h.places;
@@ -144,6 +145,7 @@ module _ (part : Part) (kept : IsProgram part) where
     answered = sym (through_back row.values h.list) ∙ h.answered;
   }
 
+  -- a verdict on a row by the program itself is one by what the listing states
   pub verdict_there : (row : Row) (v : Verdict) → IsVerdict part row v → IsVerdict (part_of part.shape (written_of part)) row v
   verdict_there row v h = record {
     places = h.places;

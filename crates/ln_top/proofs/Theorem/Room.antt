@@ -63,6 +63,7 @@ module _ {B V L : Type 0} (e : Engine B V L) (r : ℕ → Bool) (more : (n : ℕ
   step-more (Neg w) b l s t h = one-more (e.minus w b) l s t h
   step-more (Cut n) b l s t h = one-more (e.cut n b) l s t h
 
+  -- a run that comes to an end comes to the same one where the stack has more room
   pub run-more : (lines : List (Line B)) (s t : State V L) → run e lines s ≡ Some t → run (roomy e r) lines s ≡ Some t
   run-more [] s t h = h
   run-more (x ∷ xs) s t h = go (step e x.op x.bound s.locals s.stack) refl h (λ u. run-more xs u t)

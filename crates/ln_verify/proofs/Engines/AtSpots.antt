@@ -27,7 +27,7 @@ use Rattle.ln_verify.specs.declared.form.Form.{Form}
 use Rattle.ln_verify.specs.declared.form.Form.TheVariants.{One, Two}
 use Rattle.ln_verify.specs.Works.{BenchLed, BlockStack, FilterStack, IsBench, IsTray, TrayLed}
 
--- the desk with another tray, or bench
+-- the desk with another tray
 abbrev pub with_tray : Desk → FilterStack → Desk
 with_tray d t = record { at = d.at; parts = d.parts; exps = d.exps; bench = d.bench; tray = t; lists = d.lists }
 
@@ -36,6 +36,7 @@ abbrev pub with_bench : Desk → BlockStack → Desk
 with_bench d b = record { at = d.at; parts = d.parts; exps = d.exps; bench = b; tray = d.tray; lists = d.lists }
 
 module _ (v : Version) (p : Subject) (d : Desk) where
+  -- in a filter, the line of an operation does to the desk what the operation does to the filter's stack
   pub tray-led : (t : FilterStack) (op : Op) (a : Triple) (ok : Bool) → d.at ≡ AtFilter → TrayLed v p.vars d.tray op a ok t
       → Leads v p d (FilterOp op a) ok (with_tray d t)
   tray-led t op a ok e h Named i = cc
@@ -47,6 +48,7 @@ module _ (v : Version) (p : Subject) (d : Desk) where
   tray-led t op a ok e h (InBlock f bs x lines s) i = cc
   tray-led t op a ok e h (Ordering w) i = cc
 
+  -- in a block of version 1, a line with a bound does to the desk what its operation does to the block's stack
   pub bound-led : (t : BlockStack) (op : Op) (b : ℕ) (ok : Bool) → v.number ≡ 1 → d.at ≡ AtBlock → BenchLed v p.vars d.bench op (balanced b) ok t
       → Leads v p d (BlockOp op b) ok (with_bench d t)
   bound-led t op b ok o e h Named i = cc
@@ -58,6 +60,7 @@ module _ (v : Version) (p : Subject) (d : Desk) where
   bound-led t op b false o e h (InBlock f bs x lines s) i = let r = h s i.3 in (refl, λ q k. r k.1.0 k.1.1)
   bound-led t op b ok o e h (Ordering w) i = cc
 
+  -- in a block of version 2, a line with two ends of a range does to the desk what its operation does to the block's stack
   pub range-led : (t : BlockStack) (op : Op) (b : Range) (ok : Bool) → v.number ≡ 2 → d.at ≡ AtBlock → BenchLed v p.vars d.bench op b ok t
       → Leads v p d (RangeOp op b.low b.high) ok (with_bench d t)
   range-led t op b ok o e h Named i = cc
@@ -100,6 +103,7 @@ length-more [] x = refl
 length-more (y ∷ xs) x = omega (arith, length-more xs x)
 
 module _ (v : Version) (p : Subject) (d : Desk) where
+  -- after the name of a predicate, `nofilter` leads to the place before the first block
   pub named-gap : (es : List Pairs) → d.at ≡ AtName → es ≡ [] → Leads v p d NoFilter true (moved d AtGap es)
   named-gap es e h Named i = (refl, (Between None [], refl, (refl, h, above-none (length p.vars) es h)))
   named-gap es e h (InFilter lines s) i = cc
@@ -107,6 +111,7 @@ module _ (v : Version) (p : Subject) (d : Desk) where
   named-gap es e h (InBlock f bs x lines s) i = cc
   named-gap es e h (Ordering w) i = cc
 
+  -- after the name of a predicate, `filter` leads into a filter, with nothing on the stack and no local set
   pub named-filter : (t : FilterStack) → d.at ≡ AtName → ((n : ℕ) → IsTray n t fresh)
       → Leads v p d Filter true (record { at = AtFilter; parts = d.parts; exps = d.exps; bench = d.bench; tray = t; lists = d.lists })
   named-filter t e h Named i = (refl, (InFilter [] fresh, refl, (refl, h (length p.vars))))
@@ -115,6 +120,7 @@ module _ (v : Version) (p : Subject) (d : Desk) where
   named-filter t e h (InBlock f bs x lines s) i = cc
   named-filter t e h (Ordering w) i = cc
 
+  -- in a filter with what `decide` asks for on the stack, `decide` leads to the place before the first block
   pub decided : (es : List Pairs) → d.at ≡ AtFilter → es ≡ []
       → ((s : State FilterKnown (ℕ → Option FilterKnown)) → IsTray (length p.vars) d.tray s → TrayDecides p s) → Leads v p d Decide true (moved d AtGap es)
   decided es e h k Named i = cc
@@ -131,6 +137,7 @@ module _ (v : Version) (p : Subject) (d : Desk) where
   decided es e h k (InBlock f bs x lines s) i = cc
   decided es e h k (Ordering w) i = cc
 
+  -- where the block's stack doesn't have what `end` asks for, `end` leads nowhere
   pub end-not : ((es : List Pairs) (a : Pairs) (s : State Known (ℕ → Option Known)) → d.exps ≡ es ++ a ∷ []
       → AreAbove (length p.vars) d.exps → IsBench (length p.vars) d.bench s → BenchEnds p a s → ⊥) → Leads v p d End false d
   end-not k Named i = (refl, λ t r. r)
@@ -139,6 +146,7 @@ module _ (v : Version) (p : Subject) (d : Desk) where
   end-not k (InBlock f bs x lines s) i = (refl, λ t r. k (exps_of bs) x s i.1 i.2 i.3 (record { left = r.left; one = r.one; derivative = r.derivative }))
   end-not k (Ordering w) i = (refl, λ t r. r)
 
+  -- in a block with what `end` asks for on the stack, `end` leads to the place after the block
   pub ended : d.at ≡ AtBlock → ((es : List Pairs) (a : Pairs) (s : State Known (ℕ → Option Known)) → d.exps ≡ es ++ a ∷ []
       → AreAbove (length p.vars) d.exps → IsBench (length p.vars) d.bench s → BenchEnds p a s) → Leads v p d End true (moved d AtGap d.exps)
   ended e k Named i = cc
@@ -155,6 +163,7 @@ module _ (v : Version) (p : Subject) (d : Desk) where
       )
   ended e k (Ordering w) i = cc
 
+  -- between blocks, a `block` line with the next number and rising exponents of coordinates of sites leads into a block
   pub opened : (k : ℕ) (a : Pairs) (es : List Pairs) (b : BlockStack) → d.at ≡ AtGap → k ≡ length d.exps → AreOfSites p.vars a → IsRising a →
       es ≡ d.exps ++ a ∷ [] → ((n : ℕ) → IsBench n b fresh) →
       Leads v p d (Block k a) true (record { at = AtBlock; parts = d.parts; exps = es; bench = b; tray = d.tray; lists = d.lists })
@@ -188,6 +197,7 @@ module _ (v : Version) (p : Subject) (d : Desk) where
   some-is : (m n : ℕ) → Some m ≡ Some n → m ≡ n
   some-is m n e = cc
 
+  -- where an `order` line is allowed and has the list of the next order, it leads on, to one list more
   pub ordered : (n : ℕ) (places list : List ℕ) → before_of d.at d.lists ≡ Some n → (AreAbove (length p.vars) d.exps → IsNextList p d.exps n places list) →
       Leads v p d (Order places list) true (record { at = AtOrder; parts = d.parts; exps = d.exps; bench = d.bench; tray = d.tray; lists = n + 1 })
   ordered n places list e k Named i = absurd (none n (sym (ap (λ x. before_of x d.lists) i) ∙ e))

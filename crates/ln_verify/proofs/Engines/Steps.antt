@@ -21,6 +21,7 @@ use Rattle.ln_verify.specs.Values.{AreFor, Came, IsLocal, IsMade, IsState, Pushe
 use Rattle.ln_verify.specs.Works.{op_of}
 
 module _ {X K : Type 0} (R : X → K → Type 0) where
+  -- a stack in code has as many values as the stack that it is for
   pub for-length : (xs : List X) (ks : List K) → AreFor R xs ks → length xs ≡ length ks
   for-length [] [] h = refl
   for-length [] (k ∷ ks) h = absurd h
@@ -35,6 +36,7 @@ module _ {X K : Type 0} (R : X → K → Type 0) where
     pub for_it : R x top
     pub below : AreFor R (reverse ys) rest
 
+  -- a value on top of a stack in code is for the top of the stack that this one is for, and the values below are for those below
   pub popped : (xs ys : List X) (x : X) (ks : List K) → xs ≡ ys ++ x ∷ [] → AreFor R (reverse xs) ks → OnTop ys x ks
   popped xs ys x ks e h = go ks (subst (λ (z : List X). AreFor R z ks) (ap reverse e ∙ reverse-append ys (x ∷ [])) h)
     where
@@ -48,6 +50,7 @@ module _ {X K : Type 0} (R : X → K → Type 0) where
   none-on [] (k ∷ ks) e h = absurd h
   none-on (x ∷ xs) ks e h = cc
 
+  -- where a local in code has a value, something is known of the local, and the value is for that
   pub local-there : (o : Option X) (x : X) (r : Option K) → o ≡ Some x → IsLocal R o r → (k : K) × (r ≡ Some k) × R x k
   local-there None x r e h = cc
   local-there (Some y) x None e h = absurd h
@@ -56,15 +59,17 @@ module _ {X K : Type 0} (R : X → K → Type 0) where
       some-value : (y x : X) → Some y ≡ Some x → y ≡ x
       some-value y x e = cc
 
+  -- where a local in code has no value, nothing is known of the local
   pub local-none : (o : Option X) (r : Option K) → o ≡ None → IsLocal R o r → r ≡ None
   local-none None None e h = refl
   local-none None (Some k) e h = absurd h
   local-none (Some y) r e h = cc
 
-  -- a value into a local
+  -- numbers whose test of equality is false differ
   differ : (i j : ℕ) → (i == j) ≡ false → i ≢ j
   differ i j e h = grind (arith, nat_tests)
 
+  -- where a value is put into a local in code, and what it is for into that of the state, each local is still for what is known of it
   pub local-set : (ls : List (Option X)) (l : ℕ → Option K) (j i : ℕ) (x : X) (k : K) (q : Bool) → (i == j) ≡ q → j < length ls → R x k
       → IsLocal R (get_or ls i None) (l i) → IsLocal R (get_or (slice_set ls j (Some x)) i None) (with_local l j k i)
   local-set ls l j i x k true e b f h =
@@ -125,25 +130,30 @@ module _ {B X K : Type 0} (R : X → K → Type 0) (tree : K → Tree) (n : ℕ)
   pub one-step : (w : Width) (b : B) (l : ℕ → Option K) (xs rest : List K) (k : K) → xs ≡ k ∷ rest → step e (Neg w) b l xs ≡ Goes l rest (e.minus w b k)
   one-step w b l xs rest k q = ap (λ (z : List K). step e (Neg w) b l z) q
 
+  -- a cut takes the top value off the stack and pushes its result
   pub cut-step : (d : ℕ) (b : B) (l : ℕ → Option K) (xs rest : List K) (k : K) → xs ≡ k ∷ rest → step e (Cut d) b l xs ≡ Goes l rest (e.cut d b k)
   cut-step d b l xs rest k q = ap (λ (z : List K). step e (Cut d) b l z) q
 
+  -- a sum, a difference or a product takes the two top values off the stack and pushes its result
   pub two-step : (t : Two) (w : Width) (b : B) (l : ℕ → Option K) (xs rest more : List K) (k j : K) → xs ≡ k ∷ rest → rest ≡ j ∷ more
       → step e (op_of t w) b l xs ≡ Goes l more (e.two t w b j k)
   two-step Plus w b l xs rest more k j q r = ap (λ (z : List K). step e (Add w) b l z) (q ∙ ap (λ (z : List K). k ∷ z) r)
   two-step Minus w b l xs rest more k j q r = ap (λ (z : List K). step e (Sub w) b l z) (q ∙ ap (λ (z : List K). k ∷ z) r)
   two-step Times w b l xs rest more k j q r = ap (λ (z : List K). step e (Mul w) b l z) (q ∙ ap (λ (z : List K). k ∷ z) r)
 
+  -- a sum, a difference or a product leads nowhere on an empty stack
   pub two-none : (t : Two) (w : Width) (b : B) (l : ℕ → Option K) (xs : List K) → xs ≡ [] → step e (op_of t w) b l xs ≡ None
   two-none Plus w b l xs q = ap (λ (z : List K). step e (Add w) b l z) q
   two-none Minus w b l xs q = ap (λ (z : List K). step e (Sub w) b l z) q
   two-none Times w b l xs q = ap (λ (z : List K). step e (Mul w) b l z) q
 
+  -- a sum, a difference or a product leads nowhere on a stack of one value
   pub two-one : (t : Two) (w : Width) (b : B) (l : ℕ → Option K) (xs rest : List K) (k : K) → xs ≡ k ∷ rest → rest ≡ [] → step e (op_of t w) b l xs ≡ None
   two-one Plus w b l xs rest k q r = ap (λ (z : List K). step e (Add w) b l z) (q ∙ ap (λ (z : List K). k ∷ z) r)
   two-one Minus w b l xs rest k q r = ap (λ (z : List K). step e (Sub w) b l z) (q ∙ ap (λ (z : List K). k ∷ z) r)
   two-one Times w b l xs rest k q r = ap (λ (z : List K). step e (Mul w) b l z) (q ∙ ap (λ (z : List K). k ∷ z) r)
 
+  -- a sum, a difference or a product stores into no local
   pub op-pushes : (t : Two) (w : Width) → stores (op_of t w) ≡ false
   op-pushes Plus w = refl
   op-pushes Minus w = refl

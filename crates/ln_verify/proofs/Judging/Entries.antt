@@ -53,6 +53,7 @@ module _ (v : Version) (ps : List Subject) (d : Desk) (es : List Entry) (i : ℕ
       let m : length (parts_of es) + 2 ≡ n = omega (arith, q, parts-many es) in
       subst (IsFirstFault v ps (parts_of es)) m (come-lacks v ps d (parts_of es) i (omega (arith, e, parts-many es)) c a)
 
+  -- at the end of the file, outside of parts and after those of all predicates, the listing is valid
   pub entries-whole : i ≡ length es → Come v ps (take i (parts_of es)) d → d.at ≡ Away → d.parts ≡ length ps → IsValid v ps (parts_of es)
   entries-whole e c a h = come-whole v ps d (parts_of es) i (omega (arith, e, parts-many es)) c a h
 

@@ -73,10 +73,12 @@ module _ (n : ℕ) (exps stages : List Pairs) where
   abbrev pub Decides : List ℕ → List ℕ → ℕ → Type 0
   Decides ks js i = SameFrom ks js i ↔ SameStages n exps stages ks js
 
+  -- where the rest decides and the two at its first place aren't the same, the lists aren't
   pub decides-stop : (ks js : List ℕ) (i : ℕ) → i < length ks → length ks ≡ length js → Decides ks js i → (SameAt ks js i → ⊥)
       → SameStages n exps stages ks js → ⊥
   decides-stop ks js i h e d none s = none ((turn ks js i h (omega (arith, h, e))).0 (d.1 s)).0
 
+  -- where the rest decides and the two at its first place are the same, what comes after them decides
   pub decides-next : (ks js : List ℕ) (i : ℕ) → i < length ks → length ks ≡ length js → Decides ks js i → SameAt ks js i → Decides ks js (i + 1)
   decides-next ks js i h e d y =
       let t = turn ks js i h (omega (arith, h, e)) in
@@ -91,6 +93,7 @@ module _ (n : ℕ) (exps stages : List Pairs) where
   past-end (k ∷ ks) (j ∷ js) zero h e = absurd (omega arith)
   past-end (k ∷ ks) (j ∷ js) (suc i) h e = past-end ks js i (omega arith) (omega arith)
 
+  -- where the rest decides and nothing remains, the lists are the same
   pub decides-end : (ks js : List ℕ) (i : ℕ) → length ks ≤ i → length ks ≡ length js → Decides ks js i → SameStages n exps stages ks js
   decides-end ks js i h e d = d.0 (past-end ks js i h e)
 
@@ -104,12 +107,14 @@ module _ (n : ℕ) (exps stages : List Pairs) where
       both k ks h r zero d l = h
       both k ks h r (suc i) d l = r i d (omega arith)
 
+  -- where blocks and stages are the same one by one, so are their lists of vectors
   pub same-vectors : (ks js : List ℕ) → SameStages n exps stages ks js → named n exps ks ≡ named n stages js
   same-vectors [] [] h = refl
   same-vectors [] (j ∷ js) h = absurd h
   same-vectors (k ∷ ks) [] h = absurd h
   same-vectors (k ∷ ks) (j ∷ js) h = let a = h.0.1 in let r = same-vectors ks js h.1 in λ i. a i ∷ r i
 
+  -- where the numbers are those of blocks and the lists of vectors are the same, so are blocks and stages one by one
   pub vectors-same : (ks js : List ℕ) → All (λ k. k < length exps) ks → named n exps ks ≡ named n stages js → SameStages n exps stages ks js
   vectors-same [] [] w e = tt
   vectors-same [] (j ∷ js) w e = absurd (ends (vector n (get_or stages j [])) (named n stages js) e)
@@ -149,6 +154,7 @@ other p exps before at places list o t h = t (some-same at places (sym o ∙ h.o
 
 module _ (p : Subject) (st : Staged) (laid : is_laid_out p.sites p.vars ≡ true) (stages : AreStagesOf p.sites p.vars p.poly st) (before : ℕ)
     (o : List ℕ) (at : slice_get (orders_of p.sites) before ≡ Some o) where
+  -- how many variables the predicate has
   abbrev pub n : ℕ
   n = length p.vars
 
@@ -162,6 +168,7 @@ module _ (p : Subject) (st : Staged) (laid : is_laid_out p.sites p.vars ≡ true
       ∙ slice_get-map (λ u. segments_from (segment_of st) u 0) (orders_of p.sites) before
       ∙ ap (option_map (λ u. segments_from (segment_of st) u 0)) at
 
+  -- each of these numbers is that of exponents that the stages have
   pub numbers-are : All (λ i. i < length st.exps) numbers
   numbers-are = subst (λ (q : List ℕ). All (λ i. i < length st.exps) q) (get_or_from_slice_get st.lists before numbers [] list-there)
       (stages.numbers before [] (slice_get_within st.lists before numbers list-there))

@@ -209,6 +209,7 @@ abbrev pub Come : Version → List Subject → List Part → Desk → Type 0
 Come v ps lines d = (here : Place) × Go v ps (Outside []) lines here × IsHere ps d here
 
 module _ (v : Version) (ps : List Subject) (d : Desk) where
+  -- before the first line, the state outside of parts and after none of them is where a listing begins
   pub come-first : d.at ≡ Away → d.parts ≡ 0 → Come v ps [] d
   come-first e h = (Outside [], refl, (e, h))
 
@@ -216,6 +217,7 @@ module _ (v : Version) (ps : List Subject) (d : Desk) where
   lacks (Outside parts) a i = λ e. a (i.0, i.1 ∙ e)
   lacks (Within parts s) a i = tt
 
+  -- at the end of the file, within a part or where a predicate lacks its part, the first fault is one past the last line
   pub come-lacks : (lines : List Part) (i : ℕ) → i ≡ length lines → Come v ps (take i lines) d → ((d.at ≡ Away) × (d.parts ≡ length ps) → ⊥)
       → IsFirstFault v ps lines (length lines + 2)
   come-lacks lines i e c a = walk-lacks v ps lines i (length lines + 2) c.0 e (ap (λ k. k + 2) (sym e)) c.1 (lacks c.0 a c.2)
@@ -225,13 +227,16 @@ module _ (v : Version) (ps : List Subject) (d : Desk) where
   whole lines i (Outside parts) l g h a e = walk-ends v ps lines i parts l g (sym h.1 ∙ e)
   whole lines i (Within parts s) l g h a e = absurd (away-none (length h.1.vars) d s a h.3)
 
+  -- at the end of the file, outside of parts and after those of all predicates, the lines are valid
   pub come-whole : (lines : List Part) (i : ℕ) → i ≡ length lines → Come v ps (take i lines) d → d.at ≡ Away → d.parts ≡ length ps → IsValid v ps lines
   come-whole lines i e c a h = whole lines i c.0 (omega (arith, e)) c.1 c.2 a h
 
+  -- where the line at hand leads nowhere it is the first that fails, and its number is 2 more than the count of those before it
   pub come-stops : (lines : List Part) (i : ℕ) (x : Part) (e : Desk) → i < length lines → Come v ps (take i lines) d
       → ((here : Place) → IsHere ps d here → Gone v ps here (get_or lines i x) false e) → IsFirstFault v ps lines (i + 2)
   come-stops lines i x e l c h = walk-stops v ps lines i (i + 2) x c.0 l refl c.1 (h c.0 c.2)
 
+  -- where the line at hand leads on, the lines up to it lead to the place of the new desk
   pub come-more : (lines : List Part) (i : ℕ) (x : Part) (e : Desk) → i < length lines → Come v ps (take i lines) d
       → ((here : Place) → IsHere ps d here → Gone v ps here (get_or lines i x) true e) → Come v ps (take (i + 1) lines) e
   come-more lines i x e l c h = let r = h c.0 c.2 in (r.0, walk-more v ps lines i x (Outside []) c.0 r.0 l c.1 r.1, r.2)

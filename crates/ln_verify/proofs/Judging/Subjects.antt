@@ -135,15 +135,19 @@ module _ (ps : List PredOf) (l : Listed) (v : Version) (ss : List Subject) (e : 
   own-fault n h = subst (λ (w : Version). IsFirstFault w ss (parts_of l.entries) n) (sym e)
       (subst (λ (ts : List Subject). IsFirstFault (rules_of l.version) ts (parts_of l.entries) n) (subjects-one ps h.subjects ss h.those those) h.fault)
 
+  -- where no line fails, the result `Valid` agrees with the listing: it is valid for the predicates
   pub valid-there : IsValid v ss (parts_of l.entries) → (Valid ≡ Valid) ↔ IsValidFor ps l
   valid-there h = (λ q. here-valid h, λ k. refl)
 
+  -- where some line is the first that fails, the result `Invalid` agrees with the listing: it isn't valid for the predicates
   pub valid-not : (n : ℕ) → IsFirstFault v ss (parts_of l.entries) n → (Invalid n ≡ Valid) ↔ IsValidFor ps l
   valid-not n h = (λ q. absurd (not-valid n q), λ k. absurd (one-answer.not_both v ss (parts_of l.entries) n (own-valid k) h))
 
+  -- where no line fails, the result `Valid` agrees with the listing: it has no first fault
   pub fault-not : IsValid v ss (parts_of l.entries) → (n : ℕ) → (Valid ≡ Invalid n) ↔ IsFaultFor ps l n
   fault-not h n = (λ q. absurd (not-valid n (sym q)), λ k. absurd (one-answer.not_both v ss (parts_of l.entries) n h (own-fault n k)))
 
+  -- where line m is the first that fails, the result `Invalid m` agrees with the listing: m is its first fault, and no other line is
   pub fault-there : (m : ℕ) → IsFirstFault v ss (parts_of l.entries) m → (n : ℕ) → (Invalid m ≡ Invalid n) ↔ IsFaultFor ps l n
   fault-there m h n = (
     λ q. here-fault n (subst (IsFirstFault v ss (parts_of l.entries)) (number-same m n q) h),

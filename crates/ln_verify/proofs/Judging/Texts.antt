@@ -52,6 +52,7 @@ pub record Midway (v : Version) (ss : List Subject) (ps : List Part) (d : Desk) 
   pub come : Come v ss (take at ps) d
 
 module _ (v : Version) (ss : List Subject) (ps : List Part) (d : Desk) (u : Unread) where
+  -- before line 2, outside of parts, none of the lines has been judged and all of them remain
   pub midway-first : u.line ≡ 2 → d.at ≡ Away → d.parts ≡ 0 → AreLeft u ps → Midway v ss ps d u
   midway-first n a b h = record { at = 0; number = n; within = omega arith; left = h; come = come-first v ss d a b }
 
@@ -89,6 +90,7 @@ module _ (v : Version) (ss : List Subject) (ps : List Part) (d : Desk) (u : Unre
   pub midway-lacks : (w : Unread) → Midway v ss ps d u → Takes u None w → ((d.at ≡ Away) × (d.parts ≡ length ss) → ⊥) → IsFirstFault v ss ps w.line
   midway-lacks w m t a = let e = ended w m t in subst (IsFirstFault v ss ps) e.1 (come-lacks v ss d ps m.at e.0 m.come a)
 
+  -- at the end of the file, outside of parts and after those of all predicates, the lines are valid
   pub midway-whole : (w : Unread) → Midway v ss ps d u → Takes u None w → d.at ≡ Away → d.parts ≡ length ss → IsValid v ss ps
   midway-whole w m t a b = let e = ended w m t in come-whole v ss d ps m.at e.0 m.come a b
 
@@ -142,14 +144,17 @@ module _ (ps : List PredOf) (bs : List ℕ) (l : Listed) (t : ListText bs l.vers
   own-fault n (form f) = absurd (no_text bs n l.version (parts_of l.entries) f t)
   own-fault n (rule k x f) = let e = one_text bs k.version l.version (parts_of k.entries) (parts_of l.entries) x t in fault-same ps k l n e.0 e.1 f
 
+  -- a result that is right about the validity of a listing is right about that of the bytes of its text
   pub text-valid : (j : Judged) → (j ≡ Valid) ↔ IsValidFor ps l → (j ≡ Valid) ↔ IsValidTextFor ps bs
   text-valid j h = (λ q. record { listing = l; text = t; valid = h.0 q }, λ k. h.1 (own-valid k))
 
+  -- a result that is right about the first fault of a listing is right about that of the bytes of its text
   pub text-fault : (j : Judged) → ((n : ℕ) → (j ≡ Invalid n) ↔ IsFaultFor ps l n) → (n : ℕ) → (j ≡ Invalid n) ↔ IsTextFaultFor ps bs n
   text-fault j h n = let k = h n in (λ q. rule l t (k.0 q), λ f. k.1 (own-fault n f))
 
 -- where the form fails
 module _ (ps : List PredOf) (bs : List ℕ) (m : ℕ) (f : IsFormFault bs m) where
+  -- the result `Invalid` agrees with the bytes: they are no listing, and so they aren't valid
   pub form-not : (Invalid m ≡ Valid) ↔ IsValidTextFor ps bs
   form-not = (λ q. cc, λ k. absurd (no_text bs m k.listing.version (parts_of k.listing.entries) f k.text))
 
@@ -160,6 +165,7 @@ module _ (ps : List PredOf) (bs : List ℕ) (m : ℕ) (f : IsFormFault bs m) whe
   same n (form g) = one_fault bs m n f g
   same n (rule k t g) = absurd (no_text bs m k.version (parts_of k.entries) f t)
 
+  -- the result `Invalid m` agrees with the bytes: m is the line at which they stop being a listing, and their only first fault
   pub form-there : (n : ℕ) → (Invalid m ≡ Invalid n) ↔ IsTextFaultFor ps bs n
   form-there n = (λ q. form (subst (IsFormFault bs) (number-same m n q) f), λ k. ap Invalid (same n k))
 
@@ -177,6 +183,7 @@ answered-lines u v cs xs o p ps e q h l =
 
 module _ (ps : List PredOf) (bs : List ℕ) (u : Unread) (w : Version) (ss : List Subject) (o : IsOpened bs u) (e : w ≡ rules_of u.version)
     (those : AreSubjectsOf ps ss) where
+  -- where no line of the opened listing fails, the result `Valid` agrees with the bytes: they are valid and have no first fault
   pub lines-valid : IsAnswer w ss o.parts None → ((Valid ≡ Valid) ↔ IsValidTextFor ps bs) × ((n : ℕ) → (Valid ≡ Invalid n) ↔ IsTextFaultFor ps bs n)
   lines-valid h =
       let l : Listed = listed u.version o.parts in
@@ -184,6 +191,7 @@ module _ (ps : List PredOf) (bs : List ℕ) (u : Unread) (w : Version) (ss : Lis
       let k = listed-valid w ss u.version o.parts h in
       (text-valid ps bs l t Valid (valid-there ps l w ss e those k), text-fault ps bs l t Valid (fault-not ps l w ss e those k))
 
+  -- where line n of the opened listing is the first that fails, the result `Invalid n` agrees with the bytes: n is their first fault
   pub lines-fault : (n : ℕ) → IsAnswer w ss o.parts (Some n)
       → ((Invalid n ≡ Valid) ↔ IsValidTextFor ps bs) × ((m : ℕ) → (Invalid n ≡ Invalid m) ↔ IsTextFaultFor ps bs m)
   lines-fault n h =

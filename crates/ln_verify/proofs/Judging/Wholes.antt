@@ -96,6 +96,7 @@ module _ (s : Shape) (w : Written) (size : length w.lists ≡ length (orders_of 
       let e = own-length (length o) s.sites p.size in
       segment-is o s.sites p (omega arith) ∙ ap (segment_at s.sites w.lists) t ∙ rw e refl
 
+  -- the list of an order, joined from the segments of its prefixes, is the whole list that the listing has for the order
   pub list-is : (o : List ℕ) → IsOrderOf s.sites o → list_of (part_of s w) o ≡ beside (orders_of s.sites) w.lists o
   list-is o p =
       let c : suc (length o) - 0 ≡ suc s.sites = omega (arith, p.size) in

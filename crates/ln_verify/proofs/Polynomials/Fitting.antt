@@ -129,9 +129,11 @@ module _ {A : Type 0} (H : A → Type 0) where
   abbrev pub EachDecides : List A → ℕ → Type 0
   EachDecides xs i = EachOf H (drop i xs) ↔ EachOf H xs
 
+  -- where the rest decides and the property fails at its first place, it doesn't hold of each
   pub each-stop : (xs : List A) (i : ℕ) (d : A) → i < length xs → EachDecides xs i → (H (get_or xs i d) → ⊥) → EachOf H xs → ⊥
   each-stop xs i d l t none h = none ((each-turn xs i d l).0 (t.1 h)).0
 
+  -- where the rest decides and the property holds at its first place, what comes after it decides
   pub each-next : (xs : List A) (i : ℕ) (d : A) → i < length xs → EachDecides xs i → H (get_or xs i d) → EachDecides xs (i + 1)
   each-next xs i d l t y =
       let u = each-turn xs i d l in
@@ -144,6 +146,7 @@ module _ {A : Type 0} (H : A → Type 0) where
   past (x ∷ xs) zero l = absurd (omega arith)
   past (x ∷ xs) (suc i) l = past xs i (omega arith)
 
+  -- where the rest decides and nothing remains, the property holds of each
   pub each-end : (xs : List A) (i : ℕ) → length xs ≤ i → EachDecides xs i → EachOf H xs
   each-end xs i l t = t.0 (past xs i l)
 

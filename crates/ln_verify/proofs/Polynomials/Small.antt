@@ -27,17 +27,19 @@ module _ (n : ℕ) (t : Tree) (f : Sparse) (h : IsNormal n t f) where
   unfolding coefficient_at
   to_tree m k = record { size = k.size; nonzero = λ z. k.nonzero (h.normal.coefficients m k.size ∙ z) }
 
-  -- all monomials are vectors of terms, and the other way round
+  -- each monomial is the vector of a term
   pub in-rows : (m : List ℕ) → IsMonomial n t m → In (all_rows n f) m
   in-rows m k = (rows-monomials n f (poly-terms f h.form) h.below).all m (of_tree m k)
 
+  -- the vector of each term is a monomial
   pub row-monomial : (m : List ℕ) → In (all_rows n f) m → IsMonomial n t m
   row-monomial m i = to_tree m ((rows-monomials n f (poly-terms f h.form) h.below).monomials m i)
 
-  -- a polynomial in code has no exponent above 127, so the number of its terms decides
+  -- a polynomial of at most 1,024 terms is small, since in code none has an exponent above 127
   pub few-small : length f ≤ 1024 → IsSmall n t
   few-small l = record { few = few-terms n t f h l; low = λ m v k. rows-small n f h.form.rising m v (in-rows m k) }
 
+  -- a polynomial of more than 1,024 terms isn't small
   pub many-large : 1024 < length f → IsSmall n t → ⊥
   many-large l s = s.few (many-terms n t f h l)
 

@@ -91,11 +91,13 @@ none-right false false o e = refl
 
 -- where the tests hold, the rule behind them decides
 module _ {L K : Type 0} (known : L → Tree → ℕ → K) where
+  -- where a test holds, the same is known after it as before
   pub of-one : (b : Bool) → b ≡ true → (o : Option L) (t : Tree) (s : ℕ) (r : Option K) → IsRule known o t s r
       → IsRule known o t s (if b then r else None)
   of-one true e o t s r h = h
   of-one false e o t s r h = cc
 
+  -- where two tests hold, the same is known after them as before
   pub of-both : (b c : Bool) → b ≡ true → c ≡ true → (o : Option L) (t : Tree) (s : ℕ) (r : Option K) → IsRule known o t s r
       → IsRule known o t s (if b && c then r else None)
   of-both true true e f o t s r h = h
