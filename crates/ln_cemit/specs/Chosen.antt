@@ -48,7 +48,8 @@ CallsAreCounted =
     ((b : ℕ) → Member bs b → (j : Counts) → (after b j).calls ≡ j.calls) →
     (j : Counts) × (first_of_signs sign after bs k ≡ Said (decided sign bs).0 j) × (j.calls ≡ ups (decided sign bs).1 k.calls)
 
--- ---- a worked one: one block for the empty prefix, two for each site, two for each pair, none for whole orders
+-- ---- a worked one
+-- one block for the empty prefix, two for each site, two for each pair, none for whole orders
 abbrev pub orient_segment : List ℕ → List ℕ
 orient_segment [] = 0 ∷ []
 orient_segment (a ∷ []) = 1 ∷ 2 ∷ []

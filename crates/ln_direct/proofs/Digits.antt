@@ -65,6 +65,7 @@ module _ (k a : ℕ) where
   unit-not v n m d = rw (vector-step k a n, unit-later v (a % 5) (vector (k - 1) (a / 5)) m) (not_zero (a % 5) _ d)
 
   -- ---- the degree and single exponents
+  -- a vector without exponents has the degree 0
   pub degree-none : k ≡ 0 → 0 ≡ total_degree (vector k a)
   degree-none e = rw (vector-none k a e) refl
 

@@ -145,6 +145,7 @@ module _ (rank : Rank) (row : Row) (e : Tree) (l : degree_of e ≤ 4) where
     by_case (inr i) = there (numbered row a o (omega (arith, i, l)))
 
 -- ---- the point of a row
+-- a point with a row's values and its first 4 inputs perturbed has those values and perturbs the inputs of the row's sites
 pub row-point : (row : Row) (point : Point) → point.values ≡ row.values → point.perturbed ≡ Some 4
     → IsAt point (λ v. is_some ((sites_of row).site v)) (values_of row)
 row-point row point e d = record { perturbs = λ v. rw d (tested (ltb v 4) (get_or row.indices v 0)); values = λ v. rw e refl } where

@@ -47,6 +47,7 @@ nothing k l (inl h) = absurd (omega (arith, h))
 nothing k l (inr h) = absurd (omega (arith, h.1))
 
 -- ---- one place after the other
+-- no pair precedes the pair of places 0 and 0, so the list of those before it is empty
 pub before_none : (claim : ℕ → ℕ → Type 0) → ArePairsBefore claim 0 0 []
 before_none claim = record {
   each = All-nil (λ e. claim e.from e.to × Precedes e (pair 0 0));
@@ -163,6 +164,7 @@ pairs-one claim xs ys a b =
     (λ e c. a.all e.from e.to (All-contains (λ p. claim p.from p.to) ys e b.each c))
 
 -- ---- texts
+-- the step of the loop over second places where the pair is an edge: its line is appended
 pub so_far_more : (claim : ℕ → ℕ → Type 0) (line : Pair → List ℕ) (start : List ℕ) (i j : ℕ) (old new : List ℕ)
     → claim i j → new ≡ old ++ line (pair i j) → SoFar claim line start i j old → SoFar claim line start i (j + 1) new
 so_far_more claim line start i j old new c e s = record {

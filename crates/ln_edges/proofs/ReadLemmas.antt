@@ -291,6 +291,7 @@ pub record Reading (cs : List CoordOf) (all left : Records) (ps : List PointOf) 
     pub stands : Stands cs done ps fault
 
 -- ---- an index among the first points
+-- none of the first i points has the index z, and there are at least i points
 pub record IsNowhere (ps : List Point) (i : ℕ) (z : ℤ) : Type 0 where
   pub within : i ≤ length ps
   pub none : (k : ℕ) → k < i → (get_or ps k a_point).index ≢ z

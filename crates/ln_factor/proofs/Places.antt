@@ -37,6 +37,7 @@ use Rattle.ln_code.specs.declared.verdict.Verdict.{Verdict}
 use Rattle.ln_factor.specs.Factors.{AreMadeFor, AreVerdicts, IsFactor, IsRowOfFactors}
 
 -- ---- lists
+-- at a place within a list there is an element, which is the one that is read with any default
 pub there-at : {A : Type 0} (xs : List A) (k : ℕ) (d : A) → k < length xs → slice_get xs k ≡ Some (get_or xs k d)
 there-at [] k d h = absurd (omega arith)
 there-at (x ∷ xs) zero d h = refl

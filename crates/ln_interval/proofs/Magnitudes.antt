@@ -138,6 +138,7 @@ power_magnitude p zero = rw pow-zero (omega (arith, ints))
 power_magnitude p (suc n) = product_magnitude (power p n) p ∙ ap (λ m. m * magnitude p) (power_magnitude p n) ∙ sym (pow-suc (magnitude p) n)
 
 -- ---- operations on ranges are ranges: low is not above high
+-- a sum of ordered ranges is ordered
 pub sum_ordered : (p q : Range) → IsOrdered p → IsOrdered q → IsOrdered (sum p q)
 sum_ordered p q h g = omega (arith, ints, h, g)
 

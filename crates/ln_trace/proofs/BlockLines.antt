@@ -21,6 +21,7 @@ use Rattle.ln_trace.specs.Explain.{BlockTells, IsTold, IsToldBehind, TellOn, it_
 use Rattle.ln_trace.specs.Text.{text_of_line, text_of_lines}
 
 -- ---- one block
+-- the block at a number below the count of blocks is one of the blocks
 pub its-block : (cs : List Code) (number : ℕ) (block : Code) → number < length cs → block ≡ get_or cs number block → Contains cs block
 its-block cs number block h e = (number, h, sym e)
 
@@ -61,6 +62,7 @@ other-told p zs number exps z old now new b h q r rest = record {
 }
 
 -- ---- one after the other
+-- with the whole list still to come, nothing is appended yet
 pub nothing-on : (p : Part) (zs : List ℤ) (list : List ℕ) (old : List ℕ) → TellOn p zs list list old old
 nothing-on p zs list old behind t = record { lines = behind; tell = t; put = refl }
 
@@ -128,6 +130,7 @@ list-end p zs o list old now new j h f q = on-told p zs list [] old now new (sub
 })
 
 -- ---- the order of a row
+-- where all values differ, no place is the first whose value is that of an earlier one
 pub no_equal : (zs : List ℤ) (k : ℕ) → AllPairs (λ y z. y ≢ z) zs → IsFirstEqual zs k → ⊥
 no_equal zs k d e =
     let x : ℤ = get_or zs k (pos 0) in
@@ -137,6 +140,7 @@ no_equal zs k d e =
     d j k x l e.within (a ∙ get_or_default zs k (pos 0) x e.within)
 
 -- ---- a row
+-- the `row` line, and then the lines of the blocks in the list of the row's order, are the lines of that row
 pub row-told : (p : Part) (row : Row) (n : ℕ) (o now new : List ℕ) → length row.index ≡ p.shape.sites → IsOrder row.index o
     → now ≡ text_of_line (line.Row n) → IsTold p row.values (list_of p o) now new → IsToldBehind p row n [] new
 row-told p row n o now new size r q t = record {

@@ -100,6 +100,7 @@ pub below-end : (a : Pairs) (v i : ℕ) → length a ≤ i → BelowDecides a v 
 below-end a v i l t = (λ e. t.0 (below-past a v i l), λ h. refl)
 
 -- ---- what was read
+-- what was read is a: its variables rise, and each is a coordinate of a site
 pub record WasRead (vars : List VarInfo) (a e : Pairs) : Type 0 where
   pub same : e ≡ a
   pub rising : IsRising e

@@ -152,6 +152,7 @@ module _ (s : Shape) (e : Tree) (f : Sparse) (st : Staged) (records : Records) (
     midway-ends w t a b = stands-ends s e f st records ls d rows p m.at m.stands (at-end w t) a b
 
 -- ---- what the result means
+-- what was judged of a trace, without the number of records, is its result
 pub judged-answer : (s : Subject) (records : Records) (ls : List TraceLine) (j : Judged) → IsJudged s records ls j → IsAnswer s records ls (fault_of j)
 judged-answer s records ls (Agreed n) h = h.0
 judged-answer s records ls (Wrong n) h = h

@@ -143,6 +143,7 @@ sites-over vars index a h = record { size = vector-length (length vars) a; of_si
   by_case v e (inr l) = get_or_past (vector (length vars) a) v 0 (omega (arith, l, vector-length (length vars) a))
 
 -- ---- the order that is held
+-- the order that is held has a place for each site of the shape
 pub size-at : (s : Shape) (st : Staged) (d : Desk) → IsAtRow s st d → length (order_places d.order) ≡ s.sites
 size-at s st d at = at.order.size ∙ at.range.size
 

@@ -16,6 +16,7 @@ pub true-false : (b : Bool) → b ≡ true → b ≡ false → ⊥
 true-false b e f = cc
 
 -- ---- the last
+-- where exponents were kept as the last, the test of them decides whether the last vector is earlier than a
 pub behind-some : (n : ℕ) (sites : Sites) (o : Option Pairs) (a b : Pairs) (zero r : Bool) → o ≡ Some b
     → (IsTrue r ↔ Earlier sites (vector n b) (vector n a)) → (stood : Stood) → IsLastOf n o zero stood → IsTrue r ↔ LastIsEarlier sites stood (vector n a)
 behind-some n sites None a b zero r e h stood l = cc

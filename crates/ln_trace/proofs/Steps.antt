@@ -121,6 +121,7 @@ module _ (s : Shape) (f : Sparse) (st : Staged) (old : Records) (d : Desk) where
   refuses l rows new h = record { holds = λ e. absurd (false-true e); gone = λ e here p i. h e here i }
 
   -- ---- `refused`
+  -- `refused` fails within a row, or where its number isn't the next one
   pub refused-elsewhere : (n : ℕ) (rows : Records) (new : Desk) → ((d.inside ≡ false) × (n ≡ d.seen + 1) → ⊥) → Led s f st old d (line.Refused n) false rows new
   refused-elsewhere n rows new h = refuses (line.Refused n) rows new go where
     go : (e : Tree) (here : Place) → IsHere s e st old d here → (q : Place) → Rule (subject_of s e) here (line.Refused n) q → ⊥
@@ -157,6 +158,7 @@ module _ (s : Shape) (f : Sparse) (st : Staged) (old : Records) (d : Desk) where
     go e (Within seen left row stood) p i = absurd (clash d.inside i.0 b)
 
   -- ---- `row`
+  -- `row` fails within a row, or where its number isn't the next one
   pub row-elsewhere : (n : ℕ) (rows : Records) (new : Desk) → ((d.inside ≡ false) × (n ≡ d.seen + 1) → ⊥) → Led s f st old d (line.Row n) false rows new
   row-elsewhere n rows new h = refuses (line.Row n) rows new go where
     go : (e : Tree) (here : Place) → IsHere s e st old d here → (q : Place) → Rule (subject_of s e) here (line.Row n) q → ⊥
@@ -204,6 +206,7 @@ module _ (s : Shape) (f : Sparse) (st : Staged) (old : Records) (d : Desk) where
       go e (Within seen left row stood) p i = absurd (clash d.inside i.0 b)
 
   -- ---- `at`
+  -- `at` fails outside a row
   pub at-outside : (a : Pairs) (z : ℤ) (rows : Records) (new : Desk) → d.inside ≡ false → Led s f st old d (line.At a z) false rows new
   at-outside a z rows new b = refuses (line.At a z) rows new go where
     go : (e : Tree) (here : Place) → IsHere s e st old d here → (q : Place) → Rule (subject_of s e) here (line.At a z) q → ⊥
@@ -308,6 +311,7 @@ module _ (s : Shape) (f : Sparse) (st : Staged) (old : Records) (d : Desk) where
       subst (λ (y : Pairs). Led s f st old d (line.At y z) ok old new) q (subst (λ (y : ℤ). Led s f st old d (line.At x y) ok old new) e h)
 
   -- ---- `sign`
+  -- `sign` fails outside a row
   pub sign-outside : (t : Sign) (rows : Records) (new : Desk) → d.inside ≡ false → Led s f st old d (line.Sign t) false rows new
   sign-outside t rows new b = refuses (line.Sign t) rows new go where
     go : (e : Tree) (here : Place) → IsHere s e st old d here → (q : Place) → Rule (subject_of s e) here (line.Sign t) q → ⊥

@@ -32,6 +32,7 @@ pub few-lines : (read ls : List TraceLine) → read ≡ ls → IsKept ls → len
 few-lines read ls q h = omega (arith, ap length q, h.short, ap length h.text.text, length-append first_line (joined (map text_of_line ls)), joined-many ls)
 
 -- ---- the result
+-- what was judged of the lines that were read is the result for the lines of the trace
 pub whole-answer : (s : Subject) (records : Records) (read ls : List TraceLine) (j : Judged) (o : Option ℕ) → read ≡ ls → o ≡ fault_of j
     → IsJudged s records read j → IsAnswer s records ls o
 whole-answer s records read ls j o q r h =

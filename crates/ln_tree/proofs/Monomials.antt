@@ -83,6 +83,7 @@ before-less a b r s h = by_case (pairs_cmp a b) refl where
   by_case Greater e = absurd (not-both a b h (is-before b a s r (pairs_cmp-total.antisymm b a ∙ ap ordering_reverse e)))
 
 -- ---- kept where exponents change alike
+-- where a is before b, x is before y: at each variable, equal exponents of a and b are equal in x and y, smaller ones smaller
 pub order-kept : (a b x y : Pairs) → IsRising a → IsRising b → IsRising x → IsRising y → ((v : ℕ) → exponent v a ≡ exponent v b → exponent v x ≡ exponent v y)
     → ((v : ℕ) → exponent v a < exponent v b → exponent v x < exponent v y) → pairs_cmp a b ≡ Less → pairs_cmp x y ≡ Less
 order-kept a b x y r s t u same less h = let k : IsBefore a b = is-before a b r s h in

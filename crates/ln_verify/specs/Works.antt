@@ -34,6 +34,7 @@ Led {K = K} known tree rules v vars old op b ok new =
     Came (IsFor known (length vars)) tree (length vars) (rules v vars) s op b ok new.values.items new.locals.items
 
 -- ---- of a block
+-- the stack and the locals of a block
 abbrev pub BlockStack : Type 0
 BlockStack = Stack (Value Ranged)
 
@@ -46,6 +47,7 @@ abbrev pub BenchLed : Version → List VarInfo → BlockStack → Op → Range �
 BenchLed v vars old op p ok new = Led in_range tree_of block_rules v vars old op p ok new
 
 -- ---- of a filter
+-- the stack and the locals of a filter
 abbrev pub FilterStack : Type 0
 FilterStack = Stack (Value Triple)
 

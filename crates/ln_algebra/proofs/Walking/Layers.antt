@@ -131,6 +131,7 @@ listing-end zero (m ∷ ms) p = record {
   inside a (inr i) = absurd i
 
 -- ---- the walk of one degree
+-- the walk of one degree lists the covered vectors of that degree in order, up to the first last one
 pub listing-at : (vs : List ℕ) (d : ℕ) (ms : List (List ℕ)) (p : List ℕ) → Distinct vs → Inside vs (length p)
     → Listing (Lex vs) (HereAt vs d p) (walk_of.Covered vs ms) (Last vs ms) (walk_at vs d ms p).0 (walk_at vs d ms p).1
 listing-at [] d ms p t i = listing-end d ms p

@@ -72,6 +72,7 @@ has_hat [] b h = absurd (omega arith)
 has_hat (c ∷ a) b h = has_hat a b (tail_free 94 c (a ++ 94 ∷ b) h).1
 
 -- ---- words that are no exponents
+-- a word without `^` isn't the word of any exponent
 pub no_hat : (w : List ℕ) → span_to 94 w ≡ length w → (p : ℕ × ℕ) → IsExponent p → w ≡ exponent_word p → ⊥
 no_hat w h p q e = has_hat (decimal p.0) (decimal p.1) (subst (λ (x : List ℕ). span_to 94 x ≡ length x) e h)
 

@@ -134,6 +134,7 @@ snoc_same (x ∷ (z ∷ a)) [] e = absurd (cc)
 snoc_same (x ∷ a) (y ∷ b) e = let h = head e in let r = snoc_same a b (rest e) in λ i. h i ∷ r i
 
 -- ---- numbers and prefixes of lists
+-- a number that is at most another is less than it or equal to it
 pub nat_split : (m n : ℕ) → m ≤ n → (m < n) ⊎ (m ≡ n)
 nat_split zero zero h = inr refl
 nat_split zero (suc n) h = inl (omega arith)

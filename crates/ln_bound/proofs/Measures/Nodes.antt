@@ -149,6 +149,7 @@ two_weighed vars lets k x y at a b o old first mid new r g h z i j =
     h.measure.same_size z) i j
 
 -- ---- what stops in an operand
+-- what stops the weighing of the left operand stops that of the operation
 pub first_stops : (vars : List VarInfo) (lets : List Measure) (k : Two) (at : Span) (x y : Formula) (s : BoundStop)
     → StopsWeighing (loaded vars (map range_in lets) (map size_in lets) x) s
     → StopsWeighing (loaded vars (map range_in lets) (map size_in lets) (formula_of k at x y)) s

@@ -22,6 +22,7 @@ use Rattle.ln_cemit.specs.Ways.{block_lines}
 use Rattle.ln_cemit.specs.Whole.{first_of, moved}
 
 -- ---- what each function returns
+-- the value that a block returned; 0 where there is none
 abbrev pub value_or : Option ℤ → ℤ
 value_or None = pos 0
 value_or (Some z) = z

@@ -149,6 +149,7 @@ module _ (block : ℕ → List ℕ) (own : List ℕ) (s : Scene) (m : ℕ) (at s
         (λ x. along_row segment at d (p ++ x ∷ []) (without x (i ∷ js))) i js j h ih)
 
 -- ---- calls
+-- where blocks keep the count of calls, the result is the first sign that isn't 0, and the calls up to it are counted
 pub calls-are-counted : CallsAreCounted
 calls-are-counted sign after [] k h = (k, refl, refl)
 calls-are-counted sign after (b ∷ bs) k h = by_case (is_zero (sign b)) refl (calls-are-counted sign after bs (after b (entered k)) (λ c i. h c (inr i))) where

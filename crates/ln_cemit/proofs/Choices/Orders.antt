@@ -141,6 +141,7 @@ along-pieces at segment p (x ∷ o) =
     ap (λ z. segment z ++ along_order at segment (p ++ x ∷ []) o) (sym (nil-right p)) ∙ ap (λ z. segment (p ++ []) ++ z) (ih ∙ ap joined (sym m))
 
 -- ---- places of an order
+-- each of the n numbers from a on is at least a and below a + n
 pub member-range : (a n j : ℕ) → Member (range_with_len a n) j → (a ≤ j) × (j < a + n)
 member-range a zero j m = absurd m
 member-range a (suc n) j (inl e) = (omega (arith, e), omega (arith, e))

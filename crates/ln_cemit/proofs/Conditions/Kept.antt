@@ -40,6 +40,7 @@ use Rattle.ln_cemit.proofs.Conditions.Titles.{numbered_begins, numbered_c_name, 
 use Rattle.ln_cemit.proofs.Conditions.Titles.{numbered_own, sign_apart}
 
 -- ---- facts of a program
+-- what holds of a program: it follows the rules for programs, and has at most 65,536 blocks
 pub record Facts (p : Part) : Type 0 where
   pub kept : IsProgram p
   pub small : length p.blocks ≤ 65536
@@ -223,6 +224,7 @@ call_stands names begin p h =
     kept_by names x body o small braces apart alone within divide = rw (small, braces, o, apart, alone, within, divide) refl
 
 -- ---- the file
+-- this holds of each program of the file
 abbrev pub AllFacts : List Part → Type 0
 AllFacts [] = Unit {0}
 AllFacts (p ∷ ps) = Facts p × AllFacts ps

@@ -41,6 +41,7 @@ module _ (own : List ℕ) where
   upto (suc k) n b s = more (raised k n) b (upto k n b s)
 
   -- ---- what follows
+  -- at most n braces are round a place of the statements
   pub few_braces : (n : ℕ) (b : Body) → Steps own n b → braces_in b ≤ n
   few_braces n b (none m) = omega arith
   few_braces n b (back m) = omega arith
@@ -165,6 +166,7 @@ module _ (own : List ℕ) where
           (picks_steps (room_for d) (λ i. walked block own segment d (p ++ i ∷ []) (without i left)) left few small
           (λ i l. walked_steps d (p ++ i ∷ []) (without i left) (omega (arith, few, fewer i left)) (λ j k. small j (in-without i left j k))))
 
+      -- the whole body consists of such statements, with at most as many braces as k sites allow
       pub body_steps : (before : List ℕ) (k : ℕ) → AreNumbers m before → length (range_with_len 0 k) ≤ 5 → Few (range_with_len 0 k)
           → Steps own (room_for k) (body_for block own segment before k)
       body_steps before k h few small =

@@ -92,7 +92,8 @@ sign_apart ((b ∷ bs) ∷ xs) h =
     let f : bytes_eq answer_name (b ∷ bs) ≡ false = subst (λ (c : ℕ). bytes_eq answer_name (c ∷ bs) ≡ false) (sym e) refl in
     rw (f, sign_apart xs p.1) refl
 
--- ---- what comes after the first underscore
+-- ---- names of functions
+-- what comes after the first underscore of a name; nothing where it has none
 abbrev pub family : List ℕ → List ℕ
 family [] = []
 family (b ∷ bs) = if b == 95 then bs else family bs

@@ -55,6 +55,7 @@ pub guards_all : {start now : List ℕ} (i : ℕ) (js : List ℕ) (k : ℕ) → 
 guards_all {start} {now} i js k h g = record { is = λ r. ap (λ z. now ++ written (open_guards i z r)) (sym (drop_all k js h)) ∙ g.is r }
 
 -- ---- the function of a filter, if there is one
+-- where there is a filter, its function was laid out
 pub filter_some : {a b : List ℕ} (name x : List ℕ) (o : Option FilterCode) (f : FilterCode) → name ≡ x → o ≡ Some f
     → Lays a b (one_fun (filter_name name) (filter_body f) ∷ []) → Lays a b (filter_funs x o)
 filter_some {a} {b} name x o f e g p = rw g (subst (λ y. Lays a b (one_fun (filter_name y) (filter_body f) ∷ [])) e p)

@@ -163,6 +163,7 @@ none_unset n = fun_ext (λ i. one n i) where
   one (suc n) (suc i) = one n i
 
 -- ---- bodies
+-- the lines read a value of the row exactly where the operations do
 pub reads_lines : (ops : List Op) (ws : List Way) → length ops ≡ length ws → reads_row (lines_of ops ws) ≡ any_reads ops
 reads_lines [] ws e = refl
 reads_lines (o ∷ os) [] e = absurd (omega (arith, e))
@@ -211,6 +212,7 @@ pub fun_put : {B : Type 0} {a n : List ℕ} (g : B → Way) (x : List ℕ) (d e 
 fun_put g x d e ops os bs ws vs p q r h u = rw (← p, ways_map g ops bs, ← r, ← q, ← h) u
 
 -- ---- the function with two parameters
+-- the step of the loop over the numbers of blocks: the call of one more block was appended
 pub tries_next : {start cur new : List ℕ} {all : List Token → List Token} (name : List ℕ) (numbers : List ℕ) (k n d : ℕ) (b : Body)
     → k < length numbers → n ≡ get_or numbers k d
     → Goes start cur (spell_body (tries (block_name name) answer_name (drop k numbers) b)) all

@@ -19,6 +19,7 @@ use Rattle.ln_base.proofs.Texts.Lines.{joined_lines, line_at, with_feed}
 use Rattle.ln_base.proofs.Texts.Lists.{head}
 
 -- ---- the first line of a text
+-- where the first line of the text was read and is allowed in the state, the text begins with it
 pub begins : (v : ℕ) (s : State) (text : List ℕ) (end : ℕ) (body : List ℕ) (p : Part) (t : State) → 0 < length text → end ≡ 0 + span_to 10 (drop 0 text)
     → end < length text → body ≡ take (end - 0) (drop 0 text) → IsRead v s (words body) p t → Begins v s text p t (end + 1)
 begins v s text end body p t h e g q r = record {

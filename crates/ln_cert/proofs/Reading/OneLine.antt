@@ -25,6 +25,7 @@ use Rattle.ln_base.proofs.Texts.Words.{parted_words}
 use Rattle.ln_cert.proofs.Texts.Plain.{read_words}
 
 -- ---- operations
+-- operations of the same verb with the same number are the same, and so are the words after the number
 pub same_op : (o u : Op) (r s : List (List ℕ)) → verb_of o ≡ verb_of u → IsOp o → IsOp u → number_words o ++ r ≡ number_words u ++ s → (o ≡ u) × (r ≡ s)
 same_op (op.Push c) (op.Push d) r s v p q e = (ap op.Push (signed_injective c d p q (head e)), rest e)
 same_op (op.Input c) (op.Input d) r s v p q e = (ap op.Input (decimal_injective c d (omega arith) (omega arith) (head e)), rest e)
@@ -175,6 +176,7 @@ pub one_line : (v : ℕ) (s : State) (x y : Part) (t u : State) → next_of v s 
 one_line v s x y t u a b p q e = same_line v s x y t u a b p q (sym (read_words x p) ∙ line_words (parted (words_of x)) y q e)
 
 -- ---- what the reader of a line finds
+-- where the first word has a kind in this state and the other words are its arguments, the line is read
 pub found : (v : ℕ) (s : State) (k : Kind) (w : List ℕ) (args ws : List (List ℕ)) (p : Part) → ws ≡ w ∷ args → kind_in v s w ≡ Some k
     → HasArgs k args p → IsRead v s ws p (after k)
 found v s k w args ws p e g h =

@@ -25,6 +25,7 @@ pub refuses : (v : ℕ) (s : State) (body t : List ℕ) → t ≡ body ++ (10 �
 refuses v s body t e f p u r g q = f p u (record { spelled = line_words body p r (sym e ∙ q); range = r; goes = g })
 
 -- ---- entries
+-- with one entry more at the end, its line is the last one
 pub parts_more : (es : List Entry) (e : Entry) → parts_of (es ++ (e ∷ [])) ≡ parts_of es ++ (e.part ∷ [])
 parts_more [] e = refl
 parts_more (x ∷ es) e = ap (λ w. x.part ∷ w) (parts_more es e)
@@ -40,6 +41,7 @@ numbered_more n [] e a l = (omega arith, tt)
 numbered_more n (x ∷ es) e a l = (a.0, numbered_more (n + 1) es e a.1 (omega arith))
 
 -- ---- the first line
+-- where the first line of the bytes is that of no known version, the form fault is at line 1
 pub no_first : (bs : List ℕ) (end : ℕ) (body : List ℕ) → 0 < length bs → end ≡ 0 + span_to 10 (drop 0 bs)
     → body ≡ take ((end + 1) - 0) (drop 0 bs) → ((v : ℕ) → Known v → body ≡ first_line v → ⊥) → IsFormFault bs 1
 no_first bs end body h e q f =

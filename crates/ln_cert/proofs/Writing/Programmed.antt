@@ -117,6 +117,7 @@ pub all_listable : (cs : List Code) (i : ℕ) → length cs ≤ i → (AreListab
 all_listable cs i h f = f (subst AreListableBlocks (sym (drop_all i cs h)) tt)
 
 -- ---- orders
+-- with the list from the j-th prefix on appended, the text so far is the text at the start with the whole list appended
 abbrev pub Listing : Program → List ℕ → List ℕ → List ℕ → ℕ → Type 0
 Listing p o start now j = (r : List (List ℕ)) → now ++ spaced (map decimal (list_from p o j) ++ r) ≡ start ++ spaced (map decimal (list_from p o 0) ++ r)
 
@@ -247,6 +248,7 @@ program_wrote p old new k w =
     }
 
 -- ---- programs appended one after the other
+-- an empty text to which the first line was appended is a listing of version 2 without programs
 pub begun : (a b d : List ℕ) → a ≡ b ++ d → b ≡ [] → d ≡ first_line 2 → ListText a 2 (listing_of [])
 begun a b d e f g = record {
   listing = record { known = inr refl; form = is_form 2 [] (inr refl) refl; ranges = tt };

@@ -40,6 +40,7 @@ pub one : (a b : List ℕ) (p : Part) → PutsLine a b p → IsLine p → Wrote 
 one a b p e r = record { text = e ∙ ap (λ z. a ++ z) (sym (append-nil (text_of p))); ranges = (r, tt) }
 
 -- ---- a loop by the remaining lines
+-- where the remaining lines are appended to the text so far, all lines have been appended to the text at the start
 abbrev pub Left : List ℕ → List ℕ → List Part → List Part → Type 0
 Left start now rest all = (d : List ℕ) → Wrote now d rest → Wrote start d all
 
@@ -125,6 +126,7 @@ range_wrote now new os ps i o r h k e w =
     }
 
 -- ---- filters and blocks
+-- the parts of a filter were appended one after the other: `filter`, its operations and `decide`
 pub some_filter : (a b c d : List ℕ) (f : FilterCode) (os : List Op) (ts : List Triple) → os ≡ f.ops → ts ≡ f.triples
     → Wrote a b (Filter ∷ []) → Wrote b c (map filter_line (lines_of os ts)) → Wrote c d (Decide ∷ []) → Wrote a d (filter_lines (Some f))
 some_filter a b c d f os ts p q x y z =

@@ -70,6 +70,7 @@ in_range (j ∷ js) (z ∷ zs) h zero i e =
 in_range (j ∷ js) (z ∷ zs) h (suc v) i e = let r = in_range js zs h.2 v i e in record { number = r.number; there = r.there; same = r.same; held = r.held }
 
 -- ---- numbers
+-- a number and its opposite have the same absolute value
 pub abs_neg : (z : ℤ) → unsigned_abs (neg_ℤ z) ≡ unsigned_abs z
 abs_neg z = omega (arith, ints)
 
@@ -116,6 +117,7 @@ pub within_is : (p : Range) (w : Width) (z : ℤ) → Holds p z → unsigned_abs
 within_is p w z h k = rw (both (holds p z) (fits w z) (holds_test p z h) (le-leb _ _ k)) refl
 
 -- ---- what holds where a rule held
+-- where a result that depends on a test is there, the test is true, and the result is the one after it
 pub if_some : {A : Type 0} (b : Bool) (o : Option A) (a : A) → (if b then o else None) ≡ Some a → (b ≡ true) × (o ≡ Some a)
 if_some true o a h = (refl, h)
 if_some false o a h = cc
@@ -160,6 +162,7 @@ fits_is zs k w z h f =
     le-leb _ _ (omega (arith, a, b, c))
 
 -- ---- operations
+-- the result of an operation on two known values is the value of the operation's tree over their trees
 pub two_same : (zs : List ℤ) (t : Two) (k m : Known) (y z : ℤ) → Fits zs k y → Fits zs m z → result_of t y z ≡ value (values zs) [] (two_of t k.tree m.tree)
 two_same zs Plus k m y z f g = rw (f.same, g.same) refl
 two_same zs Minus k m y z f g = rw (f.same, g.same) refl

@@ -24,6 +24,7 @@ use Rattle.ln_code.proofs.Verdicts.Stages.{Turn, rest_is, settled_other, block_t
 use Rattle.ln_code.proofs.Verdicts.Sums.{list_few}
 
 -- ---- the segment at a number
+-- where there is one segment for each prefix, the number of a prefix is that of a segment
 pub number_within : (part : Part) (p : List ℕ) (k n : ℕ) → k ≡ part.shape.sites → length part.segments ≡ length (prefixes_of part.shape.sites)
     → slice_get (prefixes_of k) n ≡ Some p → n < length part.segments
 number_within part p k n e size h =
@@ -75,15 +76,19 @@ module _ (zs : List ℤ) (cs : List Code) (answer : Option Verdict) (segment res
     size_is : length (drop i segment ++ rest) ≡ suc (length (drop (i + 1) segment ++ rest))
     size_is = let d = ahead in rw d refl
 
+    -- the wide operations so far and those of this block fit into 32 bits
     pub wide_fits : wide + w < 2 ^ 32
     wide_fits = omega (arith, m.wides, sum_is)
 
+    -- the wide operations of this block fit into 32 bits
     pub block_fits : w < 2 ^ 32
     block_fits = omega (arith, m.wides, sum_is)
 
+    -- the number of calls, with that of this block, fits into 32 bits
     pub calls_fit : calls + 1 < 2 ^ 32
     calls_fit = omega (arith, m.calls, size_is)
 
+    -- the number of the next place fits into 32 bits
     pub place_fits : place + 1 < 2 ^ 32
     place_fits = omega (arith, m.places, size_is)
 
@@ -110,6 +115,7 @@ pub all_passed : (zs : List ℤ) (cs : List Code) (answer : Option Verdict) (seg
 all_passed zs cs answer segment rest i met h m = subst (λ (y : List ℕ). IsMet zs cs answer (y ++ rest) met) (drop_all i segment h) m
 
 -- ---- one prefix after the other
+-- the list from the j-th prefix on is that prefix's segment, and then the list from the next prefix on
 pub list_goes : (p : Part) (o : List ℕ) (j : ℕ) → j ≤ length o → list_from p o j ≡ segment_of p (take j o) ++ list_from p o (j + 1)
 list_goes p o j h =
     let q : suc (length o) - j ≡ suc (suc (length o) - (j + 1)) = omega (arith, h) in

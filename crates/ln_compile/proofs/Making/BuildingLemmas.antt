@@ -112,6 +112,7 @@ name-new preds i p cs m h e d q b =
     rw q (names-apart (map pred_of (take i preds)) cs p.shape.name b a)
 
 -- ---- the stage count
+-- the numbers in all lists are as many as the stage count of the lists with a vector in place of each number
 pub counted-numbers : (g : ℕ → List ℕ) (ls : List (List ℕ)) → count_numbers ls ≡ stage_count (map (λ list. map g list) ls)
 counted-numbers g [] = refl
 counted-numbers g (l ∷ ls) = omega (arith, counted-numbers g ls, length-map l g)

@@ -37,6 +37,7 @@ use Rattle.ln_compile.specs.Made.{IsBlockOf}
 use Rattle.ln_poly.proofs.Expansions.Normals.{vector-none}
 
 -- ---- a derivative's block
+-- a block with the polynomial of a derivative, whose code is that of its exact nested form, is a block of that derivative
 pub derivative-made : (vars : List VarInfo) (f h : Sparse) (a : Pairs) (lets : List Fitted) (t : Typed) (c : Code)
     → IsDerivative (length vars) f a h → lets ≡ [] → c.exps ≡ a → AreOfSites vars a → FollowsRules vars c
     → ((m : List ℕ) → length m ≡ length vars → polynomial [] t m ≡ coefficient_at (length vars) h m)
@@ -56,6 +57,7 @@ derivative-made vars f h a lets t c d z e o r p q s x w ls = record {
 }
 
 -- ---- the source's own block
+-- a block without exponents, whose code is that of the source's lets and root with exact ranges, is the source's own block
 pub own-made : (p : Pred) (lets : List Fitted) (root : Fitted) (c : Code) (a : Pairs) → a ≡ [] → c.exps ≡ a
     → map untyped (map typed lets) ≡ map (tree_of p.shape.vars) p.lets → untyped (typed root) ≡ tree_of p.shape.vars p.root
     → AreExact p.shape.vars [] (map typed lets) → IsExact p.shape.vars (map typed lets) (typed root)

@@ -70,6 +70,7 @@ weigh-same w n e f g p q = weighted-least w (terms_of n f) (terms_of n g) (once 
     (everywhere n (terms_of n f) (terms_of n g) (over-terms n f) (over-terms n g) (λ m l. p.normal.coefficients m l ∙ sym (q.normal.coefficients m l)))
 
 -- ---- the refusals of one predicate
+-- a predicate with a range or a size that is too large at a node is refused for the first such node
 pub bound_stops : (k : ℕ) (p : PredOf) (at : Span) → IsBoundFault (loaded_of p) at → StopsPred k p (Bound k at)
 bound_stops k p at f = inl (bound f)
 
@@ -97,6 +98,7 @@ not_heavy p f n l h =
     absurd (omega (arith, l, m, k))
 
 -- ---- the token of an expression
+-- the token of an expression is that of its formula
 pub own_token : (e : Expr) → e.at ≡ token_of (formula e)
 own_token e = by_node e.at e.node
   where
@@ -111,6 +113,7 @@ own_token e = by_node e.at e.node
     by_node at (Pow' q a x n) = refl
 
 -- ---- the refusals of a source
+-- the refusal of a source's text is the refusal of the source
 pub text_refusal : (bytes : List ℕ) (e : ParseStop) → IsParseRefusal bytes e → IsRefusal bytes (refusal_of e)
 text_refusal bytes e (inl f) = inl (of_text f)
 text_refusal bytes e (inr n) = inr (ap refusal_of n)

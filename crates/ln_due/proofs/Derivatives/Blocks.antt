@@ -45,6 +45,7 @@ pub carrying : (vars : List VarInfo) (f : Sparse) (c : Code) → FollowsRules va
 carrying vars f c r h = let s = some_is (known_of vars c) r.answers in record { what = s.0; known = s.1; derivative = h s.0 s.1 }
 
 -- ---- a derivative's block
+-- a block that follows the rules and has the polynomial of a derivative is a block of that derivative
 pub derivative-block : (vars : List VarInfo) (f h : Sparse) (a : Pairs) (lets : List Fitted) (t : Typed) (c : Code)
     → IsDerivative (length vars) f a h → lets ≡ [] → c.exps ≡ a → AreOfSites vars a → FollowsRules vars c
     → ((m : List ℕ) → length m ≡ length vars → polynomial [] t m ≡ coefficient_at (length vars) h m)

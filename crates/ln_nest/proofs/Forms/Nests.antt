@@ -73,7 +73,8 @@ up_more by c n m h l (Sub e f) a = (up_more by c n m h l e a.0, up_more by c n m
 up_more by c n m h l (Mul e f) a = (up_more by c n m h l e a.0, up_more by c n m h l f a.1, let g = h (Mul e f) in omega (arith, g, a.2, l))
 up_more by c n m h l (Pow e k) a = (up_more by c n m h l e a.0, let g = h (Pow e k) in omega (arith, g, a.1, l))
 
--- ---- the parts of a list of terms have no zero factor where it has none
+-- ---- zero factors
+-- the terms with v, each divided by v, have no zero factor where the terms have none
 pub divided_some : (v : ℕ) (f : List Term) → HasNoZero f → HasNoZero (divided v f)
 divided_some v [] z = tt
 divided_some v (t ∷ f) z = by_case (is_positive (exponent_of v t.exponents)) (divided_some v f z.1)

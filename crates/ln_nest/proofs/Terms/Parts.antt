@@ -61,7 +61,8 @@ exponent-less zero (suc w) (n ∷ m) = omega arith
 exponent-less (suc v) zero (n ∷ m) = omega arith
 exponent-less (suc v) (suc w) (n ∷ m) = exponent-less v w m
 
--- ---- the two parts are the whole
+-- ---- the two parts
+-- at each monomial, v times the divided terms and the terms without v have factors that add up to that of all terms
 pub parts_sum : (n v d : ℕ) (m : List ℕ) (f : List Term) → AllFit n v d f
     → factor_at (times_term (record { exponents = unit_vector n v; factor = pos 1 }) (divided v f)) m +ℤ factor_at (free_of v f) m ≡ factor_at f m
 parts_sum n v d m [] a = refl
@@ -155,6 +156,7 @@ fit_over n v d [] a = tt
 fit_over n v d (t ∷ f) a = (a.0.long, fit_over n v d f a.1)
 
 -- ---- no variable remains
+-- a vector whose exponents are all 0 is the vector of zeros
 pub all_zero : (n : ℕ) (m : List ℕ) → length m ≡ n → ((w : ℕ) → w < n → exponent_of w m ≡ 0) → m ≡ zeros n
 all_zero zero [] h c = refl
 all_zero zero (k ∷ m) h c = absurd (omega arith)

@@ -18,6 +18,7 @@ use Rattle.ln_order.proofs.Signs.RowsLemmas.{order-places}
 use Rattle.ln_order.proofs.Signs.SitesLemmas.{each-there}
 
 -- ---- the least from a place on
+-- the place with the least index, of those from j on and before n, is the one at m
 abbrev pub LeastTo : List ℤ → List ℕ → ℕ → ℕ → ℕ → Type 0
 LeastTo indices places j m n = (k : ℕ) → j ≤ k → k < n → index_at indices (get_or places m 0) ≤ℤ index_at indices (get_or places k 0)
 
@@ -152,6 +153,7 @@ pub one_more : (indices : List ℤ) (xs ys : List ℕ) (j m : ℕ) → IsLeastFr
 one_more indices xs ys j m least e o p size order front = ap (take (j + 1)) e ∙ one_more_swapped indices xs o j m p size least order front
 
 -- ---- in the array
+-- the first n numbers of a list of length n with others after it are that list
 pub front_of : (n : ℕ) (ys rest : List ℕ) → length ys ≡ n → take n (ys ++ rest) ≡ ys
 front_of n ys rest h = rw (← h) (take-append_seam ys rest)
 

@@ -53,6 +53,7 @@ behind-places x o few p = record { within = within; differ = differ } where
       rw (at_past x o i d n, at_past x o j d m) (past-apart x (get_or o i d) (get_or o j d) ne)
 
 -- ---- what is in the list
+-- each member of the list of images is the image of a member
 pub in-map : {A B : Type 0} (f : A → B) (xs : List A) (y : B) → Contains (map f xs) y → (x : A) × Contains xs x × (y ≡ f x)
 in-map f [] y c = absurd (omega (arith, c.1))
 in-map f (x ∷ xs) y (zero, l, e) = (x, (0, omega arith, refl), sym e)
@@ -152,6 +153,7 @@ is-member (suc k) (x ∷ o) p =
     rw (← behind-back x o p.each) (in-firsts (suc k) (orders_of k) x (map (back x) o) (omega (arith, p.each.within 0 0 (omega arith), p.size)) ih)
 
 -- ---- sorted
+-- is the result of a comparison `Less`?
 abbrev pub is_less : Ordering → Bool
 is_less Less = true
 is_less Equal = false

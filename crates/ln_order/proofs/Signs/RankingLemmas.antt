@@ -21,6 +21,7 @@ use Rattle.ln_tree.proofs.Powers.{vector-get}
 use Rattle.ln_order.proofs.Signs.SitesLemmas.{each-there, kept, same_site-is, same_site-refl}
 
 -- ---- members
+-- a member of the first of two lists is one of both joined
 pub member-left : (xs ys : List ℕ) (w : ℕ) → Member xs w → Member (xs ++ ys) w
 member-left [] ys w m = absurd m
 member-left (x ∷ xs) ys w (inl e) = inl e
@@ -182,6 +183,7 @@ ranking-is sites vars o h size p = record {
 }
 
 -- ---- the order of exponents along them
+-- the order along two lists of variables is that along the first, and where that is equal, that along the second
 pub along-append : (xs ys : List ℕ) (a b : Pairs) → along (xs ++ ys) a b ≡ ordering_then (along xs a b) (along ys a b)
 along-append [] ys a b = refl
 along-append (x ∷ xs) ys a b = go (nat_cmp (exponent x a) (exponent x b)) (along-append xs ys a b) where

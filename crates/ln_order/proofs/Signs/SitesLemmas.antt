@@ -14,6 +14,7 @@ use Rattle.ln_order.specs.Sites.{place_in, site_of}
 use Rattle.ln_order.proofs.Listing.OrdersLemmas.{back, back-below, back-past, at_back, other, others-places}
 
 -- ---- sites of variables
+-- sites that are the same by the test are equal
 pub same_site-is : (x y : Option ℕ) → same_site x y ≡ true → x ≡ y
 same_site-is None None h = refl
 same_site-is None (Some t) h = cc

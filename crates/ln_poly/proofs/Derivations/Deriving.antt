@@ -184,6 +184,7 @@ kept-light vars v n t e l h r a =
     (times-some c _ (weight-some (length vars) (sizes vars) (size-some vars) e b))
 
 -- ---- the loop
+-- the loop in `derive` begins with no term derived and an empty result
 pub deriving-init : (f : Sparse) (k v n : ℕ) (w : ℕ → ℕ) → IsDeriving [] f k v n 0 w
 deriving-init f k v n w = record {
   coefficients = λ m. coefficient_at-nil k m;

@@ -20,6 +20,7 @@ above-take (p ∷ ps) zero r h = tt
 above-take (p ∷ ps) (suc i) r h = (above-at p.0 ps i (omega arith) r.2, above-take ps i r.3 (omega arith))
 
 -- ---- lowering
+-- the loop in `lowered` begins with no pair and an empty result
 pub lowering-init : (ps : Pairs) (v n : ℕ) → IsLowering [] ps v n 0
 lowering-init ps v n = record { exponents = λ u. omega arith; rising = tt }
 
@@ -89,6 +90,7 @@ lowering-end out e v n i r h l = record {
   within u (inr q) = omega (arith, power-apart u (v, n) q)
 
 -- ---- binomials
+-- two neighbouring binomials of n add up to at most 2^n
 pub binomial-pair : (n k : ℕ) → binomial n k + binomial n (suc k) ≤ 2 ^ n
 binomial-pair zero zero = rw pow-zero (omega arith)
 binomial-pair zero (suc k) = omega arith

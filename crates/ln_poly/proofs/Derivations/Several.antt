@@ -29,6 +29,7 @@ over-vector n a x o =
     subst (λ k. Over k (derived (vector n a) x)) e (over-derived (vector n a) x (subst (λ k. Over k x) (sym e) o))
 
 -- ---- no variable
+-- a polynomial is its own derivative by no variable
 pub several-init : (n : ℕ) (f h : Sparse) → IsPoly f → AreBelow n f → h ≡ f → IsDerivative n f [] h
 unfolding coefficient_at
 several-init n f h p b e = record {
@@ -99,6 +100,7 @@ module _ (n : ℕ) (f h : Sparse) (ps : Pairs) (i : ℕ) (r : IsRising ps) (l : 
       (over-vector n (p ∷ []) (terms_of n h) (over-terms n h)) (over-vector n (take (i + 1) ps) (terms_of n f) (over-terms n f)) next-coefficients)
 
 -- ---- weights
+-- where f weighs at most 2^127 - 1, so does its derivative by one pair more, with the sizes as weights of the variables
 pub several-light : (vars : List VarInfo) (f h : Sparse) (ps : Pairs) (i : ℕ) → IsRising ps → i < length ps
     → IsDerivative (length vars) f (take i ps) h → weighted_sum (weights vars) (terms_of (length vars) f) ≤ most
     → weighted_sum (sizes vars) (derivative (length vars) (get_or ps i (0, 0)).0 (get_or ps i (0, 0)).1 h) ≤ most
@@ -110,6 +112,7 @@ pub several-end : (n : ℕ) (f h : Sparse) (ps a : Pairs) (i : ℕ) → length p
 several-end n f h ps a i l e d = subst (λ (q : Pairs). IsDerivative n f q h) (take_all i ps l ∙ e) d
 
 -- ---- the first variable
+-- where f weighs at most 2^127 - 1, so does its derivative by the first pair, with the sizes as weights of the variables
 pub first-light : (vars : List VarInfo) (f : Sparse) (ps : Pairs) → IsPoly f → AreBelow (length vars) f → IsRising ps → 0 < length ps
     → weighted_sum (weights vars) (terms_of (length vars) f) ≤ most
     → weighted_sum (sizes vars) (derivative (length vars) (get_or ps 0 (0, 0)).0 (get_or ps 0 (0, 0)).1 f) ≤ most
@@ -125,6 +128,7 @@ pub none-derived : (n : ℕ) (f h : Sparse) (ps a : Pairs) → IsPoly f → AreB
 none-derived n f h ps a p b e l q = several-end n f h ps a 0 (omega (arith, l)) q (several-init n f h p b e)
 
 -- ---- is there a variable?
+-- a length that is 0 by the test is 0
 pub no-length : (n : ℕ) (b : Bool) → b ≡ (n == 0) → b ≡ true → n ≡ 0
 no-length n b e t = eqb-true n 0 (sym e ∙ t)
 

@@ -157,6 +157,7 @@ pub failed : (n : ℕ) (m a : Pairs) (q : ℕ × ℕ) → q.0 < n → exponent q
 failed n m a q l e h = covers-less 0 n q.0 m a (omega arith) (omega arith) (omega (arith, e, h))
 
 -- ---- a term
+-- with one term more, that term's own part is added to the value of the derivative
 pub term-adds : (n : ℕ) (x : ℕ → ℤ) (a : Pairs) (t : Pairs × ℤ) (f : List Term) → IsRising t.0 → IsAbove t.0 n →
     value x (derived (vector n a) (record { exponents = vector n t.0; factor = t.1 } ∷ f)) ≡ term_value n x a t +ℤ value x (derived (vector n a) f)
 term-adds n x a t f r b = by_case (covers (vector n t.0) (vector n a)) refl where

@@ -120,6 +120,7 @@ pub zero-times : (z y : ℤ) → z ≡ pos 0 → pos 0 ≡ z *ℤ y
 zero-times z y h = (let c : pos 0 ≡ pos 0 *ℤ y = omega (arith, ints) in c) ∙ ap (λ j. j *ℤ y) (sym h)
 
 -- ---- rows
+-- the absolute value of a variable in its declared range is below the variable's weight
 pub row-size : (vars : List VarInfo) (zs : List ℤ) (v : ℕ) → AreWithin vars zs → v < length vars → size (values zs v) + 1 ≤ weights vars v
 row-size [] zs v h l = absurd (omega arith)
 row-size (i ∷ is) [] v h l = absurd h

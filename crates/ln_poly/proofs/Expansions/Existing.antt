@@ -125,6 +125,7 @@ poly-exists n (t ∷ g) o l = by_factor (zero_cases t.factor) (poly-exists n g o
   by_factor (inr z) h = put-term n t g l (term-exists n t o.0 z (omega (arith, l))) h
 
 -- ---- the normal polynomial
+-- a closed tree that weighs at most 2^127 - 1 has a normal polynomial, where each variable weighs 2
 pub tree-normal : (n : ℕ) (e : Tree) → IsLight n two e → HasNormal n e
 tree-normal n e l =
     let h : HasPoly n (expanded n e) = poly-exists n (expanded n e) (Over-expanded n e) (omega (arith, weighted-expanded two n e l.inputs, l.light)) in

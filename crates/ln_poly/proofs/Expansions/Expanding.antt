@@ -63,6 +63,7 @@ pub two-expand : (n : ℕ) (xs ys zs : Nodes) (d e c : Tree) (f g h : Sparse) �
 two-expand n xs ys zs d e c f g h p q r = record { normal = r.normal; terms = r.terms; few = few-both n (xs ++ ys) zs (few-both n xs ys p.few q.few) r.few }
 
 -- ---- powers
+-- where the powers up to e^k were expanded, and so was e^k times e, the powers up to e^(k + 1) were expanded
 pub powers-more : (n : ℕ) (at : Span) (e : Tree) (k : ℕ) (p h : Sparse) → Expands n (powers at e k) (Pow e k) p
     → Expands n ((at, Mul (Pow e k) e) ∷ []) (Mul (Pow e k) e) h → Expands n (powers at e (suc k)) (Pow e (suc k)) h
 powers-more n at e k p h a b = record {

@@ -86,6 +86,7 @@ lets-next vars whole front rest f polys p a h =
     }
 
 -- ---- places in the program's list
+-- the first j lets of the program were expanded, to these polynomials
 abbrev pub LetsTo : List VarInfo → List Expr → ℕ → List Sparse → Type 0
 LetsTo vars lets j polys = LetsExpanded vars (map formula lets) (map formula (take j lets)) (map formula (drop j lets)) polys
 
@@ -176,6 +177,7 @@ trees-of vars [] = refl
 trees-of vars (e ∷ es) = ap (λ (ts : List Tree). tree_of vars e ∷ ts) (trees-of vars es)
 
 -- ---- the root
+-- where each node weighs at most 2^127 - 1 with the lets in place of their names, so does the whole tree
 pub root-light : (n : ℕ) (w : ℕ → ℕ) (ls : List Tree) (e : Tree) → AreLight n w ls e → IsLight n w (inlined ls e)
 root-light n w ls (Num c) l = l
 root-light n w ls (Input v) l = l
@@ -215,6 +217,7 @@ root-degrees n w e f t l p k d h =
     omega (arith, a)
 
 -- ---- what holds of a predicate
+-- the lets of a predicate are fit: their numbers, variables, names and exponents are in range
 pub pred-fit : (args : List Arg) (vars : List VarInfo) (es : List Expr) (names : ℕ) (root : Expr) → is_pred args vars es names root ≡ true
     → lets_fit (length vars) 0 (map (tree vars) (map formula es)) ≡ true
 pred-fit args vars es names root k = rw (trees-of vars es) (parts_of args vars es names root k).fit_lets

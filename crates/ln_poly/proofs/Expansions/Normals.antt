@@ -84,6 +84,7 @@ module _ (n : ℕ) where
       (λ m h. some-coefficient ((v, 1) ∷ []) (unit_vector n v) (pos 1) m (vector-unit 0 n v v (omega arith)) ∙ sym (normal_is n (Input v) l m h))
 
   -- ---- operations
+  -- a polynomial with the coefficients of 0 less those of the operand is the normal polynomial of the operand's opposite
   pub neg-normal : (e : Tree) (f z h : Sparse) → IsNormal n e f → IsNormal n (Num (pos 0)) z → IsPoly h → AreBelow n h
       → ((m : List ℕ) → coefficient_at n h m ≡ coefficient_at n z m -ℤ coefficient_at n f m) → IsNormal n (Neg e) h
   neg-normal e f z h p q r b c = normal-of (Neg e) h r b (λ m l. omega (arith, ints, c m, coefficients-of e f p m l, zero-coefficient m l)) where
@@ -149,6 +150,7 @@ module _ (n : ℕ) where
     of_power m t = record { size = t.size; nonzero = t.nonzero }
 
   -- ---- lets
+  -- the polynomial at place j is the normal polynomial of the let there
   pub let-normal : (es : List Tree) (fs : List Sparse) (j : ℕ) (d : Sparse) → AreNormal n es fs → j < length fs
       → IsNormal n (slice_index_or es j (Num (pos 0))) (get_or fs j d)
   let-normal [] [] j d a l = absurd (omega arith)

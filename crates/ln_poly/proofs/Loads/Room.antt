@@ -67,6 +67,7 @@ exponent-weight n w v (p ∷ ps) t a = by_case (eqb p.0 v) (exponent-weight n w 
       rw z (omega (arith, ih, times-le-left (pairs_weight w ps) (w p.0 ^ p.1) (pow-some (w p.0) p.1 (omega (arith, t p.0 a.0)))))
 
 -- ---- weights of polynomials
+-- a list's weight is that of its first term and that of the others
 pub total-cons : (w : ℕ → ℕ) (t : Pairs × ℤ) (f : Sparse) → total_weight w (t ∷ f) ≡ term_weight w t + total_weight w f
 unfolding total_weight
 total-cons w t f = sum_by-cons (term_weight w) t f
@@ -113,6 +114,7 @@ pub normal-size : (n : ℕ) (w : ℕ → ℕ) (e : Tree) (f : Sparse) → AreTwo
 normal-size n w e f t i p = omega (arith, size-weight n w f t p.below, normal-weight n w e f i p)
 
 -- ---- room for the operations
+-- where a sum weighs at most 2^127 - 1, there is room for the sum of the operands' polynomials
 pub sum-room : (n : ℕ) (w : ℕ → ℕ) (d e : Tree) (f g : Sparse) → AreTwo n w → IsLight n w (Add d e) → IsNormal n d f → IsNormal n e g
     → size_of f + size_of g < 2 ^ 127
 sum-room n w d e f g t l p q = omega (arith, l.light, normal-size n w d f t l.inputs.0 p, normal-size n w e g t l.inputs.1 q)

@@ -70,6 +70,7 @@ weight-pairs w n (p ∷ ps) a =
     ∙ ap (λ z. w p.0 ^ p.1 * z) (weight-pairs w n ps a.1)
 
 -- ---- sums
+-- the weighted sum of the terms over n variables is their weight, counted pair by pair
 pub total-weight : (w : ℕ → ℕ) (n : ℕ) (f : Sparse) → AreBelow n f → weighted_sum w (terms_of n f) ≡ total_weight w f
 unfolding total_weight
 total-weight w n [] a = refl
@@ -103,6 +104,7 @@ pub total-heavy : (w : ℕ → ℕ) (f : Sparse) (i : ℕ) (t : Pairs × ℤ) (s
 total-heavy w f i t s h e p q = omega (arith, total-more w f i t h e, total-take w f (i + 1))
 
 -- ---- powers
+-- a power of a number above 0 is above 0
 pub pow-some : (m k : ℕ) → 0 < m → 0 < m ^ k
 pow-some m zero h = rw pow-zero (omega arith)
 pow-some m (suc k) h = rw pow-suc (product-some (m ^ k) m (pow-some m k h) h) where
@@ -133,6 +135,7 @@ scaled-heavy w m k e p h l q r =
       times-assoc a b c = omega arith
 
 -- ---- pairs
+-- each variable's size is above 0
 pub size-some : (vars : List VarInfo) (v : ℕ) → v < length vars → 0 < sizes vars v
 size-some [] v h = absurd (omega arith)
 size-some (i ∷ vars) zero h = omega arith
@@ -213,6 +216,7 @@ scaled-step w m k p q e f = f ∙ ap (λ t. t * m) e ∙ times-assoc w (m ^ k) m
   times-assoc a b c = omega arith
 
 -- ---- the results of `weight`, whatever the lists are called
+-- where the sum with one more term exceeds the limit, the weighted sum of all terms does
 pub heavy-end : (n : ℕ) (vars' vars : List VarInfo) (f' f : Sparse) (i : ℕ) (t : Pairs × ℤ) (s : ℕ) → vars' ≡ vars
     → f' ≡ f → AreBelow (length vars) f → i < length f' → t ≡ get_or f' i t → s ≡ total_weight (grown n vars') (take i f')
     → most < s + term_weight (grown n vars') t → most < weighted_sum (grown n vars) (terms_of (length vars) f)

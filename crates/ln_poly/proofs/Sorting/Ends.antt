@@ -55,6 +55,7 @@ all-before g e s h = λ k d l. by_case k d l (cases_lt k (length g - 1)) where
   by_case k d l (inr b) = let q : length g - 1 ≡ k = omega arith in subst (λ z. pairs_cmp (get_or g z d).0 e ≡ Less) q (h (omega arith) d)
 
 -- ---- the last term of the first
+-- where the first list ends later, its last term is taken
 pub taken-one : (xs g : Sparse) (t : Pairs × ℤ) → EndsLater (xs ++ (t ∷ [])) g → IsTaken (xs ++ (t ∷ [])) g xs g t
 taken-one xs g t h = record {
   coefficients = λ n m. omega (arith, ints, coefficient_at-push n m xs t);

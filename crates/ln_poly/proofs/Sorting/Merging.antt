@@ -72,6 +72,7 @@ pick-both p q la lb r s e = record {
     by_case false = refl
 
 -- ---- at places
+-- the pair at place i of the first list is picked, where its variable is the lowest
 pub left-at : (a lb : Pairs) (i : ℕ) → i < length a → IsRising (drop i a) → IsRising lb → Lower (get_or a i (0, 0)).0 lb
     → Picks (drop i a) lb (drop (i + 1) a) lb (get_or a i (0, 0)).0 (get_or a i (0, 0)).1
 left-at a lb i h r s l =
@@ -150,6 +151,7 @@ pub both-small : (a b : Pairs) (i j : ℕ) → MayPick a b i j → i < length a 
 both-small a b i j m h k l = omega (arith, picked-small _ _ _ _ _ _ (both-at a b i j h k m.rising_left m.rising_right l), m.small (get_or a i (0, 0)).0)
 
 -- ---- the loop
+-- the loop in `merged` begins with no pair picked and an empty result
 pub merged-init : (a b : Pairs) → IsRising a → IsRising b → IsMerged [] a b 0 0
 merged-init a b r s = record {
   left = omega arith;
@@ -209,6 +211,7 @@ may-pick out a b i j m h s =
     record { left = m.left; right = m.right; some = h; rising_left = m.rising_left; rising_right = m.rising_right; small = merged-small out a b i j m s }
 
 -- ---- variables
+-- where all variables of the pairs are below k, each variable from k on has the exponent 0
 pub above-none : (k v : ℕ) (ps : Pairs) → IsAbove ps k → k ≤ v → exponent v ps ≡ 0
 above-none k v [] a h = refl
 above-none k v (p ∷ ps) a h = let ne : eqb p.0 v ≡ false = no p.0 v (omega (arith, a.0)) in rw ne (omega (arith, above-none k v ps a.1 h)) where

@@ -14,6 +14,7 @@ use Rattle.ln_poly.specs.Sums.{IsPutIn, IsSpread}
 use Rattle.ln_poly.proofs.TermLists.Coefficients.{coefficient_at-more, coefficient_at-nil, coefficient_at-push, size-more, size-next, size-nil, size-push}
 
 -- ---- one term
+-- where the test finds the exponents of t at place i, the term there has them
 pub stands-same : (xs : Sparse) (i : ℕ) (x t : Pairs × ℤ) (b : Bool) → i < length xs → b ≡ same_pairs (get_or xs i x).0 t.0 → b ≡ true → (get_or xs i t).0 ≡ t.0
 stands-same xs i x t b h s r = sym (ap (λ (z : Pairs × ℤ). z.0) (get_or_default xs i x t h)) ∙ same_pairs-is (get_or xs i x).0 t.0 (sym s ∙ r)
 
@@ -42,6 +43,7 @@ put_in-pushed f more t = record {
 }
 
 -- ---- all terms
+-- the loop in `spread` begins with no term added
 pub spread-init : (f g : Sparse) → IsSpread f [] f g 0
 spread-init f g = record {
   exps = refl;
@@ -95,6 +97,7 @@ pub spread-size : (f more old g : Sparse) → IsSpread f more old g (length g) �
 spread-size f more old g r = omega (arith, r.size, ap size_of (take_all (length g) g (omega arith)))
 
 -- ---- where nothing remains
+-- a list whose length is 0 by the test is empty
 pub none-left : (xs : Sparse) (k : ℕ) (b : Bool) → b ≡ eqb k 0 → b ≡ true → k ≡ length xs → xs ≡ []
 none-left [] k b e t l = refl
 none-left (x ∷ xs) k b e t l = absurd (omega (arith, eqb-true k 0 (sym e ∙ t)))

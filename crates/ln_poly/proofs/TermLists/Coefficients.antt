@@ -10,6 +10,7 @@ use Rattle.ln_tree.specs.Exps.{Pairs, vector}
 use Rattle.ln_poly.specs.Sparse.{Sparse, coefficient_at, part_at, size_of}
 
 -- ---- coefficients
+-- each coefficient of an empty list of terms is 0
 pub coefficient_at-nil : (n : ℕ) (m : List ℕ) → coefficient_at n [] m ≡ pos 0
 unfolding coefficient_at
 coefficient_at-nil n m = refl
@@ -69,6 +70,7 @@ set-adds n m xs i e a b c h at' s =
     omega (arith, ints, coefficient_at-set n m xs i (e, c) (e, a) h, ap (λ z. part_at n z m) at', ap (λ z. part_at n (e, z) m) s, part-sum n m e a b)
 
 -- ---- sizes
+-- an empty list of terms has the size 0
 pub size-nil : size_of [] ≡ 0
 unfolding size_of
 size-nil = refl

@@ -74,6 +74,7 @@ pub poly-negated : (f : Sparse) → IsPoly f → IsPoly (negated f)
 poly-negated f p = record { sorted = sorted-negated f p.sorted; rising = rising-negated f p.rising; factors = factors-negated f p.factors }
 
 -- ---- one sign after another
+-- where only the terms before place i have the other sign, the term at place i is the old one
 pub negate-there : (xs : Sparse) (i : ℕ) (d : Pairs × ℤ) → i < length xs → get_or (negated (take i xs) ++ drop i xs) i d ≡ get_or xs i d
 negate-there [] i d h = absurd (omega arith)
 negate-there (x ∷ xs) zero d h = refl

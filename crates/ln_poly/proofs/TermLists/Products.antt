@@ -28,6 +28,7 @@ sum_over-more f (x ∷ xs) (suc i) d h =
     rw add-one (omega (arith, ints, ih))
 
 -- ---- copies of terms
+-- the step of the loop in `put_all`: one more term is appended
 pub copies-more : (old now now' f : Sparse) (i : ℕ) (t : Pairs × ℤ) → i < length f → t ≡ get_or f i t → now ≡ old ++ take i f
     → now' ≡ now ++ (t ∷ []) → now' ≡ old ++ take (i + 1) f
 copies-more old now now' f i t h e p q =
@@ -38,6 +39,7 @@ pub copies-end : (old now f : Sparse) (i : ℕ) → length f ≤ i → now ≡ o
 copies-end old now f i h p = p ∙ ap (λ z. old ++ z) (take_all i f h)
 
 -- ---- the exponents of a product
+-- where each exponent in c is the sum of those in a and b, so is c's vector of exponents
 pub vector-plus : (v n : ℕ) (a b c : Pairs) → ((u : ℕ) → exponent u c ≡ exponent u a + exponent u b)
     → exponents_from v n c ≡ plus (exponents_from v n a) (exponents_from v n b)
 vector-plus v zero a b c h = refl
@@ -128,6 +130,7 @@ row-step out out' old g s t i r h e p = record {
 }
 
 -- ---- all rows
+-- the product of f and g begins with no row and an empty result
 pub rows-begin : (f g : Sparse) → IsRows [] f g 0
 rows-begin f g = record {
   coefficients = λ n m. coefficient_at-nil n m;

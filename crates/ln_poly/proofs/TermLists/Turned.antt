@@ -85,6 +85,7 @@ pub room-turned : (f g : Sparse) → size_of f * size_of g < 2 ^ 127 → size_of
 room-turned f g h = omega (arith, h)
 
 -- ---- a product that there may be
+-- a product that was found has the coefficients of the product of f and g
 pub some-product : (o : Option Sparse) (f g : Sparse) → IfSome o (λ h. IsRows h f g (length f))
     → IfSome o (λ h. (n : ℕ) (m : List ℕ) → length m ≡ n → coefficient_at n h m ≡ product (coefficient_at n f) (coefficient_at n g) m)
 some-product None f g r = r

@@ -60,6 +60,7 @@ products-rising s (t ∷ g) [] a = absurd a
 products-rising s (t ∷ g) (x ∷ xs) a = All-cons (λ z. IsRising z.0) x xs a.0.rising (products-rising s g xs a.1)
 
 -- ---- the product
+-- the products of a term that isn't 0 with the terms of a polynomial are a polynomial, where there is room
 pub walked : (s : Pairs × ℤ) (g out old : Sparse) → IsRow out old s g (length g) → old ≡ [] → IsPoly g → s.1 ≢ pos 0
     → unsigned_abs s.1 * size_of g < 2 ^ 127 → IsPoly out
 walked s g out old r o p n room =

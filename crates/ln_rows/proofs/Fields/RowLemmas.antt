@@ -296,6 +296,7 @@ pub zero_past : (sites vars : ℕ) (r : Row) → IsZeroPast 0 0 r → IsZeroPast
 zero_past sites vars r z = record { index = λ k h. z.index k (omega arith); values = λ k h. z.values k (omega arith) }
 
 -- ---- what a refused record leaves
+-- what holds in any case holds on an error
 pub on_err : {A E : Type 0} (r : Result A E) (P : Type 0) → P → OnErr r P
 on_err (Ok x) P p = tt
 on_err (Err e) P p = p

@@ -184,6 +184,7 @@ module _ (f : Sparse) (vs kept p : List ℕ) (s : IsStep f vs kept p) (more : 0 
               stopped-more x over-down (subst (λ z. IsStoppedBy x (IsOver z)) g o)
 
 -- ---- the same, as the code has it
+-- where a variable remains, what is listed from its exponent 0 on is all that is listed of the degree
 pub begins : (f : Sparse) (vs kept p : List ℕ) (d : ℕ) → 0 < length vs → listed_degree_from f vs kept p d 0 ≡ listed_degree f vs kept p d
 unfolding listed_degree listed_degree_from
 begins f vs kept p d h = let z : d + 1 - 0 ≡ d + 1 = omega arith in rw z (sym (walk-first vs d (rows (length p) f kept) p h))
@@ -230,16 +231,19 @@ module _ (f : Sparse) (vs kept p : List ℕ) (s : IsStep f vs kept p) (more : 0 
 
   module _ (some : 0 < length h) (q : List ℕ) (eq : q ≡ set p (get_or vs 0 0) e) (r : List ℕ) (er : r ≡ drop 1 vs) (left : ℕ)
       (el : left ≡ d - e) (t T : Tallied) (all : see_all (length p) f t (listed_degree_from f vs kept p d e).0 ≡ T) where
+    -- where listing a branch stops, so does listing the degree from the exponent e on: a limit that is exceeded stays so
     pub at-stops : (x : StageStop) → IsStoppedBy x (IsOver (see_all (length q) f t (listed_degree f r h q left).0)) → IsStoppedBy x (IsOver T)
     unfolding listed_degree listed_degree_from
     at-stops x o = stops-down f vs kept p s more d e small within h eh some q eq r er left el t T all x o
 
     module _ (t' : Tallied) (stop : Bool) (S : Bool) (seen : t' ≡ see_all (length q) f t (listed_degree f r h q left).0)
         (stops : stop ≡ (listed_degree f r h q left).1) (cut : (listed_degree_from f vs kept p d e).1 ≡ S) where
+      -- where the cut ends a branch, it ends the listing from the exponent e on, and what is kept so far is all that is kept
       pub at-cut : stop ≡ true → (true ≡ S) × (t' ≡ T)
       unfolding listed_degree listed_degree_from
       at-cut c = ends-cut f vs kept p s more d e small within h eh some q eq r er left el t t' stop T S seen stops all cut c
 
+      -- where the cut doesn't end a branch, the listing from the next exponent on comes to the same end
       pub at-keeps : stop ≡ false
           → (see_all (length p) f t' (listed_degree_from f vs kept p d (e + 1)).0 ≡ T) × ((listed_degree_from f vs kept p d (e + 1)).1 ≡ S)
       unfolding listed_degree listed_degree_from
@@ -360,10 +364,12 @@ module _ (f : Sparse) (vs kept p : List ℕ) (limit d : ℕ) (within : d < limit
 
   module _ (t' : Tallied) (stop : Bool) (seen : t' ≡ see_all (length p) f t (listed_degree f vs kept p d).0)
       (stops : stop ≡ (listed_degree f vs kept p d).1) where
+    -- where the cut ends the listing of a degree, what is kept so far is all that is kept
     pub layer-cut : stop ≡ true → t' ≡ T
     unfolding listed_degree listed_layers
     layer-cut c = ends-here f vs kept p limit d within t T all t' stop seen stops c
 
+    -- where the cut doesn't end the listing of a degree, the listing from the next degree on comes to the same end
     pub layer-next : stop ≡ false → see_all (length p) f t' (listed_layers f vs kept p (limit - (d + 1)) (d + 1)).0 ≡ T
     unfolding listed_degree listed_layers
     layer-next c = goes-behind f vs kept p limit d within t T all t' stop seen stops c

@@ -37,6 +37,7 @@ use Rattle.ln_stage.proofs.Results.KeptLemmas.{AreAlong, sized-in}
 use Rattle.ln_stage.proofs.Walks.StartLemmas.{fresh-ranking, rows-all}
 
 -- ---- what is at a prefix
+-- at a whole order is its stage list by total degree first
 pub at-whole : (k : ℕ) (vars : List VarInfo) (f : Sparse) (o : List ℕ) → length o ≡ k → graded_at k vars f o ≡ graded_list vars f o
 unfolding graded_at
 at-whole k vars f o e = go (eqb (length o) k) refl where
@@ -119,6 +120,7 @@ module _ (k : ℕ) (vars : List VarInfo) (f : Sparse) (few : k ≤ 5) (laid : is
   }
 
   module _ (most heavy : ℕ) where
+    -- what is kept at the end makes the polynomial's stages by total degree first
     pub graded-stages : AreGradedStagesOf k vars f (by_lists.result k vars f (graded_list vars f) (graded_at k vars f) by-orders most heavy)
     graded-stages = record {
       sites = refl;

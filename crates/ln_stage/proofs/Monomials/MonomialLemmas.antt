@@ -114,7 +114,8 @@ rows-monomials n f p b = record {
   all = λ m k. elim (is_in (all_rows n f) m) [ inl i ↦ i | inr h ↦ absurd (k.nonzero (lacks n f m h)) ];
 }
 
--- ---- exponents are small
+-- ---- small exponents
+-- in the exponent vector of rising pairs each exponent is below 128
 pub vector-small : (n : ℕ) (ps : Pairs) (v : ℕ) → IsRising ps → get_or (vector n ps) v 0 < 128
 vector-small n ps v r = elim (cases_lt v n) [
   | inl l ↦ omega (arith, vector-get n v ps l, exponent-small ps v r)

@@ -299,6 +299,7 @@ unfolding numbers_of
 numbers-nil vars f t = refl
 
 -- ---- any lists, one at each of these
+-- what is kept after the lists at several places: the blocks by first sight, their numbers, count and weight, and the limits as before
 pub record IsAllSeenBy (L : List ℕ → List (List ℕ)) (n : ℕ) (f : Sparse) (bs : List (List ℕ)) (t : Tallied) (ps : List (List ℕ)) : Type 0 where
   pub exps : (tallied_by L n f t ps).exps ≡ map pairs_of (all_seen_behind bs (map L ps))
   pub lists : (cs : List (List ℕ)) → Extends (all_seen_behind bs (map L ps)) cs → map (λ l. map (λ i. get_or cs i []) l) (numbers_by L n f t ps) ≡ map L ps

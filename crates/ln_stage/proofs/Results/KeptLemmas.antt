@@ -121,12 +121,14 @@ module _ (k : ℕ) (vars : List VarInfo) (f : Sparse) (L S : List ℕ → List (
     abbrev pub kept : Tallied
     kept = tallied_by S (length vars) f start (prefixes_of k)
 
+    -- for each prefix, the numbers of the blocks in its segment
     abbrev pub segments : List (List ℕ)
     segments = numbers_by S (length vars) f start (prefixes_of k)
 
     seen : IsAllSeenBy S (length vars) f [] start (prefixes_of k)
     seen = seen-by S (length vars) f [] start (prefixes_of k) refl refl tt (sized-parts (prefixes_of k) (λ p c. c))
 
+    -- where what is kept is over a limit, or the count of all lists is over its limit, the lists of all orders exceed a limit
     pub past-passes : IsPast kept ⊎ (most < shared_count k S (prefixes_of k)) → Passes (length vars) f most heavy found
     past-passes (inl (inl l)) = inl (omega (arith, l, seen.count, seen.most, segments-are-fewer k (S), same-count))
     past-passes (inl (inr l)) = inr (omega (arith, l, seen.weight, seen.heavy, ap (all_covering (length vars) f) same-first))
@@ -174,6 +176,7 @@ module _ (k : ℕ) (vars : List VarInfo) (f : Sparse) (L S : List ℕ → List (
         ∙ at-lists blocks segments blocks-sized numbers-within
         ∙ seen.lists blocks (extends-refl blocks)
 
+    -- there is one segment for each prefix
     pub segments-size : length segments ≡ length (prefixes_of k)
     segments-size = sym (length-map segments (λ l. map (block_vector (length vars) kept.exps) l)) ∙ ap length vectors-parts ∙ length-map (prefixes_of k) (S)
 
@@ -211,34 +214,43 @@ module _ (k : ℕ) (vars : List VarInfo) (f : Sparse) (L S : List ℕ → List (
     abbrev pub result : Staged
     result = record { sites = k; exps = kept.exps; segments = segments; lists = lists_in k segments }
 
+    -- the result's lists, as lists of exponent vectors, are the lists of all orders
     pub result-vectors : vectors_of (length vars) result ≡ found
     result-vectors = map-map (map (block_vector (length vars) kept.exps)) list_at (orders_of k)
         ∙ maps-agree (λ o. map (block_vector (length vars) kept.exps) (list_at o)) L (orders_of k) (λ o c. list-vectors o (member-is k o c))
 
+    -- each number in a segment is that of a block
     pub segments-within : All (λ l. All (λ i. i < length kept.exps) l) segments
     segments-within = rw (seen.exps, length-map blocks pairs_of) numbers-within
 
+    -- the result's blocks are the distinct vectors of its lists, in order of first sight
     pub result-first : map (vector (length vars)) result.exps ≡ first_seen (vectors_of (length vars) result)
     result-first = rw (result-vectors, seen.exps) (vectors-back blocks blocks-sized ∙ sym same-first)
 
+    -- no block has a variable past the last one
     pub result-below : All (λ e. IsAbove e (length vars)) result.exps
     result-below = rw seen.exps (all-below blocks blocks-sized)
 
+    -- each number in a list of the result is that of a block
     pub result-numbers : All (λ l. All (λ i. i < length result.exps) l) result.lists
     result-numbers = maps-all (λ i. i < length kept.exps) list_at (orders_of k)
         (λ o. joined-all (λ i. i < length kept.exps) (λ i. beside (prefixes_of k) segments (take i o)) (range_with_len 0 (suc (length o) - 0))
         (λ i. beside-all (λ i. i < length kept.exps) (prefixes_of k) segments (take i o) segments-within))
 
+    -- all lists together have as many numbers as the segments have, each segment counted once for every order that it is in
     pub lists-count : count_numbers (lists_in k segments) ≡ shared_count k S (prefixes_of k)
     lists-count = count-map (block_vector (length vars) kept.exps) (map list_at (orders_of k)) ∙ ap stage_count result-vectors ∙ same-count
 
+    -- where the count of all lists is within its limit, so is the result's stage count
     pub final-count : (c : ℕ) → c ≡ shared_count k S (prefixes_of k) → c ≤ most → stage_count (vectors_of (length vars) result) ≤ most
     final-count c e h = omega (arith, h, e, same-count, ap stage_count result-vectors)
 
+    -- where the weight at the end is within its limit, so is the result's stage weight
     pub final-weight : kept.weight ≤ kept.heavy → stage_weight (length vars) f (vectors_of (length vars) result) ≤ heavy
     final-weight h = omega (arith, h, seen.weight, seen.heavy, ap (all_covering (length vars) f) same-first, ap (stage_weight (length vars) f) result-vectors)
 
     -- ---- what the program has at its end
+    -- the blocks, segments and lists that the program has at its end are the result
     pub final-is : (st : Staged) (exps : List Pairs) (segs lists : List (List ℕ)) (u : Tallied)
         → st ≡ record { sites = k; exps = exps; segments = segs; lists = lists } → exps ≡ u.exps → u ≡ kept → segs ≡ segments
         → lists ≡ lists_in k segs → st ≡ result
@@ -247,9 +259,11 @@ module _ (k : ℕ) (vars : List VarInfo) (f : Sparse) (L S : List ℕ → List (
         let z : lists ≡ lists_in k segments = l ∙ ap (lists_in k) s in
         e ∙ rw (y, s, z) refl
 
+    -- the program's count at its end is how many numbers there are in all lists
     pub counted-is : (c : ℕ) (segs lists : List (List ℕ)) → segs ≡ segments → lists ≡ lists_in k segs → c ≡ shared_count k S (prefixes_of k)
         → c ≡ count_numbers lists
     counted-is c segs lists s l e = e ∙ sym lists-count ∙ ap count_numbers (sym (l ∙ ap (lists_in k) s))
 
+    -- where the program's weight is within its limit at its end, so is the weight of what is kept
     pub weighed-is : (u : Tallied) → u ≡ kept → u.weight ≤ u.heavy → kept.weight ≤ kept.heavy
     weighed-is u e h = omega (arith, h, ap (λ (z : Tallied). z.weight) e, ap (λ (z : Tallied). z.heavy) e)

@@ -31,6 +31,7 @@ list-more n f t (x ∷ xs) =
     omega (arith, ih, l)
 
 -- ---- steps of the loop
+-- from a place in the list on, the prefixes are the one at the place, and then those after it
 pub more-prefixes : (all : List Front) (i : ℕ) (p : Front) → i < length all → p ≡ get_or all i p
     → map front_places (drop i all) ≡ front_places p ∷ map front_places (drop (i + 1) all)
 more-prefixes all i p h e = ap (map front_places) (drop_more all i p h) ∙ ap (λ z. front_places z ∷ map front_places (drop (i + 1) all)) (sym e)
@@ -59,9 +60,11 @@ module _ (L : List ℕ → List (List ℕ)) (n : ℕ) (f : Sparse) where
   numbers-nil t = refl
 
   module _ (t u : Tallied) (p : List ℕ) (ps rest : List (List ℕ)) (e : ps ≡ p ∷ rest) where
+    -- with the list at the first place seen and a new list begun, the rest of the places lead to the same end
     pub tally-goes : (T : Tallied) → u ≡ next_list (see_all n f t (L p)) → tallied_by L n f t ps ≡ T → tallied_by L n f u rest ≡ T
     tally-goes T q h = ap (λ z. tallied_by L n f z rest) q ∙ sym (unfolding-tally t p rest) ∙ ap (tallied_by L n f t) (sym e) ∙ h
 
+    -- with the numbers at the first place appended to those so far, the numbers at the rest of the places complete the same lists
     pub segments-go : (N old new : List (List ℕ)) (l : List ℕ) → u ≡ next_list (see_all n f t (L p)) → l ≡ (see_all n f t (L p)).list
         → new ≡ old ++ l ∷ [] → old ++ numbers_by L n f t ps ≡ N → new ++ numbers_by L n f u rest ≡ N
     segments-go N old new l q x m h =
@@ -97,12 +100,15 @@ module _ (L : List ℕ → List (List ℕ)) (n : ℕ) (f : Sparse) where
     none-left : map front_places (drop i all) ≡ []
     none-left = ap (map front_places) (drop_all i all past)
 
+    -- where no prefix is left, what is kept so far is what is kept at the end
     pub tally-ends : (t T : Tallied) → tallied_by L n f t (map front_places (drop i all)) ≡ T → t ≡ T
     tally-ends t T h = sym (tally-nil t) ∙ ap (tallied_by L n f t) (sym none-left) ∙ h
 
+    -- where no prefix is left, the segments so far are all segments
     pub segments-end : (t : Tallied) (N old : List (List ℕ)) → old ++ numbers_by L n f t (map front_places (drop i all)) ≡ N → old ≡ N
     segments-end t N old h = sym (append-nil old) ∙ ap (λ z. old ++ z) (sym (numbers-nil t)) ∙ ap (λ z. old ++ numbers_by L n f t z) (sym none-left) ∙ h
 
+    -- where no prefix is left, the count so far is the count of all lists
     pub count-ends : (k S c : ℕ) → c + shared_count k L (map front_places (drop i all)) ≡ S → c ≡ S
     count-ends k S c h = omega (arith, h, ap (shared_count k L) none-left)
 

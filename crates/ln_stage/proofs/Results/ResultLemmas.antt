@@ -123,6 +123,7 @@ module _ (k : ℕ) (vars : List VarInfo) (f : Sparse) (few : k ≤ 5) (laid : is
     stops Stages n s = (n, (found, found-lists, by_lists.past-passes k vars f (list_of vars f) (segment_at vars f) by-prefixes most heavy s))
     stops NoMemory n s = tt
 
+    -- what is kept at the end makes the polynomial's stages
     pub result-stages : AreStagesOf k vars f (by_lists.result k vars f (list_of vars f) (segment_at vars f) by-prefixes most heavy)
     result-stages = record {
       sites = refl;
@@ -140,6 +141,7 @@ module _ (k : ℕ) (vars : List VarInfo) (f : Sparse) (few : k ≤ 5) (laid : is
     }
 
 -- ---- a polynomial that isn't 0
+-- where the test for 0 fails, the polynomial isn't 0
 pub some-terms : (b : Bool) (f : Sparse) → b ≡ false → (IsTrue b ↔ (f ≡ [])) → f ≡ [] → ⊥
 some-terms b f e h z = let w : true ≡ false = sym (h.1 z) ∙ e in cc
 

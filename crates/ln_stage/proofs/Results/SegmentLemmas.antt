@@ -17,6 +17,7 @@ use Rattle.ln_stage.specs.Segments.{AreSegments, Ends, IndicesBelow, IsSegmentOf
 use Rattle.ln_stage.specs.Segments.{SegmentIsUnique, SegmentsMakeTheList, at_index, isnt_zero, part, reach, touches}
 
 -- ---- members
+-- a member of the first of two lists is a member of the lists one after the other
 pub in-left : (xs ys : List (List ℕ)) (a : List ℕ) → In xs a → In (xs ++ ys) a
 in-left [] ys a i = absurd i
 in-left (x ∷ xs) ys a (inl e) = inl e

@@ -8,6 +8,7 @@ use Rattle.ln_tree.specs.Exps.{Pairs, same_pairs}
 use Rattle.ln_stage.specs.Tally.{Tallied, number_in, put_exps}
 
 -- ---- numbers
+-- exponents that are the first of a list have the number 0 there, and any others have one more than in the rest of the list
 pub number-more : (b : Pairs) (bs : List Pairs) (a : Pairs) (t : Bool) → same_pairs a b ≡ t → number_in (b ∷ bs) a ≡ cond (not t) (1 + number_in bs a) 0
 number-more b bs a t e = ap (λ z. cond (not z) (1 + number_in bs a) 0) e
 

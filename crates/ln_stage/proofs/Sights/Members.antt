@@ -30,6 +30,7 @@ use Rattle.ln_stage.specs.Staged.{Staged, block_vector, vectors_of}
 use Rattle.ln_stage.proofs.Monomials.MonomialLemmas.{poly-terms, rows-monomials}
 
 -- ---- what holds of each vector of the lists holds of each distinct one
+-- a claim holds of each vector of a list
 abbrev pub EachIs : (List ℕ → Type 0) → List (List ℕ) → Type 0
 EachIs P [] = Unit {0}
 EachIs P (a ∷ as') = P a × EachIs P as'
@@ -88,6 +89,7 @@ seen-length bs [] = omega arith
 seen-length bs (l ∷ ls) = omega (arith, seen-length (seen_behind bs l) ls, behind-length bs l)
 
 -- ---- the vector of zeros is the first
+-- each exponent in the vector of zeros is 0
 pub zeros-at : (n v : ℕ) → get_or (zeros n) v 0 ≡ 0
 zeros-at zero v = refl
 zeros-at (suc n) zero = refl
@@ -200,6 +202,7 @@ module _ (rank : Rank) (k : ℕ) (vars : List VarInfo) (f : Sparse) (ls : List (
         )
 
     module _ (d : f ≢ []) where
+      -- where the polynomial isn't 0, each list begins with the vector of zeros
       pub zeros-in : (j : ℕ) → j < length ls → Begins (get_or ls j []) (zeros (length vars))
       zeros-in j h =
           let o : Sites = sites_of vars (get_or (orders_of k) j []) in

@@ -34,6 +34,7 @@ above-put [] v e h = (omega arith, tt)
 above-put (p ∷ a) v e h = (omega (arith, h.0), above-put a v e h.1)
 
 -- ---- a vector from its pairs
+-- where a vector's variables are numbered from v on, those in its pairs are above every number below v
 pub pairs-above : (w v : ℕ) (p : List ℕ) → w < v → AllAbove w (pairs_from v p)
 pairs-above w v [] h = tt
 pairs-above w v (zero ∷ p) h = pairs-above w (suc v) p (omega arith)
@@ -122,6 +123,7 @@ pub same-pairs : (n : ℕ) (xs ys : Pairs) → IsRising xs → IsRising ys → I
 same-pairs n xs ys r s a b e = sym (pairs-vector n xs r a) ∙ ap pairs_of e ∙ pairs-vector n ys s b
 
 -- ---- the two tests
+-- pairs pass the test of being the same as themselves
 pub same_pairs-refl : (e : Pairs) → same_pairs e e ≡ true
 same_pairs-refl [] = refl
 same_pairs-refl (p ∷ ps) = rw (eq-eqb p.0 p.0 refl, eq-eqb p.1 p.1 refl, same_pairs-refl ps) refl

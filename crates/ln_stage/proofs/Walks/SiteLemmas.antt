@@ -11,6 +11,7 @@ use Rattle.ln_stage.proofs.Walks.StepLemmas.{over-more, see_all-append}
 use Rattle.ln_stage.proofs.Walks.WalkLemmas.{stopped-more}
 
 -- ---- fewer variables
+-- without the first i of them, the variables are still below n, and none occurs twice
 pub fresh-behind : (n : ℕ) (vs : List ℕ) (i : ℕ) → AreFresh n vs → AreFresh n (drop i vs)
 fresh-behind n vs zero h = h
 fresh-behind n [] (suc i) h = tt

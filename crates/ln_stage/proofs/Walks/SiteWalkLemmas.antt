@@ -79,6 +79,7 @@ walk-tail b (v ∷ us) rest (m ∷ ms) p z =
     ∙ before-assoc (walk (suc b) rest (m ∷ ms) p) (tail b us rest (m ∷ ms) p) S
 
 -- ---- one site more
+-- with one more site at the end of a prefix, the ranking has the site's variables first, and then those of the prefix
 pub ranking-last : (vars : List VarInfo) (p : List ℕ) (s : ℕ) → ranking_of vars (p ++ s ∷ []) ≡ vars_of s vars 0 ++ ranking_of vars p
 ranking-last vars [] s = sym (append-nil (vars_of s vars 0))
 ranking-last vars (t ∷ p) s = ap (λ z. z ++ vars_of t vars 0) (ranking-last vars p s) ∙ append_assoc (vars_of s vars 0) (ranking_of vars p) (vars_of t vars 0)
@@ -220,6 +221,7 @@ fresh-from [] w h = tt
 fresh-from (u ∷ vs) w h = (λ e. h (inl e), fresh-from vs w (λ m. h (inr m)))
 
 -- ---- a ranking has each variable once
+-- the ranking of two lists of sites, one after the other, is that of the second list, and then that of the first
 pub ranking-join : (vars : List VarInfo) (p q : List ℕ) → ranking_of vars (p ++ q) ≡ ranking_of vars q ++ ranking_of vars p
 ranking-join vars [] q = sym (append-nil (ranking_of vars q))
 ranking-join vars (t ∷ p) q = ap (λ z. z ++ vars_of t vars 0) (ranking-join vars p q) ∙ append_assoc (ranking_of vars q) (ranking_of vars p) (vars_of t vars 0)

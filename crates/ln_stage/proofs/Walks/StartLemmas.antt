@@ -30,6 +30,7 @@ pub fresh-ranking : (n : ℕ) (sites : Sites) (vs : List ℕ) → IsRanking n si
 fresh-ranking n sites vs r = fresh-ranked n sites vs r.ranked r.below
 
 -- ---- the terms
+-- the exponent vectors of the terms at all places are those of all terms
 pub rows-all : (n : ℕ) (f : Sparse) → rows n f (range_with_len 0 (length f)) ≡ all_rows n f
 rows-all n f =
     same_lists (rows n f (range_with_len 0 (length f))) (all_rows n f)
@@ -61,6 +62,7 @@ range-more a (suc n) =
     rw (z, e) (ap (λ x. a ∷ x) ih)
 
 -- ---- the vector
+-- 0 repeated n times is the vector of zeros
 pub zeros-replicate : (n : ℕ) → replicate n 0 ≡ zeros n
 zeros-replicate zero = refl
 zeros-replicate (suc n) = ap (λ z. 0 ∷ z) (zeros-replicate n)
@@ -82,6 +84,7 @@ start-step f n vs kept p below rising some r ek ep =
     }
 
 -- ---- what is listed from there
+-- the listing that begins with all terms and the vector of zeros finds the order's list
 pub list-is : (vars : List VarInfo) (f : Sparse) (o vs kept p : List ℕ) → vs ≡ ranking_of vars o → kept ≡ range_with_len 0 (length f)
     → p ≡ zeros (length vars) → (listed f vs kept p).0 ≡ list_of vars f o
 unfolding list_of

@@ -167,6 +167,7 @@ unfolding listed
 leaf-cut f kept p a s e = rw (leaf-walk f kept p s, e) refl
 
 -- ---- several stages more
+-- the stages of two lists, one after the other, are seen as those of the first list, and then those of the second
 pub see_all-append : (n : ℕ) (f : Sparse) (t : Tallied) (xs ys : List (List ℕ)) → see_all n f t (xs ++ ys) ≡ see_all n f (see_all n f t xs) ys
 see_all-append n f t [] ys = refl
 see_all-append n f t (x ∷ xs) ys = see_all-append n f (see (covering n f x) t (pairs_of x)) xs ys

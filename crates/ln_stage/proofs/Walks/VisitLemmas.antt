@@ -139,9 +139,11 @@ module _ (vars : List VarInfo) (f : Sparse) where
 
   module _ (p vs kept start sites : List ℕ) (t : Tallied) (v : vs ≡ ranking_of vars p) (k : kept ≡ range_with_len 0 (length f))
       (s : start ≡ zeros (length vars)) (w : sites ≡ p) where
+    -- at the empty prefix, the cut ends the listing just where it is in the prefix's segment
     pub cut-first : length sites ≡ 0 → (listed_at f vs kept start 0).1 ≡ is_cut_at vars f p
     cut-first e = ap (λ z. z.1) (listed-first p vs kept start (ap length (sym w) ∙ e) v k s)
 
+    -- at the empty prefix, what is kept of the listing is what is kept of the prefix's segment
     pub seen-first : length sites ≡ 0 → see_all (length start) f t (listed_at f vs kept start 0).0 ≡ see_all (length vars) f t (segment_at vars f p)
     seen-first e = ap (λ z. see_all (length start) f t z.0) (listed-first p vs kept start (ap length (sym w) ∙ e) v k s)
         ∙ ap (λ n. see_all n f t (segment_at vars f p)) (size-start start s)
@@ -157,16 +159,20 @@ module _ (vars : List VarInfo) (f : Sparse) where
       there : listed_behind f (take m vs) (drop m vs) kept start ≡ (segment_at vars f p, is_cut_at vars f p)
       there = ap (λ n. listed_behind f (take n vs) (drop n vs) kept start) size ∙ listed-last p vs us kept start (length sites - 1) one-more c v of-last k s
 
+      -- at any other prefix that no cut comes before, the cut ends the listing just where it is in the prefix's segment
       pub cut-last : (listed_behind f (take m vs) (drop m vs) kept start).1 ≡ is_cut_at vars f p
       cut-last = ap (λ z. z.1) there
 
+      -- at any other prefix that no cut comes before, what is kept of the listing is what is kept of the prefix's segment
       pub seen-last : see_all (length start) f t (listed_behind f (take m vs) (drop m vs) kept start).0 ≡ see_all (length vars) f t (segment_at vars f p)
       seen-last = ap (λ z. see_all (length start) f t z.0) there ∙ ap (λ n. see_all n f t (segment_at vars f p)) (size-start start s)
 
+      -- the last site of a prefix has no more variables than the prefix's ranking
       pub last-within : m ≤ length vs
       last-within = omega (arith, size, within-vars p vs us (length sites - 1) one-more v of-last)
 
   -- ---- the first step
+  -- in the ranking of a prefix each variable is one of the predicate's, and none occurs twice
   pub fresh-front : (k : ℕ) (p : List ℕ) → is_laid_out k vars ≡ true → IsPrefixOf k p → AreFresh (length vars) (ranking_of vars p)
   fresh-front k p laid r =
       let o : List ℕ = r.order in
@@ -179,6 +185,7 @@ module _ (vars : List VarInfo) (f : Sparse) where
       ∙ drop-append_seam (ranking_of vars (drop r.places r.order)) (ranking_of vars p)) behind
 
   -- ---- what is kept by length
+  -- what is kept for the length before is whether the cut comes before the prefix
   pub cut-of : (p : List ℕ) (cuts : List Bool) → AreCuts vars f (length p) p cuts → cut_in cuts (length p) ≡ cut_before vars f p
   cut-of [] cuts h = refl
   cut-of (x ∷ p) cuts h = h (length p) (omega arith)

@@ -70,6 +70,7 @@ module _ (f : Sparse) (vs kept p : List ℕ) (s : IsStep f vs kept p) (more : 0 
       size : length q ≡ length p
       size = ap length eq ∙ length-set p (get_or vs 0 0) e
 
+      -- terms with the exponent e or more, if there are any, remain at the next step, where the variable has the exponent e
       pub goes-step : IsStep f r h q
       goes-step = rw (er, eq, eh) (step-down f (get_or vs 0 0) (drop 1 vs) kept p e step small (rw eh at some))
 
@@ -122,6 +123,7 @@ module _ (f : Sparse) (vs kept p : List ℕ) (s : IsStep f vs kept p) (more : 0 
               subst IsOver (sym (see_all-append (length p) f t down.0 (rest (127 - e) (suc e)).0) ∙ ap (λ z. see_all (length p) f t z.0) (sym w) ∙ all)
               (over-more (length p) f (see_all (length p) f t down.0) (rest (127 - e) (suc e)).0 o)
 
+        -- where the walk down a branch stops, so does the walk from the exponent e on: a limit that is exceeded stays so
         pub stops-down : (x : StageStop) → IsStoppedBy x (IsOver (see_all (length q) f t (walk 128 r (rows (length q) f h) q).0)) → IsStoppedBy x (IsOver T)
         stops-down x o =
             let g : see_all (length q) f t (walk 128 r (rows (length q) f h) q).0 ≡ see_all (length p) f t down.0 =
@@ -129,6 +131,7 @@ module _ (f : Sparse) (vs kept p : List ℕ) (s : IsStep f vs kept p) (more : 0 
             stopped-more x over-down (subst (λ z. IsStoppedBy x (IsOver z)) g o)
 
 -- ---- the same, as the code has it
+-- where a variable remains, what is listed from its exponent 0 on is all that is listed
 pub begins : (f : Sparse) (vs kept p : List ℕ) → 0 < length vs → listed_from f vs kept p 0 ≡ listed f vs kept p
 unfolding listed listed_from
 begins f vs kept p h = sym (walk-first vs (rows (length p) f kept) p h)
@@ -151,21 +154,25 @@ module _ (f : Sparse) (vs kept p : List ℕ) (s : IsStep f vs kept p) (more : 0 
 
   module _ (some : 0 < length h) (q : List ℕ) (eq : q ≡ set p (get_or vs 0 0) e) (r : List ℕ) (er : r ≡ drop 1 vs) (t T : Tallied)
       (all : see_all (length p) f t (listed_from f vs kept p e).0 ≡ T) where
+    -- where listing a branch stops, so does listing from the exponent e on: a limit that is exceeded stays so
     pub from-stops : (x : StageStop) → IsStoppedBy x (IsOver (see_all (length q) f t (listed f r h q).0)) → IsStoppedBy x (IsOver T)
     unfolding listed listed_from
     from-stops x o = stops-down f vs kept p s more e small h eh some q eq r er t T all x o
 
     module _ (t' : Tallied) (stop : Bool) (S : Bool) (seen : t' ≡ see_all (length q) f t (listed f r h q).0)
         (stops : stop ≡ (listed f r h q).1) (cut : (listed_from f vs kept p e).1 ≡ S) where
+      -- where the cut ends a branch, it ends the listing from the exponent e on, and what is kept so far is all that is kept
       pub from-cut : stop ≡ true → (true ≡ S) × (t' ≡ T)
       unfolding listed listed_from
       from-cut c = ends-cut f vs kept p s more e small h eh some q eq r er t t' stop T S seen stops all cut c
 
+      -- where the cut doesn't end a branch, the listing from the next exponent on comes to the same end
       pub from-keeps : stop ≡ false → (see_all (length p) f t' (listed_from f vs kept p (e + 1)).0 ≡ T) × ((listed_from f vs kept p (e + 1)).1 ≡ S)
       unfolding listed listed_from
       from-keeps c = keeps f vs kept p s more e small h eh some q eq r er t t' stop T S seen stops all cut c
 
 -- ---- tests of lengths
+-- what the test finds unequal to 0 is more than 0
 pub some-length : (n : ℕ) → false ≡ (n == 0) → 0 < n
 some-length n h = grind (arith, nat_tests)
 
@@ -174,6 +181,7 @@ pub none-length : (n : ℕ) → true ≡ (n == 0) → n ≡ 0
 none-length n h = grind (arith, nat_tests)
 
 -- ---- from an exponent on
+-- where a variable remains, the first one begins from the given exponent
 pub at-some : (f : Sparse) (vs kept p : List ℕ) (e : ℕ) → 0 < length vs → listed_at f vs kept p e ≡ listed_from f vs kept p e
 unfolding listed_at
 at-some f [] kept p e h = absurd (omega arith)

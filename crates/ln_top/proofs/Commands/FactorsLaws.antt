@@ -62,6 +62,7 @@ take_next (x ∷ xs) zero l = refl
 take_next (x ∷ xs) (suc n) l = ap (λ (ys : List ℕ). x ∷ ys) (take_next xs n (omega (arith, l)))
 
 -- ---- numbers at their places
+-- one number more at its place, after numbers that are at theirs
 pub stand_more : (ns ks is : List ℕ) (k i : ℕ) → StandAt ns ks is → slice_get ns k ≡ Some i → StandAt ns (ks ++ k ∷ []) (is ++ i ∷ [])
 stand_more ns [] [] k i s e = (e, tt)
 stand_more ns [] (j ∷ is) k i s e = absurd s
@@ -93,6 +94,7 @@ stand_length ns (l ∷ ks) [] s = absurd s
 stand_length ns (l ∷ ks) (j ∷ is) s = ap (λ (n : ℕ). suc n) (stand_length ns ks is s.1)
 
 -- ---- programs that were made
+-- one program more that was made for its predicate, after programs that were made for theirs
 pub made_more : (table : List PredOf) (ns : List ℕ) (cs : List Part) (n : ℕ) (c : Part) → AreMade table ns cs → IsMadeOf table n c
     → AreMade table (ns ++ n ∷ []) (cs ++ c ∷ [])
 made_more table [] [] n c a m = (m, tt)

@@ -119,6 +119,7 @@ few_named table (i ∷ is) [] n l h p e = absurd n
 few_named table (i ∷ is) (q ∷ qs) n l h p e = subst HasFewGraded (same_Some q p (sym n.0 ∙ e)) h
 
 -- ---- the objection
+-- the objection of `graded` is at the place of the first predicate that is named
 pub objection_at : (preds : List Pred) (numbers : List ℕ) (i : ℕ) (q : Pred) (bytes : List ℕ) (ps : List PredOf) → Some i ≡ slice_get numbers 0
     → slice_get preds i ≡ Some q → AreNumbered (map pred_of preds) numbers ps → why.Stages (place_at bytes q.at) ≡ objection Graded bytes ps
 objection_at preds [] i q bytes ps e a n = absurd (none-some i (sym e))

@@ -64,7 +64,8 @@ alike_lines v u w e f = lines_alike (counted w.seen) v u w.boxes e f
 pub alike_next : (v u : Verdict) (w : Watching) → v.sign ≡ u.sign → v.by ≡ u.by → next (Ok v) w ≡ next (Ok u) w
 alike_next v u w e f = ap (watching (counted w.seen)) (left_alike (counted w.seen) v u w.boxes e f)
 
--- ---- without watchers nothing is written and none remains
+-- ---- without watchers
+-- without watchers nothing is written for a record
 pub none_told : (row : ℕ) (said : Result Verdict RowStop) (boxes : List State) → boxes ≡ [] → told_on row said boxes ≡ []
 none_told row (Ok v) boxes e = ap (lines_at row v) e
 none_told row (Err stop) boxes e = refl
@@ -121,6 +122,7 @@ show_cut row v boxes left port puts was now p h =
     cut_on port (lines_at row v boxes) puts was now p (stops_short row v boxes left port was now h)
 
 -- ---- what is said of a record was shown
+-- the watchers' lines that were written to Err for a verdict are those required
 pub shown_lines : (said : Result Verdict RowStop) (v : Verdict) (w : Watching) (row : ℕ) (puts : Count) (all : Bool)
     (was now : Option Shown) → said ≡ Ok v → row ≡ counted w.seen
     → WroteOn ErrPort (lines_at row v w.boxes) puts all was now → Wrote [] (next_lines said w) puts all was now

@@ -58,6 +58,7 @@ lines_same p f =
     λ i. Predicate name ∷ (a i ++ (b i ++ (c i ++ Done ∷ [])))
 
 -- ---- all of them
+-- the subjects of the predicates; the programs' listing is the lines of their parts, and each part is valid by version 2
 pub record Goods (ps : List PredOf) (parts : List Part) : Type 0 where
   pub subjects : List Subject
   pub those : AreSubjectsOf ps subjects

@@ -35,6 +35,7 @@ use Rattle.ln_verify.proofs.Judging.Put.{small-leads}
 use Rattle.ln_top.proofs.Theorem.Room.{leaves, pushes-more, room-more, run-more}
 
 -- ---- what a listing states of a program
+-- the exponents and the lines that a listing states of a block
 abbrev pub piece_of : Code → Piece
 piece_of c = record { exps = c.exps; lines = lines_of c.ops c.pairs }
 

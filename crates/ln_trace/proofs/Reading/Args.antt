@@ -82,6 +82,7 @@ is_at ws ps more us z p e g f r = record {
 }
 
 -- ---- a `sign` line
+-- without a word after `sign` there is no `sign` line
 pub no_word : (ws : List (List ℕ)) → ws ≡ [] → NoArgs kind.Sign ws
 no_word ws e (line.Sign t) h = absurd (let q = sym e ∙ rest h.words in cc)
 no_word ws e l h = absurd (let k = h.kind in cc)

@@ -18,6 +18,7 @@ use Rattle.ln_trace.proofs.Reading.Walk.{goes_append, is_form, start}
 use Rattle.ln_trace.proofs.Reading.Whole.{no_feed, refuses}
 
 -- ---- the start of a text
+-- where the words up to the first line feed are a line that the state allows, the text begins with that line
 pub begins : (s : State) (text : List ℕ) (end : ℕ) (body : List ℕ) (l : TraceLine) (t : State) → 0 < length text → end ≡ 0 + span_to 10 (drop 0 text)
     → end < length text → body ≡ take (end - 0) (drop 0 text) → IsRead s (words body) l t → Begins s text l t (end + 1)
 begins s text end body l t h e g q r = record {

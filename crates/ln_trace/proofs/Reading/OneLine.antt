@@ -22,6 +22,7 @@ use Rattle.ln_trace.specs.Reading.{HasArgs, IsRead, NoArgs, Refuses, after, kind
 use Rattle.ln_trace.specs.Text.{IsLine, sign_word, text_of_line, words_of}
 
 -- ---- first words
+-- the word w is that of the kind k, and the state allows a line of this kind
 pub record Stands (s : State) (w : List ℕ) (k : Kind) : Type 0 where
   pub word : w ≡ word_of k
   pub may : may s k ≡ true
@@ -213,6 +214,7 @@ pub one_line : (s : State) (x y : TraceLine) (t u : State) → next_of s x ≡ S
 one_line s x y t u a b p q e = same_line s x y t u a b p q (sym (read_words x p) ∙ line_words (parted (words_of x)) y q e)
 
 -- ---- what the reader of a line finds
+-- a first word of an allowed kind and then the words of a line of that kind: that line is read
 pub found : (s : State) (k : Kind) (w : List ℕ) (args ws : List (List ℕ)) (l : TraceLine) → ws ≡ w ∷ args → kind_in s w ≡ Some k
     → HasArgs k args l → IsRead s ws l (after k)
 found s k w args ws l e g h =

@@ -23,6 +23,7 @@ pub refuses : (s : State) (body t : List ℕ) → t ≡ body ++ (10 ∷ []) → 
 refuses s body t e f l u r g q = f l u (record { spelled = line_words body l r (sym e ∙ q); range = r; goes = g })
 
 -- ---- the first line
+-- where the first line is another than that of a trace, the form fault is at line 1
 pub no_first : (bs : List ℕ) (end : ℕ) (body : List ℕ) → 0 < length bs → end ≡ 0 + span_to 10 (drop 0 bs)
     → body ≡ take ((end + 1) - 0) (drop 0 bs) → (body ≡ first_line → ⊥) → IsFormFault bs 1
 no_first bs end body h e q f =

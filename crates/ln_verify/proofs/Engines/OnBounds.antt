@@ -30,6 +30,7 @@ use Rattle.ln_verify.proofs.Values.Ranges.{balanced-within, both, known-is, know
 use Rattle.ln_verify.proofs.Engines.Versions.{sizes-mono}
 
 -- ---- from ranges to bounds
+-- a value's range is that of its bound, and its width and its expression are the same by both rules
 pub record Same (x : Known) (k : Bounded) : Type 0 where
   pub range : x.range ≡ balanced k.bound
   pub width : x.width ≡ k.width

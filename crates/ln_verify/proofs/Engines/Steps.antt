@@ -127,6 +127,7 @@ module _ {B X K : Type 0} (R : X → K → Type 0) (tree : K → Tree) (n : ℕ)
     pushed-came (Some x) (Some k) xs false g m h = λ u q. full s.locals mid ks k u h f (sym g ∙ q.0)
 
   -- ---- the steps of operations on a known stack
+  -- a negation takes the top value off the stack and pushes its result
   pub one-step : (w : Width) (b : B) (l : ℕ → Option K) (xs rest : List K) (k : K) → xs ≡ k ∷ rest → step e (Neg w) b l xs ≡ Goes l rest (e.minus w b k)
   one-step w b l xs rest k q = ap (λ (z : List K). step e (Neg w) b l z) q
 
@@ -166,12 +167,15 @@ module _ {B X K : Type 0} (R : X → K → Type 0) (tree : K → Tree) (n : ℕ)
 
   -- ---- locals
   module _ (got : (l : ℕ → Option K) (j : ℕ) → e.got l j ≡ l j) (put : (l : ℕ → Option K) (j : ℕ) (k : K) → e.put l j k ≡ with_local l j k) where
+    -- reading a local that has a value pushes what the rules make of that value
     pub get-step : (j : ℕ) (b : B) (l : ℕ → Option K) (xs : List K) (k : K) → l j ≡ Some k → step e (Get j) b l xs ≡ Goes l xs (e.again k b)
     get-step j b l xs k q = ap (λ (o : Option K). next (next o (λ x. e.again x b)) (pushed e l xs)) (got l j ∙ q)
 
+    -- reading a local that has no value leads nowhere
     pub get-none : (j : ℕ) (b : B) (l : ℕ → Option K) (xs : List K) → l j ≡ None → step e (Get j) b l xs ≡ None
     get-none j b l xs q = ap (λ (o : Option K). next (next o (λ x. e.again x b)) (pushed e l xs)) (got l j ∙ q)
 
+    -- writing a local takes the top value off the stack and puts it into the local
     pub set-came : (s : State K (ℕ → Option K)) (old mid : List X) (before ls : List (Option X)) (j : ℕ) (b : B) (x : X) → old ≡ mid ++ x ∷ []
         → ls ≡ slice_set before j (Some x) → j < length before → IsState R old before s → Came R tree n e s (Set j) b true mid ls
     set-came s old mid before ls j b x q l k i =

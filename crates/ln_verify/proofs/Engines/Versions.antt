@@ -200,6 +200,7 @@ filters-follow vars = record {
 }
 
 -- ---- the law
+-- what follows the rules of version 1 follows those of version 2
 pub version-1-follows : Version1Follows
 version-1-follows = record { block = block; filter = filter }
   where

@@ -98,6 +98,7 @@ module _ (n : ℕ) (exps stages : List Pairs) where
   decides-end ks js i h e d = d.0 (past-end ks js i h e)
 
   -- ---- the same, as lists of vectors
+  -- where blocks and stages are the same one by one, each number of a block is below the count of blocks
   pub same-within : (ks js : List ℕ) → SameStages n exps stages ks js → All (λ k. k < length exps) ks
   same-within [] js h = λ i d l. absurd (omega arith)
   same-within (k ∷ ks) [] h = absurd h
@@ -212,6 +213,7 @@ module _ (p : Subject) (st : Staged) (laid : is_laid_out p.sites p.vars ≡ true
         )
 
 -- ---- one segment after the other
+-- one list more: the joined lists of a, .., a + k are those up to a + k - 1, and then the last
 pub joined-more : (g : ℕ → List ℕ) (a k : ℕ) → joined (map g (range_with_len a (k + 1))) ≡ joined (map g (range_with_len a k)) ++ g (a + k)
 joined-more g a k = let e : k + 1 ≡ suc k = omega arith in ap (λ m. joined (map g (range_with_len a m))) e ∙ more a k
   where

@@ -73,6 +73,7 @@ named-other v cs d new c name (Outside parts) a g n i =
 named-other v cs d new c name (Within parts s) a g n i = absurd (away-none (length i.1.vars) d s a i.3)
 
 -- ---- `done`
+-- a case has as many orders as there are orders of its sites
 pub case-orders : (c : Case) → IsCase c → length c.orders ≡ length (orders_of c.shape.sites)
 case-orders c k = sym (length-map c.orders order_places) ∙ ap length k.ordered
 

@@ -99,6 +99,7 @@ pub cases-whole : (ps : List Pred) (i : ℕ) (cs : List Case) → length ps ≤ 
 cases-whole ps i cs l h = subst (λ (xs : List Pred). AreSubjectsOf (map pred_of xs) (subjects_of cs)) (take-all ps i l) h.1
 
 -- ---- versions
+-- the rules of a listing of version 1 are those of version 1
 pub rules-1 : (n : ℕ) → n ≡ 1 → version_1 ≡ rules_of n
 rules-1 n e = sym (ap rules_of e)
 
@@ -106,7 +107,8 @@ rules-1 n e = sym (ap rules_of e)
 pub rules-2 : (n : ℕ) → (n ≡ 1 → ⊥) → version_2 ≡ rules_of n
 rules-2 n h = sym (ap (λ (b : Bool). if b then version_1 else version_2) (ne_eqb n 1 h))
 
--- ---- what was judged is the listing, against the cases that were made
+-- ---- what was judged
+-- the result for the entries and the cases that were judged is the result for the listing and the cases that were made
 pub answered : (l : Listed) (v : Version) (cs xs : List Case) (es : List Entry) (o p : Option ℕ) → xs ≡ cs → es ≡ l.entries → o ≡ p
     → IsAnswer v (subjects_of xs) (parts_of es) o → IsAnswer v (subjects_of cs) (parts_of l.entries) p
 answered l v cs xs es o p e f q h =

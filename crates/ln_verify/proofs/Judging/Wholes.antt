@@ -19,7 +19,8 @@ use Rattle.ln_code.specs.Lists.{IsListOf, list_of, segment_of}
 use Rattle.ln_verify.specs.AsPart.{part_of, segment_at}
 use Rattle.ln_verify.specs.Line.{Written}
 
--- ---- what stands beside a list
+-- ---- what is beside a list
+-- the first list has p at some place, and the second has there what is beside p
 pub record StandsAt (qs ss : List (List ℕ)) (p : List ℕ) : Type 0 where
   pub at : ℕ
   pub there : slice_get qs at ≡ Some p

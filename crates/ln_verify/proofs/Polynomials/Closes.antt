@@ -60,6 +60,7 @@ one-value R (x ∷ []) (k ∷ (j ∷ ks)) d l h = absurd h.1
 one-value R (x ∷ (y ∷ xs)) ks d l h = absurd (omega (arith, l))
 
 -- ---- blocks
+-- without just one value on the stack of a block, `end` doesn't hold
 pub bench-not-one : (p : Subject) (a : Pairs) (b : BlockStack) (s : State Known (ℕ → Option Known)) → (length b.values.items ≡ 1 → ⊥)
     → IsBench (length p.vars) b s → BenchEnds p a s → ⊥
 bench-not-one p a b s l i q =
@@ -80,6 +81,7 @@ bench-ends p a b s d x ok l e i h =
     )
 
 -- ---- filters
+-- without just one number on the stack of a filter, `decide` doesn't hold
 pub tray-not-one : (p : Subject) (b : FilterStack) (s : State FilterKnown (ℕ → Option FilterKnown)) → (length b.values.items ≡ 1 → ⊥)
     → IsTray (length p.vars) b s → TrayDecides p s → ⊥
 tray-not-one p b s l i q =

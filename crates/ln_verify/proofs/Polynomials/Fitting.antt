@@ -16,6 +16,7 @@ use Rattle.ln_verify.specs.Products.{AllFit, EachOf, PairsFit, RowFits}
 use Rattle.ln_verify.proofs.Polynomials.Small.{too-high}
 
 -- ---- it fits, or some variable passes the limit
+-- at some of the n variables the exponents of a and b sum up to 128 or more
 pub record TooHigh (n : ℕ) (a b : Pairs) : Type 0 where
   pub var : ℕ
   pub below : var < n

@@ -43,6 +43,7 @@ use Rattle.ln_verify.proofs.Engines.Versions.{version-1-follows}
 use Rattle.ln_verify.proofs.Judging.Wholes.{list-stands, segments-all}
 
 -- ---- what the rules of programs know, in either version
+-- what follows a version's rules follows the rules of programs, with the same expression and in a filter the same triple
 pub record Followed (v : Version) : Type 0 where
   pub block : (vars : List VarInfo) (lines : List (Line Range)) (x : Known) → answer (block_rules v vars) no_locals lines ≡ Some x
       → (y : Known) × (answer (rules vars deepest) no_locals lines ≡ Some y) × (x.tree ≡ y.tree)

@@ -50,6 +50,7 @@ known-is enough p w s t h i l =
     rw (both (covers p enough && is_in p w) (nat_le s most) (both (covers p enough) (is_in p w) c n) m) refl
 
 -- ---- the range of a bound
+-- the magnitude of a bound's range is the bound
 pub balanced-magnitude : (b : ℕ) → magnitude (balanced b) ≡ b
 balanced-magnitude b = omega (arith, ints)
 
@@ -69,6 +70,7 @@ not-true P e = absurd (go e)
     go e = cc
 
 -- ---- of two values
+-- a sum, a difference or a product of ordered ranges is ordered
 pub range-ordered : (t : Two) (p q : Range) → IsOrdered p → IsOrdered q → IsOrdered (range_of t p q)
 range-ordered Plus p q h g = sum_ordered p q h g
 range-ordered Minus p q h g = difference_ordered p q h g
