@@ -1,11 +1,11 @@
 -- Magnitudes aren't below 0, and bound sums and products.
 use Rattle.std.proofs.Common.{◌≡◌, ◌<◌, ◌≤◌, ◌⊎◌, inl, inr, ℕ, zero, suc, ◌*◌, ◌^◌, Bool, true, false, List, [], ◌∷◌}
 use Rattle.std.proofs.Common.{sym, arith, subst, mul-le-mul, FitsSigned}
-use Rattle.std.specs.Prelude.{◌≤ℤ◌, None, Option, Some, SomeIff, unsigned_abs, if◌then◌else◌, neg_ℤ, ◌&&◌}
+use Rattle.std.specs.Prelude.{◌≤ℤ◌, None, Option, Some, SomeIff, unsigned_abs, if◌then◌else◌, ◌&&◌}
 use Rattle.std.specs.Int.{w128}
 use Rattle.std.proofs.lemmas.Bool.{cases_lt}
 use Rattle.std.proofs.lemmas.Int.{fits_signed_from_abs, ints, unsigned_abs-mul}
-use Rattle.std.proofs.Math.IntN.{ℤ, pos, negsuc, ◌+ℤ◌, ◌-ℤ◌, ◌*ℤ◌}
+use Rattle.std.proofs.Math.IntN.{ℤ, pos, negsuc, ◌+ℤ◌, ◌*ℤ◌}
 use Rattle.ln_algebra.specs.Coefficient.{Series, constant, power, product}
 use Rattle.ln_algebra.specs.Tree.{Tree, Num, Input, Name, Neg, Add, Sub, Mul, Pow}
 use Rattle.ln_algebra.specs.Vector.{is_unit, is_zero, splits, sum_over}
@@ -75,19 +75,10 @@ up_to-times (pos a) (pos b) x y h i =
 up_to-times (pos a) (negsuc b) x y h i = let l = i.0 in let u = i.1 in absurd (omega (arith, ints, l, u))
 up_to-times (negsuc a) n x y h i = let l = h.0 in let u = h.1 in absurd (omega (arith, ints, l, u))
 
--- the opposite is at most the same
-pub up_to-neg : (m x : ℤ) → IsUpTo m x → IsUpTo m (neg_ℤ x)
-up_to-neg m x h = let l = h.0 in let u = h.1 in (omega (arith, ints, u), omega (arith, ints, l))
-
 -- a sum is at most the sum of the bounds
 pub up_to-plus : (m n x y : ℤ) → IsUpTo m x → IsUpTo n y → IsUpTo (m +ℤ n) (x +ℤ y)
 up_to-plus m n x y h i =
     let l = h.0 in let u = h.1 in let k = i.0 in let w = i.1 in (omega (arith, ints, l, k), omega (arith, ints, u, w))
-
--- so is a difference
-pub up_to-minus : (m n x y : ℤ) → IsUpTo m x → IsUpTo n y → IsUpTo (m +ℤ n) (x -ℤ y)
-up_to-minus m n x y h i =
-    let l = h.0 in let u = h.1 in let k = i.0 in let w = i.1 in (omega (arith, ints, l, w), omega (arith, ints, u, k))
 
 -- 0 is at most what isn't below 0
 pub up_to-zero : (m : ℤ) → pos 0 ≤ℤ m → IsUpTo m (pos 0)

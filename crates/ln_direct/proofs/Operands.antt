@@ -1,13 +1,13 @@
 -- The coefficient of a part, from the tables of its operands: that it is at most its magnitude, or numbers are too large.
-use Rattle.std.proofs.Common.{◌≡◌, ◌∙◌, ◌<◌, ◌≤◌, ◌⊎◌, inl, inr, ℕ, zero, suc, ◌+◌, ◌*◌, Bool, true, false, ◌&&◌}
+use Rattle.std.proofs.Common.{◌≡◌, ◌∙◌, ◌<◌, ◌≤◌, ◌⊎◌, inl, inr, ℕ, zero, suc, ◌+◌, ◌*◌, Bool, true, false}
 use Rattle.std.proofs.Common.{List, [], ◌∷◌, ◌++◌, length, length-append, refl, sym, ap, arith, subst}
-use Rattle.std.specs.Prelude.{◌≤ℤ◌, IfSome, None, Option, Some, unsigned_abs, slice_get, if◌then◌else◌, neg_ℤ, replicate}
+use Rattle.std.specs.Prelude.{◌≤ℤ◌, IfSome, None, Option, Some, slice_get, if◌then◌else◌, neg_ℤ, replicate}
 use Rattle.std.proofs.lemmas.Bool.{cases_lt}
 use Rattle.std.proofs.lemmas.Int.{ints}
-use Rattle.std.proofs.Math.IntN.{ℤ, pos, negsuc, ◌+ℤ◌, ◌-ℤ◌}
-use Rattle.ln_algebra.specs.Coefficient.{Series, coefficient, constant, product, variable}
-use Rattle.ln_algebra.specs.Tree.{Tree, Num, Input, Neg, Add, Sub}
-use Rattle.ln_algebra.specs.Vector.{is_unit, is_zero}
+use Rattle.std.proofs.Math.IntN.{ℤ, pos, ◌+ℤ◌, ◌-ℤ◌}
+use Rattle.ln_algebra.specs.Coefficient.{Series, coefficient, constant, product}
+use Rattle.ln_algebra.specs.Tree.{Tree, Neg, Add, Sub}
+use Rattle.ln_algebra.specs.Vector.{is_zero}
 use Rattle.ln_direct.specs.declared.part.Part.{Part}
 use Rattle.ln_direct.specs.declared.part.Part.TheVariants.{Difference, Minus, Product, Sum}
 use Rattle.ln_direct.specs.declared.point.Point.{Point}
@@ -25,32 +25,6 @@ use Rattle.ln_direct.specs.Vectors.{vector}
 -- what isn't below 0 is at most itself
 up_to-self : (m z : ℤ) → pos 0 ≤ℤ m → z ≡ m → IsUpTo m z
 up_to-self m z h e = (omega (arith, ints, h, e), omega (arith, ints, e))
-
--- one of two numbers, each up to its bound
-up_to-chosen : (b : Bool) (m k x y : ℤ) → IsUpTo m x → IsUpTo k y → IsUpTo (if b then m else k) (if b then x else y)
-up_to-chosen true m k x y h i = h
-up_to-chosen false m k x y h i = i
-
--- a number is at most its absolute value
-up_to-size : (z : ℤ) → IsUpTo (pos (unsigned_abs z)) z
-up_to-size (pos k) = (omega (arith, ints), omega (arith, ints))
-up_to-size (negsuc k) = (omega (arith, ints), omega (arith, ints))
-
--- a number
-pub number-held : (p : ℕ → Bool) (x : ℕ → ℤ) (k : ℕ) (a : List ℕ) (z : ℤ) → z ≡ constant (pos k) a
-    → HasLarge p x (Num (pos k)) ⊎ IsUpTo (magnitude p x (Num (pos k)) a) z
-number-held p x k a z e = inr (up_to-self (constant (pos k) a) z (magnitude-positive p x (Num (pos k)) a) e)
-
--- an input
-pub input-held : (p : ℕ → Bool) (x : ℕ → ℤ) (v : ℕ) (a : List ℕ) (z : ℤ) → z ≡ variable (p v) v (x v) a
-    → HasLarge p x (Input v) ⊎ IsUpTo (magnitude p x (Input v) a) z
-input-held p x v a z e =
-    let one : IsUpTo (pos 1) (pos 1) = (omega (arith, ints), omega (arith, ints)) in
-    let none : IsUpTo (pos 0) (pos 0) = (omega (arith, ints), omega (arith, ints)) in
-    let h = up_to-chosen (is_zero a) (pos (unsigned_abs (x v))) (if p v && is_unit v a then pos 1 else pos 0) (x v)
-    (if p v && is_unit v a then pos 1 else pos 0) (up_to-size (x v))
-    (up_to-chosen (p v && is_unit v a) (pos 1) (pos 0) (pos 1) (pos 0) one none) in
-    inr (subst (λ (w : ℤ). IsUpTo (magnitude p x (Input v) a) w) (sym e) h)
 
 -- ---- operations
 -- all entries up to the vector
@@ -181,10 +155,6 @@ pub whole-next : (p : ℕ → Bool) (x : ℕ → ℤ) (e : Tree) (t : List ℤ) 
 whole-next p x e t c a (inl h) g = inl h
 whole-next p x e t c a (inr h) (inl g) = inl g
 whole-next p x e t c a (inr h) (inr g) = inr (whole-more (magnitude p x e) t c a h g)
-
--- before the first entry
-pub whole-none : (m : Series) (t : List ℤ) → t ≡ [] → IsWhole 0 m t
-whole-none m t e = record { size = rw e refl; entries = λ b l. absurd (omega (arith, l)) }
 
 -- ---- zeros
 -- the number 0 is 0 at each vector

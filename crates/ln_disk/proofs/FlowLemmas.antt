@@ -1,29 +1,11 @@
 -- Proves what known bytes do over several writes and reads.
 use Rattle.std.proofs.Common.{◌≡◌, ℕ, ◌+◌, ◌-◌, ◌≤◌, List, [], ◌++◌, length, take, drop, refl, ap, sym, subst, ◌∙◌, arith, Some, None}
-use Rattle.std.proofs.Common.{Option, append-nil, length-drop, drop_of_length-le}
+use Rattle.std.proofs.Common.{Option, length-drop}
 use Rattle.std.proofs.Math.Seq.{take-add, take-length, drop-append_seam}
 use Rattle.std.proofs.lemmas.List.{drop-drop}
 use Rattle.std.proofs.KnownBytes.{Appends-trans}
-use Rattle.std.specs.Io.KnownBytes.{Keeps, Appends, Consumes, IsAtEnd}
+use Rattle.std.specs.Io.KnownBytes.{Appends, Consumes}
 use Rattle.ln_disk.specs.Flow.{Passes}
-
--- what was kept before a read counts for nothing
-pub kept_consumes : (a b c : Option (List ℕ)) (bs : List ℕ) → Keeps a b → Consumes b c bs → Consumes a c bs
-kept_consumes None b c bs k w = tt
-kept_consumes (Some xs) None c bs k w = absurd k
-kept_consumes (Some xs) (Some ys) c bs k w = subst (λ (zs : List ℕ). Consumes (Some zs) c bs) k w
-
--- nor before a write
-pub kept_appends : (a b c : Option (List ℕ)) (bs : List ℕ) → Keeps a b → Appends b c bs → Appends a c bs
-kept_appends None b c bs k w = tt
-kept_appends (Some xs) None c bs k w = absurd k
-kept_appends (Some xs) (Some ys) c bs k w = subst (λ (zs : List ℕ). Appends (Some zs) c bs) k w
-
--- where nothing was written, no bytes were appended
-pub kept_none : (a b : Option (List ℕ)) → Keeps a b → Appends a b []
-kept_none None b k = tt
-kept_none (Some xs) None k = absurd k
-kept_none (Some xs) (Some ys) k = k ∙ sym (append-nil xs)
 
 take_part : (bytes : List ℕ) (done n : ℕ) → take done bytes ++ take n (drop done bytes) ≡ take (done + n) bytes
 take_part bytes done n = rw take-add refl
@@ -49,10 +31,3 @@ passes_more (Some xs) (Some ys) None bs done n e p w = absurd w
 passes_more (Some xs) (Some ys) (Some zs) bs done n e p w =
     let gone : drop (length bs) ys ≡ zs = ap (drop (length bs)) w ∙ drop-append_seam bs zs in
     sym gone ∙ ap (λ k. drop k ys) e ∙ ap (drop n) p ∙ drop-drop n done xs
-
--- at the end all is passed over
-pub passes_end : (a b : Option (List ℕ)) (done count : ℕ) → done ≤ count → Passes a b done → IsAtEnd b → Passes a b count
-passes_end None b done count le p w = tt
-passes_end (Some xs) None done count le p w = absurd p
-passes_end (Some xs) (Some ys) done count le p w =
-    w ∙ sym (drop_of_length-le xs {i = count} (omega (arith, short xs done (sym p ∙ w), le)))

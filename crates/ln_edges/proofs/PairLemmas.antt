@@ -70,20 +70,6 @@ before_more claim i j xs c b = record {
   rising = all_pairs_push Precedes xs (pair i j) b.rising (λ k d h. (b.each k d h).1);
 }
 
--- a pair of which the claim doesn't hold is passed over
-pub before_other : (claim : ℕ → ℕ → Type 0) (i j : ℕ) (xs : List Pair) → (claim i j → ⊥) → ArePairsBefore claim i j xs
-    → ArePairsBefore claim i (j + 1) xs
-before_other claim i j xs n b = record {
-  each = All-weaker (λ e. claim e.from e.to × Precedes e (pair i j))
-      (λ e. claim e.from e.to × Precedes e (pair i (j + 1)))
-      (λ e h. (h.0, later e i j h.1)) xs b.each;
-  all = λ k l h p. elim (upto k l i j p) [
-    | inl q ↦ b.all k l h q
-    | inr q ↦ absurd (n (subst (λ (e : Pair). claim e.from e.to) q h))
-  ];
-  rising = b.rising;
-}
-
 -- the pairs from place i have all been taken where the second place is past the end of each
 pub before_next : (claim : ℕ → ℕ → Type 0) (i n : ℕ) (xs : List Pair) → ((k l : ℕ) → claim k l → l < n)
     → ArePairsBefore claim i n xs → ArePairsBefore claim (i + 1) 0 xs
@@ -173,24 +159,11 @@ so_far_more claim line start i j old new c e s = record {
   is = e ∙ ap (λ (t : List ℕ). t ++ line (pair i j)) s.is ∙ flat_map_more line start s.pairs (pair i j);
 }
 
--- the step of the loop over second places where the pair is no edge: the text stays
-pub so_far_other : (claim : ℕ → ℕ → Type 0) (line : Pair → List ℕ) (start : List ℕ) (i j : ℕ) (old new : List ℕ)
-    → (claim i j → ⊥) → new ≡ old → SoFar claim line start i j old → SoFar claim line start i (j + 1) new
-so_far_other claim line start i j old new c e s = record {
-  pairs = s.pairs;
-  are = before_other claim i j s.pairs c s.are;
-  is = e ∙ s.is;
-}
-
 -- the end of the loop over second places: the next first place follows
 pub so_far_next : (claim : ℕ → ℕ → Type 0) (line : Pair → List ℕ) (start : List ℕ) (i n : ℕ) (text : List ℕ)
     → ((k l : ℕ) → claim k l → l < n) → SoFar claim line start i n text → SoFar claim line start (i + 1) 0 text
 so_far_next claim line start i n text f s = record
     { pairs = s.pairs; are = before_next claim i n s.pairs f s.are; is = s.is }
-
--- the beginning of the loop over first places: an empty text
-pub so_far_none : (claim : ℕ → ℕ → Type 0) (line : Pair → List ℕ) → SoFar claim line [] 0 0 []
-so_far_none claim line = record { pairs = []; are = before_none claim; is = refl }
 
 -- the end of the loop over first places: the text is the lines of all pairs
 pub so_far_all : (claim : ℕ → ℕ → Type 0) (line : Pair → List ℕ) (n : ℕ) (text : List ℕ)

@@ -173,13 +173,6 @@ pub point_refused : (cs : List CoordOf) (fields : List (List ℕ)) → numbers_i
 point_refused cs [] m = refl
 point_refused cs (f ∷ fs) m = rw m (pointed_none (number_in (pos 0) (pos (2 ^ 63 - 1)) f))
 
--- a record whose index isn't read is no point
-pub index_refused : (cs : List CoordOf) (fields : List (List ℕ)) (e : NumberStop)
-    → number_in (pos 0) (pos (2 ^ 63 - 1)) (get_or fields 0 []) ≡ Err e
-    → point_in cs fields ≡ None
-index_refused cs [] e n = refl
-index_refused cs (f ∷ fs) e n = rw n refl
-
 -- a field more than a point has is enough to know that it is none
 pub point_cut : (cs : List CoordOf) (fields : List (List ℕ))
     → point_in cs (take (length cs + 2) fields) ≡ point_in cs fields
@@ -271,16 +264,6 @@ pub stood_still : (cs : List CoordOf) (done : Records) (ps : List PointOf) (r : 
 stood_still cs done ps r None h s = absurd (h refl)
 stood_still cs done ps r (Some n) h (faulty m f) = stands_still cs done ps ps r n f
 
--- where no record was found that is no point, the records are the points that were read
-pub found_points : (cs : List CoordOf) (records : Records) (ps : List PointOf) → Stands cs records ps None
-    → ArePointsOf cs records ps
-found_points cs records ps (fine a) = a
-
--- the record that was found is the first that is no point
-pub found_fault : (cs : List CoordOf) (records : Records) (ps : List PointOf) (n : ℕ) → Stands cs records ps (Some n)
-    → IsPointFault cs records n
-found_fault cs records ps n (faulty m f) = f
-
 -- the first records have been read, and these remain
 pub record Reading (cs : List CoordOf) (all left : Records) (ps : List PointOf) (fault : Option ℕ) (number : ℕ) : Type 0
   where
@@ -300,25 +283,6 @@ pub record IsNowhere (ps : List Point) (i : ℕ) (z : ℤ) : Type 0 where
 pub nowhere_none : (ps : List Point) (z : ℤ) → IsNowhere ps 0 z
 nowhere_none ps z = record { within = omega arith; none = λ k h. absurd (omega (arith, h)) }
 
-same_point : (ps : List Point) (i : ℕ) (p : Point) → i < length ps → p ≡ get_or ps i p → p ≡ get_or ps i a_point
-same_point [] i p h e = absurd (omega (arith, h))
-same_point (q ∷ ps) zero p h e = e
-same_point (q ∷ ps) (suc i) p h e = same_point ps i p (omega (arith, h)) e
-
--- the step of the loop in `has_index`: one more point has another index
-pub nowhere_more : (ps : List Point) (i : ℕ) (z : ℤ) (p : Point) → i < length ps → p ≡ get_or ps i p → p.index ≢ z
-    → IsNowhere ps i z → IsNowhere ps (i + 1) z
-nowhere_more ps i z p h e n w = record {
-  within = omega (arith, h);
-  none = λ k l. elim (cases_lt k i) [
-    | inl q ↦ w.none k q
-    | inr q ↦
-        let same : i ≡ k = omega (arith, l, q) in
-        subst (λ (m : ℕ). (get_or ps m a_point).index ≢ z) same
-        (λ x. n (ap (λ (y : Point). y.index) (same_point ps i p h e) ∙ x))
-  ];
-}
-
 index_place : (ps : List Point) (k : ℕ) (z : ℤ) → k < length ps
     → get_or (map (λ p. p.index) ps) k z ≡ (get_or ps k a_point).index
 index_place [] k z h = absurd (omega (arith, h))
@@ -331,16 +295,6 @@ pub nowhere_all : (ps : List Point) (i : ℕ) (z : ℤ) → length ps ≤ i → 
 nowhere_all ps i z l w (k, h, e) =
     let inner : k < length ps = omega (arith, h, length-map ps (λ (p : Point). p.index)) in
     w.none k (omega (arith, inner, l)) (sym (index_place ps k z inner) ∙ e)
-
--- where a point has the index, it is among the indices of the points
-pub somewhere : (ps : List Point) (i : ℕ) (z : ℤ) (p : Point) → i < length ps → p ≡ get_or ps i p → p.index ≡ z
-    → Contains (map (λ p. p.index) ps) z
-somewhere ps i z p h e q = (
-  i,
-  omega (arith, h, length-map ps (λ (p : Point). p.index)),
-  index_place ps i z h
-      ∙ sym (ap (λ (y : Point). y.index) (same_point ps i p h e)) ∙ q,
-)
 
 -- the same indices by what the points stand for
 pub indices_of : (n : ℕ) (ps : List Point) → map (λ q. q.index) (map (point_of n) ps) ≡ map (λ p. p.index) ps
@@ -370,23 +324,6 @@ reading_more cs all old new ps qs r o p n e ne f w = record {
   few = omega (arith, ne, w.few);
   stands = f w.done (ap (λ (m : ℕ). m + 1) w.count) w.stands;
 }
-
--- there are more than 256
-pub reading_many : (cs : List CoordOf) (all old new : Records) (ps : List PointOf) (r : List (List ℕ)) (o : Option ℕ)
-    (n : ℕ) → old ≡ r ∷ new
-    → n ≡ 256 → Reading cs all old ps o n → 256 < length all
-reading_many cs all old new ps r o n e q w =
-    let size : length all ≡ length w.done + length old = ap length w.parts ∙ length-append w.done old in
-    let one : length old ≡ suc (length new) = ap length e in
-    omega (arith, size, one, q, w.count)
-
--- all were taken
-pub reading_few : (cs : List CoordOf) (all left : Records) (ps : List PointOf) (o : Option ℕ) (n : ℕ) → left ≡ []
-    → Reading cs all left ps o n → length all ≤ 256
-reading_few cs all left ps o n e w =
-    let size : length all ≡ length w.done + length left = ap length w.parts ∙ length-append w.done left in
-    let none : length left ≡ 0 = ap length e in
-    omega (arith, size, none, w.count, w.few)
 
 -- the end of the loop in `read_points`: what was found of the records read is found of all
 pub reading_all : (cs : List CoordOf) (all left : Records) (ps : List PointOf) (o : Option ℕ) (n : ℕ) → left ≡ []

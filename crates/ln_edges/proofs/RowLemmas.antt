@@ -118,12 +118,6 @@ three_size cs =
 pub three_width : (cs : List CoordOf) → width (three_of cs) ≡ length cs
 three_width cs = ap (λ (n : ℕ). n / 3) (three_size cs) ∙ mul-div_cancel_left (length cs) (omega arith)
 
-coords_size : (cs : List CoordOf) (zs : List ℤ) → AreCoords cs zs → length zs ≡ length cs
-coords_size [] [] h = refl
-coords_size [] (z ∷ zs) h = absurd h
-coords_size (c ∷ cs) [] h = absurd h
-coords_size (c ∷ cs) (z ∷ zs) h = ap suc (coords_size cs zs h.2)
-
 -- a site's variables and the coordinates of a point
 within_site : (k s c : ℕ) (cs : List CoordOf) (zs : List ℤ) → AreCoords cs zs → AreWithin (site_vars k s c cs) zs
 within_site k s c [] [] h = tt

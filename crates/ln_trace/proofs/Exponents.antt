@@ -1,8 +1,8 @@
 -- The exponents of a line, pair by pair.
-use Rattle.std.proofs.Common.{◌≡◌, ◌↔◌, ℕ, ◌+◌, ◌<◌, ◌≤◌, zero, suc, true, false, List, [], ◌∷◌, ◌++◌, length, take, drop, get_or, refl}
+use Rattle.std.proofs.Common.{◌≡◌, ◌↔◌, ℕ, ◌+◌, ◌<◌, zero, suc, true, List, [], ◌∷◌, ◌++◌, length, take, drop, get_or}
 use Rattle.std.proofs.Common.{sym, ◌∙◌, ap, arith, subst}
-use Rattle.std.specs.Prelude.{IsTrue, MatchOption, Option, Some, slice_get}
-use Rattle.std.proofs.lemmas.List.{take_all, take_more}
+use Rattle.std.specs.Prelude.{MatchOption, Option, Some, slice_get}
+use Rattle.std.proofs.lemmas.List.{take_more}
 use Rattle.ln_tree.specs.declared.shape.VarInfo.{VarInfo}
 use Rattle.ln_tree.specs.Exps.{AllAbove, IsAbove, IsRising, Pairs}
 use Rattle.ln_code.specs.Kept.{AreOfSites, is_of_site}
@@ -43,10 +43,6 @@ pub record Read (vars : List VarInfo) (a : Pairs) (i : ℕ) (out : Pairs) : Type
   pub rising : IsRising (take i a)
   pub sites : AreOfSites vars (take i a)
 
--- before the first pair nothing has been read
-pub read-first : (vars : List VarInfo) (a out : Pairs) → out ≡ [] → Read vars a 0 out
-read-first vars a out e = record { same = e; rising = tt; sites = tt }
-
 -- the step of the loop in `exps_of`: one pair more, which may follow
 pub read-more : (vars : List VarInfo) (a : Pairs) (i : ℕ) (out new : Pairs) (d : ℕ × ℕ) → Read vars a i out → i < length a
     → MayFollow vars out (get_or a i d) → new ≡ out ++ get_or a i d ∷ [] → Read vars a (i + 1) new
@@ -64,40 +60,10 @@ pub read-stops : (vars : List VarInfo) (a : Pairs) (i : ℕ) (out : Pairs) (d : 
     → (MayFollow vars out (get_or a i d) → ⊥) → IsRising a → AreOfSites vars a → ⊥
 read-stops vars a i out d h l n r s = n (subst (λ (z : Pairs). MayFollow vars z (get_or a i d)) (sym h.same) (follows-at vars a i d r s l))
 
--- at the end of the loop in `exps_of` all pairs have been read
-pub read-end : (vars : List VarInfo) (a : Pairs) (i : ℕ) (out : Pairs) → length a ≤ i → Read vars a i out → (out ≡ a) × IsRising a × AreOfSites vars a
-read-end vars a i out l h = let t : take i a ≡ a = take_all i a l in (h.same ∙ t, subst IsRising t h.rising, subst (AreOfSites vars) t h.sites)
-
 -- ---- variables below another
 -- whether those from place i on are decides
 abbrev pub BelowDecides : Pairs → ℕ → ℕ → Type 0
 BelowDecides a v i = IsAbove (drop i a) v ↔ IsAbove a v
-
-below-turn : (a : Pairs) (v i : ℕ) (d : ℕ × ℕ) → i < length a → IsAbove (drop i a) v ↔ ((get_or a i d).0 < v) × IsAbove (drop (suc i) a) v
-below-turn [] v i d l = absurd (omega (arith, l))
-below-turn (p ∷ a) v zero d l = (λ h. h, λ h. h)
-below-turn (p ∷ a) v (suc i) d l = below-turn a v i d (omega (arith, l))
-
--- where a variable isn't below v, not all are
-pub below-stop : (a : Pairs) (v i : ℕ) (d : ℕ × ℕ) → i < length a → BelowDecides a v i → v ≤ (get_or a i d).0 → IsTrue false ↔ IsAbove a v
-below-stop a v i d l t n = (λ e. cc, λ h. absurd (omega (arith, n, ((below-turn a v i d l).0 (t.1 h)).0)))
-
--- where it is, the variables that follow decide
-pub below-next : (a : Pairs) (v i : ℕ) (d : ℕ × ℕ) → i < length a → BelowDecides a v i → (get_or a i d).0 < v → BelowDecides a v (i + 1)
-below-next a v i d l t y =
-    let u = below-turn a v i d l in
-    let w : suc i ≡ i + 1 = omega arith in
-    subst (BelowDecides a v) w (λ h. t.0 (u.1 (y, h)), λ h. (u.0 (t.1 h)).1)
-
-below-past : (a : Pairs) (v i : ℕ) → length a ≤ i → IsAbove (drop i a) v
-below-past [] v zero l = tt
-below-past [] v (suc i) l = tt
-below-past (p ∷ a) v zero l = absurd (omega (arith, l))
-below-past (p ∷ a) v (suc i) l = below-past a v i (omega (arith, l))
-
--- at the end of the loop in `are_below` all are below v
-pub below-end : (a : Pairs) (v i : ℕ) → length a ≤ i → BelowDecides a v i → IsTrue true ↔ IsAbove a v
-below-end a v i l t = (λ e. t.0 (below-past a v i l), λ h. refl)
 
 -- ---- what was read
 -- what was read is a: its variables rise, and each is a coordinate of a site

@@ -45,7 +45,3 @@ left-behind st places segment j at h e l g =
     let c = segments-cons (segment_of st) places j h in
     let i : length segment ≡ length (segment_of st (take j places)) = ap length e in
     ap (drop at) c ∙ drop-past (segment_of st (take j places)) (segments_from (segment_of st) places (j + 1)) at (omega (arith, l, g, i))
-
--- past the last segment no number remains
-pub left-none : (st : Staged) (places : List ℕ) (j at : ℕ) → length places < j → at ≡ 0 → numbers_at st places j at ≡ []
-left-none st places j at h z = ap (drop at) (segments-end (segment_of st) places j h) ∙ (rw z refl)

@@ -27,23 +27,10 @@ behind-some n sites (Some c) a b zero r e h (p ∷ stood) l =
       same : (c b : Pairs) → Some c ≡ Some b → c ≡ b
       same c b e = cc
 
--- where none has stood, any vector is later
-pub behind-none : (n : ℕ) (sites : Sites) (o : Option Pairs) (a : Pairs) (zero : Bool) → o ≡ None → (stood : Stood)
-    → IsLastOf n o zero stood → IsTrue true ↔ LastIsEarlier sites stood (vector n a)
-behind-none n sites (Some c) a zero e stood l = cc
-behind-none n sites None a zero e [] l = (λ t. tt, λ t. refl)
-behind-none n sites None a zero e (p ∷ stood) l = absurd l
-
 zeros-of : (n : ℕ) (o : Option Pairs) (zero : Bool) (stood : Stood) → IsLastOf n o zero stood → zero ≡ true → AreZero stood
 zeros-of n o zero [] l e = tt
 zeros-of n None zero (p ∷ stood) l e = absurd l
 zeros-of n (Some c) zero (p ∷ stood) l e = (l.2.0 e, l.1)
-
-of-zeros : (n : ℕ) (o : Option Pairs) (zero : Bool) (stood : Stood) → IsLastOf n o zero stood → AreZero stood → zero ≡ true
-of-zeros n None zero [] l z = l
-of-zeros n (Some c) zero [] l z = absurd l
-of-zeros n None zero (p ∷ stood) l z = absurd l
-of-zeros n (Some c) zero (p ∷ stood) l z = l.2.1 z.0
 
 never : {A : Type 0} → (A → ⊥) → IsTrue false ↔ A
 never h = (λ t. cc, λ x. absurd (h x))
@@ -53,19 +40,6 @@ always x = (λ t. x, λ y. refl)
 
 module _ (n : ℕ) (sites : Sites) (o : Option Pairs) (zero : Bool) (a : List ℕ) (e : Tree) (stood : Stood) (differ : IndicesDiffer sites)
     (last : IsLastOf n o zero stood) where
-  -- a value that isn't 0 stood
-  pub not-zero : zero ≡ false → IsTrue false ↔ MayStand n sites e stood a
-  not-zero z = never (λ m. true-false zero (of-zeros n o zero stood last m.zeros) z)
-
-  -- it isn't later than the last
-  pub not-later : (r : Bool) → r ≡ false → (IsTrue r ↔ LastIsEarlier sites stood a) → IsTrue false ↔ MayStand n sites e stood a
-  not-later r f h = never (λ m. true-false r (h.1 m.later) f)
-
-  -- the first remaining one is earlier
-  pub one-missing : (left : List (List ℕ)) (b : List ℕ) (rest : List (List ℕ)) → left ≡ b ∷ rest → Earlier sites b a
-      → IsLeft n sites e stood left → IsTrue false ↔ MayStand n sites e stood a
-  one-missing left b rest q y h = never (λ m. (subst (λ l. NoneIsEarlier sites l a) q ((first-left n sites e differ stood left a h).1 m.members)) y)
-
   -- it isn't, or none remains
   pub may : (left : List (List ℕ)) → zero ≡ true → (r : Bool) → r ≡ true → (IsTrue r ↔ LastIsEarlier sites stood a)
       → NoneIsEarlier sites left a → IsLeft n sites e stood left → IsTrue true ↔ MayStand n sites e stood a
@@ -76,10 +50,6 @@ module _ (n : ℕ) (sites : Sites) (o : Option Pairs) (zero : Bool) (a : List �
 pub none-earlier : (sites : Sites) (left : List (List ℕ)) (a b : List ℕ) (rest : List (List ℕ)) → left ≡ b ∷ rest → (Earlier sites b a → ⊥)
     → NoneIsEarlier sites left a
 none-earlier sites left a b rest q h = subst (λ l. NoneIsEarlier sites l a) (sym q) h
-
--- and where none remains, none is
-pub none-left-earlier : (sites : Sites) (left : List (List ℕ)) (a : List ℕ) → left ≡ [] → NoneIsEarlier sites left a
-none-left-earlier sites left a q = subst (λ l. NoneIsEarlier sites l a) (sym q) tt
 
 -- ---- the rest after it
 module _ (n : ℕ) (sites : Sites) (a : List ℕ) (e : Tree) (stood : Stood) (z : ℤ) (differ : IndicesDiffer sites) (over : IsOver n sites a)
@@ -105,8 +75,3 @@ module _ (n : ℕ) (sites : Sites) (a : List ℕ) (e : Tree) (stood : Stood) (z 
     out : In (b ∷ rest) a → ⊥
     out (inl y) = s (sym y)
     out (inr y) = at-first (sorted.in_order.0 a y)
-
-  -- where no stage remained, none remains once one more vector stood
-  pub was-none : (left : List (List ℕ)) → left ≡ [] → IsLeft n sites e stood left → IsLeft n sites e ((a, z) ∷ stood) left
-  was-none left q h =
-      other-stands n sites e differ stood left a z over h ((first-left n sites e differ stood left a h).1 m.members) (λ i. subst (λ l. In l a) q i)

@@ -111,9 +111,6 @@ module _ (n : ℕ) (sites : Sites) (x : ℕ → ℤ) (e : Tree) where
     passes : (z t : ℤ) → z ≡ pos 0 → or_else (sign_of z) t ≡ t
     passes z t h = ap (λ y. or_else (sign_of y) t) h
 
-    none-in : (a : List ℕ) → In [] a → ⊥
-    none-in a i = i
-
     told-along : (stood : Stood) (rest : List (List ℕ)) → Midway stood rest → (stood ≡ [] → rest ≢ []) → Ends stood rest
     told-along [] [] m some = absurd (some refl refl)
     told-along (p ∷ stood) [] m some = (p ∷ stood, refl, (sym (ap sign_of m.zeros.0), λ z b s. elim (m.all b s) [ inl i ↦ i | inr i ↦ absurd i ]))

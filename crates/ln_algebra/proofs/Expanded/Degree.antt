@@ -43,12 +43,6 @@ is_zero-degree [] h = absurd (omega arith)
 is_zero-degree (zero ∷ a) h = is_zero-degree a (omega arith)
 is_zero-degree (suc n ∷ a) h = refl
 
--- the vector of zeros has degree 0
-degree-is_zero : (a : List ℕ) → is_zero a ≡ true → total_degree a ≡ 0
-degree-is_zero [] h = refl
-degree-is_zero (zero ∷ a) h = omega (arith, degree-is_zero a h)
-degree-is_zero (suc n ∷ a) h = cc
-
 -- a vector of degree above 1 is no unit vector
 is_unit-degree : (v : ℕ) (a : List ℕ) → 1 < total_degree a → is_unit v a ≡ false
 is_unit-degree v [] h = absurd (omega arith)
@@ -75,10 +69,6 @@ product-above d e f g h k a l =
       by_case : (b c : List ℕ) → (d < total_degree b) ⊎ (total_degree b ≤ d) → total_degree a ≡ total_degree b + total_degree c → f b *ℤ g c ≡ pos 0
       by_case b c (inl u) q = ap (λ z. z *ℤ g c) (h b u) ∙ (let z : pos 0 *ℤ g c ≡ pos 0 = omega (arith, ints) in z)
       by_case b c (inr u) q = ap (λ z. f b *ℤ z) (k c (omega arith)) ∙ (let z : f b *ℤ pos 0 ≡ pos 0 = omega (arith, ints) in z)
-
--- what is 0 above d is 0 above more
-Above-more : (d e : ℕ) (f : Series) → d ≤ e → Above d f → Above e f
-Above-more d e f l h a m = h a (omega arith)
 
 -- the degree of a power is at most n times the degree
 power-above : (d : ℕ) (f : Series) → Above d f → (n : ℕ) → Above (n * d) (power f n)

@@ -101,11 +101,6 @@ abbrev product_of : List Series → Series
 product_of [] = constant (pos 1)
 product_of (f ∷ fs) = product f (product_of fs)
 
--- products with equal series are equal
-product-right : (f g h : Series) → ((a : List ℕ) → g a ≡ h a) → (a : List ℕ) → product f g a ≡ product f h a
-product-right f g h e a =
-    product_is f g a ∙ sum_splits-same a (λ b c. f b *ℤ g c) (λ b c. f b *ℤ h c) (λ b c. ap (λ z. f b *ℤ z) (e c)) ∙ sym (product_is f h a)
-
 -- the product of a list of series is the sum over all ways
 product_of-ways : (fs : List Series) (a : List ℕ) → product_of fs a ≡ sum_over (product_at fs) (ways (length fs) a)
 product_of-ways [] a = by_case (is_zero a) where

@@ -1,6 +1,6 @@
-use Rattle.std.proofs.Common.{◌≡◌, ℕ, zero, suc, refl, sym, ◌∙◌, ap, arith, List, [], ◌∷◌, ◌++◌, map}
+use Rattle.std.proofs.Common.{◌≡◌, ℕ, zero, suc, refl, ◌∙◌, ap, arith, List, [], ◌∷◌, ◌++◌, map}
 use Rattle.std.proofs.lemmas.Int.{ints}
-use Rattle.std.proofs.Math.IntN.{ℤ, pos, ◌+ℤ◌, ◌*ℤ◌, neg_ℤ}
+use Rattle.std.proofs.Math.IntN.{ℤ, pos, ◌+ℤ◌, ◌*ℤ◌}
 use Rattle.ln_algebra.proofs.Expanded.Ring.{mul_add}
 use Rattle.ln_algebra.specs.Vector.{sum_over, parts, splits, joined}
 
@@ -19,16 +19,6 @@ pub sum_over-same : {A : Type 0} (f g : A → ℤ) (xs : List A) → ((x : A) �
 sum_over-same f g [] h = refl
 sum_over-same f g (x ∷ xs) h = omega (arith, ints, h x, sum_over-same f g xs h)
 
--- the sum of sums
-pub sum_over-add : {A : Type 0} (f g : A → ℤ) (xs : List A) → sum_over (λ x. f x +ℤ g x) xs ≡ sum_over f xs +ℤ sum_over g xs
-sum_over-add f g [] = refl
-sum_over-add f g (x ∷ xs) = omega (arith, ints, sum_over-add f g xs)
-
--- the sum of the other sign
-pub sum_over-neg : {A : Type 0} (f : A → ℤ) (xs : List A) → sum_over (λ x. neg_ℤ (f x)) xs ≡ neg_ℤ (sum_over f xs)
-sum_over-neg f [] = refl
-sum_over-neg f (x ∷ xs) = omega (arith, ints, sum_over-neg f xs)
-
 -- a common factor moves out
 pub sum_over-scale : {A : Type 0} (c : ℤ) (f : A → ℤ) (xs : List A) → sum_over (λ x. c *ℤ f x) xs ≡ c *ℤ sum_over f xs
 sum_over-scale c f [] = omega (arith, ints)
@@ -38,12 +28,6 @@ sum_over-scale c f (x ∷ xs) = omega (arith, ints, sum_over-scale c f xs, mul_a
 pub sum_over-zero : {A : Type 0} (xs : List A) → sum_over (λ x. pos 0) xs ≡ pos 0
 sum_over-zero [] = refl
 sum_over-zero (x ∷ xs) = omega (arith, ints, sum_over-zero xs)
-
--- two sums change places
-pub sum_over-swap : {A B : Type 0} (f : A → B → ℤ) (xs : List A) (ys : List B)
-    → sum_over (λ x. sum_over (f x) ys) xs ≡ sum_over (λ y. sum_over (λ x. f x y) xs) ys
-sum_over-swap f [] ys = sym (sum_over-zero ys)
-sum_over-swap f (x ∷ xs) ys = ap (λ t. sum_over (f x) ys +ℤ t) (sum_over-swap f xs ys) ∙ sym (sum_over-add (f x) (λ y. sum_over (λ x. f x y) xs) ys)
 
 -- ---- the sum over the splits, variable by variable
 -- the sum over the parts of n, by recursion

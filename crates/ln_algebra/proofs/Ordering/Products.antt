@@ -109,12 +109,6 @@ sign-times (negsuc m) (pos zero) = ap sign_of (right-zero (negsuc m) (pos 0) ref
 sign-times (negsuc m) (pos (suc n)) = sign-negative (suc m * suc n) (mul-pos (omega arith) (omega arith))
 sign-times (negsuc m) (negsuc n) = sign-positive (suc m * suc n) (mul-pos (omega arith) (omega arith))
 
--- a number is 0 exactly where its sign is
-sign-zero : (z : ℤ) → sign_of z ≡ pos 0 → z ≡ pos 0
-sign-zero (pos zero) e = refl
-sign-zero (pos (suc n)) e = cc
-sign-zero (negsuc n) e = cc
-
 -- a product is 0 only where a factor is
 pub times-zero : (y z : ℤ) → y *ℤ z ≡ pos 0 → (y ≡ pos 0) ⊎ (z ≡ pos 0)
 times-zero (pos zero) z e = inl refl

@@ -51,13 +51,6 @@ pub left_no_wider : (u w : Width) → no_wider u (wider u w) ≡ true
 left_no_wider W64 w = refl
 left_no_wider W128 w = refl
 
--- a width is no wider than the wider of another and it
-pub right_no_wider : (u w : Width) → no_wider w (wider u w) ≡ true
-right_no_wider W64 W64 = refl
-right_no_wider W64 W128 = refl
-right_no_wider W128 W64 = refl
-right_no_wider W128 W128 = refl
-
 -- the first of three widths is no wider than the widest of them
 pub first_no_wider : (u v w : Width) → no_wider u (wider (wider u v) w) ≡ true
 first_no_wider W64 v w = refl
@@ -68,10 +61,3 @@ pub second_no_wider : (u v w : Width) → no_wider v (wider (wider u v) w) ≡ t
 second_no_wider W64 v w = left_no_wider v w
 second_no_wider W128 W64 w = refl
 second_no_wider W128 W128 w = refl
-
--- what fits a width fits one that is no narrower
-pub limit_grows : (u w : Width) → no_wider u w ≡ true → limit u ≤ limit w
-limit_grows W64 W64 h = omega arith
-limit_grows W64 W128 h = omega arith
-limit_grows W128 W64 h = cc
-limit_grows W128 W128 h = omega arith

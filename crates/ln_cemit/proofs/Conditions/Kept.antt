@@ -21,7 +21,7 @@ use Rattle.ln_csyn.specs.Tree.{Body, End, Fun}
 use Rattle.ln_csyn.specs.Words.{among, is_c_name, most_number}
 use Rattle.ln_csyn.specs.Keeps.{braces_in, each_fun, each_name, differ_within, direct, distinct, fun_keeps, is_own, names_of, parens_in, each_expr, divides}
 use Rattle.ln_csyn.specs.Text.{fun_words, has_words, is_file}
-use Rattle.ln_csyn.specs.Spelling.{flat, flat_file, flat_fun}
+use Rattle.ln_csyn.specs.Spelling.{flat}
 use Rattle.ln_cemit.specs.declared.slot.Way.{Way}
 use Rattle.ln_cemit.specs.Chosen.{AreNumbers}
 use Rattle.ln_cemit.specs.Conditions.{Stands}
@@ -129,14 +129,6 @@ each_one : (q : Fun → Bool) (name : ℕ → List ℕ) (i : ℕ) (bodies : List
 each_one q name i [] rest h r = r
 each_one q name i (b ∷ bs) rest h r =
     rw (h i 0 (omega arith) (omega arith), each_one q name (suc i) bs rest (λ j n e l. h j (suc n) (omega (arith, e)) (omega (arith, l))) r) refl
-
-flat_one : (name : ℕ → List ℕ) (i : ℕ) (bodies : List Body) (rest : List Fun)
-    → ((j n : ℕ) → j ≡ i + n → n < length bodies → flat_fun (one_fun (name j) (get_or bodies n End)) ≡ one_fun (name j) (get_or bodies n End))
-    → flat_file rest ≡ rest → flat_file (one_funs name i bodies ++ rest) ≡ one_funs name i bodies ++ rest
-flat_one name i [] rest h r = r
-flat_one name i (b ∷ bs) rest h r =
-    ap (λ (f : Fun). f ∷ flat_file (one_funs name (suc i) bs ++ rest)) (h i 0 (omega arith) (omega arith))
-    ∙ ap (λ (fs : List Fun). one_fun (name i) b ∷ fs) (flat_one name (suc i) bs rest (λ j n e l. h j (suc n) (omega (arith, e)) (omega (arith, l))) r)
 
 -- ---- the numbers of functions
 to_numbers : (m : ℕ) (bs : List ℕ) → All (λ n. n < m) bs → AreNumbers m bs

@@ -1,12 +1,12 @@
 -- What an operation finds on the stack of the processor, and what it leaves there.
-use Rattle.std.proofs.Common.{◌≡◌, ℕ, ℤ, ◌-◌, ◌≤◌, ◌<◌, Bool, true, false, List, [], ◌∷◌, length, refl, zero, suc, ap, arith, pos, neg_ℤ, ◌∙◌, sym}
+use Rattle.std.proofs.Common.{◌≡◌, ℕ, ℤ, ◌-◌, ◌≤◌, ◌<◌, Bool, true, false, List, [], ◌∷◌, length, refl, zero, suc, ap, arith, pos, ◌∙◌, sym}
 use Rattle.std.specs.Prelude.{slice_index_or, slice_get, Option, Some, None, is_some, IsSome, ◌==◌, if◌then◌else◌}
 use Rattle.std.proofs.lemmas.Bool.{leb-true, le-leb, and_parts}
 use Rattle.ln_bound.specs.declared.fitted.Width.{Width}
 use Rattle.ln_bound.specs.declared.fitted.Two.{Two}
 use Rattle.ln_bound.specs.declared.fitted.Two.TheVariants.{Plus, Minus, Times}
 use Rattle.ln_code.specs.declared.op.Op.{Op}
-use Rattle.ln_code.specs.declared.op.Op.TheVariants.{Push, Input, Get, Set, Add, Sub, Mul, Neg, Cut}
+use Rattle.ln_code.specs.declared.op.Op.TheVariants.{Push, Input, Get, Set, Add, Sub, Mul, Cut}
 use Rattle.ln_code.specs.Engine.{when, next, pushed, with_one, with_two, stored}
 use Rattle.ln_code.specs.Numbers.{fits, result_of, cut_by}
 use Rattle.ln_code.specs.Bare.{bare}
@@ -108,14 +108,6 @@ leads_push values buf locals top op k c e h =
     let g : is_some (next (Some (cut_by k c)) (pushed (bare values (length buf)) (at locals) (seen buf top))) ≡ true = rw e at h in
     pushed_room values (length buf) (at locals) (Some (cut_by k c)) buf top g
 
--- and leaves the number, divided by 2^k, on top
-pub push_leads : (values buf locals : List ℤ) (top : ℕ) (op : Op) (k : ℕ) (c : ℤ) (s : List ℤ) → op ≡ Push c →
-    IsSome (leads op k values buf top locals) → s ≡ cut_by k c ∷ seen buf top →
-    leads op k values buf top locals ≡ Some (record { stack = s; locals = at locals })
-push_leads values buf locals top op k c s e h q =
-    let r = leads_push values buf locals top op k c e h in
-    rw (e, q) (pushed_is values (length buf) (at locals) (cut_by k c) buf top r)
-
 got_there : (zs : List ℤ) (v : ℕ) → is_some (slice_get zs v) ≡ true → v < length zs
 got_there [] v h = cc
 got_there (z ∷ zs) zero h = omega arith
@@ -153,14 +145,6 @@ leads_get values buf locals top op k j e h =
     let g : is_some (next (Some (at locals j)) (pushed (bare values (length buf)) (at locals) (seen buf top))) ≡ true = rw e at h in
     pushed_room values (length buf) (at locals) (Some (at locals j)) buf top g
 
--- and leaves the local's value on top
-pub get_leads : (values buf locals : List ℤ) (top : ℕ) (op : Op) (k j : ℕ) (s : List ℤ) → op ≡ Get j →
-    IsSome (leads op k values buf top locals) → s ≡ at locals j ∷ seen buf top →
-    leads op k values buf top locals ≡ Some (record { stack = s; locals = at locals })
-get_leads values buf locals top op k j s e h q =
-    let r = leads_get values buf locals top op k j e h in
-    rw (e, q) (pushed_is values (length buf) (at locals) (at locals j) buf top r)
-
 -- the operation on two operands
 abbrev pub op_of : Two → Width → Op
 op_of Plus w = Add w
@@ -189,21 +173,6 @@ pub two_leads : (values buf locals : List ℤ) (top : ℕ) (op : Op) (k : ℕ) (
 two_leads values buf locals top op k t w s e r h q =
     let g = leads_two values buf locals top op k t w e r h in
     rw (e, leads_with values buf locals top t w k, q) (two_is values (at locals) t w k buf top g)
-
--- a negation finds a value that fits its width
-pub leads_neg : (values buf locals : List ℤ) (top : ℕ) (op : Op) (k : ℕ) (w : Width) → op ≡ Neg w → IsSome (leads op k values buf top locals)
-    → OneReady (fits w) buf top
-leads_neg values buf locals top op k w e h =
-    let g : IsSome (leads (Neg w) k values buf top locals) = rw e at h in
-    one_ready values (at locals) (fits w) neg_ℤ buf top g
-
--- and leaves the negated value in its place
-pub neg_leads : (values buf locals : List ℤ) (top : ℕ) (op : Op) (k : ℕ) (w : Width) (s : List ℤ) → op ≡ Neg w → top ≤ length buf →
-    IsSome (leads op k values buf top locals) → s ≡ neg_ℤ (at buf (top - 1)) ∷ seen buf (top - 1) →
-    leads op k values buf top locals ≡ Some (record { stack = s; locals = at locals })
-neg_leads values buf locals top op k w s e r h q =
-    let g = leads_neg values buf locals top op k w e h in
-    rw (e, q) (one_is values (at locals) (fits w) neg_ℤ buf top r g)
 
 -- any value may be divided
 abbrev pub any : ℤ → Bool

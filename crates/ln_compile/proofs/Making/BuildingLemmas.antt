@@ -2,7 +2,7 @@
 use Rattle.std.proofs.Common.{◌≡◌, ℕ, ◌+◌, ◌<◌, ◌≤◌, zero, suc, true, false, List, [], ◌∷◌, ◌++◌, length, map, take, drop, get_or, refl, ap}
 use Rattle.std.proofs.Common.{sym, subst, ◌∙◌, arith, Some}
 use Rattle.std.specs.Prelude.{◌≢◌, All, AllPairs, bytes_eq, slice_get}
-use Rattle.std.proofs.lemmas.List.{drop_more, length-map, map-append, take-append-drop, take_all, take_more}
+use Rattle.std.proofs.lemmas.List.{drop_more, length-map, map-append, take-append-drop, take_more}
 use Rattle.std.proofs.lemmas.List.Elements.{All-cons, All-nil}
 use Rattle.std.proofs.lemmas.List.Kept.{AllPairs-cons}
 use Rattle.ln_tree.specs.declared.name.Name.{Name}
@@ -49,11 +49,6 @@ compiled-more preds i p cs ds c h e q o b =
     let f : map pred_of (take i preds) ++ pred_of p ∷ [] ≡ map pred_of (take (i + 1) preds) = sym (front-more preds i p h e) in
     subst (λ (ps : List PredOf). AreProgramsOf ps ds) f (rw q (programs-more (map pred_of (take i preds)) cs (pred_of p) c b o))
 
--- the end of the loop in `programs`: there is a program for each predicate
-pub compiled-end : (preds : List Pred) (i : ℕ) (cs : List Part) → length preds ≤ i → AreProgramsOf (map pred_of (take i preds)) cs
-    → AreProgramsOf (map pred_of preds) cs
-compiled-end preds i cs h b = subst (λ (ps : List Pred). AreProgramsOf (map pred_of ps) cs) (take_all i preds h) b
-
 -- the step of the loop in `counts`: the next predicate has no fault, and its stage count is appended
 pub counted-more : (preds : List Pred) (i : ℕ) (p : Pred) (ns ms : List ℕ) (n : ℕ) → i < length preds → p ≡ get_or preds i p → ms ≡ ns ++ n ∷ []
     → IsSound (pred_of p) → IsStageCount (pred_of p) n → AreCounted (map pred_of (take i preds)) ns → AreCounted (map pred_of (take (i + 1) preds)) ms
@@ -63,10 +58,6 @@ counted-more preds i p ns ms n h e r s k b =
       sound = judged_more preds i p h e b.sound s;
       counts = subst (λ (ps : List PredOf). AreStageCounts ps ms) f (rw r (counts-more (map pred_of (take i preds)) ns (pred_of p) n b.counts k));
     }
-
--- the end of the loop in `counts`: no predicate has a fault, and there is a stage count for each
-pub counted-end : (preds : List Pred) (i : ℕ) (ns : List ℕ) → length preds ≤ i → AreCounted (map pred_of (take i preds)) ns → AreCounted (map pred_of preds) ns
-counted-end preds i ns h b = subst (λ (ps : List Pred). AreCounted (map pred_of ps) ns) (take_all i preds h) b
 
 -- each of several predicates without a fault has none
 pub sound-at : (preds : List Pred) (i : ℕ) (p : Pred) → i < length preds → p ≡ get_or preds i p → AreSound (map pred_of preds) → IsSound (pred_of p)

@@ -76,10 +76,6 @@ pub record Scanned (bytes : List ℕ) (ts : List CodeToken) (at line : ℕ) : Ty
   pub on : (vs : List Token) → Lexed line (drop at bytes) vs → Lexed 2 bytes (tokens_of ts ++ vs)
   pub back : (us : List Token) → Lexed 2 bytes us → (vs : List Token) × (us ≡ tokens_of ts ++ vs) × Lexed line (drop at bytes) vs
 
--- at the start
-pub scan_begins : (bytes : List ℕ) → Scanned bytes [] 0 2
-scan_begins bytes = record { within = omega arith; lines = omega arith; on = λ vs d. d; back = λ us d. (us, refl, d) }
-
 -- at the end
 pub scan_ends : (bytes : List ℕ) (ts : List CodeToken) (at line : ℕ) → Scanned bytes ts at line → at ≡ length bytes → Lexed 2 bytes (tokens_of ts)
 scan_ends bytes ts at line s e =

@@ -70,12 +70,6 @@ first_none bytes f e n r h = n (e ∙ ap (λ (z : List ℕ). take 20 z) h)
 pub no_first : (bytes : List ℕ) → ((r : List ℕ) → bytes ≡ first_line ++ r → ⊥) → (gs : List Fun) → CText bytes gs → ⊥
 no_first bytes n gs c = n c.rest c.first
 
--- where there are no tokens
-pub no_tokens : (bytes rest : List ℕ) → bytes ≡ first_line ++ rest → ((us : List Token) → Lexed 2 rest us → ⊥) → (gs : List Fun) → CText bytes gs → ⊥
-no_tokens bytes rest e n gs c =
-    let r = behind_first c.rest rest (sym c.first ∙ e) in
-    n c.tokens (subst (λ (z : List ℕ). Lexed 2 z c.tokens) r c.lexed)
-
 -- where the tokens are no file
 pub no_file : (bytes rest : List ℕ) (ts : List Token) → bytes ≡ first_line ++ rest → Lexed 2 rest ts → ((gs : List Fun) → Spelt ts gs → ⊥)
     → (gs : List Fun) → CText bytes gs → ⊥

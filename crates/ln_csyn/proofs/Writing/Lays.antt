@@ -57,10 +57,6 @@ lays_then {a} {fs = fs} {gs = gs} p q = record { is = λ r. q.is r ∙ p.is (lai
 pub record LaysRest (old now : List ℕ) (fs all : List Fun) : Type 0 where
   pub is : (r : List ℕ) → now ++ laid_funs fs r ≡ old ++ laid_funs all r
 
--- none is written yet
-pub none_laid : (old : List ℕ) (fs : List Fun) → LaysRest old old fs fs
-none_laid old fs = record { is = λ r. refl }
-
 -- one function more
 pub one_laid : {old now new : List ℕ} {f : Fun} {fs all : List Fun} → LaysRest old now (f ∷ fs) all → Lays now new (f ∷ []) → LaysRest old new fs all
 one_laid {fs = fs} h p = record { is = λ r. p.is (laid_funs fs r) ∙ h.is r }

@@ -2,10 +2,9 @@
 use Rattle.std.proofs.Common.{◌≡◌, ℕ, zero, suc, ◌+◌, ◌<◌, length, drop, get_or, arith, List, [], ◌∷◌, ◌++◌, append_assoc, refl, ap, ◌∙◌}
 use Rattle.std.specs.Prelude.{codes, Result, IfOk}
 use Rattle.std.proofs.lemmas.Result.{IfOk-weaker}
-use Rattle.ln_csyn.specs.declared.tree.CType.{CType}
-use Rattle.ln_csyn.specs.Tree.{Expr, Body, Decl, Group, If, Return}
+use Rattle.ln_csyn.specs.Tree.{Body, Group}
 use Rattle.ln_csyn.specs.Grammar.{Token}
-use Rattle.ln_csyn.specs.Spelling.{lexeme, type_text, spell, spell_body, written, Puts, Goes}
+use Rattle.ln_csyn.specs.Spelling.{lexeme, spell_body, written, Puts, Goes}
 
 -- a token and a blank
 pub puts_one : (old mid new text : List ℕ) → mid ≡ old ++ text → new ≡ mid ++ 32 ∷ [] → Puts old new (λ r. lexeme text ∷ r)
@@ -14,10 +13,6 @@ puts_one old mid new text e f = record {
       ap (λ (z : List ℕ). z ++ written r) (f ∙ ap (λ (z : List ℕ). z ++ 32 ∷ []) e)
       ∙ append_assoc (old ++ text) (32 ∷ []) (written r) ∙ append_assoc old text (32 ∷ written r);
 }
-
--- nothing
-pub puts_none : (old : List ℕ) → Puts old old (λ r. r)
-puts_none old = record { is = λ r. refl }
 
 -- one after the other
 pub puts_then : {a b c : List ℕ} {f g : List Token → List Token} → Puts a b f → Puts b c g → Puts a c (λ r. f (g r))
@@ -29,39 +24,14 @@ pub puts_last : {X Y : Type 0} {a b : List ℕ} {f : List Token → List Token} 
 puts_last {a = a} {b = b} {f = f} r c g p h =
     IfOk-weaker r (λ _. Puts b c g) (λ _. Puts a c (λ t. f (g t))) (λ _ q. puts_then p q) h
 
--- nothing was appended
-pub goes_same : (old : List ℕ) (f : List Token → List Token) → Goes old old f f
-goes_same old f = record { is = λ r. refl }
-
 -- one after the other
 pub goes_then : {a b c : List ℕ} {f g h : List Token → List Token} → Goes a b g h → Goes b c f g → Goes a c f h
 goes_then p q = record { is = λ r. q.is r ∙ p.is r }
-
--- at the end all is appended
-pub goes_end : {a b : List ℕ} {f : List Token → List Token} → Goes a b (λ r. r) f → Puts a b f
-goes_end p = record { is = p.is }
-
--- a declaration
-pub goes_decl : {a b : List ℕ} (l : ℕ) (t : CType) (x : List ℕ) (e : Expr)
-    → Puts a b (λ r. lexeme (type_text t) ∷ lexeme x ∷ lexeme (codes "=") ∷ spell e (lexeme (codes ";") ∷ r)) → (c : Body)
-    → Goes a b (spell_body c) (spell_body (Decl l t x e c))
-goes_decl l t x e p c = record { is = λ r. p.is (spell_body c r) }
 
 -- statements in braces
 pub goes_group : {a b : List ℕ} (l : ℕ) (d : Body) → Puts a b (λ r. lexeme (codes "{") ∷ spell_body d (lexeme (codes "}") ∷ r)) → (c : Body)
     → Goes a b (spell_body c) (spell_body (Group l d c))
 goes_group l d p c = record { is = λ r. p.is (spell_body c r) }
-
--- an if
-pub goes_if : {a b : List ℕ} (l : ℕ) (e : Expr) (d : Body)
-    → Puts a b (λ r. lexeme (codes "if") ∷ lexeme (codes "(") ∷ spell e (lexeme (codes ")") ∷ lexeme (codes "{") ∷ spell_body d (lexeme (codes "}") ∷ r)))
-    → (c : Body) → Goes a b (spell_body c) (spell_body (If l e d c))
-goes_if l e d p c = record { is = λ r. p.is (spell_body c r) }
-
--- a return
-pub goes_return : {a b : List ℕ} (l : ℕ) (e : Expr) → Puts a b (λ r. lexeme (codes "return") ∷ spell e (lexeme (codes ";") ∷ r))
-    → (c : Body) → Goes a b (spell_body c) (spell_body (Return l e c))
-goes_return l e p c = record { is = λ r. p.is (spell_body c r) }
 
 drop_suc : {X : Type 0} (xs : List X) (i : ℕ) (d : X) → i < length xs → drop i xs ≡ get_or xs i d ∷ drop (suc i) xs
 drop_suc [] i d l = absurd (omega arith)

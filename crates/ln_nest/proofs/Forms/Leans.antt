@@ -187,8 +187,6 @@ length_times_one : (t : Term) (g : List Term) → length (times (t ∷ []) g) �
 length_times_one t g = let a = length_times_term t g in let b = length-append (times_term t g) [] in omega (arith, a, b)
 
 -- ---- the nodes
-lean_more : (n count : ℕ) (low top : ℕ → ℕ) → ((v : ℕ) → low v ≤ top v) → (e : Tree) → IsLean n count low e → IsLean n count top e
-lean_more n count low top l e s = record { terms = s.terms; normal = s.normal; few = s.few; under = under_more low top l s.terms s.under }
 
 -- a node whose expansion has few terms, with small exponents
 lean_here : (n count : ℕ) (top : ℕ → ℕ) (e : Tree) → InputsBelow n e → length (expanded n e) ≤ count → AreUnder top (expanded n e) → IsLean n count top e

@@ -260,13 +260,6 @@ pub at_count : (vars : List VarInfo) (inner : List Term → Tree) (v b c n : ℕ
     → Has vars t (step inner v b f) n → Has vars t (horner inner v c f) n
 at_count vars inner v b c n f t e h = rw e h
 
--- the variables from v on are powers of v with those after v
-pub from_powers : (d n v : ℕ) (f : List Term) → v < n → nested d (n - v) v f ≡ horner (nested d (n - (v + 1)) (v + 1)) v d f
-from_powers d n v f h = by_eq (n - v) (n - (v + 1)) (v + 1) (omega arith) (omega arith)
-  where
-    by_eq : (m k u : ℕ) → m ≡ suc k → u ≡ suc v → nested d m v f ≡ horner (nested d k u) v d f
-    by_eq m k u p q = rw (p, q) refl
-
 -- the absolute factors together are at most the weighted sum
 pub few_weight : (w : ℕ → ℕ) → ((v : ℕ) → 1 ≤ w v) → (f : List Term) → abs_total f ≤ weighted_sum w f
 few_weight w o [] = omega arith

@@ -22,37 +22,11 @@ use Rattle.ln_order.proofs.Signs.SitesLemmas.{each-there}
 abbrev pub LeastTo : List ℤ → List ℕ → ℕ → ℕ → ℕ → Type 0
 LeastTo indices places j m n = (k : ℕ) → j ≤ k → k < n → index_at indices (get_or places m 0) ≤ℤ index_at indices (get_or places k 0)
 
-not-less : (x y : ℤ) → (x <ℤ y → ⊥) → y ≤ℤ x
-not-less x y h = grind (arith, ints)
-
-less-over : (x y z : ℤ) → x <ℤ y → y ≤ℤ z → x ≤ℤ z
-less-over x y z h l = grind (arith, ints)
-
 never : (x y : ℤ) → x ≤ℤ y → y <ℤ x → ⊥
 never x y h l = grind (arith, ints)
 
 self : (x : ℤ) → x ≤ℤ x
 self x = grind (arith, ints)
-
--- the start of the loop in `least_from`: of itself alone, place j is the least
-pub least_first : (indices : List ℤ) (places : List ℕ) (j n : ℕ) → n ≡ j + 1 → LeastTo indices places j j n
-least_first indices places j n e k l m = let q : k ≡ j = omega (arith, l, m, e) in rw q (self (index_at indices (get_or places j 0)))
-
--- the next is smaller
-pub least_next : (indices : List ℤ) (places : List ℕ) (j m n : ℕ) → LeastTo indices places j m n
-    → index_at indices (get_or places n 0) <ℤ index_at indices (get_or places m 0) → LeastTo indices places j n (n + 1)
-least_next indices places j m n h l k f w = go (cases_lt k n) where
-  go : (k < n) ⊎ (n ≤ k) → index_at indices (get_or places n 0) ≤ℤ index_at indices (get_or places k 0)
-  go (inl b) = less-over (index_at indices (get_or places n 0)) (index_at indices (get_or places m 0)) (index_at indices (get_or places k 0)) l (h k f b)
-  go (inr b) = let q : k ≡ n = omega (arith, w, b) in rw q (self (index_at indices (get_or places n 0)))
-
--- or it isn't
-pub least_stays : (indices : List ℤ) (places : List ℕ) (j m n : ℕ) → LeastTo indices places j m n
-    → (index_at indices (get_or places n 0) <ℤ index_at indices (get_or places m 0) → ⊥) → LeastTo indices places j m (n + 1)
-least_stays indices places j m n h l k f w = go (cases_lt k n) where
-  go : (k < n) ⊎ (n ≤ k) → index_at indices (get_or places m 0) ≤ℤ index_at indices (get_or places k 0)
-  go (inl b) = h k f b
-  go (inr b) = let q : k ≡ n = omega (arith, w, b) in rw q (not-less (index_at indices (get_or places n 0)) (index_at indices (get_or places m 0)) l)
 
 eqb_flips : (x y : ℕ) → eqb x y ≡ eqb y x
 eqb_flips x y = grind (arith, nat_tests)
@@ -168,9 +142,3 @@ pub permuted_places : (n m : ℕ) (array ys rest : List ℕ) → length array �
     → IsPermutation (take m array) ys → ArePlaces (take n (ys ++ rest))
 permuted_places n m array ys rest five few e places p =
     rw (permuted_front n m array ys rest five few e p) (places_permuted (take m array) ys (rw e places) p)
-
--- and they are as many as before
-pub permuted_size : (n m : ℕ) (array ys rest zs : List ℕ) → length array ≡ 5 → n ≤ 5 → m ≡ n → IsPermutation (take m array) ys
-    → zs ≡ take n (ys ++ rest) → length zs ≡ length (take n array)
-permuted_size n m array ys rest zs five few e p q =
-    ap length (q ∙ permuted_front n m array ys rest five few e p) ∙ length_permutation (take m array) ys p ∙ ap (λ z. length (take z array)) e

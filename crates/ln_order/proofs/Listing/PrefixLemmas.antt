@@ -220,11 +220,6 @@ module _ (xs : List ℕ) (n i j : ℕ) (few : length xs ≤ 5) (p : ArePlaces xs
   step_small l e =
       omega (arith, front_step xs i j (omega (arith, l, within)) l, e, front_small (length xs) xs j few the-order within, few_prefixes (length xs) few)
 
-  -- after a step the number so far and that of the remaining places still sum up to the prefix's number
-  pub step_kept : i < j → n + number_of_front (drop i xs) (j - i) ≡ number_of_front xs j
-      → (n + (1 + added xs i)) + number_of_front (drop (i + 1) xs) (j - (i + 1)) ≡ number_of_front xs j
-  step_kept l e = omega (arith, front_step xs i j (omega (arith, l, within)) l, e)
-
   front-zero : (o : List ℕ) → number_of_front o 0 ≡ 0
   front-zero [] = refl
   front-zero (x ∷ o) = refl

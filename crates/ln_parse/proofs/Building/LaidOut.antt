@@ -160,9 +160,6 @@ pub record Numbers (as' : List ArgOf) (vars : List VarInfo) : Type 0 where
   pub params : count_by is_param vars + count_by is_site_said as' ≡ length as'
   pub size : length vars + count_by is_site_said as' ≤ 32 * count_by is_site_said as' + length as'
 
-no_later : (n : ℕ) → (true && (suc n == 0)) ≡ false
-no_later n = not_first n
-
 -- the variables of known arguments have these numbers
 pub all_numbers : (S : List SiteOf) (P : List CoordOf) → Known S P → (a s : ℕ) (args : List ArgOf)
     → list_all (is_known (length S) (length P)) args ≡ true → Numbers args (vars_behind S P a s args)

@@ -83,12 +83,6 @@ own (WSub a b) = Sum
 own (WMul a b) = Term
 own (WPow a n) = Power
 
-unary_up : {ts : List Token} {i j : ℕ} {e : Tree} (w : Room) → (w ≡ OfAtom → ⊥) → Derives ts Unary i j e → Derives ts (sort_of w) i j e
-unary_up OfSum n d = sum (term d no_factor) no_term
-unary_up OfProduct n d = term d no_factor
-unary_up OfUnary n d = d
-unary_up OfAtom n d = absurd (n refl)
-
 atom_up : {ts : List Token} {i j : ℕ} {e : Tree} (w : Room) → Derives ts Atom i j e → Derives ts (sort_of w) i j e
 atom_up OfSum d = sum (term (base (plain d)) no_factor) no_term
 atom_up OfProduct d = term (base (plain d)) no_factor

@@ -66,10 +66,6 @@ wraps r e v q o p s = wrapped r e v q o p s
 pub puts_equal : {a b : List ℕ} (r : Room) (e f : Written) → f ≡ e → Puts a b (wrap r f (inside f)) → Puts a b (wrap r e (inside e))
 puts_equal {a = a} {b = b} r e f q p = subst (λ (x : Written). Puts a b (wrap r x (inside x))) q p
 
--- what is appended to nothing, with nothing after it
-pub puts_all : {a b : List ℕ} (f : List Lexeme → List Lexeme) → a ≡ [] → Puts a b f → b ≡ text_of (f [])
-puts_all {b = b} f e p = sym (append-nil b) ∙ p.on [] ∙ ap (λ (x : List ℕ). x ++ text_of (f [])) e
-
 -- the elements before place i are appended
 pub record EachPut {A B : Type 0} (old new : List ℕ) (f : B → List Lexeme → List Lexeme) (g : A → B) (xs : List A) (i : ℕ) : Type 0 where
   pub on : (rest : List Lexeme) → new ++ text_of (each f (map g (drop i xs)) rest) ≡ old ++ text_of (each f (map g xs) rest)

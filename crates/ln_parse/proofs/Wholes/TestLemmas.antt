@@ -1,5 +1,5 @@
 -- What tests of numbers and lists say.
-use Rattle.std.proofs.Common.{◌≡◌, ℕ, zero, suc, ◌<◌, ◌≤◌, ◌==◌, ◌||◌, not, Bool, true, false, cond, nat_lt, List, [], ◌∷◌, map, Some, refl, ap, sym, arith}
+use Rattle.std.proofs.Common.{◌≡◌, ℕ, zero, suc, ◌<◌, ◌≤◌, ◌==◌, ◌||◌, Bool, true, false, cond, nat_lt, List, [], ◌∷◌, map, Some, refl, ap, arith}
 use Rattle.std.specs.Prelude.{ℤ, int_lt, ◌≤ℤ◌, nat_le, slice_get}
 use Rattle.std.proofs.lemmas.Bool.Decides.{nat_tests}
 use Rattle.std.proofs.lemmas.Int.{ints}
@@ -33,11 +33,6 @@ or_false a b h g = rw (h, g) refl
 pub or_cases : {C : Type 0} (a b : Bool) → (a || b) ≡ true → (a ≡ true → C) → (b ≡ true → C) → C
 or_cases true b h f g = f refl
 or_cases false b h f g = g h
-
--- a test whose negation is true is false
-pub not_so : (a : Bool) → not a ≡ true → a ≡ false
-not_so true h = sym h
-not_so false h = refl
 
 -- one where it is so, else none
 abbrev pub one_if : Bool → ℕ

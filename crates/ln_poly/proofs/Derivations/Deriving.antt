@@ -149,11 +149,6 @@ dropped-part k v n m t l h =
     let c : covers (vector k t.0) (vector k ((v, n) ∷ [])) ≡ false = covers-single 0 k v n t.0 (omega arith) (omega arith) ∙ low-test n (exponent v t.0) h in
     rw c refl
 
-dropped-weight : (k v n : ℕ) (w : ℕ → ℕ) (t : Pairs × ℤ) → v < k → exponent v t.0 < n → derived_weight k v n w t ≡ 0
-dropped-weight k v n w t l h =
-    let c : covers (vector k t.0) (vector k ((v, n) ∷ [])) ≡ false = covers-single 0 k v n t.0 (omega arith) (omega arith) ∙ low-test n (exponent v t.0) h in
-    rw c refl
-
 -- ---- a term that it keeps
 kept-part : (k v n : ℕ) (m : List ℕ) (t : Pairs × ℤ) (e : Pairs) → v < k → n ≤ exponent v t.0 → IsLowered e t.0 v n
     → derived_part k v n m t ≡ part_at k (e, t.1 *ℤ pos (binomial (exponent v t.0) n)) m

@@ -1,7 +1,6 @@
 -- The exponent of one variable, lowered.
 use Rattle.std.proofs.Common.{◌≡◌, ℕ, ◌+◌, ◌-◌, ◌<◌, ◌≤◌, ◌^◌, zero, suc, refl, sym, ◌∙◌, ap, arith, [], ◌∷◌, ◌++◌, length, take, get_or}
 use Rattle.std.proofs.lemmas.Bool.{cases_eq}
-use Rattle.std.proofs.lemmas.List.{take_all}
 use mathlib.Core.Logic.{◌⊎◌, inl, inr}
 use Rattle.std.proofs.Math.Nat.{pow-zero, pow-suc}
 use Rattle.ln_algebra.specs.Terms.{binomial}
@@ -9,7 +8,7 @@ use Rattle.ln_tree.specs.Exps.{IsAbove, IsRising, Pairs, exponent}
 use Rattle.ln_tree.proofs.Pairs.{rising-push}
 use Rattle.ln_tree.proofs.Powers.{above-at, exponent-more, power-apart, power-here, small-at}
 use Rattle.ln_poly.specs.Times.{power_at}
-use Rattle.ln_poly.specs.Derivative.{IsLowered, IsLowering}
+use Rattle.ln_poly.specs.Derivative.{IsLowering}
 use Rattle.ln_poly.proofs.Sorting.Merging.{above-none, exponent-push, none-above}
 use Rattle.ln_poly.proofs.Loads.Weighing.{pow-le}
 
@@ -20,9 +19,6 @@ above-take (p ∷ ps) zero r h = tt
 above-take (p ∷ ps) (suc i) r h = (above-at p.0 ps i (omega arith) r.2, above-take ps i r.3 (omega arith))
 
 -- ---- lowering
--- the loop in `lowered` begins with no pair and an empty result
-pub lowering-init : (ps : Pairs) (v n : ℕ) → IsLowering [] ps v n 0
-lowering-init ps v n = record { exponents = λ u. omega arith; rising = tt }
 
 -- what is lowered and out is below the next pair
 pub lowering-above : (out ps : Pairs) (v n i : ℕ) → IsLowering out ps v n i → IsRising ps → i < length ps → IsAbove out (get_or ps i (0, 0)).0
@@ -78,16 +74,6 @@ lowering-skip out ps v n i k r s h a b l = record {
       λ u. omega (arith, lowering-next out ps v n i k u r s h a b, ap (λ z. power_at u ((get_or ps i (0, 0)).0, z)) l, no-power u (get_or ps i (0, 0)).0);
   rising = r.rising;
 }
-
--- the end of the loop in `lowered`: the exponents are those of all pairs, with that of v lowered by n
-pub lowering-end : (out e : Pairs) (v n i : ℕ) → IsLowering out e v n i → length e ≤ i → n ≤ exponent v e → IsLowered out e v n
-lowering-end out e v n i r h l = record {
-  exponents = λ u. omega (arith, r.exponents u, ap (exponent u) (take_all i e h), within u (cases_eq v u));
-  rising = r.rising;
-} where
-  within : (u : ℕ) → (v ≡ u) ⊎ (v ≡ u → ⊥) → power_at u (v, n) ≤ exponent u e
-  within u (inl q) = omega (arith, power-here u (v, n) q, ap (λ z. exponent z e) q)
-  within u (inr q) = omega (arith, power-apart u (v, n) q)
 
 -- ---- binomials
 -- two neighbouring binomials of n add up to at most 2^n

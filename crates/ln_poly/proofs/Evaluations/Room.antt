@@ -46,10 +46,6 @@ pub record IsRaised (z y x : ℤ) (n k : ℕ) : Type 0 where
   pub value : y *ℤ power_of x (n - k) ≡ z *ℤ power_of x n
   pub room : unsigned_abs y * size x ^ (n - k) ≤ most
 
--- the loop in `raised` begins with the number itself
-pub raised-begin : (z x : ℤ) (n : ℕ) → unsigned_abs z * size x ^ n ≤ most → IsRaised z z x n 0
-raised-begin z x n h = let e : n - 0 ≡ n = omega arith in record { value = ap (λ k. z *ℤ power_of x k) e; room = rw e h }
-
 raised-left : (n k : ℕ) → k < n → n - k ≡ suc (n - (k + 1))
 raised-left n k h = omega arith
 
@@ -114,10 +110,6 @@ ways-fit z x e k h n r = omega (arith, pair-fits z x e k h r, unsigned_abs-mul z
 -- the result of `with_pair`: the number times the binomial times the power that remains
 pub pair-value : (z y x : ℤ) (e k w : ℕ) → w ≡ binomial e k → y ≡ (z *ℤ pos w) *ℤ power_of x (e - k) → y ≡ z *ℤ (pos (binomial e k) *ℤ power_of x (e - k))
 pair-value z y x e k w q h = h ∙ ap (λ j. (z *ℤ pos j) *ℤ power_of x (e - k)) q ∙ mul_assoc z (pos (binomial e k)) (power_of x (e - k))
-
--- 0 is the product of 0 and any number
-pub zero-times : (z y : ℤ) → z ≡ pos 0 → pos 0 ≡ z *ℤ y
-zero-times z y h = (let c : pos 0 ≡ pos 0 *ℤ y = omega (arith, ints) in c) ∙ ap (λ j. j *ℤ y) (sym h)
 
 -- ---- rows
 -- the absolute value of a variable in its declared range is below the variable's weight

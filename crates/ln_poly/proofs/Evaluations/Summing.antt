@@ -116,10 +116,6 @@ module _ (vars : List VarInfo) (zs : List ℤ) (a ps : Pairs) (c y : ℤ) (i : �
       let f : unsigned_abs z ≡ unsigned_abs y * unsigned_abs P = ap unsigned_abs q ∙ unsigned_abs-mul y P in
       record { value = v ∙ r.value; room = omega (arith, u, heavy, times-assoc (unsigned_abs y) (w ^ e) W, ap (λ j. j * W) f) }
 
--- the loop in `product` begins with the term's factor
-pub product-begin : (vars : List VarInfo) (x : ℕ → ℤ) (a ps : Pairs) (c : ℤ) → IsProduct vars x a ps c c 0
-product-begin vars x a ps c = record { value = refl; room = omega arith }
-
 -- the end of the loop in `product`: the factor times what all pairs add, which is at most the term's weight
 pub product-end : (vars : List VarInfo) (x : ℕ → ℤ) (a ps : Pairs) (c y : ℤ) (i : ℕ) → length ps ≤ i → IsProduct vars x a ps c y i
     → (y ≡ c *ℤ parts x a ps) × (unsigned_abs y ≤ unsigned_abs c * pairs_weight (weights vars) ps)

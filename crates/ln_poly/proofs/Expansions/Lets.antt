@@ -1,20 +1,19 @@
 -- The lets of a predicate, expanded one after the other, and what is known of the root.
 use Rattle.std.proofs.Common.{◌≡◌, ℕ, ◌+◌, ◌*◌, ◌^◌, ◌<◌, ◌≤◌, true, zero, suc, refl, sym, ◌∙◌, ap, arith, subst, All, List, [], ◌∷◌, ◌++◌}
-use Rattle.std.proofs.Common.{length, map, drop, take, get_or, append_assoc, append-nil, unsigned_abs}
+use Rattle.std.proofs.Common.{length, map, drop, take, get_or, append_assoc, unsigned_abs}
 use Rattle.std.proofs.Math.IntN.{ℤ}
 use Rattle.std.proofs.Math.Nat.{pow-zero}
 use Rattle.std.proofs.lemmas.Bool.{and_parts}
-use Rattle.std.proofs.lemmas.List.{drop_all, drop_more, map-append, take_all, take_more}
+use Rattle.std.proofs.lemmas.List.{drop_more, map-append, take_more}
 use Rattle.std.proofs.lemmas.Nat.{mul-le, pow-add}
 use Rattle.std.proofs.lemmas.List.Elements.{All-head, All-tail}
 use Rattle.ln_algebra.proofs.Bounding.Weights.{weighted-normal}
 use Rattle.ln_algebra.specs.Tree.{Add, Input, Mul, Name, Neg, Num, Pow, Sub, Tree, inlined, inlined_after}
 use Rattle.ln_algebra.specs.Vector.{total_degree}
 use Rattle.ln_algebra.specs.Weights.{monomial_weight, weighted_sum}
-use Rattle.ln_bound.specs.Light.{most, weighed_pred, AreLight as HaveWeights}
+use Rattle.ln_bound.specs.Light.{most}
 use Rattle.ln_bound.proofs.Soundness.KeptLaws.{parts_of}
 use Rattle.ln_algebra.specs.Sizes.{two}
-use Rattle.ln_bound.specs.Value.{weights}
 use Rattle.ln_tree.specs.declared.expr.Expr.{Expr}
 use Rattle.ln_tree.specs.declared.items.Arg.{Arg}
 use Rattle.ln_tree.specs.Kept.{is_pred}
@@ -30,7 +29,6 @@ use Rattle.ln_poly.specs.Ready.{AreLight, AreNormal, Expands, IsLight, LetsAreLi
 use Rattle.ln_poly.specs.Stop.{StopsExpanding}
 use Rattle.ln_poly.proofs.Sorting.Collected.{collected}
 use Rattle.ln_poly.proofs.Expansions.Expanding.{Nodes, few-both, stop-before, stop-behind}
-use Rattle.ln_poly.proofs.Loads.Lightness.{light-pred}
 use Rattle.ln_poly.proofs.Expansions.Normals.{lets-more}
 use Rattle.ln_poly.proofs.TermLists.Products.{length-vector}
 use Rattle.ln_poly.proofs.Loads.Room.{AreTwo, factor-some, normal-weight, power_le, times-le-left, total-cons, two-power}
@@ -58,12 +56,6 @@ pub record LetsExpanded (vars : List VarInfo) (whole front rest : List Formula) 
   pub few : HaveFewTerms (length vars) nodes
   pub fit : lets_fit (length vars) (length polys) (map (tree vars) rest) ≡ true
   pub light : LetsAreLight (length vars) two (closed_lets vars front) (map (tree vars) rest)
-
--- the loop in `expand_lets` begins with no let expanded
-pub lets-begin : (vars : List VarInfo) (whole : List Formula) (polys : List Sparse) → polys ≡ [] → lets_fit (length vars) 0 (map (tree vars) whole) ≡ true
-    → LetsAreLight (length vars) two [] (map (tree vars) whole) → LetsExpanded vars whole [] whole polys
-lets-begin vars whole polys e f l =
-    subst (LetsExpanded vars whole [] whole) (sym e) (record { normal = tt; nodes = []; stands = refl; few = tt; fit = f; light = l })
 
 -- the first of the lets that follow is expanded too
 pub lets-next : (vars : List VarInfo) (whole front rest : List Formula) (f : Formula) (polys : List Sparse) (p : Sparse)
@@ -122,21 +114,6 @@ lets-stop vars lets j e polys s l h a q =
     let b = lets-at vars lets j e polys l h a in
     subst (λ (ns : Nodes). StopsExpanding (length vars) ns s) (sym b.stands)
     (stop-behind (length vars) b.nodes _ s b.few (stop-before (length vars) (expanded vars (closed_lets vars (map formula (take j lets))) (formula e)) _ s q))
-
--- all lets are expanded
-pub lets-end : (vars : List VarInfo) (lets : List Expr) (j : ℕ) (polys : List Sparse) → length lets ≤ j → LetsTo vars lets j polys
-    → AreNormal (length vars) (closed_lets vars (map formula lets)) polys × HaveFewTerms (length vars) (expanded_lets vars [] (map formula lets))
-lets-end vars lets j polys l a =
-    let f : map formula (take j lets) ≡ map formula lets = ap (map formula) (take_all j lets l) in
-    let r : map formula (drop j lets) ≡ [] = ap (map formula) (drop_all j lets l) in
-    let s : expanded_lets vars [] (map formula lets) ≡ a.nodes =
-    a.stands ∙ ap (λ fs. a.nodes ++ expanded_lets vars (closed_lets vars (map formula (take j lets))) fs) r ∙ append-nil a.nodes in
-    (subst (λ fs. AreNormal (length vars) (closed_lets vars fs) polys) f a.normal, subst (HaveFewTerms (length vars)) (sym s) a.few)
-
--- what the next let needs
-pub next-fit : (vars : List VarInfo) (lets : List Expr) (j : ℕ) (e : Expr) (polys : List Sparse) → j < length lets → e ≡ get_or lets j e
-    → LetsTo vars lets j polys → is_fit (length vars) (length polys) (tree vars (formula e)) ≡ true
-next-fit vars lets j e polys l h a = (and_parts (is_fit (length vars) (length polys) (tree vars (formula e))) _ (lets-at vars lets j e polys l h a).fit).0
 
 -- the next let weighs at most 2^127 - 1 at each node, where each variable counts 2
 pub next-light : (vars : List VarInfo) (lets : List Expr) (j : ℕ) (e : Expr) (polys : List Sparse) → j < length lets → e ≡ get_or lets j e
@@ -227,11 +204,3 @@ pub root-fits : (args : List Arg) (vars : List VarInfo) (es : List Expr) (names 
     → is_pred args vars es names root ≡ true → AreNormal (length vars) (closed_lets vars (map formula es)) polys
     → is_fit (length vars) (length polys) (tree_of vars root) ≡ true
 root-fits args vars es names root polys k a = rw (length-polys vars es polys a) (parts_of args vars es names root k).fit_root
-
--- where no weight of a predicate's nodes exceeds the limit, its lets and its root are light at each node
-pub pred-light : (args : List Arg) (vars : List VarInfo) (es : List Expr) (names : ℕ) (root : Expr) → is_pred args vars es names root ≡ true
-    → HaveWeights (weighed_pred vars (map formula es) (formula root))
-    → LetsAreLight (length vars) (weights vars) [] (map (tree vars) (map formula es))
-    × AreLight (length vars) (weights vars) (closed_lets vars (map formula es)) (tree vars (formula root))
-pred-light args vars es names root k l =
-    light-pred vars (length es) (map formula es) (formula root) (pred-fit args vars es names root k) (parts_of args vars es names root k).fit_root l

@@ -180,10 +180,6 @@ pairs-take n vars ps zero a = weight-some (length vars) (grown n vars) (grown-so
 pairs-take n vars [] (suc i) a = omega arith
 pairs-take n vars (p ∷ ps) (suc i) a = mul-le-mul_left (grown n vars p.0 ^ p.1) (pairs-take n vars ps i a.1)
 
--- the loop in `weight_of_term` begins with the factor
-pub weighed-init : (c : ℕ) (w : ℕ → ℕ) (ps : Pairs) → c ≤ most → IsWeighed c c w ps 0
-weighed-init c w ps h = record { product = omega arith; small = h }
-
 -- the step of `weight_of_term`: the power of one pair more is multiplied in, where the product is within the limit
 pub weighed-step : (p q c : ℕ) (w : ℕ → ℕ) (ps : Pairs) (i : ℕ) → IsWeighed p c w ps i → i < length ps
     → q ≡ p * w (get_or ps i (0, 0)).0 ^ (get_or ps i (0, 0)).1 → q ≤ most → IsWeighed q c w ps (i + 1)
@@ -204,10 +200,6 @@ weighed-heavy n p c vars ps i a r h q =
     omega (arith, x, ap (λ z. c * z) (pairs-more (grown n vars) ps i h), mul-le-mul_left c (pairs-take n vars ps (i + 1) a)) where
       times-assoc : (a b c : ℕ) → (a * b) * c ≡ a * (b * c)
       times-assoc a b c = omega arith
-
--- the end of the loop in `weight_of_term`: the product is the factor times the weight of all pairs
-pub weighed-end : (p c : ℕ) (w : ℕ → ℕ) (ps : Pairs) (i : ℕ) → IsWeighed p c w ps i → length ps ≤ i → p ≡ c * pairs_weight w ps
-weighed-end p c w ps i r h = r.product ∙ ap (λ z. c * pairs_weight w z) (take_all i ps h)
 
 -- the step of `scaled`: one factor more
 pub scaled-step : (w m k p q : ℕ) → p ≡ w * m ^ k → q ≡ p * m → q ≡ w * m ^ (k + 1)

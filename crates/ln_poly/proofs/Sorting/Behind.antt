@@ -1,8 +1,7 @@
 -- Pairs after others, all of whose variables are lower.
-use Rattle.std.proofs.Common.{◌≡◌, ℕ, ◌+◌, ◌-◌, ◌<◌, ◌≤◌, zero, suc, sym, ◌∙◌, ap, subst, arith, [], ◌∷◌, ◌++◌, length, take, get_or}
-use Rattle.std.proofs.Common.{append_assoc, true, nat_lt}
+use Rattle.std.proofs.Common.{◌≡◌, ℕ, ◌+◌, ◌-◌, ◌<◌, zero, suc, sym, ◌∙◌, ap, subst, arith, [], ◌∷◌, ◌++◌, length, take, get_or}
+use Rattle.std.proofs.Common.{true, nat_lt}
 use Rattle.std.proofs.lemmas.Bool.Decides.{nat_tests}
-use Rattle.std.proofs.lemmas.List.{take_all, take_more}
 use Rattle.ln_tree.specs.Exps.{AllAbove, IsAbove, IsRising, Pairs, exponent}
 use Rattle.ln_tree.proofs.Powers.{above-at}
 use Rattle.ln_poly.specs.Times.{AreLow}
@@ -67,27 +66,10 @@ positive-at [] i r h = absurd (omega arith)
 positive-at (p ∷ ps) zero r h = r.0
 positive-at (p ∷ ps) (suc i) r h = positive-at ps i r.3 (omega arith)
 
--- the step of `behind`: one pair of the second is appended
-pub behind-step : (out out' a b : Pairs) (i : ℕ) → out ≡ a ++ take i b → i < length b → out' ≡ out ++ (get_or b i (0, 0) ∷ []) → out' ≡ a ++ take (i + 1) b
-behind-step out out' a b i e h p =
-    p ∙ ap (λ z. z ++ (get_or b i (0, 0) ∷ [])) e ∙ append_assoc a (take i b) (get_or b i (0, 0) ∷ []) ∙ ap (λ z. a ++ z) (sym (take_more b i (0, 0) h))
-
--- the end of the loop in `behind`: all pairs of the second are appended
-pub behind-end : (out a b : Pairs) (i : ℕ) → out ≡ a ++ take i b → length b ≤ i → out ≡ a ++ b
-behind-end out a b i e h = e ∙ ap (λ z. a ++ z) (take_all i b h)
-
 -- ---- the product
 exponent-append : (v : ℕ) (a b : Pairs) → exponent v (a ++ b) ≡ exponent v a + exponent v b
 exponent-append v [] b = omega arith
 exponent-append v (p ∷ a) b = omega (arith, exponent-append v a b)
-
-all-append : (v : ℕ) (a b : Pairs) → AllAbove v a → AllAbove v b → AllAbove v (a ++ b)
-all-append v [] b h k = k
-all-append v (p ∷ a) b h k = (h.0, all-append v a b h.1 k)
-
-rising-append : (a b : Pairs) → IsRising a → IsRising b → AreLow a b → IsRising (a ++ b)
-rising-append [] b r s l = s
-rising-append (p ∷ a) b r s l = (r.0, r.1, all-append p.0 a b r.2 l.0, rising-append a b r.3 s l.1)
 
 -- the exponents of one list of pairs followed by another are the sums of those of both
 pub behind-exponents : (e a b : Pairs) → e ≡ a ++ b → (v : ℕ) → exponent v e ≡ exponent v a + exponent v b
@@ -96,7 +78,3 @@ behind-exponents e a b q v = ap (exponent v) q ∙ exponent-append v a b
 -- the same where the second list comes first
 pub turned-exponents : (e a b : Pairs) → e ≡ b ++ a → (v : ℕ) → exponent v e ≡ exponent v a + exponent v b
 turned-exponents e a b q v = omega (arith, behind-exponents e b a q v)
-
--- rising pairs followed by rising pairs of higher variables rise
-pub behind-rising : (e a b : Pairs) → e ≡ a ++ b → IsRising a → IsRising b → AreLow a b → IsRising e
-behind-rising e a b q r s l = subst IsRising (sym q) (rising-append a b r s l)

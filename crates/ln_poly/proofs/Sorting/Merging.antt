@@ -1,10 +1,10 @@
 -- The pairs of two lists, merged.
-use Rattle.std.proofs.Common.{◌≡◌, ℕ, ◌+◌, ◌<◌, ◌≤◌, zero, suc, refl, sym, ap, arith, [], ◌∷◌, ◌++◌, length, drop, get_or, Bool, true}
+use Rattle.std.proofs.Common.{◌≡◌, ℕ, ◌+◌, ◌<◌, ◌≤◌, zero, suc, refl, sym, arith, [], ◌∷◌, ◌++◌, length, drop, get_or, Bool, true}
 use Rattle.std.proofs.Common.{false, if◌then◌else◌, eqb, eq-eqb, subst}
 use Rattle.std.proofs.lemmas.Bool.{cases_lt}
 use Rattle.std.proofs.lemmas.Bool.Decides.{nat_tests}
 use mathlib.Core.Logic.{◌⊎◌, inl, inr}
-use Rattle.std.proofs.lemmas.List.{drop_more, drop_all}
+use Rattle.std.proofs.lemmas.List.{drop_more}
 use Rattle.ln_tree.specs.Exps.{AllAbove, IsAbove, IsRising, Pairs, exponent}
 use Rattle.ln_tree.proofs.Pairs.{rising-push}
 use Rattle.ln_poly.specs.declared.times.Pick.{Pick}
@@ -151,18 +151,6 @@ pub both-small : (a b : Pairs) (i j : ℕ) → MayPick a b i j → i < length a 
 both-small a b i j m h k l = omega (arith, picked-small _ _ _ _ _ _ (both-at a b i j h k m.rising_left m.rising_right l), m.small (get_or a i (0, 0)).0)
 
 -- ---- the loop
--- the loop in `merged` begins with no pair picked and an empty result
-pub merged-init : (a b : Pairs) → IsRising a → IsRising b → IsMerged [] a b 0 0
-merged-init a b r s = record {
-  left = omega arith;
-  right = omega arith;
-  exponents = λ w. omega arith;
-  rising_left = r;
-  rising_right = s;
-  low_left = tt;
-  low_right = tt;
-  rising = tt;
-}
 
 -- what is picked is above what is out
 pub picked-above : (out la lb la' lb' : Pairs) (v e : ℕ) → AreLow out la → AreLow out lb → Picks la lb la' lb' v e → IsAbove out v
@@ -192,23 +180,10 @@ merged-step out a b i j i' j' v e m p x y z = record {
   rising = rising-push out v e m.rising (picked-above out (drop i a) (drop j b) (drop i' a) (drop j' b) v e m.low_left m.low_right p) p.positive z;
 }
 
--- the end of the loop in `merged`: each exponent is the sum of those in both lists
-pub merged-end : (out a b : Pairs) (i j : ℕ) → IsMerged out a b i j → length a ≤ i → length b ≤ j → (w : ℕ) → exponent w out ≡ exponent w a + exponent w b
-merged-end out a b i j m h k w =
-    let x : exponent w (drop i a) ≡ 0 = ap (exponent w) (drop_all i a h) in
-    let y : exponent w (drop j b) ≡ 0 = ap (exponent w) (drop_all j b k) in
-    omega (arith, m.exponents w, x, y)
-
 -- the remaining pairs have no more than 127 either
 pub merged-small : (out a b : Pairs) (i j : ℕ) → IsMerged out a b i j → ((v : ℕ) → exponent v a + exponent v b < 128) → (v : ℕ)
     → exponent v (drop i a) + exponent v (drop j b) < 128
 merged-small out a b i j m h v = omega (arith, m.exponents v, h v)
-
--- in `merged` there is a pair to pick while one remains
-pub may-pick : (out a b : Pairs) (i j : ℕ) → IsMerged out a b i j → i + j < length a + length b
-    → ((v : ℕ) → exponent v a + exponent v b < 128) → MayPick a b i j
-may-pick out a b i j m h s =
-    record { left = m.left; right = m.right; some = h; rising_left = m.rising_left; rising_right = m.rising_right; small = merged-small out a b i j m s }
 
 -- ---- variables
 -- where all variables of the pairs are below k, each variable from k on has the exponent 0

@@ -4,7 +4,7 @@ use Rattle.std.proofs.Common.{Bool, true, eqb, Less, ◌⊎◌, inl, inr}
 use Rattle.std.proofs.lemmas.Int.{ints}
 use Rattle.std.proofs.Math.IntN.{ℤ, ◌+ℤ◌}
 use Rattle.std.proofs.lemmas.Bool.{eqb-true}
-use Rattle.std.proofs.lemmas.List.{get_or_default, take_all}
+use Rattle.std.proofs.lemmas.List.{get_or_default}
 use Rattle.std.proofs.lemmas.List.Elements.{All-nil, All-push}
 use Rattle.ln_poly.specs.Merge.{AllBefore}
 use Rattle.ln_poly.proofs.Sorting.Rising.{none-sorted, sorted-at, sorted-push}
@@ -86,15 +86,6 @@ spread-step f' more' f more old g i t r h e p = record {
   sorted = λ s. more-sorted more' more g i t h e p.put s (r.sorted s) r.before;
   before = more-before more' more g i t e p.put r.before;
 }
-
--- the end of the loop in `spread`: the coefficients of f and of what was appended add up to those of the sum
-pub spread-coefficient : (f more old g : Sparse) → IsSpread f more old g (length g) → (n : ℕ) (m : List ℕ)
-    → coefficient_at n f m +ℤ coefficient_at n more m ≡ coefficient_at n old m +ℤ coefficient_at n g m
-spread-coefficient f more old g r n m = r.coefficients n m ∙ ap (λ z. coefficient_at n old m +ℤ coefficient_at n z m) (take_all (length g) g (omega arith))
-
--- the end of the loop in `spread`: the absolute factors of both add up to at most those of the two polynomials
-pub spread-size : (f more old g : Sparse) → IsSpread f more old g (length g) → size_of f + size_of more ≤ size_of old + size_of g
-spread-size f more old g r = omega (arith, r.size, ap size_of (take_all (length g) g (omega arith)))
 
 -- ---- where nothing remains
 -- a list whose length is 0 by the test is empty

@@ -91,10 +91,6 @@ pub record IsNegated (out xs : Sparse) (i : ℕ) : Type 0 where
   pub terms : out ≡ negated (take i xs) ++ drop i xs
   pub long : length out ≡ length xs
 
--- the loop in `negate` begins with no sign changed
-pub negated-init : (xs : Sparse) → IsNegated xs xs 0
-negated-init xs = record { terms = refl; long = refl }
-
 -- in `negate` the next factor is as it was: other than 0 and below 2^127
 pub negated-factor : (out xs : Sparse) (i : ℕ) (e : Pairs) (z : ℤ) → IsNegated out xs i → i < length xs → (e, z) ≡ get_or out i (e, z)
     → All (λ t. IsFactor t.1) xs → IsFactor z
@@ -120,10 +116,3 @@ turned z f = ap (λ y. to_z w128 (of_z w128 (pos 0 -ℤ y))) (to_z-of_z w128 z (
 
     minus : pos 0 -ℤ z ≡ neg_ℤ z
     minus = omega (arith, ints)
-
--- the end of the loop in `negate`: all factors have the other sign
-pub negated-end : (out xs : Sparse) → IsNegated out xs (length xs) → out ≡ negated xs
-negated-end out xs r = r.terms ∙ whole xs where
-  whole : (ys : Sparse) → negated (take (length ys) ys) ++ drop (length ys) ys ≡ negated ys
-  whole [] = refl
-  whole (y ∷ ys) = ap (λ s. (y.0, neg_ℤ y.1) ∷ s) (whole ys)

@@ -32,10 +32,6 @@ pub no_name : (fields : List (List ℕ)) (at : ℕ) (x : List ℕ) (more : List 
     → (rest : List (List ℕ)) → drop at fields ≢ (x ∷ more) ++ rest
 no_name fields at x more ne rest h = ne (drop_field fields at x (more ++ rest) h)
 
--- no name
-pub stand_none : (fields : List (List ℕ)) (at : ℕ) → StandAt [] fields at at
-stand_none fields at = (refl, λ l. l)
-
 -- names after names
 pub stand_more : (xs ys fields : List (List ℕ)) (at mid to : ℕ) → StandAt xs fields at mid → StandAt ys fields mid to → StandAt (xs ++ ys) fields at to
 stand_more xs ys fields at mid to p q = (p.0 ∙ ap (λ (l : List (List ℕ)). xs ++ l) q.0 ∙ sym (append_assoc xs ys (drop to fields)), λ l. q.1 (p.1 l))
@@ -49,11 +45,6 @@ stand_left xs ys fields at mid p rest h = append_cancel_left xs (drop mid fields
 pub passes_more : (xs ys fields : List (List ℕ)) (at mid : ℕ) (o : Option ℕ) → StandAt xs fields at mid → Passes ys fields mid o → Passes (xs ++ ys) fields at o
 passes_more xs ys fields at mid None p q = λ rest h. q rest (stand_left xs ys fields at mid p rest h)
 passes_more xs ys fields at mid (Some to) p q = stand_more xs ys fields at mid to p q
-
--- where the first names don't stand, the whole doesn't
-pub none_whole : (xs ys fields : List (List ℕ)) (at : ℕ) → ((rest : List (List ℕ)) → drop at fields ≢ xs ++ rest) → (rest : List (List ℕ))
-    → drop at fields ≢ (xs ++ ys) ++ rest
-none_whole xs ys fields at ne rest h = ne (ys ++ rest) (h ∙ append_assoc xs ys rest)
 
 -- a list around one of its elements
 split_at : {X : Type 0} (xs : List X) (i : ℕ) (x : X) → i < length xs → x ≡ get_or xs i x → xs ≡ take i xs ++ (x ∷ drop (suc i) xs)
@@ -79,14 +70,6 @@ coord_stop f xs i x fields at mid h e p q rest k =
     ap (map f) (split_at xs i x h e) ∙ map-append f (take i xs) (x ∷ drop (suc i) xs) in
     no_name fields mid (f x) (map f (drop (suc i) xs)) q rest
     (stand_left (map f (take i xs)) (f x ∷ map f (drop (suc i) xs)) fields at mid p rest (k ∙ ap (λ (l : List (List ℕ)). l ++ rest) whole))
-
--- one argument more
-pub arg_more : {X : Type 0} (f : X → List (List ℕ)) (xs : List X) (i : ℕ) (x : X) (fields : List (List ℕ)) (at mid to : ℕ) → i < length xs
-    → x ≡ get_or xs i x → StandAt (flat_map f (take i xs)) fields at mid → StandAt (f x) fields mid to
-    → StandAt (flat_map f (take (i + 1) xs)) fields at to
-arg_more f xs i x fields at mid to h e p q =
-    let one : flat_map f (x ∷ []) ≡ f x = append-nil (f x) in
-    rw (take_one xs i x h e, flat_map-append f (take i xs) (x ∷ []), one) (stand_more (flat_map f (take i xs)) (f x) fields at mid to p q)
 
 -- an argument whose columns don't stand
 pub arg_stop : {X : Type 0} (f : X → List (List ℕ)) (xs : List X) (i : ℕ) (x : X) (fields : List (List ℕ)) (mid : ℕ) → i < length xs

@@ -215,17 +215,6 @@ value_fault {vars = vars} {fields = fields} {v = v} {site = site} {at = at} {ind
     let q2 : in_column (suc at) (number_in (var_at vars v).lo (var_at vars v).hi (get_or fields (suc at) [])) ≡ Err s = rw (add-one at) at q in
     front_fault (columns vars) fields (suc at) _ _ _ _ s two (omega (arith, f.size, here, size)) q2
 
--- the fault of another variable
-pub other_fault : {vars : List VarInfo} {fields : List (List ℕ)} {index0 value0 : List ℤ} {v site at : ℕ} {index value : List ℤ} (s : RowStop)
-    → Filled vars fields index0 value0 v site at index value → v < length vars → starts_site (var_at vars v) ≡ false
-    → length fields ≡ length (columns vars) → in_column at (number_in (var_at vars v).lo (var_at vars v).hi (get_or fields at [])) ≡ Err s
-    → first_fault 0 (columns vars) fields ≡ Some s
-other_fault {vars = vars} {fields = fields} {v = v} {site = site} {at = at} {index = index} {value = value} s f h e size q =
-    let cols = at_other vars v h e in
-    let here = ap length cols in
-    let one : Front (columns vars) fields at (Variable (var_at vars v) ∷ columns (drop (suc v) vars)) (take site index) (take v value) = rw cols at f.front in
-    front_fault (columns vars) fields at _ _ _ _ s one (omega (arith, f.size, here, size)) q
-
 -- after the last variable
 pub filled_all : {vars : List VarInfo} {fields : List (List ℕ)} {index0 value0 : List ℤ} {v site at : ℕ} {r : Row}
     → Filled vars fields index0 value0 v site at r.index r.values → length vars ≤ v → IsRead vars fields r
@@ -273,10 +262,6 @@ index_stays_past {vars = vars} {v = v} {site = site} {index = index} old new z f
 pub stays_past : (sites : ℕ) (vars : List VarInfo) (old new : Row) → length (columns vars) ≡ length vars + sites
     → StaysPast (length (columns vars) - length vars) (length vars) old new → StaysPast sites (length vars) old new
 stays_past sites vars old new e s = let n : length (columns vars) - length vars ≡ sites = omega (arith, e) in subst (λ k. StaysPast k (length vars) old new) n s
-
--- nothing has been written
-pub stays_same : (sites vars : ℕ) (r : Row) → StaysPast sites vars r r
-stays_same sites vars r = record { index = λ k h. refl; values = λ k h. refl }
 
 -- zeros stay zeros
 pub zero_stays : (sites vars : ℕ) (old new : Row) → StaysPast sites vars old new → IsZeroPast sites vars old → IsZeroPast sites vars new

@@ -188,10 +188,6 @@ pub record Splits (line : List ℕ) (most : ℕ) (kept : List (List ℕ)) (rest 
   pub is : fields_in line ≡ kept ++ fields_in rest
   pub few : length kept ≤ most
 
--- at the start no field is kept, and the whole line remains
-pub splits_none : (line : List ℕ) (most : ℕ) (kept : List (List ℕ)) → kept ≡ [] → Splits line most kept line
-splits_none line most kept e = record { is = ap (λ (k : List (List ℕ)). k ++ fields_in line) (sym e); few = omega (arith, ap length e) }
-
 -- one more field is kept, up to the next comma
 pub splits_more : (line : List ℕ) (most : ℕ) (kept kept2 : List (List ℕ)) (rest : List ℕ) (size : ℕ) → Splits line most kept rest
     → length kept < most → size < length rest → list_all is_no_comma (take size rest) ≡ true → is_no_comma (get_or rest size 0) ≡ false
@@ -223,11 +219,6 @@ rest_within rest k n h = let e = length-take (length rest - k) (drop k rest) in 
 take_front : (xs ys : List (List ℕ)) (n : ℕ) → n ≡ length xs → xs ≡ take n (xs ++ ys)
 take_front [] ys n e = ap (λ (k : ℕ). take k ys) (sym e)
 take_front (x ∷ xs) ys n e = ap (λ (zs : List (List ℕ)). x ∷ zs) (take_front xs ys (length xs) refl) ∙ ap (λ (k : ℕ). take k (x ∷ (xs ++ ys))) (sym e)
-
--- where there is room for no more fields, those kept are the first of the line
-pub splits_full : (line : List ℕ) (most : ℕ) (kept : List (List ℕ)) (rest : List ℕ) → Splits line most kept rest → most ≤ length kept
-    → kept ≡ take most (fields_in line)
-splits_full line most kept rest s l = take_front kept (fields_in rest) most (omega (arith, s.few, l)) ∙ ap (take most) (sym s.is)
 
 -- with the last field, those kept are the fields of the line, as many as there is room for
 pub splits_all : (line : List ℕ) (most : ℕ) (kept kept2 : List (List ℕ)) (rest : List ℕ) (size : ℕ) → Splits line most kept rest

@@ -6,7 +6,7 @@ use Rattle.std.proofs.lemmas.Bool.{cases_lt}
 use Rattle.std.proofs.lemmas.List.{take_all}
 use Rattle.csv.specs.Machine.{Read, next_record}
 use Rattle.csv.specs.Reading.{default_config, strip_bom, records_from, source_of, reader_config, reader_trim, reader_state, reader_headers}
-use Rattle.csv.specs.Reading.{names_headers, took_first, has_failed, is_flexible, Ready, ReadsNext, ExplainsRead, stops_reader, pending_of}
+use Rattle.csv.specs.Reading.{names_headers, took_first, has_failed, is_flexible, Ready, ReadsNext, pending_of}
 use Rattle.csv.specs.Reading.{reader_source, ChangesHeaders, ReadRecord, Reached}
 use Rattle.csv.specs.declared.parser.Config.{Config}
 use Rattle.csv.specs.declared.parser.State.{State}
@@ -133,19 +133,3 @@ reader_steps most old new found fields kept count may failed goes flexible reads
         ap (λ (b : Bool). cond b [] (records_from default_config (length (reader_bytes old) + 1) (reader_state old) (reader_bytes old))) e,
       )
   by_failed false e = let h = may e in by_found found h e (reads h.trim h.ready)
-
--- after an error of a reader that reads, memory or the bytes have failed
-pub reader_fails : (old new : Reader Source) (error : ErrorKind) → MayRead old → (has_failed old ≡ true → ⊥)
-    → (Ready old → ExplainsRead bytes_of old new false error) → has_failed new ≡ stops_reader error → MayRead new
-reader_fails old new error may going why fails f = absurd (by (has_failed old) refl) where
-  stopped : (k : ErrorKind) → is_flexible old ≡ true → ExplainsRead bytes_of old new false k → stops_reader k ≡ true
-  stopped (kind.Io e) h w = refl
-  stopped (kind.UnequalLengths pos expected len) h w = absurd (true≢false (sym h ∙ w.0))
-  stopped (kind.Utf8 pos err) h w = absurd (true≢false (sym w.0))
-  stopped kind.OutOfMemory h w = refl
-  stopped (kind.Serialize text) h w = absurd w
-  stopped (kind.Deserialize pos err) h w = absurd w
-
-  by : (b : Bool) → has_failed old ≡ b → ⊥
-  by true e = going e
-  by false e = let h = may e in true≢false (sym (fails ∙ stopped error h.flexible (why h.ready)) ∙ f)

@@ -14,7 +14,7 @@ use Rattle.ln_tree.proofs.Powers.{vector-get}
 use Rattle.ln_tree.specs.Exps.{Pairs, exponent, vector}
 use Rattle.ln_poly.specs.Sparse.{AreRising, Sparse}
 use Rattle.ln_stage.specs.declared.stop.StageStop.{StageStop}
-use Rattle.ln_stage.specs.Degrees.{any_reaches, largest_degree, listed_degree, listed_degree_from, listed_graded, listed_layers, pairs_degree}
+use Rattle.ln_stage.specs.Degrees.{any_reaches, largest_degree, listed_degree, listed_degree_from, listed_layers, pairs_degree}
 use Rattle.ln_stage.specs.Kept.{AreFresh, IsStep, high, listed, rows, term_at}
 use Rattle.ln_stage.specs.Tally.{IsOver, IsStoppedBy, Tallied, see_all}
 use Rattle.ln_stage.proofs.Monomials.MonomialLemmas.{vector-small}
@@ -202,11 +202,6 @@ ends-exponent f vs kept p d s = by (d + 1 - 128) where
   by zero = refl
   by (suc k) = steps-none (walk_at (drop 1 vs)) (get_or vs 0 0) (rows (length p) f kept) p k 128 (rows-none (length p) f (get_or vs 0 0) kept s.rising s.inside)
 
--- where no variable remains
-pub leaf-at : (f : Sparse) (kept p : List ℕ) → listed_degree f [] kept p 0 ≡ listed f [] kept p
-unfolding listed listed_degree
-leaf-at f kept p = refl
-
 -- with an empty list of variables nothing is listed where some of the degree remains
 pub leaf-left : (f : Sparse) (kept p : List ℕ) (d : ℕ) → 0 < d → listed_degree f [] kept p d ≡ ([], false)
 unfolding listed_degree
@@ -291,19 +286,6 @@ leaf-is f vs kept p d s e = ap (λ z. walk_at vs z (rows (length p) f kept) p) e
 pub leaf-none : (f : Sparse) (vs kept p : List ℕ) (d : ℕ) → length vs ≡ 0 → 0 < d → listed_degree f vs kept p d ≡ ([], false)
 leaf-none f vs kept p d h l = ap (λ x. listed_degree f x kept p d) (nil vs h) ∙ leaf-left f kept p d l
 
--- a step of the listing is one also with no variables remaining
-pub leaf-step : (f : Sparse) (vs kept p : List ℕ) → IsStep f vs kept p → IsStep f [] kept p
-leaf-step f vs kept p s = record {
-  below = s.below;
-  rising = s.rising;
-  fresh = tt;
-  inside = s.inside;
-  some = s.some;
-  covering = s.covering;
-  none_yet = λ v m. absurd m;
-  small = s.small;
-}
-
 -- the remaining ones are places of terms
 pub inside-high : (f : Sparse) (v e : ℕ) (kept h : List ℕ) → h ≡ high f v e kept → All (λ i. i < length f) kept → All (λ i. i < length f) h
 inside-high f v e kept h eh a = rw eh (All-filter (λ i. nat_le e (exponent v (term_at f i).0)) (λ i. i < length f) kept a)
@@ -378,8 +360,3 @@ module _ (f : Sparse) (vs kept p : List ℕ) (limit d : ℕ) (within : d < limit
 pub layers-end : (f : Sparse) (vs kept p : List ℕ) (limit d : ℕ) → limit ≤ d → listed_layers f vs kept p (limit - d) d ≡ ([], false)
 unfolding listed_layers
 layers-end f vs kept p limit d h = let z : limit - d ≡ 0 = omega (arith, h) in rw z refl
-
--- the beginning of the loop over the degrees: from degree 0 up to the largest, all is listed that there is
-pub layers-begin : (f : Sparse) (vs kept p : List ℕ) (limit : ℕ) → limit ≡ largest_degree f vs kept + 1
-    → listed_layers f vs kept p (limit - 0) 0 ≡ listed_graded f vs kept p
-layers-begin f vs kept p limit e = let z : limit - 0 ≡ limit = omega arith in rw (z, e) refl

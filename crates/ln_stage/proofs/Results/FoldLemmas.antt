@@ -42,14 +42,6 @@ place-nil : (a : List ℕ) → place [] a ≡ 0
 unfolding place
 place-nil a = refl
 
-place-within : (bs : List (List ℕ)) (a : List ℕ) → place bs a ≤ length bs
-unfolding place
-place-within [] a = omega arith
-place-within (b ∷ bs) a = go (same_vector a b) (place-within bs a) where
-  go : (t : Bool) → place bs a ≤ length bs → (if t then 0 else suc (place bs a)) ≤ suc (length bs)
-  go true h = omega arith
-  go false h = omega arith
-
 put-sized : (n : ℕ) (bs : List (List ℕ)) (a : List ℕ) → Sized n bs → length a ≡ n → Sized n (put_last bs a)
 put-sized n [] a s e = (e, tt)
 put-sized n (b ∷ bs) a s e = go (same_vector a b) (put-sized n bs a s.1 e) where
@@ -219,79 +211,6 @@ pub record IsAllSeen (vars : List VarInfo) (f : Sparse) (bs : List (List ℕ)) (
       ≡ t.weight + all_covering (length vars) f (all_seen_behind bs (map (list_of vars f) os))
   pub most : (tallied vars f t os).most ≡ t.most
   pub heavy : (tallied vars f t os).heavy ≡ t.heavy
-
--- what is kept after the lists of several orders is what their vectors by first sight give
-pub orders-seen : (vars : List VarInfo) (f : Sparse) (bs : List (List ℕ)) (t : Tallied) (os : List (List ℕ)) → t.exps ≡ map pairs_of bs
-    → t.list ≡ [] → Sized (length vars) bs → AllSized (length vars) (map (list_of vars f) os) → IsAllSeen vars f bs t os
-unfolding tallied numbers_of
-orders-seen vars f bs t [] e z s a = record {
-  exps = e;
-  lists = λ cs h. refl;
-  within = λ cs h. All-nil (λ l. All (λ i. i < length cs) l);
-  count = omega arith;
-  counted = refl;
-  weight = refl;
-  most = refl;
-  heavy = refl;
-}
-orders-seen vars f bs t (o ∷ os) e z s a =
-    let n : ℕ = length vars in
-    let x : List (List ℕ) = list_of vars f o in
-    let u : Tallied = see_all (length vars) f t (list_of vars f o) in
-    let r : IsSeen (length vars) f bs t (list_of vars f o) (see_all (length vars) f t (list_of vars f o)) =
-    all-seen (length vars) f bs t (list_of vars f o) e s a.0 in
-    let ih : IsAllSeen vars f (seen_behind bs (list_of vars f o)) (next_list (see_all (length vars) f t (list_of vars f o))) os =
-    orders-seen vars f (seen_behind bs (list_of vars f o)) (next_list (see_all (length vars) f t (list_of vars f o))) os r.exps refl
-    (behind-sized (length vars) bs (list_of vars f o) s a.0) a.1 in
-    let list : (see_all (length vars) f t (list_of vars f o)).list ≡ numbers bs (list_of vars f o) = r.list ∙ ap (λ k. k ++ numbers bs (list_of vars f o)) z in
-    record {
-      exps = ih.exps;
-      lists = λ cs h.
-          let k = extends-trans (seen_behind bs (list_of vars f o)) (all_seen_behind (seen_behind bs (list_of vars f o)) (map (list_of vars f) os)) cs
-          (extends-all (seen_behind bs (list_of vars f o)) (map (list_of vars f) os)) h in
-          rw (list, at-numbers bs (list_of vars f o) cs k, ih.lists cs h) refl;
-      within = λ cs h.
-          let k = extends-trans (seen_behind bs (list_of vars f o)) (all_seen_behind (seen_behind bs (list_of vars f o)) (map (list_of vars f) os)) cs
-          (extends-all (seen_behind bs (list_of vars f o)) (map (list_of vars f) os)) h in
-          All-cons (λ l. All (λ i. i < length cs) l) (see_all (length vars) f t (list_of vars f o)).list
-          (numbers_of vars f (next_list (see_all (length vars) f t (list_of vars f o))) os)
-          (rw list (numbers-within bs (list_of vars f o) cs k)) (ih.within cs h);
-      count = omega (arith, ih.count, r.count);
-      counted = omega (arith, ih.counted, ap length list, numbers-length bs (list_of vars f o));
-      weight = omega (arith, ih.weight, r.weight);
-      most = ih.most ∙ r.most;
-      heavy = ih.heavy ∙ r.heavy;
-    }
-
--- over the limits, it stays so
-over-lists : (vars : List VarInfo) (f : Sparse) (t : Tallied) (os : List (List ℕ)) → IsOver t → IsOver (tallied vars f t os)
-unfolding tallied
-over-lists vars f t [] h = h
-over-lists vars f t (o ∷ os) h =
-    over-lists vars f (next_list (see_all (length vars) f t (list_of vars f o))) os (over-more (length vars) f t (list_of vars f o) h)
-
--- where a limit is exceeded after the list of one order, it is exceeded after those of all orders from it on
-pub over-list : (vars : List VarInfo) (f : Sparse) (t : Tallied) (o : List ℕ) (os : List (List ℕ))
-    → IsOver (see_all (length vars) f t (list_of vars f o)) → IsOver (tallied vars f t (o ∷ os))
-unfolding tallied
-over-list vars f t o os h = over-lists vars f (next_list (see_all (length vars) f t (list_of vars f o))) os h
-
--- what is kept after the lists of several orders is what the later lists add to what is kept after the first
-pub tallied-cons : (vars : List VarInfo) (f : Sparse) (t : Tallied) (o : List ℕ) (os : List (List ℕ))
-    → tallied vars f t (o ∷ os) ≡ tallied vars f (next_list (see_all (length vars) f t (list_of vars f o))) os
-unfolding tallied
-tallied-cons vars f t o os = refl
-
--- the numbers in the lists of several orders are those in the first, and then those in the later ones after it
-pub numbers-cons : (vars : List VarInfo) (f : Sparse) (t : Tallied) (o : List ℕ) (os : List (List ℕ)) → numbers_of vars f t (o ∷ os)
-    ≡ (see_all (length vars) f t (list_of vars f o)).list ∷ numbers_of vars f (next_list (see_all (length vars) f t (list_of vars f o))) os
-unfolding numbers_of
-numbers-cons vars f t o os = refl
-
--- after the lists of no orders, what is kept is what was kept before
-pub tallied-nil : (vars : List VarInfo) (f : Sparse) (t : Tallied) → tallied vars f t [] ≡ t
-unfolding tallied
-tallied-nil vars f t = refl
 
 -- the lists of no orders have no numbers
 pub numbers-nil : (vars : List VarInfo) (f : Sparse) (t : Tallied) → numbers_of vars f t [] ≡ []

@@ -9,10 +9,10 @@ use Rattle.ln_tree.specs.declared.shape.VarInfo.{VarInfo}
 use Rattle.ln_order.specs.Orders.{behind, firsts, orders_of, past}
 use Rattle.ln_poly.specs.Sparse.{Sparse}
 use Rattle.ln_stage.specs.Kept.{all_rows, list_of}
-use Rattle.ln_stage.specs.Lists.{all_seen_behind, first_seen, put_last, seen_behind, stage_count}
+use Rattle.ln_stage.specs.Lists.{all_seen_behind, put_last, seen_behind, stage_count}
 use Rattle.ln_order.specs.Prefixes.{joined, prefixes_of}
 use Rattle.ln_stage.specs.SiteWalk.{front_walk, site_walk, site_walks}
-use Rattle.ln_stage.specs.FirstSight.{FirstSightByPrefixes, SegmentsAreFewer, StagesByPrefixes, last_walk, list_along, prefix_walk, shared_count}
+use Rattle.ln_stage.specs.FirstSight.{FirstSightByPrefixes, SegmentsAreFewer, last_walk, list_along, prefix_walk, shared_count}
 use Rattle.ln_stage.proofs.Walks.SiteWalkLemmas.{lists-are-walked-by-prefixes}
 
 -- ---- what was seen
@@ -76,11 +76,6 @@ all-seen : (bs xs : List (List ℕ)) → AllHas (seen_behind bs xs) xs
 unfolding AllHas
 all-seen bs [] = tt
 all-seen bs (x ∷ xs) = (has-behind (put_last bs x) x xs (has-new bs x), all-seen (put_last bs x) xs)
-
-all-join : (bs xs ys : List (List ℕ)) → AllHas bs xs → AllHas bs ys → AllHas bs (xs ++ ys)
-unfolding AllHas
-all-join bs [] ys h k = k
-all-join bs (x ∷ xs) ys h k = (h.0, all-join bs xs ys h.1 k)
 
 behind-known : (bs xs : List (List ℕ)) → AllHas bs xs → seen_behind bs xs ≡ bs
 unfolding AllHas
@@ -283,17 +278,6 @@ pub list-along : (vars : List VarInfo) (f : Sparse) (o : List ℕ) → list_of v
 list-along vars f [] = lists-are-walked-by-prefixes vars f [] ∙ append-nil (front_walk 127 vars (all_rows (length vars) f) []).0
 list-along vars f (s ∷ o) = lists-are-walked-by-prefixes vars f (s ∷ o)
     ∙ ap (λ z. (front_walk 127 vars (all_rows (length vars) f) []).0 ++ z) (sym (walks-along 127 vars (all_rows (length vars) f) [] s o))
-
-maps-same : (F G : List ℕ → List (List ℕ)) (os : List (List ℕ)) → ((o : List ℕ) → F o ≡ G o) → map F os ≡ map G os
-maps-same F G [] e = refl
-maps-same F G (o ∷ os) e = rw (e o, maps-same F G os e) refl
-
--- the stages of a polynomial have the same order of first sight and the same count through prefixes as through orders
-pub stages-by-prefixes : StagesByPrefixes
-stages-by-prefixes k vars f =
-    let q = maps-same (list_of vars f) (list_along (prefix_walk 127 vars (all_rows (length vars) f))) (orders_of k) (list-along vars f) in
-    let r = first-sight-by-prefixes k (prefix_walk 127 vars (all_rows (length vars) f)) in
-    (ap first_seen q ∙ r.0, ap stage_count q ∙ r.1)
 
 -- ---- each segment is in a list
 orders-one : (k : ℕ) → 1 ≤ length (orders_of k)

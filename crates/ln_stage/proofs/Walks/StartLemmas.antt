@@ -18,7 +18,6 @@ use Rattle.ln_tree.proofs.Powers.{vector-length}
 use Rattle.ln_order.specs.Sites.{ranking_of}
 use Rattle.ln_poly.specs.Sparse.{Sparse, AreBelow, AreRising}
 use Rattle.ln_stage.specs.Kept.{AreFresh, IsStep, all_rows, list_of, listed, rows, term_at}
-use Rattle.ln_stage.specs.Tally.{Tallied, see_all}
 
 -- ---- the variables
 fresh-ranked : (n : ℕ) (sites : Sites) (vs : List ℕ) → IsRanked sites vs → ((v : ℕ) → Member vs v → v < n) → AreFresh n vs
@@ -89,11 +88,3 @@ pub list-is : (vars : List VarInfo) (f : Sparse) (o vs kept p : List ℕ) → vs
     → p ≡ zeros (length vars) → (listed f vs kept p).0 ≡ list_of vars f o
 unfolding list_of
 list-is vars f o vs kept p ev ek ep = rw (ev, ek, ep) refl
-
--- what is kept of the listing that begins with all terms and the vector of zeros is what is kept of the order's list
-pub list-seen : (vars : List VarInfo) (f : Sparse) (o vs kept p : List ℕ) (t : Tallied) → vs ≡ ranking_of vars o
-    → kept ≡ range_with_len 0 (length f) → p ≡ zeros (length vars)
-    → see_all (length p) f t (listed f vs kept p).0 ≡ see_all (length vars) f t (list_of vars f o)
-list-seen vars f o vs kept p t ev ek ep =
-    let e : length p ≡ length vars = ap length ep ∙ length-zeros (length vars) in
-    rw (e, list-is vars f o vs kept p ev ek ep) refl

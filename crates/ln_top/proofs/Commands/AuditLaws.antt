@@ -1,5 +1,5 @@
 -- `audit`: what it requires is carried out by a whole text; a trace is agreed or has one first line that is wrong, and where it ends.
-use Rattle.std.proofs.Common.{◌≡◌, ◌≤◌, ℕ, zero, suc, arith, map, List, [], ◌∷◌, length, refl, ap, sym, ◌∙◌, subst, Option, Some, Result, Err}
+use Rattle.std.proofs.Common.{◌≡◌, ◌≤◌, ℕ, zero, suc, arith, map, List, [], ◌∷◌, length, refl, ap, sym, ◌∙◌, subst, Option, Some, Result}
 use Rattle.std.specs.Prelude.{slice_get, slice_index_or}
 use Rattle.std.proofs.lemmas.Option.{none-some, same_Some}
 use Rattle.ln_stage.specs.Sound.{AreSound, IsSound}
@@ -19,8 +19,6 @@ use Rattle.ln_trace.specs.Here.{HasPoly}
 use Rattle.ln_trace.specs.Here as traced
 use Rattle.ln_trace.specs.Judge.{IsAnswer, IsFirstFault}
 use Rattle.ln_trace.specs.Judged.{fault_of}
-use Rattle.ln_trace.specs.Stop.{Stops}
-use Rattle.ln_trace.specs.declared.read.TraceStop.TheVariants.{Form}
 use Rattle.ln_trace.specs.Unread.{AreLeft, IsOpened, Unread}
 use Rattle.ln_trace.proofs.Reading.OneFault.{one_fault}
 use Rattle.ln_trace.proofs.Reading.Whole.{no_text, one_text}
@@ -30,7 +28,6 @@ use Rattle.ln_top.specs.declared.status.End.{End}
 use Rattle.ln_top.specs.declared.status.End.TheVariants.{Done, Invalid}
 use Rattle.ln_top.specs.declared.prepare.Ready.{Ready}
 use Rattle.ln_top.specs.declared.status.Early.{Early}
-use Rattle.ln_top.specs.declared.status.Early.TheVariants.{Memory}
 use Rattle.ln_top.specs.declared.stop.Stop.TheVariants as stop
 use Rattle.ln_top.specs.declared.stop.Why.TheVariants.{Header}
 use Rattle.ln_top.specs.Audit as audit
@@ -39,10 +36,10 @@ use Rattle.ln_top.specs.Audit.{agreed_text, form, puts_it, rule, stops_before, w
 use Rattle.ln_top.specs.Carried as carried
 use Rattle.ln_top.specs.Carried.{CarriesOut, NoPart, PutsText}
 use Rattle.ln_top.specs.Columns.{columns_of, names_of}
-use Rattle.ln_top.specs.Ready.{AreShort, IsFit, StandsFor}
+use Rattle.ln_top.specs.Ready.{IsFit, StandsFor}
 use Rattle.ln_top.specs.Explain.{subject_of}
 use Rattle.ln_top.specs.Run.{IsWrongHeader}
-use Rattle.ln_top.specs.Said.{Count, Said, count, whole}
+use Rattle.ln_top.specs.Said.{Count, Said, whole}
 use Rattle.ln_top.specs.Steps.{Given}
 use Rattle.ln_top.specs.Work.{IsLawful, IsWorkEnd}
 use Rattle.ln_top.specs.Work as kind_of
@@ -217,10 +214,6 @@ pub wrong_carried : {g : Given} {p : PredOf} {names : List (List ℕ)} {records 
 wrong_carried {g = g} {p = p} {names = names} {records = records} {trace = trace} {at = at} {was = was} {now = now} h r s =
     put_carried g Invalid (wrong_text at) (faults_in was now) _ was.shown now.shown (audit.wrong p names records trace at h r) s
 
--- an allocation that fails before anything is written leaves no part
-pub memory_carried : (g : Given) (n : ℕ) (was : Option Shown) → CarriesOut (AuditSaid g) NoPart ⊥ ⊥ (count n n) (Err Memory) was was
-memory_carried g n was = carried.short refl (carried.nothing refl) refl
-
 -- ---- what is judged
 -- the lines of a trace that was opened
 pub opened_judged : (p : PredOf) (records : Records) (trace : List ℕ) (u : Unread) (j : Judged) → IsOpened trace u
@@ -257,14 +250,6 @@ has_trace r g p rows trace records s one e t q =
       texts = t;
       are = sym q;
     }
-
--- the second file is within its limit
-pub second_short : (g : Given) (a b : List ℕ) → g.texts ≡ a ∷ b ∷ [] → AreShort g.texts → length b ≤ 67108864
-second_short g a b e h = (subst AreShort e h).1.0
-
--- a form fault is the first line that is wrong
-pub wrong_form : (p : PredOf) (records : Records) (trace : List ℕ) (at : ℕ) → Stops trace (Form at) → IsAuditOf p records trace (Wrong at)
-wrong_form p records trace at h = form h.0
 
 -- the text that is written
 pub puts_text : (text wanted : List ℕ) (end : End) (puts : Count) (result : Result End Early) (was now : Option Shown) → text ≡ wanted

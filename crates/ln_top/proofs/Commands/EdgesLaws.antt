@@ -354,11 +354,6 @@ no_param args x h i e =
     let t = three_args (map arg_of args) h in
     none-some t.kind (e ∙ ap type_of (first_is args x t.first t.rest t.is i) ∙ t.of)
 
--- a predicate of three sites has an argument
-pub some_arg : (args : List Arg) → is_three (map arg_of args) ≡ true → 0 < length args
-some_arg [] h = absurd (true≢false (sym h))
-some_arg (x ∷ args) h = omega arith
-
 -- a command's one predicate in memory has what the command asked
 pub asked_three : (ps : List Pred) (numbers : List ℕ) (preds : List PredOf) (p : Pred) → AreNumbered (map pred_of ps) numbers preds
     → length numbers ≡ 1 → slice_get ps (slice_index_or numbers 0 0) ≡ Some p → Asks command.Edges preds

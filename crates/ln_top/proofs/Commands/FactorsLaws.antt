@@ -46,11 +46,6 @@ there_before [] ys k x e = absurd (none-some x e)
 there_before (y ∷ xs) ys zero x e = e
 there_before (y ∷ xs) ys (suc k) x e = there_before xs ys k x e
 
--- an appended element is at the place after all others
-pub there_last : {A : Type 0} (xs : List A) (x : A) → slice_get (xs ++ x ∷ []) (length xs) ≡ Some x
-there_last [] x = refl
-there_last (y ∷ xs) x = there_last xs x
-
 every_at : {A : Type 0} (P : A → Type 0) (xs : List A) (k : ℕ) (x : A) → Every P xs → slice_get xs k ≡ Some x → P x
 every_at P [] k x h e = absurd (none-some x e)
 every_at P (y ∷ ys) zero x h e = subst P (some_same y x e) h.0

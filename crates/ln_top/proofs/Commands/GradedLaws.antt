@@ -1,6 +1,6 @@
 -- `graded`: a predicate with few stages by total degree has a program in that order, with its verdicts.
 use Rattle.std.proofs.Common.{◌≡◌, inl, inr, ℕ, ◌≤◌, ◌<◌, List, [], ◌∷◌, length, map, option_map, refl, ap, sym, ◌∙◌, subst, arith}
-use Rattle.std.proofs.Common.{Some, None}
+use Rattle.std.proofs.Common.{Some}
 use Rattle.std.specs.Prelude.{IfSome, slice_get, slice_index_or}
 use Rattle.std.proofs.lemmas.Option.{none-some, same_Some, slice_get-map}
 use Rattle.ln_algebra.specs.Orders.{ByDegree}
@@ -97,19 +97,6 @@ pub first_many : (table : List PredOf) (numbers : List ℕ) (i : ℕ) (preds : L
 first_many table [] i preds e h n f = absurd (none-some i (sym e))
 first_many table (j ∷ js) i [] e h n f = absurd n
 first_many table (j ∷ js) i (p ∷ ps) e h n f = h p (subst (λ k. slice_get table k ≡ Some p) (sym (some_is i j e)) n.0) f
-
--- where there is no number, no predicate is named, and so none with too many stages
-pub few_none : (table : List PredOf) (is : List ℕ) (preds : List PredOf) → None ≡ slice_get is 0 → AreNumbered table is preds → FirstHasFew preds
-few_none table is [] e n = tt
-few_none table [] (p ∷ ps) e n = absurd n
-few_none table (i ∷ is) (p ∷ ps) e n = absurd (none-some i e)
-
--- where there is no number, the objection is to the shape
-pub none_objects : (table : List PredOf) (is : List ℕ) (preds : List PredOf) (bytes : List ℕ) → None ≡ slice_get is 0 → AreNumbered table is preds
-    → why.Shape ≡ objection Graded bytes preds
-none_objects table is [] bytes e n = refl
-none_objects table [] (p ∷ ps) bytes e n = absurd n
-none_objects table (i ∷ is) (p ∷ ps) bytes e n = absurd (none-some i e)
 
 -- the one named predicate has few stages
 pub few_named : (table : List PredOf) (numbers : List ℕ) (preds : List PredOf) → AreNumbered table numbers preds → 1 ≤ length numbers

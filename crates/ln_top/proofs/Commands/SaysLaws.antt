@@ -1,5 +1,5 @@
 -- Proves that the verdict of the machine on a record's row is the one that the record requires.
-use Rattle.std.proofs.Common.{true≢false, ◌≡◌, ℕ, Bool, List, Result, Ok, Err, refl, ap, sym, ◌∙◌, subst}
+use Rattle.std.proofs.Common.{true≢false, ◌≡◌, ℕ, Bool, List, Result, Ok, Err, ap, sym, ◌∙◌, subst}
 use Rattle.std.specs.Prelude.{IsOk}
 use Rattle.ln_algebra.specs.Orders.{Rank}
 use Rattle.ln_tree.specs.declared.shape.VarInfo.{VarInfo}
@@ -33,11 +33,6 @@ said_row rank p fields said right s e = e ∙ by_cases s
     by_cases : {said : Result Verdict RowStop} → Says rank p fields said → is_said said ≡ is_row p fields
     by_cases (due row v read d) = sym (ap is_read read)
     by_cases (refused_ stop read) = sym (ap is_read read)
-
--- what is Ok isn't refused
-pub not_refused : {T E P : Type 0} (r : Result T E) → IsOk r → ((x : T) → r ≡ Ok x → ⊥) → P
-not_refused (Ok x) h n = absurd (n x refl)
-not_refused (Err e) h n = absurd (true≢false (sym h))
 
 -- what is said of a record names a column where the record's fault does
 pub bare_same : (rank : Rank) (p : PredOf) (fields : List (List ℕ)) (said : Result Verdict RowStop) → Says rank p fields said

@@ -4,7 +4,6 @@ use Rattle.std.proofs.Common.{refl, ap, sym, ◌∙◌, arith, Option, Result, O
 use Rattle.std.proofs.Common.{length-append}
 use Rattle.std.proofs.lemmas.List.{drop_more, take_more_set, drop-set-lt, take-set, take_at, drop_at, drop_all, append-nil}
 use Rattle.std.proofs.lemmas.List.{length-take, length-set, get_or-set_same}
-use Rattle.std.proofs.Math.Seq.{take-length}
 use Rattle.std.proofs.Math.Nat.{min-eq_left}
 use Rattle.std.specs.Prelude.{remove}
 use Rattle.ln_base.specs.Outside.{Shown, appended}
@@ -15,7 +14,7 @@ use Rattle.ln_watch.specs.declared.watch.Keep.TheVariants.{Stay, Done}
 use Rattle.ln_watch.specs.Fold.{tally_after, keep_after, watch_text}
 use Rattle.ln_watch.specs.Panel.{State, states_of, state_after, answer, feed, line_of, left_of, said_of, left_after, lines_at}
 use Rattle.ln_watch.specs.Panel.{last_lines, FailsAfter, StopsAt}
-use Rattle.ln_top.proofs.Steps.PutLemmas.{appended_twice, appended_nothing, fails_first, fails_behind}
+use Rattle.ln_top.proofs.Steps.PutLemmas.{appended_twice, fails_first, fails_behind}
 use Rattle.ln_top.proofs.Gathering.Loops.{Streams}
 
 -- the states of one list of watchers followed by another are those of both
@@ -103,17 +102,6 @@ pub record Showing {B : Type 0} (w : Reading B) (d : Display) (from : Bench B) (
   pub puts : now.streams.shown ≡ appended d.port (lines_at d.row d.verdict seen) from.streams.shown
   pub fine : now.streams.faults ≡ from.streams.faults
   pub within : i ≤ length now.items
-
--- no watcher has seen it
-pub starts : {B : Type 0} (w : Reading B) (d : Display) (from : Bench B) → Showing w d from 0 from
-starts w d from = record {
-  seen = [];
-  split = refl;
-  left = refl;
-  puts = sym (appended_nothing d.port from.streams.shown);
-  fine = refl;
-  within = omega arith;
-}
 
 one-left : (row : ℕ) (v : Verdict) (s : State) (k : Keep) → k ≡ answer row v s
     → left_after row v (s ∷ []) ≡ left_of k (state_after row v s)
@@ -218,17 +206,6 @@ stopped {w = w} {d = d} {from = from} {now = now} {i = i} {rest = rest} k s t p 
           ∙ ap (λ q. q ++ states_in w (drop (i + 1) items)) k.left;
       puts = rw (taken-line s t, k.puts) at p;
     }
-
--- all watchers have seen it
-pub shown_all : {B : Type 0} {w : Reading B} {d : Display} {from now : Bench B} {i : ℕ} → Showing w d from i now → length now.items ≤ i
-    → (states_in w now.items ≡ left_after d.row d.verdict (states_in w from.items))
-    × (now.streams.shown ≡ appended d.port (lines_at d.row d.verdict (states_in w from.items)) from.streams.shown)
-shown_all {w = w} {from = from} {now = now} {i = i} k h =
-    let none : drop i now.items ≡ [] = drop_all i now.items h in
-    let end : i ≡ length now.items = omega (arith, k.within, h) in
-    let all : take i now.items ≡ now.items = rw end (take-length now.items) in
-    let same : states_in w from.items ≡ k.seen = k.split ∙ rw none (append-nil k.seen) in
-    (rw (same, ← k.left, all) refl, k.puts ∙ rw same refl)
 
 -- the lines of the watchers before place i are written
 pub record Closing {B : Type 0} (w : Reading B) (port : Port) (items : List B) (i : ℕ) (was now : Streams) : Type 0 where

@@ -1,5 +1,5 @@
 -- Work on records, one after the other: once for all commands that write lines as they come.
-use Rattle.std.proofs.Common.{◌≡◌, ◌≢◌, ℕ, ◌≤◌, length, take, Bool, true, false, ◌&&◌, List, [], ◌∷◌}
+use Rattle.std.proofs.Common.{◌≡◌, ℕ, ◌≤◌, length, take, Bool, true, false, ◌&&◌, List, [], ◌∷◌}
 use Rattle.std.proofs.Common.{◌++◌, refl, ap, sym, ◌∙◌, subst, Option, Some, None, Ok, Err, append_assoc}
 use Rattle.std.specs.Prelude.{IfSome, Result}
 use Rattle.std.proofs.lemmas.List.{append-nil}
@@ -14,7 +14,7 @@ use Rattle.ln_top.proofs.Steps.Chain.{true_false}
 use Rattle.ln_top.proofs.Steps.Carry.{front_of, out_alone}
 use Rattle.ln_top.specs.Lines as l
 use Rattle.ln_top.specs.Lines.{Step, Lines, none, more, all_good, PutsFronts, every, Wrote, wrote, broke, took, tore, left_off}
-use Rattle.ln_top.specs.Lines.{worked, torn, given_up, Empties, held_on, emptied, stuck, Sends, broken, failed, all, cut, short}
+use Rattle.ln_top.specs.Lines.{worked, torn, given_up, held_on, emptied, stuck, broken, failed, all, cut, short}
 use Rattle.ln_top.proofs.Gathering.Loops.{Written, StepTo, LinesTo, and_then}
 use Rattle.ln_top.proofs.Gathering.Loops.{Work, each_good, Streams, faults_in, Stand, Point, Loop, begun, with_held, TakesTo, EmptiesTo}
 use Rattle.ln_top.proofs.Gathering.Loops.{GathersTo, SendsTo, RanTo, PutsTo, PutsAllTo}
@@ -354,35 +354,6 @@ broke_off out err puts was now (broke d p f) = (p, f)
 -- nothing comes last on a stream
 abbrev pub no_last : {S : Type 0} → S → List ℕ
 no_last z = []
-
--- a text was written whole, or cut off: what is held
-pub empties_all : (held : List ℕ) (puts : Count) (was now : Option Shown) → Wrote held [] puts true was now
-    → Empties held [] puts true was now
-empties_all held puts was now w = let p = wrote_all held [] puts was now w in emptied p.0 refl refl p.1
-
--- the write of what was held was cut off
-pub empties_stuck : (held left : List ℕ) (puts : Count) (was now : Option Shown) → Wrote held [] puts false was now
-    → Empties held left puts false was now
-empties_stuck held left puts was now w = let p = broke_off held [] puts was now w in stuck refl p.0 p.1
-
--- nothing was written, and what was held is still held
-pub empties_none : (held : List ℕ) (k : ℕ) (was : Option Shown) → Empties held held (count k k) true was was
-empties_none held k was = held_on refl refl refl refl
-
--- the rest was written after what isn't a failed write
-pub sends_all : (held : List ℕ) (ran : Result Bool Early) (puts : Count) (was now : Option Shown) → ran ≢ Err Write
-    → Wrote held [] puts true was now → Sends held ran ran puts was now
-sends_all held ran puts was now n w = let p = wrote_all held [] puts was now w in l.sent n p.0 refl p.1
-
--- the write of what was held was cut off, after what isn't a failed write
-pub sends_broken : (held : List ℕ) (ran : Result Bool Early) (puts : Count) (was now : Option Shown) → ran ≢ Err Write
-    → Wrote held [] puts false was now → Sends held ran (Err Write) puts was now
-sends_broken held ran puts was now n w = let p = broke_off held [] puts was now w in broken n p.0 refl p.1
-
--- after a failed write nothing is written
-pub sends_none : (held : List ℕ) (ran : Result Bool Early) (k : ℕ) (was : Option Shown) → ran ≡ Err Write
-    → Sends held ran (Err Write) (count k k) was was
-sends_none held ran k was e = failed e refl (sym e) refl
 
 -- ---- records whose bytes are written at once: nothing is held
 all_every : {R : Type 0} (xs : List R) → all_good every xs ≡ true

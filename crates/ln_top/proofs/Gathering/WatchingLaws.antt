@@ -1,6 +1,6 @@
 -- Proves what watchers write for a verdict, and where a write of theirs is cut off.
 use Rattle.std.proofs.Common.{◌≡◌, ℕ, ◌&&◌, List, [], ◌∷◌, ◌++◌, take, refl, ap, sym, ◌∙◌, subst, true}
-use Rattle.std.proofs.Common.{false, Bool, Option, Ok, Err, append_assoc}
+use Rattle.std.proofs.Common.{false, Option, Ok, Err, append_assoc}
 use Rattle.std.specs.Prelude.{Result, ◌==◌, if◌then◌else◌}
 use Rattle.ln_base.specs.Outside.{Shown, appended, counted}
 use Rattle.ln_base.specs.declared.outside.Port.{Port}
@@ -14,11 +14,10 @@ use Rattle.ln_watch.specs.Fold.{signs_after, deciders_after, first_after, is_ful
 use Rattle.ln_watch.specs.Panel.{State, state_after, answer, line_of, left_of, said_of, left_after, lines_at, FailsAfter, StopsAt}
 use Rattle.ln_top.proofs.Gathering.BoxLemmas.{lines-append}
 use Rattle.ln_top.proofs.Steps.PutLemmas.{fails_first, fails_behind}
-use Rattle.ln_top.specs.Said.{Count, count, Rises, IsCalm}
-use Rattle.ln_top.specs.Lines.{Wrote, WroteOn, wrote, broke}
+use Rattle.ln_top.specs.Said.{Count, Rises, IsCalm}
+use Rattle.ln_top.specs.Lines.{WroteOn, wrote, broke}
 use Rattle.ln_top.specs.Watching.{Watching, watching, told_on, left_on, next_lines, next}
 use Rattle.ln_top.proofs.Steps.Carry.{front_of, out_alone, err_alone}
-use Rattle.ln_top.proofs.Gathering.LinesLaws.{wrote_nothing}
 
 -- ---- a step reads the sign and the decider alone
 abbrev tally_by : ℕ → List ℕ → ℕ → Sign → By → List ℕ
@@ -120,27 +119,3 @@ pub show_cut : (row : ℕ) (v : Verdict) (boxes left : List State) (port : Port)
     → Rises puts → StopsAt row v boxes left port was now → WroteOn port (lines_at row v boxes) puts false was now
 show_cut row v boxes left port puts was now p h =
     cut_on port (lines_at row v boxes) puts was now p (stops_short row v boxes left port was now h)
-
--- ---- what is said of a record was shown
--- the watchers' lines that were written to Err for a verdict are those required
-pub shown_lines : (said : Result Verdict RowStop) (v : Verdict) (w : Watching) (row : ℕ) (puts : Count) (all : Bool)
-    (was now : Option Shown) → said ≡ Ok v → row ≡ counted w.seen
-    → WroteOn ErrPort (lines_at row v w.boxes) puts all was now → Wrote [] (next_lines said w) puts all was now
-shown_lines said v w row puts all was now e r h =
-    subst (λ s. Wrote [] (next_lines s w) puts all was now) (sym e) (subst (λ n. Wrote [] (lines_at n v w.boxes) puts all was now) r h)
-
--- the watchers that remain after a verdict was shown are those required
-pub shown_left : (said : Result Verdict RowStop) (v : Verdict) (w : Watching) (row : ℕ) (boxes : List State) → said ≡ Ok v
-    → row ≡ counted w.seen → boxes ≡ left_after row v w.boxes → watching row boxes ≡ next said w
-shown_left said v w row boxes e r h =
-    ap (watching row) h ∙ ap (λ n. watching n (left_after n v w.boxes)) r ∙ ap (λ s. next s w) (sym e)
-
--- for a refused record nothing is written
-pub hidden_lines : (said : Result Verdict RowStop) (stop : RowStop) (w : Watching) (k : ℕ) (was : Option Shown)
-    → said ≡ Err stop → Wrote [] (next_lines said w) (count k k) true was was
-hidden_lines said stop w k was e = subst (λ s. Wrote [] (next_lines s w) (count k k) true was was) (sym e) (wrote_nothing k was was refl)
-
--- after a refused record all watchers remain as they were
-pub hidden_left : (said : Result Verdict RowStop) (stop : RowStop) (w : Watching) (row : ℕ) → said ≡ Err stop
-    → row ≡ counted w.seen → watching row w.boxes ≡ next said w
-hidden_left said stop w row e r = ap (λ n. watching n w.boxes) r ∙ ap (λ s. next s w) (sym e)

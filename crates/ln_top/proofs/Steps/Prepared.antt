@@ -20,7 +20,7 @@ use Rattle.ln_top.specs.Steps.{Outcome, stops, missing, gives, Then, stopped, la
 use Rattle.ln_top.specs.Steps.{found, none, Compiles, Suits, suited, unsuited, Prepares, most_source, most_file}
 use Rattle.ln_top.specs.Carried.{Halts, tells, unread, short}
 use Rattle.ln_top.specs.Ready.{AreNumbered, HasNumbers, IsReady}
-use Rattle.ln_top.proofs.Steps.Chain.{Behind, behind_none, behind_at, behind_more, behind_all}
+use Rattle.ln_top.proofs.Steps.Chain.{Behind, behind_at, behind_more, behind_all}
 use Rattle.ln_top.proofs.Steps.FindLaws.{found_at, none_at, within_at, same_at}
 
 -- what stops the first step stops the chain
@@ -96,10 +96,6 @@ pub record Looking (table : List PredOf) (names left : List (List ℕ)) (numbers
   pub preds : List PredOf
   pub behind : Behind (Finds table) names left preds
   pub numbered : AreNumbered table numbers preds
-
--- the loop in `numbers` begins with no name found
-pub looking_none : (table : List PredOf) (names : List (List ℕ)) → Looking table names names []
-looking_none table names = record { preds = []; behind = behind_none (Finds table) names; numbered = tt }
 
 -- the step of `numbers`: the next name was found, at its number
 pub looking_more : (ps : List Pred) (names left rest : List (List ℕ)) (numbers more : List ℕ) (name : List ℕ) (i : ℕ)

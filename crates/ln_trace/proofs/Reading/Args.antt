@@ -25,16 +25,6 @@ zero_number ws n more e b z m l h f =
     let q : n ≡ m = decimal_injective n m (omega arith) (omega arith) d in
     z (omega arith)
 
--- a word follows
-pub more_words : (ws : List (List ℕ)) (n : ℕ) (more : List (List ℕ)) → ws ≡ decimal n ∷ more → (more ≡ [] → ⊥) → (m : ℕ) → 1 ≤ m
-    → m < 2 ^ 32 → ws ≡ decimal m ∷ [] → ⊥
-more_words ws n more e g m l h f = g (rest (sym e ∙ f))
-
--- a `refused` or `row` line has a number
-pub no_refused : (ws : List (List ℕ)) → ((n : ℕ) → 1 ≤ n → n < 2 ^ 32 → ws ≡ decimal n ∷ [] → ⊥) → NoArgs kind.Refused ws
-no_refused ws f (line.Refused n) h = f n h.range.0 h.range.1 (rest h.words)
-no_refused ws f l h = absurd (let k = h.kind in cc)
-
 -- the same of a `row` line
 pub no_row : (ws : List (List ℕ)) → ((n : ℕ) → 1 ≤ n → n < 2 ^ 32 → ws ≡ decimal n ∷ [] → ⊥) → NoArgs kind.Row ws
 no_row ws f (line.Row n) h = f n h.range.0 h.range.1 (rest h.words)
@@ -49,11 +39,6 @@ pub is_row : (ws : List (List ℕ)) (n : ℕ) → 1 ≤ n → n < 2 ^ 32 → ws 
 is_row ws n l h e = record { kind = refl; words = ap (λ (z : List (List ℕ)). codes "row" ∷ z) e; range = (l, h) }
 
 -- ---- an `at` line
--- it has exponents and a colon
-pub no_exps : (ws : List (List ℕ))
-    → ((ps : List (ℕ × ℕ)) (more : List (List ℕ)) → Each IsExponent ps → ws ≡ map exponent_word ps ++ codes ":" ∷ more → ⊥) → NoArgs kind.At ws
-no_exps ws f (line.At exps z) h = f exps (signed_decimal z ∷ []) h.range.0 (rest h.words)
-no_exps ws f l h = absurd (let k = h.kind in cc)
 
 -- after the colon a value
 pub no_value : (ws : List (List ℕ)) (ps : List (ℕ × ℕ)) (more : List (List ℕ)) → Each IsExponent ps → ws ≡ map exponent_word ps ++ codes ":" ∷ more
@@ -82,10 +67,6 @@ is_at ws ps more us z p e g f r = record {
 }
 
 -- ---- a `sign` line
--- without a word after `sign` there is no `sign` line
-pub no_word : (ws : List (List ℕ)) → ws ≡ [] → NoArgs kind.Sign ws
-no_word ws e (line.Sign t) h = absurd (let q = sym e ∙ rest h.words in cc)
-no_word ws e l h = absurd (let k = h.kind in cc)
 
 -- its word is a sign
 pub no_sign : (ws : List (List ℕ)) (w : List ℕ) (more : List (List ℕ)) → ws ≡ w ∷ more → ((t : Sign) → w ≡ sign_word t → ⊥) → NoArgs kind.Sign ws

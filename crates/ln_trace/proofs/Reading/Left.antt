@@ -189,10 +189,3 @@ gathered_more old u w read more l g t q ls h =
     let p = g ls h in
     let k = t.goes_on p.0 p.2 in
     (k.behind, p.1 ∙ ap (λ x. read ++ x) k.first ∙ sym (append_assoc read (l ∷ []) k.behind) ∙ ap (λ x. x ++ k.behind) (sym q), k.left)
-
--- at the end of the loop in `all_lines` the lines that were read are all
-pub gathered_all : (old u : Unread) (read : List TraceLine) → Gathered old u read → ((ls : List TraceLine) → AreLeft u ls → ls ≡ [])
-    → (ls : List TraceLine) → AreLeft old ls → read ≡ ls
-gathered_all old u read g f ls h =
-    let p = g ls h in
-    sym (p.1 ∙ ap (λ x. read ++ x) (f p.0 p.2) ∙ append-nil read)

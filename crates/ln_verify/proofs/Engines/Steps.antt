@@ -44,12 +44,6 @@ module _ {X K : Type 0} (R : X → K → Type 0) where
       go [] h = absurd h
       go (k ∷ rest) h = record { top = k; rest = rest; is = refl; for_it = h.0; below = h.1 }
 
-  -- or there is none
-  pub none-on : (xs : List X) (ks : List K) → xs ≡ [] → AreFor R (reverse xs) ks → ks ≡ []
-  none-on [] [] e h = refl
-  none-on [] (k ∷ ks) e h = absurd h
-  none-on (x ∷ xs) ks e h = cc
-
   -- where a local in code has a value, something is known of the local, and the value is for that
   pub local-there : (o : Option X) (x : X) (r : Option K) → o ≡ Some x → IsLocal R o r → (k : K) × (r ≡ Some k) × R x k
   local-there None x r e h = cc
@@ -58,12 +52,6 @@ module _ {X K : Type 0} (R : X → K → Type 0) where
     where
       some-value : (y x : X) → Some y ≡ Some x → y ≡ x
       some-value y x e = cc
-
-  -- where a local in code has no value, nothing is known of the local
-  pub local-none : (o : Option X) (r : Option K) → o ≡ None → IsLocal R o r → r ≡ None
-  local-none None None e h = refl
-  local-none None (Some k) e h = absurd h
-  local-none (Some y) r e h = cc
 
   -- numbers whose test of equality is false differ
   differ : (i j : ℕ) → (i == j) ≡ false → i ≢ j
@@ -142,38 +130,17 @@ module _ {B X K : Type 0} (R : X → K → Type 0) (tree : K → Tree) (n : ℕ)
   two-step Minus w b l xs rest more k j q r = ap (λ (z : List K). step e (Sub w) b l z) (q ∙ ap (λ (z : List K). k ∷ z) r)
   two-step Times w b l xs rest more k j q r = ap (λ (z : List K). step e (Mul w) b l z) (q ∙ ap (λ (z : List K). k ∷ z) r)
 
-  -- a sum, a difference or a product leads nowhere on an empty stack
-  pub two-none : (t : Two) (w : Width) (b : B) (l : ℕ → Option K) (xs : List K) → xs ≡ [] → step e (op_of t w) b l xs ≡ None
-  two-none Plus w b l xs q = ap (λ (z : List K). step e (Add w) b l z) q
-  two-none Minus w b l xs q = ap (λ (z : List K). step e (Sub w) b l z) q
-  two-none Times w b l xs q = ap (λ (z : List K). step e (Mul w) b l z) q
-
-  -- a sum, a difference or a product leads nowhere on a stack of one value
-  pub two-one : (t : Two) (w : Width) (b : B) (l : ℕ → Option K) (xs rest : List K) (k : K) → xs ≡ k ∷ rest → rest ≡ [] → step e (op_of t w) b l xs ≡ None
-  two-one Plus w b l xs rest k q r = ap (λ (z : List K). step e (Add w) b l z) (q ∙ ap (λ (z : List K). k ∷ z) r)
-  two-one Minus w b l xs rest k q r = ap (λ (z : List K). step e (Sub w) b l z) (q ∙ ap (λ (z : List K). k ∷ z) r)
-  two-one Times w b l xs rest k q r = ap (λ (z : List K). step e (Mul w) b l z) (q ∙ ap (λ (z : List K). k ∷ z) r)
-
   -- a sum, a difference or a product stores into no local
   pub op-pushes : (t : Two) (w : Width) → stores (op_of t w) ≡ false
   op-pushes Plus w = refl
   op-pushes Minus w = refl
   op-pushes Times w = refl
 
-  -- a step that leads nowhere
-  pub nowhere : (s : State K (ℕ → Option K)) (op : Op) (b : B) (xs : List X) (ls : List (Option X)) → step e op b s.locals s.stack ≡ None
-      → Came R tree n e s op b false xs ls
-  nowhere s op b xs ls g = λ u q. let z : None ≡ Some u = sym g ∙ q.0 in cc
-
   -- ---- locals
   module _ (got : (l : ℕ → Option K) (j : ℕ) → e.got l j ≡ l j) (put : (l : ℕ → Option K) (j : ℕ) (k : K) → e.put l j k ≡ with_local l j k) where
     -- reading a local that has a value pushes what the rules make of that value
     pub get-step : (j : ℕ) (b : B) (l : ℕ → Option K) (xs : List K) (k : K) → l j ≡ Some k → step e (Get j) b l xs ≡ Goes l xs (e.again k b)
     get-step j b l xs k q = ap (λ (o : Option K). next (next o (λ x. e.again x b)) (pushed e l xs)) (got l j ∙ q)
-
-    -- reading a local that has no value leads nowhere
-    pub get-none : (j : ℕ) (b : B) (l : ℕ → Option K) (xs : List K) → l j ≡ None → step e (Get j) b l xs ≡ None
-    get-none j b l xs q = ap (λ (o : Option K). next (next o (λ x. e.again x b)) (pushed e l xs)) (got l j ∙ q)
 
     -- writing a local takes the top value off the stack and puts it into the local
     pub set-came : (s : State K (ℕ → Option K)) (old mid : List X) (before ls : List (Option X)) (j : ℕ) (b : B) (x : X) → old ≡ mid ++ x ∷ []

@@ -13,7 +13,7 @@ use Rattle.ln_algebra.proofs.Expanded.Normal.{same_vector-refl, zero_cases}
 use Rattle.ln_tree.specs.Exps.{IsAbove, IsRising, Pairs, pairs_cmp, same_pairs-ties, vector}
 use Rattle.ln_tree.proofs.Powers.{vector-length}
 use Rattle.ln_poly.specs.Expansion.{IsNormal}
-use Rattle.ln_poly.specs.Sparse.{AreBelow, AreRising, IsFactor, IsPoly, Sparse, coefficient_at}
+use Rattle.ln_poly.specs.Sparse.{AreBelow, AreRising, IsFactor, Sparse, coefficient_at}
 use Rattle.ln_tree.specs.Exps.{pairs_cmp-total}
 use Rattle.ln_stage.specs.Kept.{all_rows}
 use Rattle.ln_stage.proofs.Monomials.MonomialLemmas.{IsTerms, rows-monomials}
@@ -52,10 +52,6 @@ part n t m = if same_vector (vector n t.0) m then t.1 else pos 0
 first-part : (n : ℕ) (t : Pairs × ℤ) (f : Sparse) (m : List ℕ) → coefficient_at n (t ∷ f) m ≡ part n t m +ℤ coefficient_at n f m
 unfolding coefficient_at
 first-part n t f m = refl
-
-none-part : (n : ℕ) (m : List ℕ) → coefficient_at n [] m ≡ pos 0
-unfolding coefficient_at
-none-part n m = refl
 
 own-part : (n : ℕ) (t : Pairs × ℤ) → part n t (vector n t.0) ≡ t.1
 own-part n t = rw (same_vector-refl (vector n t.0)) refl
@@ -126,7 +122,3 @@ pub one-normal : (n : ℕ) (t : Tree) (f g : Sparse) → IsNormal n t f → IsNo
 unfolding coefficient_at
 one-normal n t f g p q =
     same-terms n f g (poly-terms f p.form) p.below (poly-terms g q.form) q.below (λ m h. p.normal.coefficients m h ∙ sym (q.normal.coefficients m h))
-
--- with the same coefficients
-pub one-poly : (n : ℕ) (f g : Sparse) → IsPoly f → AreBelow n f → IsPoly g → AreBelow n g → Agree n f g → f ≡ g
-one-poly n f g p b q c e = same-terms n f g (poly-terms f p) b (poly-terms g q) c e
