@@ -122,98 +122,105 @@ pub at_other : (vars : List VarInfo) (v : ℕ) → v < length vars → starts_si
     → columns (drop v vars) ≡ Variable (var_at vars v) ∷ columns (drop (suc v) vars)
 at_other vars v h e = rw (drop-cons vars v no_var, e) refl
 
+-- from a variable on there are at least as many columns as variables
 behind_at_least : (vars : List VarInfo) (v : ℕ) → length vars ≤ v + length (columns (drop v vars))
 behind_at_least vars v = omega (arith, columns_at_least (drop v vars), length-drop v vars)
 
--- there is a place for the index of a site
-pub site_fits : {vars : List VarInfo} {fields : List (List ℕ)} {index0 value0 : List ℤ} {v site at : ℕ} {index value : List ℤ}
-    → Filled vars fields index0 value0 v site at index value → v < length vars → starts_site (var_at vars v) ≡ true
-    → length (columns vars) ≤ length vars + 5 → site < 5
-site_fits {vars = vars} {v = v} f h e few =
-    let here = ap length (at_site vars v h e) in
-    omega (arith, f.size, f.places, here, behind_at_least vars (suc v), few)
-
+-- two more is one more twice
 two_more : (n : ℕ) → n + 2 ≡ suc (suc n)
 two_more n = omega arith
 
--- the fields of a site and of its first coordinate are there
-pub site_room : {vars : List VarInfo} {fields : List (List ℕ)} {index0 value0 : List ℤ} {v site at : ℕ} {index value : List ℤ}
-    → Filled vars fields index0 value0 v site at index value → v < length vars → starts_site (var_at vars v) ≡ true
-    → length fields ≡ length (columns vars) → at + 1 < length fields
-site_room {vars = vars} {v = v} f h e size = let here = ap length (at_site vars v h e) in omega (arith, f.size, here, size)
+-- ---- this much has been read, and what another column adds
+module _ {vars : List VarInfo} {fields : List (List ℕ)} {index0 value0 : List ℤ} {v site at : ℕ} {index value : List ℤ} where
+  -- there is a place for the index of a site
+  pub site_fits : Filled vars fields index0 value0 v site at index value → v < length vars → starts_site (var_at vars v) ≡ true
+      → length (columns vars) ≤ length vars + 5 → site < 5
+  site_fits f h e few =
+      let here = ap length (at_site vars v h e) in
+      omega (arith, f.size, f.places, here, behind_at_least vars (suc v), few)
 
--- and that of another variable
-pub other_room : {vars : List VarInfo} {fields : List (List ℕ)} {index0 value0 : List ℤ} {v site at : ℕ} {index value : List ℤ}
-    → Filled vars fields index0 value0 v site at index value → v < length vars → starts_site (var_at vars v) ≡ false
-    → length fields ≡ length (columns vars) → at < length fields
-other_room {vars = vars} {v = v} f h e size = let here = ap length (at_other vars v h e) in omega (arith, f.size, here, size)
+  -- the fields of a site and of its first coordinate are there
+  pub site_room : Filled vars fields index0 value0 v site at index value → v < length vars → starts_site (var_at vars v) ≡ true
+      → length fields ≡ length (columns vars) → at + 1 < length fields
+  site_room f h e size = let here = ap length (at_site vars v h e) in omega (arith, f.size, here, size)
 
--- one more site
-pub filled_site : {vars : List VarInfo} {fields : List (List ℕ)} {index0 value0 : List ℤ} {v site at : ℕ} {index value : List ℤ} (z y : ℤ)
-    → Filled vars fields index0 value0 v site at index value → v < length vars → starts_site (var_at vars v) ≡ true
-    → at + 1 < length fields → length vars ≤ 168 → length (columns vars) ≤ length vars + 5
-    → in_column at (number_in (pos 0) (pos (2 ^ 63 - 1)) (get_or fields at [])) ≡ Ok z
-    → in_column (at + 1) (number_in (var_at vars v).lo (var_at vars v).hi (get_or fields (at + 1) [])) ≡ Ok y
-    → Filled vars fields index0 value0 (v + 1) (site + 1) (at + 2) (set index site z) (set value v y)
-filled_site {vars = vars} {fields = fields} {v = v} {site = site} {at = at} {index = index} {value = value} z y f h e room few five p q =
-    let cols = at_site vars v h e in
-    let here = ap length cols in
-    let fits : site < 5 = site_fits f h e five in
-    let in_index : site < length index = omega (arith, f.index_size, fits) in
-    let in_value : v < length value = omega (arith, f.value_size, few, h) in
-    let one : Front (columns vars) fields at (SiteIndex ∷ Variable (var_at vars v) ∷ columns (drop (suc v) vars)) (take site index)
-    (take v value) = rw cols at f.front in
-    let two = front_index (columns vars) fields at _ _ _ z one (omega (arith, room)) p in
-    let q2 : in_column (suc at) (number_in (var_at vars v).lo (var_at vars v).hi (get_or fields (suc at) [])) ≡ Ok y = rw (add-one at) at q in
-    let three = front_value (columns vars) fields (suc at) _ _ _ _ y two (omega (arith, room)) q2 in
-    record {
-      front = rw (take_more_set index site z in_index, take_more_set value v y in_value, two_more at, add-one v) three;
-      size = rw (add-one v) (omega (arith, f.size, here));
-      places = omega (arith, f.places);
-      within = omega (arith, h);
-      index_stays = λ k l. let ne : k ≢ site = omega arith in rw get_or-set_other (f.index_stays k (omega arith));
-      value_stays = λ k l. let ne : k ≢ v = omega arith in rw get_or-set_other (f.value_stays k (omega arith));
-      index_size = length-set index site z ∙ f.index_size;
-      value_size = length-set value v y ∙ f.value_size;
-    }
+  -- and that of another variable
+  pub other_room : Filled vars fields index0 value0 v site at index value → v < length vars → starts_site (var_at vars v) ≡ false
+      → length fields ≡ length (columns vars) → at < length fields
+  other_room f h e size = let here = ap length (at_other vars v h e) in omega (arith, f.size, here, size)
 
--- one more variable that begins no site
-pub filled_other : {vars : List VarInfo} {fields : List (List ℕ)} {index0 value0 : List ℤ} {v site at : ℕ} {index value : List ℤ} (y : ℤ)
-    → Filled vars fields index0 value0 v site at index value → v < length vars → starts_site (var_at vars v) ≡ false
-    → at < length fields → length vars ≤ 168 → in_column at (number_in (var_at vars v).lo (var_at vars v).hi (get_or fields at [])) ≡ Ok y
-    → Filled vars fields index0 value0 (v + 1) site (at + 1) index (set value v y)
-filled_other {vars = vars} {fields = fields} {v = v} {site = site} {at = at} {index = index} {value = value} y f h e room few p =
-    let cols = at_other vars v h e in
-    let here = ap length cols in
-    let in_value : v < length value = omega (arith, f.value_size, few, h) in
-    let one : Front (columns vars) fields at (Variable (var_at vars v) ∷ columns (drop (suc v) vars)) (take site index) (take v value) = rw cols at f.front in
-    let two = front_value (columns vars) fields at _ _ _ _ y one room p in
-    record {
-      front = rw (take_more_set value v y in_value, add-one at, add-one v) two;
-      size = rw (add-one v) (omega (arith, f.size, here));
-      places = omega (arith, f.places);
-      within = omega (arith, h);
-      index_stays = λ k l. f.index_stays k l;
-      value_stays = λ k l. let ne : k ≢ v = omega arith in rw get_or-set_other (f.value_stays k (omega arith));
-      index_size = f.index_size;
-      value_size = length-set value v y ∙ f.value_size;
-    }
+  -- one more site
+  pub filled_site : (z y : ℤ) → Filled vars fields index0 value0 v site at index value → v < length vars → starts_site (var_at vars v) ≡ true
+      → at + 1 < length fields → length vars ≤ 168 → length (columns vars) ≤ length vars + 5
+      → in_column at (number_in (pos 0) (pos (2 ^ 63 - 1)) (get_or fields at [])) ≡ Ok z
+      → in_column (at + 1) (number_in (var_at vars v).lo (var_at vars v).hi (get_or fields (at + 1) [])) ≡ Ok y
+      → Filled vars fields index0 value0 (v + 1) (site + 1) (at + 2) (set index site z) (set value v y)
+  filled_site z y f h e room few five p q =
+      let cols = at_site vars v h e in
+      let here = ap length cols in
+      let fits : site < 5 = site_fits f h e five in
+      let in_index : site < length index = omega (arith, f.index_size, fits) in
+      let in_value : v < length value = omega (arith, f.value_size, few, h) in
+      let one : Front (columns vars) fields at (SiteIndex ∷ Variable (var_at vars v) ∷ columns (drop (suc v) vars)) (take site index)
+      (take v value) = rw cols at f.front in
+      let two = front_index (columns vars) fields at _ _ _ z one (omega (arith, room)) p in
+      let q2 : in_column (suc at) (number_in (var_at vars v).lo (var_at vars v).hi (get_or fields (suc at) [])) ≡ Ok y = rw (add-one at) at q in
+      let three = front_value (columns vars) fields (suc at) _ _ _ _ y two (omega (arith, room)) q2 in
+      record {
+        front = rw (take_more_set index site z in_index, take_more_set value v y in_value, two_more at, add-one v) three;
+        size = rw (add-one v) (omega (arith, f.size, here));
+        places = omega (arith, f.places);
+        within = omega (arith, h);
+        index_stays = λ k l. let ne : k ≢ site = omega arith in rw get_or-set_other (f.index_stays k (omega arith));
+        value_stays = λ k l. let ne : k ≢ v = omega arith in rw get_or-set_other (f.value_stays k (omega arith));
+        index_size = length-set index site z ∙ f.index_size;
+        value_size = length-set value v y ∙ f.value_size;
+      }
 
--- the fault of the value after a site's index
-pub value_fault : {vars : List VarInfo} {fields : List (List ℕ)} {index0 value0 : List ℤ} {v site at : ℕ} {index value : List ℤ} (z : ℤ)
-    (s : RowStop) → Filled vars fields index0 value0 v site at index value → v < length vars → starts_site (var_at vars v) ≡ true
-    → length fields ≡ length (columns vars)
-    → in_column at (number_in (pos 0) (pos (2 ^ 63 - 1)) (get_or fields at [])) ≡ Ok z
-    → in_column (at + 1) (number_in (var_at vars v).lo (var_at vars v).hi (get_or fields (at + 1) [])) ≡ Err s
-    → first_fault 0 (columns vars) fields ≡ Some s
-value_fault {vars = vars} {fields = fields} {v = v} {site = site} {at = at} {index = index} {value = value} z s f h e size p q =
-    let cols = at_site vars v h e in
-    let here = ap length cols in
-    let one : Front (columns vars) fields at (SiteIndex ∷ Variable (var_at vars v) ∷ columns (drop (suc v) vars)) (take site index)
-    (take v value) = rw cols at f.front in
-    let two = front_index (columns vars) fields at _ _ _ z one (omega (arith, f.size, here, size)) p in
-    let q2 : in_column (suc at) (number_in (var_at vars v).lo (var_at vars v).hi (get_or fields (suc at) [])) ≡ Err s = rw (add-one at) at q in
-    front_fault (columns vars) fields (suc at) _ _ _ _ s two (omega (arith, f.size, here, size)) q2
+  -- one more variable that begins no site
+  pub filled_other : (y : ℤ) → Filled vars fields index0 value0 v site at index value → v < length vars → starts_site (var_at vars v) ≡ false
+      → at < length fields → length vars ≤ 168 → in_column at (number_in (var_at vars v).lo (var_at vars v).hi (get_or fields at [])) ≡ Ok y
+      → Filled vars fields index0 value0 (v + 1) site (at + 1) index (set value v y)
+  filled_other y f h e room few p =
+      let cols = at_other vars v h e in
+      let here = ap length cols in
+      let in_value : v < length value = omega (arith, f.value_size, few, h) in
+      let one : Front (columns vars) fields at (Variable (var_at vars v) ∷ columns (drop (suc v) vars)) (take site index) (take v value) = rw cols at f.front in
+      let two = front_value (columns vars) fields at _ _ _ _ y one room p in
+      record {
+        front = rw (take_more_set value v y in_value, add-one at, add-one v) two;
+        size = rw (add-one v) (omega (arith, f.size, here));
+        places = omega (arith, f.places);
+        within = omega (arith, h);
+        index_stays = λ k l. f.index_stays k l;
+        value_stays = λ k l. let ne : k ≢ v = omega arith in rw get_or-set_other (f.value_stays k (omega arith));
+        index_size = f.index_size;
+        value_size = length-set value v y ∙ f.value_size;
+      }
+
+  -- the fault of the value after a site's index
+  pub value_fault : (z : ℤ) (s : RowStop) → Filled vars fields index0 value0 v site at index value → v < length vars → starts_site (var_at vars v) ≡ true
+      → length fields ≡ length (columns vars)
+      → in_column at (number_in (pos 0) (pos (2 ^ 63 - 1)) (get_or fields at [])) ≡ Ok z
+      → in_column (at + 1) (number_in (var_at vars v).lo (var_at vars v).hi (get_or fields (at + 1) [])) ≡ Err s
+      → first_fault 0 (columns vars) fields ≡ Some s
+  value_fault z s f h e size p q =
+      let cols = at_site vars v h e in
+      let here = ap length cols in
+      let one : Front (columns vars) fields at (SiteIndex ∷ Variable (var_at vars v) ∷ columns (drop (suc v) vars)) (take site index)
+      (take v value) = rw cols at f.front in
+      let two = front_index (columns vars) fields at _ _ _ z one (omega (arith, f.size, here, size)) p in
+      let q2 : in_column (suc at) (number_in (var_at vars v).lo (var_at vars v).hi (get_or fields (suc at) [])) ≡ Err s = rw (add-one at) at q in
+      front_fault (columns vars) fields (suc at) _ _ _ _ s two (omega (arith, f.size, here, size)) q2
+
+  -- no more sites have been read than there are
+  sites_below : Filled vars fields index0 value0 v site at index value → site ≤ length (columns vars) - length vars
+  sites_below f = omega (arith, f.size, f.places, behind_at_least vars v)
+
+  -- and one more is there
+  site_below : Filled vars fields index0 value0 v site at index value → v < length vars → starts_site (var_at vars v) ≡ true
+      → site < length (columns vars) - length vars
+  site_below f h e = let here = ap length (at_site vars v h e) in omega (arith, f.size, f.places, here, behind_at_least vars (suc v))
 
 -- after the last variable
 pub filled_all : {vars : List VarInfo} {fields : List (List ℕ)} {index0 value0 : List ℤ} {v site at : ℕ} {r : Row}
@@ -229,34 +236,25 @@ filled_all {vars = vars} {fields = fields} {v = v} {site = site} {at = at} {r = 
       values = rw (← all) (sym (append-nil (take v r.values)) ∙ rw none at f.front.values);
     }
 
--- no more sites have been read than there are
-sites_below : {vars : List VarInfo} {fields : List (List ℕ)} {index0 value0 : List ℤ} {v site at : ℕ} {index value : List ℤ}
-    → Filled vars fields index0 value0 v site at index value → site ≤ length (columns vars) - length vars
-sites_below {vars = vars} {v = v} f = omega (arith, f.size, f.places, behind_at_least vars v)
+-- ---- an old row and a new one, of which this much has been read
+module _ {vars : List VarInfo} {fields : List (List ℕ)} {v site at : ℕ} (old new : Row) where
+  -- so what is past them stays
+  pub filled_stays : Filled vars fields old.index old.values v site at new.index new.values
+      → StaysPast (length (columns vars) - length vars) (length vars) old new
+  filled_stays f = record {
+    index = λ k h. let s = sites_below f in f.index_stays k (omega (arith, s, h));
+    values = λ k h. f.value_stays k (omega (arith, f.within, h));
+  }
 
--- and one more is there
-site_below : {vars : List VarInfo} {fields : List (List ℕ)} {index0 value0 : List ℤ} {v site at : ℕ} {index value : List ℤ}
-    → Filled vars fields index0 value0 v site at index value → v < length vars → starts_site (var_at vars v) ≡ true → site < length (columns vars) - length vars
-site_below {vars = vars} {v = v} f h e = let here = ap length (at_site vars v h e) in omega (arith, f.size, f.places, here, behind_at_least vars (suc v))
-
--- so what is past them stays
-pub filled_stays : {vars : List VarInfo} {fields : List (List ℕ)} {v site at : ℕ} (old new : Row)
-    → Filled vars fields old.index old.values v site at new.index new.values → StaysPast (length (columns vars) - length vars) (length vars) old new
-filled_stays {vars = vars} {v = v} {site = site} old new f = record {
-  index = λ k h. let s = sites_below f in f.index_stays k (omega (arith, s, h));
-  values = λ k h. f.value_stays k (omega (arith, f.within, h));
-}
-
--- also where the index of one more site has been written
-pub index_stays_past : {vars : List VarInfo} {fields : List (List ℕ)} {v site at : ℕ} {index : List ℤ} (old new : Row) (z : ℤ)
-    → Filled vars fields old.index old.values v site at index new.values → v < length vars → starts_site (var_at vars v) ≡ true
-    → new.index ≡ set index site z → StaysPast (length (columns vars) - length vars) (length vars) old new
-index_stays_past {vars = vars} {v = v} {site = site} {index = index} old new z f h e q = record {
-  index = λ k l. let s = site_below f h e in
-      let ne : k ≢ site = omega (arith, s, l) in
-      rw (q, get_or-set_other index site k z (pos 0) ne) (f.index_stays k (omega (arith, s, l)));
-  values = λ k l. f.value_stays k (omega (arith, f.within, l));
-}
+  -- also where the index of one more site has been written
+  pub index_stays_past : {index : List ℤ} (z : ℤ) → Filled vars fields old.index old.values v site at index new.values → v < length vars
+      → starts_site (var_at vars v) ≡ true → new.index ≡ set index site z → StaysPast (length (columns vars) - length vars) (length vars) old new
+  index_stays_past {index = index} z f h e q = record {
+    index = λ k l. let s = site_below f h e in
+        let ne : k ≢ site = omega (arith, s, l) in
+        rw (q, get_or-set_other index site k z (pos 0) ne) (f.index_stays k (omega (arith, s, l)));
+    values = λ k l. f.value_stays k (omega (arith, f.within, l));
+  }
 
 -- of a predicate with this many sites
 pub stays_past : (sites : ℕ) (vars : List VarInfo) (old new : Row) → length (columns vars) ≡ length vars + sites
@@ -303,52 +301,52 @@ begun_none vars fields r = record {
   value_stays = λ k h. refl;
 }
 
--- the columns before one with a fault
-pub begun_filled : {vars : List VarInfo} {fields : List (List ℕ)} {v site at : ℕ} (old new : Row)
-    → Filled vars fields old.index old.values v site at new.index new.values
-    → length vars ≤ 168 → length (columns vars) ≤ length vars + 5 → IsBegun vars fields old new
-begun_filled {vars = vars} {v = v} {site = site} old new f few five =
-    let s = sites_below f in
-    record {
-      sites_read = site;
-      vars_read = v;
-      index = front_of _ _ _ site (length-take-le site new.index (omega (arith, s, five, f.index_size))) f.front.indices;
-      value = front_of _ _ _ v (length-take-le v new.values (omega (arith, f.within, few, f.value_size))) f.front.values;
-      index_stays = f.index_stays;
-      value_stays = f.value_stays;
-    }
-
 take_self : (k : ℕ) (xs : List ℤ) → take k (take k xs) ≡ take k xs
 take_self zero xs = refl
 take_self (suc k) [] = refl
 take_self (suc k) (x ∷ xs) = ap (λ l. x ∷ l) (take_self k xs)
 
--- and the index of one more site, whose first coordinate has the fault
-pub begun_site : {vars : List VarInfo} {fields : List (List ℕ)} {v site at : ℕ} {index : List ℤ} (old new : Row) (z y : ℤ)
-    → Filled vars fields old.index old.values v site at index new.values → v < length vars → starts_site (var_at vars v) ≡ true
-    → length fields ≡ length (columns vars) → length vars ≤ 168 → length (columns vars) ≤ length vars + 5
-    → in_column at (number_in (pos 0) (pos (2 ^ 63 - 1)) (get_or fields at [])) ≡ Ok z → y ≡ z → new.index ≡ set index site y → IsBegun vars fields old new
-begun_site {vars = vars} {fields = fields} {v = v} {site = site} {at = at} {index = index} old new z y f h e size few five p q r =
-    let cols = at_site vars v h e in
-    let here = ap length cols in
-    let fits : site < 5 = site_fits f h e five in
-    let in_index : site < length index = omega (arith, f.index_size, fits) in
-    let one : Front (columns vars) fields at (SiteIndex ∷ Variable (var_at vars v) ∷ columns (drop (suc v) vars)) (take site index)
-    (take v new.values) = rw cols at f.front in
-    let left = Variable (var_at vars v) ∷ columns (drop (suc v) vars) in
-    let two : Front (columns vars) fields (suc at) left (take site index ++ z ∷ []) (take v new.values) =
-    front_index (columns vars) fields at left _ _ z one (omega (arith, f.size, here, size)) p in
-    let front : take (site + 1) new.index ≡ take site index ++ z ∷ [] = rw (r, q) (take_more_set index site z in_index) in
-    let whole : take (site + 1) new.index ++ indices left (drop (suc at) fields) ≡ indices (columns vars) fields = rw front two.indices in
-    let long : length new.index ≡ 5 = rw r (length-set index site y ∙ f.index_size) in
-    record {
-      sites_read = site + 1;
-      vars_read = v;
-      index = front_of _ _ _ (site + 1) (length-take-le (site + 1) new.index (omega (arith, fits, long))) whole;
-      value = front_of _ _ _ v (length-take-le v new.values (omega (arith, f.within, few, f.value_size))) f.front.values;
-      index_stays = λ k l. let ne : k ≢ site = omega arith in rw (r, get_or-set_other index site k y (pos 0) ne) (f.index_stays k (omega (arith, l)));
-      value_stays = f.value_stays;
-    }
+-- ---- a new row for an old one, where a fault stops the reading
+module _ {vars : List VarInfo} {fields : List (List ℕ)} {v site at : ℕ} (old new : Row) where
+  -- the columns before one with a fault
+  pub begun_filled : Filled vars fields old.index old.values v site at new.index new.values
+      → length vars ≤ 168 → length (columns vars) ≤ length vars + 5 → IsBegun vars fields old new
+  begun_filled f few five =
+      let s = sites_below f in
+      record {
+        sites_read = site;
+        vars_read = v;
+        index = front_of _ _ _ site (length-take-le site new.index (omega (arith, s, five, f.index_size))) f.front.indices;
+        value = front_of _ _ _ v (length-take-le v new.values (omega (arith, f.within, few, f.value_size))) f.front.values;
+        index_stays = f.index_stays;
+        value_stays = f.value_stays;
+      }
+
+  -- and the index of one more site, whose first coordinate has the fault
+  pub begun_site : {index : List ℤ} (z y : ℤ) → Filled vars fields old.index old.values v site at index new.values → v < length vars
+      → starts_site (var_at vars v) ≡ true → length fields ≡ length (columns vars) → length vars ≤ 168 → length (columns vars) ≤ length vars + 5
+      → in_column at (number_in (pos 0) (pos (2 ^ 63 - 1)) (get_or fields at [])) ≡ Ok z → y ≡ z → new.index ≡ set index site y → IsBegun vars fields old new
+  begun_site {index = index} z y f h e size few five p q r =
+      let cols = at_site vars v h e in
+      let here = ap length cols in
+      let fits : site < 5 = site_fits f h e five in
+      let in_index : site < length index = omega (arith, f.index_size, fits) in
+      let one : Front (columns vars) fields at (SiteIndex ∷ Variable (var_at vars v) ∷ columns (drop (suc v) vars)) (take site index)
+      (take v new.values) = rw cols at f.front in
+      let left = Variable (var_at vars v) ∷ columns (drop (suc v) vars) in
+      let two : Front (columns vars) fields (suc at) left (take site index ++ z ∷ []) (take v new.values) =
+      front_index (columns vars) fields at left _ _ z one (omega (arith, f.size, here, size)) p in
+      let front : take (site + 1) new.index ≡ take site index ++ z ∷ [] = rw (r, q) (take_more_set index site z in_index) in
+      let whole : take (site + 1) new.index ++ indices left (drop (suc at) fields) ≡ indices (columns vars) fields = rw front two.indices in
+      let long : length new.index ≡ 5 = rw r (length-set index site y ∙ f.index_size) in
+      record {
+        sites_read = site + 1;
+        vars_read = v;
+        index = front_of _ _ _ (site + 1) (length-take-le (site + 1) new.index (omega (arith, fits, long))) whole;
+        value = front_of _ _ _ v (length-take-le v new.values (omega (arith, f.within, few, f.value_size))) f.front.values;
+        index_stays = λ k l. let ne : k ≢ site = omega arith in rw (r, get_or-set_other index site k y (pos 0) ne) (f.index_stays k (omega (arith, l)));
+        value_stays = f.value_stays;
+      }
 
 -- all columns were read, and an index is that of an earlier site
 pub begun_read : (sites : ℕ) (vars : List VarInfo) (fields : List (List ℕ)) (old new : Row) → length (columns vars) ≡ length vars + sites

@@ -54,26 +54,6 @@ reader_begins a b bytes config plain flexible named state failed source changes 
           ∙ same_first (10 ∷ bytes) bytes (past_feed bytes),
     )
 
--- a record was read
-reader_takes : (old new : Reader Source) (fields : List (List ℕ)) → IsReading old → has_failed old ≡ false → has_failed new ≡ false
-    → is_flexible new ≡ is_flexible old → ReadRecord bytes_of old new true fields → took_first new ≡ true
-    → IsReading new × (reader_records old ≡ fields ∷ reader_records new)
-unfolding Reached
-reader_takes old new fields h good good2 flexible r first =
-    let m = rows-more bytes_of old new fields default_config (reader_state old) h.bytes h.bytes [] h.config h.known (refl, refl) r in
-    let p : Read = m.2.0 in
-    let next : next_record default_config (reader_state old) [] [] h.bytes ≡ Some p = m.2.1 in
-    let same : fields ≡ p.0 = m.2.2 in
-    let state : p.1 ≡ reader_state new = m.2.3.0 in
-    let rest : p.2 ≡ m.0 = m.2.3.1 in (
-      record { config = r.2 ∙ h.config; trim = r.3 ∙ h.trim; flexible = flexible ∙ h.flexible; ready = inl first; bytes = m.0; known = m.1 },
-      records_known old h.bytes good h.known ∙ next_gives (reader_state old) h.bytes p next
-          ∙ ap (λ (s : State). p.0 ∷ records_from default_config (length p.2 + 1) s p.2) state
-          ∙ ap (λ (xs : List ℕ). p.0 ∷ records_from default_config (length xs + 1) (reader_state new) xs) rest
-          ∙ ap (λ (fs : List (List ℕ)). fs ∷ records_from default_config (length m.0 + 1) (reader_state new) m.0) (sym same)
-          ∙ ap (λ (rs : Records). fields ∷ rs) (sym (records_known new m.0 good2 m.1)),
-    )
-
 -- there was none, and the bytes are still known
 known_after : (a : Option Read) (xs : List ℕ) (k : Option (List ℕ)) (c : Config) (s t : State) (found : Bool) (fields : List (List ℕ))
     → ReadsNext c s (Some xs) k found fields t → (ys : List ℕ) × (k ≡ Some ys)
@@ -93,43 +73,64 @@ take_min fields most = by (cases_lt most (length fields)) where
       let m : length fields ≤ min (length fields) most = omega (arith, h) in
       take_all (min (length fields) most) fields m ∙ sym (take_all most fields h)
 
--- what a read without an error does
-pub reader_steps : (most : ℕ) (old new : Reader Source) (found : Bool) (fields kept : List (List ℕ)) (count : ℕ) → MayRead old
-    → (has_failed old ≡ true → found ≡ false) → has_failed new ≡ has_failed old → is_flexible new ≡ is_flexible old
-    → (reader_trim old ≡ trim.None → Ready old → ReadRecord bytes_of old new found fields) → (reader_trim old ≡ trim.None → took_first new ≡ true)
-    → kept ≡ take count fields → count ≡ min (length fields) most → length fields < 2 ^ 64
-    → MayRead new × TakesWithin most found (reader_records old) (reader_records new) kept
-reader_steps most old new found fields kept count may failed goes flexible reads first cut few small = by_failed (has_failed old) refl where
-  step : Bool → Type 0
-  step b = MayRead new × TakesWithin most b (reader_records old) (reader_records new) kept
-
-  first_fields : kept ≡ take most fields
-  first_fields = cut ∙ ap (λ (n : ℕ). take n fields) few ∙ take_min fields most
-
-  by_found : (b : Bool) → IsReading old → has_failed old ≡ false → ReadRecord bytes_of old new b fields → step b
-  by_found true h good r =
-      let t = reader_takes old new fields h good (goes ∙ good) flexible r (first h.trim) in
-      (λ f. t.0, record { fields = fields; next = t.1; first = first_fields; few = small })
-  by_found false h good r =
-      let k = known_after (next_record default_config (reader_state old) [] [] h.bytes) h.bytes (pending_of (bytes_of (reader_source new)) new)
-      (reader_config old) (reader_state old) (reader_state new) false fields (rw h.known at r.0) in (
-        λ f. record {
-          config = r.2 ∙ h.config;
-          trim = r.3 ∙ h.trim;
-          flexible = flexible ∙ h.flexible;
-          ready = inl (first h.trim);
-          bytes = k.0;
-          known = rw r.1 k.1;
-        },
-        records_known old h.bytes good h.known
-            ∙ next_none (reader_state old) h.bytes (rows-end bytes_of old new fields default_config h.bytes h.config h.known r),
+-- ---- an old reader and a new one, after a read that gave these fields
+module _ (old new : Reader Source) (fields : List (List ℕ)) (flexible : is_flexible new ≡ is_flexible old) where
+  -- a record was read
+  reader_takes : IsReading old → has_failed old ≡ false → has_failed new ≡ false → ReadRecord bytes_of old new true fields → took_first new ≡ true
+      → IsReading new × (reader_records old ≡ fields ∷ reader_records new)
+  unfolding Reached
+  reader_takes h good good2 r first =
+      let m = rows-more bytes_of old new fields default_config (reader_state old) h.bytes h.bytes [] h.config h.known (refl, refl) r in
+      let p : Read = m.2.0 in
+      let next : next_record default_config (reader_state old) [] [] h.bytes ≡ Some p = m.2.1 in
+      let same : fields ≡ p.0 = m.2.2 in
+      let state : p.1 ≡ reader_state new = m.2.3.0 in
+      let rest : p.2 ≡ m.0 = m.2.3.1 in (
+        record { config = r.2 ∙ h.config; trim = r.3 ∙ h.trim; flexible = flexible ∙ h.flexible; ready = inl first; bytes = m.0; known = m.1 },
+        records_known old h.bytes good h.known ∙ next_gives (reader_state old) h.bytes p next
+            ∙ ap (λ (s : State). p.0 ∷ records_from default_config (length p.2 + 1) s p.2) state
+            ∙ ap (λ (xs : List ℕ). p.0 ∷ records_from default_config (length xs + 1) (reader_state new) xs) rest
+            ∙ ap (λ (fs : List (List ℕ)). fs ∷ records_from default_config (length m.0 + 1) (reader_state new) m.0) (sym same)
+            ∙ ap (λ (rs : Records). fields ∷ rs) (sym (records_known new m.0 good2 m.1)),
       )
 
-  by_failed : (b : Bool) → has_failed old ≡ b → step found
-  by_failed true e =
-      let none : found ≡ false = failed e in
-      subst step (sym none) (
-        λ f. absurd (true≢false (sym (goes ∙ e) ∙ f)),
-        ap (λ (b : Bool). cond b [] (records_from default_config (length (reader_bytes old) + 1) (reader_state old) (reader_bytes old))) e,
-      )
-  by_failed false e = let h = may e in by_found found h e (reads h.trim h.ready)
+  -- what a read without an error does
+  pub reader_steps : (most : ℕ) (found : Bool) (kept : List (List ℕ)) (count : ℕ) → MayRead old
+      → (has_failed old ≡ true → found ≡ false) → has_failed new ≡ has_failed old
+      → (reader_trim old ≡ trim.None → Ready old → ReadRecord bytes_of old new found fields) → (reader_trim old ≡ trim.None → took_first new ≡ true)
+      → kept ≡ take count fields → count ≡ min (length fields) most → length fields < 2 ^ 64
+      → MayRead new × TakesWithin most found (reader_records old) (reader_records new) kept
+  reader_steps most found kept count may failed goes reads first cut few small = by_failed (has_failed old) refl where
+    step : Bool → Type 0
+    step b = MayRead new × TakesWithin most b (reader_records old) (reader_records new) kept
+
+    first_fields : kept ≡ take most fields
+    first_fields = cut ∙ ap (λ (n : ℕ). take n fields) few ∙ take_min fields most
+
+    by_found : (b : Bool) → IsReading old → has_failed old ≡ false → ReadRecord bytes_of old new b fields → step b
+    by_found true h good r =
+        let t = reader_takes h good (goes ∙ good) r (first h.trim) in
+        (λ f. t.0, record { fields = fields; next = t.1; first = first_fields; few = small })
+    by_found false h good r =
+        let k = known_after (next_record default_config (reader_state old) [] [] h.bytes) h.bytes (pending_of (bytes_of (reader_source new)) new)
+        (reader_config old) (reader_state old) (reader_state new) false fields (rw h.known at r.0) in (
+          λ f. record {
+            config = r.2 ∙ h.config;
+            trim = r.3 ∙ h.trim;
+            flexible = flexible ∙ h.flexible;
+            ready = inl (first h.trim);
+            bytes = k.0;
+            known = rw r.1 k.1;
+          },
+          records_known old h.bytes good h.known
+              ∙ next_none (reader_state old) h.bytes (rows-end bytes_of old new fields default_config h.bytes h.config h.known r),
+        )
+
+    by_failed : (b : Bool) → has_failed old ≡ b → step found
+    by_failed true e =
+        let none : found ≡ false = failed e in
+        subst step (sym none) (
+          λ f. absurd (true≢false (sym (goes ∙ e) ∙ f)),
+          ap (λ (b : Bool). cond b [] (records_from default_config (length (reader_bytes old) + 1) (reader_state old) (reader_bytes old))) e,
+        )
+    by_failed false e = let h = may e in by_found found h e (reads h.trim h.ready)

@@ -65,29 +65,29 @@ pub no_bytes : (xs : List ℕ) → (length xs == 0) ≡ true → xs ≡ []
 no_bytes [] h = refl
 no_bytes (x ∷ xs) h = absurd (omega (arith, eqb-true (length (x ∷ xs)) 0 h))
 
--- no bytes but line ends remain
-pub left_ends : (old : Records) (o : Option Records) (rest text : List ℕ) → left_of rest o ≡ old → o ≡ None
-    → first_of rest ≡ first_of text → text ≡ [] → old ≡ []
-left_ends old o rest text view none same e = sym view ∙ ap (left_of rest) none ∙ none_records rest (same ∙ ap first_of e ∙ first_none)
+-- ---- no record had a quote yet: what remains is in rest, and in text, which is rest after its line ends
+module _ (old : Records) (o : Option Records) (rest text : List ℕ) (view : left_of rest o ≡ old) (none : o ≡ None)
+    (same : first_of rest ≡ first_of text) where
+  -- no bytes but line ends remain
+  pub left_ends : text ≡ [] → old ≡ []
+  left_ends e = sym view ∙ ap (left_of rest) none ∙ none_records rest (same ∙ ap first_of e ∙ first_none)
 
--- a record without quotes is taken
-pub left_takes : (most : ℕ) (old : Records) (o : Option Records) (rest text more : List ℕ) (kept : List (List ℕ)) → left_of rest o ≡ old
-    → o ≡ None → first_of rest ≡ first_of text → length text + 1 < 2 ^ 64
-    → (all : List (List ℕ)) × Gives text all more × (kept ≡ take most all) → TakesFirst most old (left_of more o) kept
-left_takes most old o rest text more kept view none same small t = record {
-  fields = t.0;
-  next = sym view ∙ ap (left_of rest) none ∙ gives_records rest t.0 more (gives_past rest text t.0 more same t.1)
-      ∙ ap (λ (p : Option Records). t.0 ∷ left_of more p) (sym none);
-  first = t.2;
-  few = let few = few_fields text t.0 more t.1 in omega (arith, few, small);
-}
+  -- a record without quotes is taken
+  pub left_takes : (most : ℕ) (more : List ℕ) (kept : List (List ℕ)) → length text + 1 < 2 ^ 64
+      → (all : List (List ℕ)) × Gives text all more × (kept ≡ take most all) → TakesFirst most old (left_of more o) kept
+  left_takes most more kept small t = record {
+    fields = t.0;
+    next = sym view ∙ ap (left_of rest) none ∙ gives_records rest t.0 more (gives_past rest text t.0 more same t.1)
+        ∙ ap (λ (p : Option Records). t.0 ∷ left_of more p) (sym none);
+    first = t.2;
+    few = let few = few_fields text t.0 more t.1 in omega (arith, few, small);
+  }
 
--- csv's own reader takes the next record
-pub left_reads : (most : ℕ) (found : Bool) (old quoted new : Records) (o : Option Records) (rest text : List ℕ) (kept : List (List ℕ))
-    → left_of rest o ≡ old → o ≡ None → first_of rest ≡ first_of text → quoted ≡ records_of text
-    → TakesWithin most found quoted new kept → TakesWithin most found old new kept
-left_reads most found old quoted new o rest text kept view none same q t =
-    subst (λ (rs : Records). TakesWithin most found rs new kept) (q ∙ sym (same_first rest text same) ∙ ap (left_of rest) (sym none) ∙ view) t
+  -- csv's own reader takes the next record
+  pub left_reads : (most : ℕ) (found : Bool) (quoted new : Records) (kept : List (List ℕ)) → quoted ≡ records_of text
+      → TakesWithin most found quoted new kept → TakesWithin most found old new kept
+  left_reads most found quoted new kept q t =
+      subst (λ (rs : Records). TakesWithin most found rs new kept) (q ∙ sym (same_first rest text same) ∙ ap (left_of rest) (sym none) ∙ view) t
 
 -- what a read of some fields takes
 pub takes_none : (most : ℕ) (found : Bool) (old new : Records) (kept : List (List ℕ)) → TakesWithin most found old new kept → found ≡ false → old ≡ []

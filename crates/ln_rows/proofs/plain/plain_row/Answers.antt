@@ -25,12 +25,12 @@ vars-preserved c =
           let fit : SFits w64 w.in_ok-z.z = search rules in
           let fit2 : SFits w64 w.in_ok-y.y = search rules in
           rw (w.into-is, w.rest-is, w.site-is, to_z-of_z fit, to_z-of_z fit2)
-          (reading_site _ _ _ _ _ c.vars.invariant c.vars-test.true
+          (reading_site c.vars.invariant c.vars-test.true _ _ _ _ _
           (sym w.if-starts_site.ensures) c.requires.few_vars c.requires.few_sites refl w.in_ok-z.ensures w.in_ok-y.ensures)
       | else-starts_site+in_ok-y-2 w ↦
           let fit : SFits w64 w.in_ok-y-2.y = search rules in
           rw (w.into-is, w.rest-is, w.site-is, to_z-of_z fit)
-          (reading_other _ _ _ c.vars.invariant c.vars-test.true (sym w.if-starts_site.ensures) c.requires.few_vars refl w.in_ok-y-2.ensures)
+          (reading_other c.vars.invariant c.vars-test.true _ _ _ (sym w.if-starts_site.ensures) c.requires.few_vars refl w.in_ok-y-2.ensures)
     ]
 
 pub returns : goal.returns

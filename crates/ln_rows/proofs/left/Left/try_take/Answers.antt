@@ -9,7 +9,7 @@ returns-then-is_empty c =
 pub returns-in-Some-2 : goal.returns-in-Some-2
 returns-in-Some-2 c =
     let small : length c.past_ends-text.result.now + 1 < 2 ^ 64 = search rules in
-    left_takes _ _ _ _ _ _ _ c.self.view_is c.in_default.is c.past_ends-text.ensures small (rw c.in-Some-2.is at c.in_ok-rest.ensures)
+    left_takes _ _ _ _ c.self.view_is c.in_default.is c.past_ends-text.ensures _ _ _ small (rw c.in-Some-2.is at c.in_ok-rest.ensures)
 
 pub returns : goal.returns
-returns c = left_reads _ _ _ _ _ _ _ _ _ c.self.view_is c.in_default.is c.past_ends-text.ensures c.in_ok-quoted.ensures c.in_ok-found.ensures
+returns c = left_reads _ _ _ _ c.self.view_is c.in_default.is c.past_ends-text.ensures _ _ _ _ _ c.in_ok-quoted.ensures c.in_ok-found.ensures
