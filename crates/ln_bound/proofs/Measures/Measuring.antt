@@ -13,7 +13,7 @@ use Rattle.ln_interval.specs.Range.{IsOrdered, Range}
 use Rattle.ln_bound.specs.declared.measure.Measure.{Measure}
 use Rattle.ln_bound.specs.declared.weigh.BoundStop.{BoundStop}
 use Rattle.ln_bound.specs.Light.{AreLight}
-use Rattle.ln_bound.specs.Loads.{loaded, loaded_lets, loaded_pred, measured, measured_lets, node_measures, nodes_by, ranges_of_lets, sizes_of_lets}
+use Rattle.ln_bound.specs.Loads.{loaded, loaded_lets, measured, measured_lets, node_measures, nodes_by, ranges_of_lets, sizes_of_lets}
 use Rattle.ln_bound.specs.Measures.{range_in, seen, size_in}
 use Rattle.ln_bound.specs.Ranges.{range_over, ranges, size_over}
 use Rattle.ln_bound.specs.Stop.{StopsWeighing}
@@ -35,45 +35,40 @@ pub record LetsMeasured (vars : List VarInfo) (whole rest : List Formula) (done 
   pub same_ranges : ranges_of_lets vars (map range_in done) rest ≡ ranges_of_lets vars [] whole
   pub same_sizes : sizes_of_lets vars (map size_in done) rest ≡ sizes_of_lets vars [] whole
 
--- the beginning of the loop in `weigh_lets`: no let is measured
-pub lets_begin : (vars : List VarInfo) (whole : List Formula) (all : List Measure) → all ≡ [] → LetsMeasured vars whole whole [] all
-lets_begin vars whole all e =
-    record { front = []; stands = refl; light = tt; before = []; follows = refl; nodes = ap (map seen) e; same_ranges = refl; same_sizes = refl }
+-- ---- the loop in `weigh_lets`
+module _ (vars : List VarInfo) (whole : List Formula) where
+  -- the beginning of the loop in `weigh_lets`: no let is measured
+  pub lets_begin : (all : List Measure) → all ≡ [] → LetsMeasured vars whole whole [] all
+  lets_begin all e =
+      record { front = []; stands = refl; light = tt; before = []; follows = refl; nodes = ap (map seen) e; same_ranges = refl; same_sizes = refl }
 
--- the step of the loop in `weigh_lets`: one more let is measured
-pub lets_more : (vars : List VarInfo) (whole rest : List Formula) (f : Formula) (done all more after : List Measure)
-    → LetsMeasured vars whole (f ∷ rest) done all → AreLight (loaded vars (map range_in done) (map size_in done) f)
-    → map seen more ≡ map seen all ++ node_measures (measured vars (map range_in done) (map size_in done) f)
-    → map range_in after ≡ map range_in done ++ range_over (ranges vars) (map range_in done) (tree vars f) ∷ []
-    → map size_in after ≡ map size_in done ++ size_over (map size_in done) (tree vars f) ∷ []
-    → LetsMeasured vars whole rest after more
-lets_more vars whole rest f done all more after h l m a b = record {
-  front = h.front ++ loaded vars (map range_in done) (map size_in done) f;
-  stands = h.stands ∙ rw (a, b, append_assoc) refl;
-  light = light_both h.front (loaded vars (map range_in done) (map size_in done) f) h.light l;
-  before = h.before ++ measured vars (map range_in done) (map size_in done) f;
-  follows = h.follows ∙ rw (a, b, append_assoc) refl;
-  nodes = m ∙ rw (h.nodes, map-append) refl;
-  same_ranges = rw a h.same_ranges;
-  same_sizes = rw b h.same_sizes;
-}
+  -- the step of the loop in `weigh_lets`: one more let is measured
+  pub lets_more : (rest : List Formula) (f : Formula) (done all more after : List Measure)
+      → LetsMeasured vars whole (f ∷ rest) done all → AreLight (loaded vars (map range_in done) (map size_in done) f)
+      → map seen more ≡ map seen all ++ node_measures (measured vars (map range_in done) (map size_in done) f)
+      → map range_in after ≡ map range_in done ++ range_over (ranges vars) (map range_in done) (tree vars f) ∷ []
+      → map size_in after ≡ map size_in done ++ size_over (map size_in done) (tree vars f) ∷ []
+      → LetsMeasured vars whole rest after more
+  lets_more rest f done all more after h l m a b = record {
+    front = h.front ++ loaded vars (map range_in done) (map size_in done) f;
+    stands = h.stands ∙ rw (a, b, append_assoc) refl;
+    light = light_both h.front (loaded vars (map range_in done) (map size_in done) f) h.light l;
+    before = h.before ++ measured vars (map range_in done) (map size_in done) f;
+    follows = h.follows ∙ rw (a, b, append_assoc) refl;
+    nodes = m ∙ rw (h.nodes, map-append) refl;
+    same_ranges = rw a h.same_ranges;
+    same_sizes = rw b h.same_sizes;
+  }
 
--- the end of the loop in `weigh_lets` at a failure: what stops the weighing of the next let stops that of all lets
-pub lets_stop : (vars : List VarInfo) (whole rest : List Formula) (f : Formula) (done all : List Measure) (s : BoundStop)
-    → LetsMeasured vars whole (f ∷ rest) done all → StopsWeighing (loaded vars (map range_in done) (map size_in done) f) s
-    → StopsWeighing (loaded_lets vars [] [] whole) s
-lets_stop vars whole rest f done all s h e = rw h.stands (stop_behind h.front (loaded vars (map range_in done) (map size_in done) f ++ _) s
-    h.light (stop_before (loaded vars (map range_in done) (map size_in done) f) _ s e))
+  -- the end of the loop in `weigh_lets` at a failure: what stops the weighing of the next let stops that of all lets
+  pub lets_stop : (rest : List Formula) (f : Formula) (done all : List Measure) (s : BoundStop)
+      → LetsMeasured vars whole (f ∷ rest) done all → StopsWeighing (loaded vars (map range_in done) (map size_in done) f) s
+      → StopsWeighing (loaded_lets vars [] [] whole) s
+  lets_stop rest f done all s h e = rw h.stands (stop_behind h.front (loaded vars (map range_in done) (map size_in done) f ++ _) s
+      h.light (stop_before (loaded vars (map range_in done) (map size_in done) f) _ s e))
 
--- ---- the predicate
--- the first node whose weight is too large may be in the root
-pub pred_stops : (vars v : List VarInfo) (lets ls : List Formula) (root : Formula) (ps : List Range) (ss : List ℕ) (s : BoundStop)
-    → v ≡ vars → ls ≡ lets → ps ≡ ranges_of_lets v [] ls → ss ≡ sizes_of_lets v [] ls → AreLight (loaded_lets v [] [] ls)
-    → StopsWeighing (loaded v ps ss root) s → StopsWeighing (loaded_pred vars lets root) s
-pred_stops vars v lets ls root ps ss s ev el ep es a h =
-    let g : StopsWeighing (loaded v (ranges_of_lets v [] ls) (sizes_of_lets v [] ls) root) s = rw (ep, es) at h in
-    rw (← ev, ← el) (stop_behind (loaded_lets v [] [] ls) (loaded v (ranges_of_lets v [] ls) (sizes_of_lets v [] ls) root) s a g)
-
+-- ---- the nodes of a formula
+-- nodes that end with one have a measure
 ends : (xs : List (Span × Seen)) (at : Span) (w : Seen) → 0 < length (node_measures (xs ++ (at, w) ∷ []))
 ends [] at w = omega arith
 ends (x ∷ xs) at w = omega arith

@@ -61,83 +61,85 @@ least_in p q w e o m s = (rw e o, rw s (least_fits (magnitude p) m))
 wider_in : (p q : Range) (v w : Width) → p ≡ q → IsOrdered q → magnitude p ≤ most → w ≡ wider v (least (magnitude p)) → IsIn p w
 wider_in p q v w e o m s = (rw e o, rw s (wider_fits v (magnitude p) m))
 
--- an exact node is in order where variables and lets are
-pub exact_ordered : (vars : List VarInfo) (lets : List Typed) → ((v : ℕ) → IsOrdered (ranges vars v))
-    → ((j : ℕ) (u : Typed) → slice_get lets j ≡ Some u → IsOrdered (pair u)) → (t : Typed) → IsExact vars lets t → IsOrdered (pair t)
-exact_ordered vars lets h l (TNum c p w) x = let e : p ≡ point c = x.0 in rw e (omega (arith, ints))
-exact_ordered vars lets h l (TInput v p w) x = let e : p ≡ ranges vars v = x.0 in rw e (h v)
-exact_ordered vars lets h l (TLet j p w) x = by_let (slice_get lets j) refl x
-  where
-    by_let : (o : Option Typed) → slice_get lets j ≡ o → IsOfLet o p w → IsOrdered p
-    by_let None q y = absurd y
-    by_let (Some u) q y = let e : p ≡ pair u = y.0 in rw e (l j u q)
-exact_ordered vars lets h l (TNeg t p w) x =
-    let e : p ≡ opposite (pair t) = x.1 in
-    let i = opposite_ordered (pair t) (exact_ordered vars lets h l t x.0) in
-    rw e i
-exact_ordered vars lets h l (TTwo k s t p w) x =
-    let e : p ≡ range_of k (pair s) (pair t) = x.2 in
-    let i = two_ordered k (pair s) (pair t) (exact_ordered vars lets h l s x.0) (exact_ordered vars lets h l t x.1) in
-    rw e i
-exact_ordered vars lets h l (TPow t n p w) x = let e : p ≡ power (pair t) n = x.1 in let i = power_ordered (pair t) n in rw e i
-
+-- a range that is another is as small
 small : (p q : Range) → p ≡ q → magnitude q ≤ most → magnitude p ≤ most
 small p q e l = rw e l
 
+-- the node of a let whose range is in order
 let_sound : (o : Option Typed) (p : Range) (w : Width) → ((u : Typed) → o ≡ Some u → IsOrdered (pair u)) → IsOfLet o p w
     → magnitude p ≤ most → CoversLet o p w × IsIn p w
 let_sound None p w l h m = absurd h
 let_sound (Some u) p w l h m =
     ((same_covers p (pair u) h.0, rw h.1 (left_no_wider (width u) (least (magnitude p)))), wider_in p (pair u) (width u) w h.0 (l u refl) m h.1)
 
--- an operation on two exact nodes
-exact_two : (vars : List VarInfo) (lets : List Typed) → ((v : ℕ) → IsOrdered (ranges vars v))
-    → ((j : ℕ) (u : Typed) → slice_get lets j ≡ Some u → IsOrdered (pair u)) → (k : Two) (s t : Typed) (p : Range) (w : Width)
-    → IsExact vars lets (TTwo k s t p w) → SoundNodes vars lets s → SoundNodes vars lets t → magnitude p ≤ most → SoundNodes vars lets (TTwo k s t p w)
-exact_two vars lets h l k s t p w x a b m =
-    let o = exact_ordered vars lets h l s x.0 in
-    let n = exact_ordered vars lets h l t x.1 in (
-      a,
-      b,
-      same_covers p (range_of k (pair s) (pair t)) x.2,
-      wider_in p (range_of k (pair s) (pair t)) (wider (width s) (width t)) w x.2 (two_ordered k (pair s) (pair t) o n) m x.3,
-      rw x.3 (first_no_wider (width s) (width t) (least (magnitude p))),
-      rw x.3 (second_no_wider (width s) (width t) (least (magnitude p))),
-    )
+-- ---- the ranges of variables and of lets are in order
+module _ (vars : List VarInfo) (lets : List Typed) (h : (v : ℕ) → IsOrdered (ranges vars v))
+    (l : (j : ℕ) (u : Typed) → slice_get lets j ≡ Some u → IsOrdered (pair u)) where
+  -- an exact node is in order where variables and lets are
+  pub exact_ordered : (t : Typed) → IsExact vars lets t → IsOrdered (pair t)
+  exact_ordered (TNum c p w) x = let e : p ≡ point c = x.0 in rw e (omega (arith, ints))
+  exact_ordered (TInput v p w) x = let e : p ≡ ranges vars v = x.0 in rw e (h v)
+  exact_ordered (TLet j p w) x = by_let (slice_get lets j) refl x
+    where
+      by_let : (o : Option Typed) → slice_get lets j ≡ o → IsOfLet o p w → IsOrdered p
+      by_let None q y = absurd y
+      by_let (Some u) q y = let e : p ≡ pair u = y.0 in rw e (l j u q)
+  exact_ordered (TNeg t p w) x =
+      let e : p ≡ opposite (pair t) = x.1 in
+      let i = opposite_ordered (pair t) (exact_ordered t x.0) in
+      rw e i
+  exact_ordered (TTwo k s t p w) x =
+      let e : p ≡ range_of k (pair s) (pair t) = x.2 in
+      let i = two_ordered k (pair s) (pair t) (exact_ordered s x.0) (exact_ordered t x.1) in
+      rw e i
+  exact_ordered (TPow t n p w) x = let e : p ≡ power (pair t) n = x.1 in let i = power_ordered (pair t) n in rw e i
 
--- exact nodes are sound where the ranges are within 2^127 - 1
-pub exact_nodes : (vars : List VarInfo) (lets : List Typed) → ((v : ℕ) → IsOrdered (ranges vars v))
-    → ((j : ℕ) (u : Typed) → slice_get lets j ≡ Some u → IsOrdered (pair u)) → (t : Typed) → InputsBelow (length vars) (untyped t)
-    → IsExact vars lets t → HaveRange vars (map pair lets) (untyped t) → SoundNodes vars lets t
-exact_nodes vars lets h l (TNum c p w) f x r =
-    (let e : p ≡ point c = x.0 in rw e (number_held c), least_in p (point c) w x.0 (omega (arith, ints)) (small p (point c) x.0 r) x.1)
-exact_nodes vars lets h l (TInput v p w) f x r =
-    (f, same_covers p (ranges vars v) x.0, least_in p (ranges vars v) w x.0 (h v) (small p (ranges vars v) x.0 r) x.1)
-exact_nodes vars lets h l (TLet j p w) f x r = let_sound (slice_get lets j) p w (λ u e. l j u e) x (small p _ (of_let lets j (slice_get lets j) p w refl x) r)
-exact_nodes vars lets h l (TNeg t p w) f x r =
-    let m = small p _ (exact_range vars lets (TNeg t p w) x) r.1 in
-    let o = exact_ordered vars lets h l t x.0 in (
-      exact_nodes vars lets h l t f x.0 r.0,
-      same_covers p (opposite (pair t)) x.1,
-      wider_in p (opposite (pair t)) (width t) w x.1 (opposite_ordered (pair t) o) m x.2,
-      rw x.2 (left_no_wider (width t) (least (magnitude p))),
-    )
-exact_nodes vars lets h l (TTwo Plus s t p w) f x r =
-    exact_two vars lets h l Plus s t p w x (exact_nodes vars lets h l s f.0 x.0 r.0) (exact_nodes vars lets h l t f.1 x.1 r.1)
-    (small p _ (exact_range vars lets (TTwo Plus s t p w) x) r.2)
-exact_nodes vars lets h l (TTwo Minus s t p w) f x r =
-    exact_two vars lets h l Minus s t p w x (exact_nodes vars lets h l s f.0 x.0 r.0) (exact_nodes vars lets h l t f.1 x.1 r.1)
-    (small p _ (exact_range vars lets (TTwo Minus s t p w) x) r.2)
-exact_nodes vars lets h l (TTwo Times s t p w) f x r =
-    exact_two vars lets h l Times s t p w x (exact_nodes vars lets h l s f.0 x.0 r.0) (exact_nodes vars lets h l t f.1 x.1 r.1)
-    (small p _ (exact_range vars lets (TTwo Times s t p w) x) r.2)
-exact_nodes vars lets h l (TPow t n p w) f x r =
-    let m = small p _ (exact_range vars lets (TPow t n p w) x) r.1 in (
-      exact_nodes vars lets h l t f x.0 r.0,
-      same_covers p (power (pair t) n) x.1,
-      wider_in p (power (pair t) n) (width t) w x.1 (power_ordered (pair t) n) m x.2,
-      rw x.2 (left_no_wider (width t) (least (magnitude p))),
-    )
+  -- an operation on two exact nodes
+  exact_two : (k : Two) (s t : Typed) (p : Range) (w : Width)
+      → IsExact vars lets (TTwo k s t p w) → SoundNodes vars lets s → SoundNodes vars lets t → magnitude p ≤ most → SoundNodes vars lets (TTwo k s t p w)
+  exact_two k s t p w x a b m =
+      let o = exact_ordered s x.0 in
+      let n = exact_ordered t x.1 in (
+        a,
+        b,
+        same_covers p (range_of k (pair s) (pair t)) x.2,
+        wider_in p (range_of k (pair s) (pair t)) (wider (width s) (width t)) w x.2 (two_ordered k (pair s) (pair t) o n) m x.3,
+        rw x.3 (first_no_wider (width s) (width t) (least (magnitude p))),
+        rw x.3 (second_no_wider (width s) (width t) (least (magnitude p))),
+      )
+
+  -- exact nodes are sound where the ranges are within 2^127 - 1
+  pub exact_nodes : (t : Typed) → InputsBelow (length vars) (untyped t)
+      → IsExact vars lets t → HaveRange vars (map pair lets) (untyped t) → SoundNodes vars lets t
+  exact_nodes (TNum c p w) f x r =
+      (let e : p ≡ point c = x.0 in rw e (number_held c), least_in p (point c) w x.0 (omega (arith, ints)) (small p (point c) x.0 r) x.1)
+  exact_nodes (TInput v p w) f x r =
+      (f, same_covers p (ranges vars v) x.0, least_in p (ranges vars v) w x.0 (h v) (small p (ranges vars v) x.0 r) x.1)
+  exact_nodes (TLet j p w) f x r = let_sound (slice_get lets j) p w (λ u e. l j u e) x (small p _ (of_let lets j (slice_get lets j) p w refl x) r)
+  exact_nodes (TNeg t p w) f x r =
+      let m = small p _ (exact_range vars lets (TNeg t p w) x) r.1 in
+      let o = exact_ordered t x.0 in (
+        exact_nodes t f x.0 r.0,
+        same_covers p (opposite (pair t)) x.1,
+        wider_in p (opposite (pair t)) (width t) w x.1 (opposite_ordered (pair t) o) m x.2,
+        rw x.2 (left_no_wider (width t) (least (magnitude p))),
+      )
+  exact_nodes (TTwo Plus s t p w) f x r =
+      exact_two Plus s t p w x (exact_nodes s f.0 x.0 r.0) (exact_nodes t f.1 x.1 r.1)
+      (small p _ (exact_range vars lets (TTwo Plus s t p w) x) r.2)
+  exact_nodes (TTwo Minus s t p w) f x r =
+      exact_two Minus s t p w x (exact_nodes s f.0 x.0 r.0) (exact_nodes t f.1 x.1 r.1)
+      (small p _ (exact_range vars lets (TTwo Minus s t p w) x) r.2)
+  exact_nodes (TTwo Times s t p w) f x r =
+      exact_two Times s t p w x (exact_nodes s f.0 x.0 r.0) (exact_nodes t f.1 x.1 r.1)
+      (small p _ (exact_range vars lets (TTwo Times s t p w) x) r.2)
+  exact_nodes (TPow t n p w) f x r =
+      let m = small p _ (exact_range vars lets (TPow t n p w) x) r.1 in (
+        exact_nodes t f x.0 r.0,
+        same_covers p (power (pair t) n) x.1,
+        wider_in p (power (pair t) n) (width t) w x.1 (power_ordered (pair t) n) m x.2,
+        rw x.2 (left_no_wider (width t) (least (magnitude p))),
+      )
 
 -- the inputs of a fit tree are variables
 pub inputs_below : (n k : ℕ) (e : Tree) → is_fit n k e ≡ true → InputsBelow n e
@@ -235,10 +237,16 @@ two_range vars lets Plus e f s t r p q h g = let a = exact_range vars lets s h i
 two_range vars lets Minus e f s t r p q h g = let a = exact_range vars lets s h in let b = exact_range vars lets t g in rw (a, b, p, q) r.2
 two_range vars lets Times e f s t r p q h g = let a = exact_range vars lets s h in let b = exact_range vars lets t g in rw (a, b, p, q) r.2
 
--- an operation on two trees has the expression of the operation on theirs
-pub two_untyped : (k j : Two) (s t r : Typed) (p : Range) (w : Width) (e f g : Tree) → j ≡ k → r ≡ TTwo j s t p w → untyped s ≡ e
-    → untyped t ≡ f → g ≡ two_of k e f → untyped r ≡ g
-two_untyped k j s t r p w e f g i h a b q = ap untyped h ∙ rw (i, a, b, q) refl
+-- ---- an operation on two trees with these expressions
+module _ (k j : Two) (s t : Typed) (e f : Tree) where
+  -- its expression
+  untyped_two : (p : Range) (w : Width) → j ≡ k → untyped s ≡ e → untyped t ≡ f → untyped (TTwo j s t p w) ≡ two_of k e f
+  untyped_two p w i a b = rw (i, a, b) refl
+
+  -- an operation on two trees has the expression of the operation on theirs
+  pub two_untyped : (r : Typed) (p : Range) (w : Width) (g : Tree) → j ≡ k → r ≡ TTwo j s t p w → untyped s ≡ e → untyped t ≡ f → g ≡ two_of k e f
+      → untyped r ≡ g
+  two_untyped r p w g i h a b q = ap untyped h ∙ (untyped_two p w i a b ∙ sym q)
 
 -- the range of a power of an exact tree is within the limit where its node's is
 pub power_range : (vars : List VarInfo) (lets : List Typed) (e : Tree) (n : ℕ) (t : Typed) → HaveRange vars (map pair lets) (Pow e n)

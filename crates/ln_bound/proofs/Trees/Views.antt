@@ -43,53 +43,41 @@ pair_typed t = pair_here t.op (range t.pair) t.width
 pub width_typed : (t : Fitted) → width (typed t) ≡ t.width
 width_typed t = width_here t.op (range t.pair) t.width
 
--- the node of an operation on two
-pub two_made : (k m : Two) (x y : Fitted) (s t : Typed) (p : Range) (w u l : Width) → k ≡ m → s ≡ typed x → t ≡ typed y
-    → p ≡ range_of k (range x.pair) (range y.pair) → w ≡ wider u l → u ≡ wider x.width y.width → l ≡ least (magnitude p)
-    → TTwo m s t p w ≡ TTwo k (typed x) (typed y) (range_of k (pair (typed x)) (pair (typed y)))
-    (wider (wider (width (typed x)) (width (typed y))) (least (magnitude (range_of k (pair (typed x)) (pair (typed y))))))
-two_made k m x y s t p w u l ek es et ep ew eu el =
-    let px = pair_typed x in
-    let py = pair_typed y in
-    let wx = width_typed x in
-    let wy = width_typed y in
-    same k m (typed x) (typed y) s t p w (range x.pair) (range y.pair) x.width y.width ek es et ep (ew ∙ ap₂ wider eu el) px py wx wy
-  where
-    same : (k m : Two) (a b s t : Typed) (p : Range) (w : Width) (q r : Range) (v z : Width) → k ≡ m → s ≡ a → t ≡ b → p ≡ range_of k q r
-        → w ≡ wider (wider v z) (least (magnitude p)) → pair a ≡ q → pair b ≡ r → width a ≡ v → width b ≡ z
-        → TTwo m s t p w ≡ TTwo k a b (range_of k (pair a) (pair b)) (wider (wider (width a) (width b)) (least (magnitude (range_of k (pair a) (pair b)))))
-    same k m a b s t p w q r v z ek es et ep ew px py wx wy =
-        let e : p ≡ range_of k (pair a) (pair b) = ep ∙ ap₂ (range_of k) (sym px) (sym py) in
-        let f : w ≡ wider (wider (width a) (width b)) (least (magnitude p)) = ew ∙ ap₂ (λ c d. wider (wider c d) (least (magnitude p))) (sym wx) (sym wy) in
-        rw (← ek, es, et, f, e) refl
+-- ---- an operation on two nodes, with its range p and its width w
+module _ (k : Two) (x y : Fitted) (p : Range) (w u l : Width) where
+  -- its range, from those of the operands' trees
+  two_pair : p ≡ range_of k (range x.pair) (range y.pair) → p ≡ range_of k (pair (typed x)) (pair (typed y))
+  two_pair ep = ep ∙ ap₂ (range_of k) (sym (pair_typed x)) (sym (pair_typed y))
+
+  -- its width, from those of the operands' trees
+  two_width : w ≡ wider u l → u ≡ wider x.width y.width → l ≡ least (magnitude p)
+      → w ≡ wider (wider (width (typed x)) (width (typed y))) (least (magnitude p))
+  two_width ew eu el = ew ∙ ap₂ wider (eu ∙ ap₂ wider (sym (width_typed x)) (sym (width_typed y))) el
+
+  -- the node of an operation on two
+  pub two_made : (m : Two) (s t : Typed) → k ≡ m → s ≡ typed x → t ≡ typed y → p ≡ range_of k (range x.pair) (range y.pair) → w ≡ wider u l
+      → u ≡ wider x.width y.width → l ≡ least (magnitude p)
+      → TTwo m s t p w ≡ TTwo k (typed x) (typed y) (range_of k (pair (typed x)) (pair (typed y)))
+      (wider (wider (width (typed x)) (width (typed y))) (least (magnitude (range_of k (pair (typed x)) (pair (typed y))))))
+  two_made m s t ek es et ep ew eu el = rw (← ek, es, et, two_width ew eu el, two_pair ep) refl
 
 -- the node of an opposite
 pub opposite_made : (x : Fitted) (s : Typed) (p : Range) (w l : Width) → s ≡ typed x → p ≡ opposite (range x.pair) → w ≡ wider x.width l
     → l ≡ least (magnitude p)
     → TNeg s p w ≡ TNeg (typed x) (opposite (pair (typed x))) (wider (width (typed x)) (least (magnitude (opposite (pair (typed x))))))
-opposite_made x s p w l es ep ew el = same (typed x) s p w (range x.pair) x.width l es ep ew el (pair_typed x) (width_typed x)
-  where
-    same : (a s : Typed) (p : Range) (w : Width) (q : Range) (v l : Width) → s ≡ a → p ≡ opposite q → w ≡ wider v l
-        → l ≡ least (magnitude p) → pair a ≡ q → width a ≡ v
-        → TNeg s p w ≡ TNeg a (opposite (pair a)) (wider (width a) (least (magnitude (opposite (pair a)))))
-    same a s p w q v l es ep ew el pa wa =
-        let e : p ≡ opposite (pair a) = ep ∙ ap opposite (sym pa) in
-        let f : w ≡ wider (width a) (least (magnitude p)) = ew ∙ ap₂ wider (sym wa) el in
-        rw (es, f, e) refl
+opposite_made x s p w l es ep ew el =
+    let e : p ≡ opposite (pair (typed x)) = ep ∙ ap opposite (sym (pair_typed x)) in
+    let f : w ≡ wider (width (typed x)) (least (magnitude p)) = ew ∙ ap₂ wider (sym (width_typed x)) el in
+    rw (es, f, e) refl
 
 -- the node of a power
 pub power_made : (x : Fitted) (n : ℕ) (s : Typed) (p : Range) (w l : Width) → s ≡ typed x → p ≡ power (range x.pair) n → w ≡ wider x.width l
     → l ≡ least (magnitude p)
     → TPow s n p w ≡ TPow (typed x) n (power (pair (typed x)) n) (wider (width (typed x)) (least (magnitude (power (pair (typed x)) n))))
-power_made x n s p w l es ep ew el = same (typed x) s p w (range x.pair) x.width l es ep ew el (pair_typed x) (width_typed x)
-  where
-    same : (a s : Typed) (p : Range) (w : Width) (q : Range) (v l : Width) → s ≡ a → p ≡ power q n → w ≡ wider v l → l ≡ least (magnitude p)
-        → pair a ≡ q → width a ≡ v
-        → TPow s n p w ≡ TPow a n (power (pair a) n) (wider (width a) (least (magnitude (power (pair a) n))))
-    same a s p w q v l es ep ew el pa wa =
-        let e : p ≡ power (pair a) n = ep ∙ ap (λ (r : Range). power r n) (sym pa) in
-        let f : w ≡ wider (width a) (least (magnitude p)) = ew ∙ ap₂ wider (sym wa) el in
-        rw (es, f, e) refl
+power_made x n s p w l es ep ew el =
+    let e : p ≡ power (pair (typed x)) n = ep ∙ ap (λ (r : Range). power r n) (sym (pair_typed x)) in
+    let f : w ≡ wider (width (typed x)) (least (magnitude p)) = ew ∙ ap₂ wider (sym (width_typed x)) el in
+    rw (es, f, e) refl
 
 -- the tree of let number j
 pub let_typed : (lets : List Fitted) (j : ℕ) (d : Fitted) → j < length lets → slice_get (map typed lets) j ≡ Some (typed (get_or lets j d))

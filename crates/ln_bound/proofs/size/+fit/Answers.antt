@@ -56,7 +56,7 @@ returns-in_ok-y-in-Add-clause-tree t c =
     let o = are_operands c.args.vars.now (map pair (map typed c.args.lets.now)) (length c.args.vars.now) (length c.args.lets.now) t k at
     (formula c.args.e.now) x y q c.decreases c.requires.fit c.requires.small in
     IfOk-weaker c.two.result _ _ (λ r z. two_untyped k c.kind_of.result (typed c.in_ok-x-in-Add.x) (typed c.in_ok-y-in-Add.y)
-    (typed r) _ _ _ _ _ c.kind_of.ensures z c.in_ok-x-in-Add.ensures.tree c.in_ok-y-in-Add.ensures.tree o.form) c.two.ensures
+    _ _ (typed r) _ _ _ c.kind_of.ensures z c.in_ok-x-in-Add.ensures.tree c.in_ok-y-in-Add.ensures.tree o.form) c.two.ensures
 
 pub raised-requires : goal.raised-requires
 raised-requires t c =

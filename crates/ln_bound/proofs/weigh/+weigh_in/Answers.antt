@@ -114,8 +114,8 @@ returns-in_ok-a-in-Neg t c =
     let x = formula c.deref.result.now in
     let q : formula c.args.e.now ≡ FNeg c.args.e.now.at x = rw c.deref.ensures (ap (node_formula c.args.e.now.at) c.in-Neg.is) in
     weighed_as c.args.vars.now c.args.lets.now (formula c.args.e.now) _ _ _ _ q
-    (opposite_weighed c.args.vars.now c.args.lets.now x c.args.e.now.at c.in_ok-a-in-Neg.a c.opposite_of.result c.args.all.now c.weigh_in.new.all
-    c.put-in-Neg.new.all c.put-in-Neg.result c.in_ok-a-in-Neg.ensures c.opposite_of.ensures c.put-in-Neg.ensures.ok c.put-in-Neg.ensures.heavy)
+    (opposite_weighed c.args.vars.now c.args.lets.now x c.in_ok-a-in-Neg.a c.args.all.now c.weigh_in.new.all c.in_ok-a-in-Neg.ensures c.args.e.now.at
+    c.opposite_of.result c.put-in-Neg.new.all c.put-in-Neg.result c.opposite_of.ensures c.put-in-Neg.ensures.ok c.put-in-Neg.ensures.heavy)
 
 pub returns-in_ok-b-in-Add : goal.returns-in_ok-b-in-Add
 returns-in_ok-b-in-Add t c =
@@ -126,14 +126,14 @@ returns-in_ok-b-in-Add t c =
     let q : formula c.args.e.now ≡ formula_of k at x y = rw (c.deref-in-Add.ensures, c.deref-in-Add-2.ensures)
     (operands at c.args.e.now.node _ _ _ (formula c.in-Add.x.value) (formula c.in-Add.y.value) c.in-Add.is refl refl refl) in
     let o = rw c.kind_of.ensures at c.two_of.ensures in
-    weighed_as c.args.vars.now c.args.lets.now (formula c.args.e.now) _ _ _ _ q (two_weighed c.args.vars.now c.args.lets.now k x y at
-    c.in_ok-a-in-Add.a c.in_ok-b-in-Add.b c.two_of.result c.args.all.now c.weigh_in-in-Add.new.all c.weigh_in-in-Add-2.new.all c.put-in-Add.new.all
-    c.put-in-Add.result c.in_ok-a-in-Add.ensures c.in_ok-b-in-Add.ensures o c.put-in-Add.ensures.ok c.put-in-Add.ensures.heavy)
+    weighed_as c.args.vars.now c.args.lets.now (formula c.args.e.now) _ _ _ _ q (two_weighed c.args.vars.now c.args.lets.now x y
+    c.in_ok-a-in-Add.a c.in_ok-b-in-Add.b c.args.all.now c.weigh_in-in-Add.new.all c.weigh_in-in-Add-2.new.all c.in_ok-a-in-Add.ensures
+    c.in_ok-b-in-Add.ensures k at c.two_of.result c.put-in-Add.new.all c.put-in-Add.result o c.put-in-Add.ensures.ok c.put-in-Add.ensures.heavy)
 
 pub returns-in_ok-a-in-Pow : goal.returns-in_ok-a-in-Pow
 returns-in_ok-a-in-Pow t c =
     let x = formula c.deref-in-Pow.result.now in
     let q : formula c.args.e.now ≡ FPow c.args.e.now.at x c.in-Pow.n = rw c.deref-in-Pow.ensures (ap (node_formula c.args.e.now.at) c.in-Pow.is) in
     weighed_as c.args.vars.now c.args.lets.now (formula c.args.e.now) _ _ _ _ q
-    (power_weighed c.args.vars.now c.args.lets.now x c.in-Pow.n c.args.e.now.at c.in_ok-a-in-Pow.a c.power_of.result c.args.all.now c.weigh_in-in-Pow.new.all
-    c.put-in-Pow.new.all c.put-in-Pow.result c.in_ok-a-in-Pow.ensures c.power_of.ensures c.put-in-Pow.ensures.ok c.put-in-Pow.ensures.heavy)
+    (power_weighed c.args.vars.now c.args.lets.now x c.in_ok-a-in-Pow.a c.args.all.now c.weigh_in-in-Pow.new.all c.in_ok-a-in-Pow.ensures c.in-Pow.n
+    c.args.e.now.at c.power_of.result c.put-in-Pow.new.all c.put-in-Pow.result c.power_of.ensures c.put-in-Pow.ensures.ok c.put-in-Pow.ensures.heavy)

@@ -3,8 +3,8 @@ use Rattle.std.proofs.lemmas.Result.{err_from_is_err_and}
 use Rattle.ln_tree.specs.Formula.{formula}
 use Rattle.ln_bound.specs.Loads.{measure_of, measured, node_measures}
 use Rattle.ln_bound.specs.Measures.{range_in, seen, size_in}
-use Rattle.ln_bound.proofs.Measures.Measuring.{ordered, pred_stops, some_behind, some_measured, some_seen}
-use Rattle.ln_bound.proofs.Measures.Nodes.{lets_stop_pred, pred_light, pred_nodes}
+use Rattle.ln_bound.proofs.Measures.Measuring.{ordered, some_behind, some_measured, some_seen}
+use Rattle.ln_bound.proofs.Measures.Nodes.{lets_stop_pred, pred_light, pred_nodes, pred_stops}
 use Rattle.ln_bound.proofs.weigh.weigh.Goals as goal
 
 pub weigh_lets-requires-clause-ordered : goal.weigh_lets-requires-clause-ordered
