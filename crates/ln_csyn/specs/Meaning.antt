@@ -46,11 +46,6 @@ abbrev pub is_wide : CType → Bool
 is_wide Int128 = true
 is_wide t = false
 
--- the type is `int`
-abbrev pub is_int : CType → Bool
-is_int Int = true
-is_int t = false
-
 -- ---- counts
 
 -- how many operations were done in `__int128`, and how many calls
