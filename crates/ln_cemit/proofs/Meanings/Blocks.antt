@@ -41,10 +41,11 @@ hidden t x = record { name = x; kind = t; number = None }
 abbrev pub shown : CType → List ℕ → ℤ → Seen
 shown t x z = record { name = x; kind = t; number = Some z }
 
--- a declaration, and what is after it
-declared : (s : Scene) (ds : List Seen) (t : CType) (x : List ℕ) (e : Expr) (rest : Body) (z : ℤ) (k j : Counts) (o : Outcome) → is_same t t ≡ true
-    → value_of s (hidden t x ∷ ds) e k ≡ Gives t z j → runs s (shown t x z ∷ ds) rest j ≡ o → runs s ds (c.Decl 2 t x e rest) k ≡ o
-declared s ds t x e rest z k j o h v r = rw (v, h) r
+module _ (s : Scene) (ds : List Seen) where
+  -- a declaration, and what is after it
+  declared : (t : CType) (x : List ℕ) (e : Expr) (rest : Body) (z : ℤ) (k j : Counts) (o : Outcome) → is_same t t ≡ true
+      → value_of s (hidden t x ∷ ds) e k ≡ Gives t z j → runs s (shown t x z ∷ ds) rest j ≡ o → runs s ds (c.Decl 2 t x e rest) k ≡ o
+  declared t x e rest z k j o h v r = rw (v, h) r
 
 -- ---- quotients by a power of 2
 
@@ -191,139 +192,132 @@ module _ (name : ℕ → List ℕ) (top : ℕ) (differ : AreNames name top) wher
   Goes s ds n t go k o = (d : Seen) (ss : List Slot) (ls : ℕ → Option Slot) → Stack (d ∷ ds) (suc n) ss t.stack
       → Locals (d ∷ ds) (suc n) ls t.locals → runs s (d ∷ ds) (go ss ls) k ≡ o
 
-  -- a value that is pushed
-  push_is : (s : Scene) (ds : List Seen) (n : ℕ) (w : Width) (e : Expr) (z : ℤ) (ss : List Slot) (ls : ℕ → Option Slot) (xs : List Sized)
-      (lx : ℕ → Option Sized) (x : Sized) (t : State Sized (ℕ → Option Sized)) (go : Rest) (k j : Counts) (o : Outcome)
-      → sized w z ≡ Some x → (unsigned_abs z ≤ limit w → value_of s (hidden (type_of w) (name n) ∷ ds) e k ≡ Gives (type_of w) z j)
-      → pushed (checked s.values) lx xs x ≡ Some t → Stack ds n ss xs → Locals ds n ls lx → n < top → Goes s ds n t go j o
-      → runs s ds (pushing name n w e ss ls go) k ≡ o
-  push_is s ds n w e z ss ls xs lx x t go k j o q v p st l lt g =
-      let r = sized_says w z x q in
-      let d : Seen = shown (type_of w) (name n) z in
-      let a : record { stack = x ∷ xs; locals = lx } ≡ t = cc in
-      let h : Holds (d ∷ ds) (suc n) (slot n w) x = subst (λ (y : Sized). Holds (d ∷ ds) (suc n) (slot n w) y) r.is (newest ds n w z r.small) in
-      let g' = subst (λ (u : State Sized (ℕ → Option Sized)). Goes s ds n u go j o) (sym a) g in
-      declared s ds (type_of w) (name n) e (go (slot n w ∷ ss) ls) z k j o (same_type w) (v r.small)
-      (g' d (slot n w ∷ ss) ls (on h (stack_on d lt refl st)) (locals_on d lt refl l))
-
-  -- a local that is read
-  get_is : (s : Scene) (ds : List Seen) (n : ℕ) (a : Way) (ss : List Slot) (ls : ℕ → Option Slot) (xs : List Sized) (lx : ℕ → Option Sized)
-      (j : ℕ) (t : State Sized (ℕ → Option Sized)) (go : Rest) (k : Counts) (o : Outcome)
-      → step (checked s.values) (Get j) a lx xs ≡ Some t → Stack ds n ss xs → Locals ds n ls lx → n < top → Goes s ds n t go k o
-      → runs s ds (put_get name a n (ls j) ss ls go) k ≡ o
-  get_is s ds n a ss ls xs lx j t go k o q st l lt g =
-      let r = next_some (next (lx j) (λ x. sized (wider x.width a.width) x.number)) (pushed (checked s.values) lx xs) t q in
-      let p = next_some (lx j) (λ (x : Sized). sized (wider x.width a.width) x.number) r.0 r.1 in
-      let f = local_get (l.each j) p.1 in
-      let w : Width = wider f.place.width a.width in
-      let e : wider p.0.width a.width ≡ w = ap (λ (u : Width). wider u a.width) (sym f.holds.same) in
-      let m : sized w p.0.number ≡ Some r.0 = subst (λ (u : Width). sized u p.0.number ≡ Some r.0) e p.2 in
-      let nw : no_wider p.0.width w ≡ true = subst (λ (u : Width). no_wider p.0.width u ≡ true) e (wider_than p.0.width a.width) in
-      rw f.is
-      (push_is s ds n w (operand name w f.place) p.0.number ss ls xs lx r.0 t go k k o m (λ h. operand_is s w (type_of w) k lt f.holds nw) r.2 st l lt g)
-
-  -- a local that is set
-  set_is : (s : Scene) (ds : List Seen) (n : ℕ) (a : Way) (ss : List Slot) (ls : ℕ → Option Slot) (xs : List Sized) (lx : ℕ → Option Sized)
-      (j : ℕ) (t : State Sized (ℕ → Option Sized)) (go : Rest) (k : Counts) (o : Outcome)
-      → step (checked s.values) (Set j) a lx xs ≡ Some t → Stack ds n ss xs → Locals ds n ls lx → n < top → Goes s ds n t go k o
-      → runs s ds (put_op name (Set j) a n ss ls go) k ≡ o
-  set_is s ds n a [] ls [] lx j t go k o q bottom l lt g = cc
-  set_is s ds n a [] ls (x ∷ xs) lx j t go k o q st l lt g = elim st [ ]
-  set_is s ds n a (p ∷ ss) ls [] lx j t go k o q st l lt g = elim st [ ]
-  set_is s ds n a (p ∷ ss) ls (x ∷ xs) lx j t go k o q (on h st) l lt g =
-      let w : Width = p.width in
-      let d : Seen = shown (type_of w) (name n) x.number in
-      let e : record { stack = xs; locals = with_local lx j x } ≡ t = cc in
-      let v = operand_is s w (type_of w) k lt h (subst (λ (u : Width). no_wider u w ≡ true) h.same (no_wider_self w)) in
-      let y : Holds (d ∷ ds) (suc n) (slot n w) (record { number = x.number; width = w }) = newest ds n w x.number h.small in
-      let z : Holds (d ∷ ds) (suc n) (slot n w) x = record { below = y.below; same = h.same; found = y.found; small = y.small } in
-      let g' = subst (λ (u : State Sized (ℕ → Option Sized)). Goes s ds n u go k o) (sym e) g in
-      declared s ds (type_of w) (name n) (operand name w p) (go ss (with_local ls j (slot n w))) x.number k k o (same_type w) v
-      (g' d ss (with_local ls j (slot n w)) (stack_on d lt refl st) (set_local j z (locals_on d lt refl l)))
-
-  -- a sum, a difference or a product
-  two_step : (s : Scene) (ds : List Seen) (n : ℕ) (kind : Two) (w : Width) (a : Way) (ss : List Slot) (ls : ℕ → Option Slot)
-      (xs : List Sized) (lx : ℕ → Option Sized) (t : State Sized (ℕ → Option Sized)) (go : Rest) (k : Counts) (o : Outcome)
-      → with_two (checked s.values) ((checked s.values).two kind w a) lx xs ≡ Some t → Stack ds n ss xs → Locals ds n ls lx → n < top
-      → Goes s ds n t go (plus (wide_at w) k) o
-      → runs s ds (put_two name (op_of kind) w n ss ls go) k ≡ o
-  two_step s ds n kind w a [] ls [] lx t go k o q bottom l lt g = cc
-  two_step s ds n kind w a [] ls (y ∷ xs) lx t go k o q st l lt g = elim st [ ]
-  two_step s ds n kind w a (p ∷ []) ls [] lx t go k o q st l lt g = elim st [ ]
-  two_step s ds n kind w a (p ∷ []) ls (y ∷ (x ∷ xs)) lx t go k o q (on h st) l lt g = elim st [ ]
-  two_step s ds n kind w a (p ∷ (r ∷ ss)) ls [] lx t go k o q st l lt g = elim st [ ]
-  two_step s ds n kind w a (p ∷ (r ∷ ss)) ls (y ∷ []) lx t go k o q (on h st) l lt g = elim st [ ]
-  two_step s ds n kind w a (p ∷ []) ls (y ∷ []) lx t go k o q (on h bottom) l lt g = cc
-  two_step s ds n kind w a (p ∷ (r ∷ ss)) ls (y ∷ (x ∷ xs)) lx t go k o q (on h (on f st)) l lt g =
-      let u = next_some (if no_wider x.width w && no_wider y.width w then sized w (result_of kind x.number y.number) else None)
-      (pushed (checked s.values) lx xs) t q in
-      let i = if_some _ _ _ u.1 in
-      let b = and_parts _ _ i.0 in
-      let ds' : List Seen = hidden (type_of w) (name n) ∷ ds in
-      let v : unsigned_abs (result_of kind x.number y.number) ≤ limit w
-      → value_of s ds' (c.Two (op_of kind) (operand name w r) (operand name w p)) k ≡ Gives (type_of w) (result_of kind x.number y.number) (plus (wide_at w) k)
-      = λ m. two_is s ds' (op_of kind) (type_of w) (operand name w r) (operand name w p) x.number y.number k k k
-      (operand_is s w (type_of w) k lt f b.0) (operand_is s w (type_of w) k lt h b.1) (same_type w) ∙ operated_is kind w x.number y.number k m in
-      push_is s ds n w (c.Two (op_of kind) (operand name w r) (operand name w p)) (result_of kind x.number y.number) ss ls xs lx u.0 t go k
-      (plus (wide_at w) k) o i.1 v u.2 st l lt g
-
-  neg_step : (s : Scene) (ds : List Seen) (n : ℕ) (w : Width) (a : Way) (ss : List Slot) (ls : ℕ → Option Slot) (xs : List Sized)
-      (lx : ℕ → Option Sized) (t : State Sized (ℕ → Option Sized)) (go : Rest) (k : Counts) (o : Outcome)
-      → step (checked s.values) (Neg w) a lx xs ≡ Some t → Stack ds n ss xs → Locals ds n ls lx → n < top → Goes s ds n t go (plus (wide_at w) k) o
-      → runs s ds (put_neg name w n ss ls go) k ≡ o
-  neg_step s ds n w a [] ls [] lx t go k o q bottom l lt g = cc
-  neg_step s ds n w a [] ls (x ∷ xs) lx t go k o q st l lt g = elim st [ ]
-  neg_step s ds n w a (p ∷ ss) ls [] lx t go k o q st l lt g = elim st [ ]
-  neg_step s ds n w a (p ∷ ss) ls (x ∷ xs) lx t go k o q (on h st) l lt g =
-      let u = next_some (if no_wider x.width w then sized w (neg_ℤ x.number) else None) (pushed (checked s.values) lx xs) t q in
-      let i = if_some _ _ _ u.1 in
-      let ds' : List Seen = hidden (type_of w) (name n) ∷ ds in
-      let v : unsigned_abs (neg_ℤ x.number) ≤ limit w → value_of s ds' (c.Minus (operand name w p)) k ≡ Gives (type_of w) (neg_ℤ x.number) (plus (wide_at w) k)
-      = λ m. minus_is s ds' (type_of w) (operand name w p) x.number k k (operand_is s w (type_of w) k lt h i.0) (room w (neg_ℤ x.number) m)
-      ∙ ap (λ j. Gives (type_of w) (neg_ℤ x.number) j) (counted_is w k) in
-      push_is s ds n w (c.Minus (operand name w p)) (neg_ℤ x.number) ss ls xs lx u.0 t go k (plus (wide_at w) k) o i.1 v u.2 st l lt g
-
+  -- what has at most 64 bits, has so also as 64 bits
   narrow_64 : (u : Width) (z : ℤ) → no_wider u W64 ≡ true → unsigned_abs z ≤ limit u → unsigned_abs z ≤ limit W64
   narrow_64 W64 z e h = h
   narrow_64 W128 z e h = cc
 
-  cut_step : (s : Scene) (ds : List Seen) (n m : ℕ) (a : Way) (ss : List Slot) (ls : ℕ → Option Slot) (xs : List Sized)
-      (lx : ℕ → Option Sized) (t : State Sized (ℕ → Option Sized)) (go : Rest) (k : Counts) (o : Outcome)
-      → step (checked s.values) (Cut m) a lx xs ≡ Some t → Stack ds n ss xs → Locals ds n ls lx → n < top → Goes s ds n t go k o
-      → runs s ds (put_cut name m n ss ls go) k ≡ o
-  cut_step s ds n m a [] ls [] lx t go k o q bottom l lt g = cc
-  cut_step s ds n m a [] ls (x ∷ xs) lx t go k o q st l lt g = elim st [ ]
-  cut_step s ds n m a (p ∷ ss) ls [] lx t go k o q st l lt g = elim st [ ]
-  cut_step s ds n m a (p ∷ ss) ls (x ∷ xs) lx t go k o q (on h st) l lt g =
-      let u = next_some (if no_wider x.width W64 then sized W64 (cut_by m x.number) else None) (pushed (checked s.values) lx xs) t q in
-      let i = if_some _ _ _ u.1 in
-      let ds' : List Seen = hidden Int64 (name n) ∷ ds in
-      let b : unsigned_abs x.number ≤ limit W64 = narrow_64 p.width x.number (moved p.width x.width W64 h.same i.0) h.small in
-      push_is s ds n W64 (cut_expr m (operand name W64 p)) (cut_by m x.number) ss ls xs lx u.0 t go k k o i.1
-      (λ r. cut_is s ds' m (operand name W64 p) x.number k (operand_is s W64 Int64 k lt h i.0) b r) u.2 st l lt g
+  -- ---- one operation, from the locals lx to the state t, before what comes after it and results in o
+  module _ (s : Scene) (ds : List Seen) (n : ℕ) (ls : ℕ → Option Slot) (lx : ℕ → Option Sized) (t : State Sized (ℕ → Option Sized)) (go : Rest)
+      (k : Counts) (o : Outcome) (l : Locals ds n ls lx) (lt : n < top) where
+    module _ (ss : List Slot) (xs : List Sized) (st : Stack ds n ss xs) where
+      -- a value that is pushed
+      push_is : (w : Width) (e : Expr) (z : ℤ) (x : Sized) (j : Counts) → sized w z ≡ Some x
+          → (unsigned_abs z ≤ limit w → value_of s (hidden (type_of w) (name n) ∷ ds) e k ≡ Gives (type_of w) z j)
+          → pushed (checked s.values) lx xs x ≡ Some t → Goes s ds n t go j o → runs s ds (pushing name n w e ss ls go) k ≡ o
+      push_is w e z x j q v p g =
+          let r = sized_says w z x q in
+          let d : Seen = shown (type_of w) (name n) z in
+          let a : record { stack = x ∷ xs; locals = lx } ≡ t = cc in
+          let h : Holds (d ∷ ds) (suc n) (slot n w) x = subst (λ (y : Sized). Holds (d ∷ ds) (suc n) (slot n w) y) r.is (newest ds n w z r.small) in
+          let g' = subst (λ (u : State Sized (ℕ → Option Sized)). Goes s ds n u go j o) (sym a) g in
+          declared s ds (type_of w) (name n) e (go (slot n w ∷ ss) ls) z k j o (same_type w) (v r.small)
+          (g' d (slot n w ∷ ss) ls (on h (stack_on d lt refl st)) (locals_on d lt refl l))
 
-  -- one operation
-  step_is : (s : Scene) (ds : List Seen) (n : ℕ) (oper : Op) (a : Way) (ss : List Slot) (ls : ℕ → Option Slot) (xs : List Sized)
-      (lx : ℕ → Option Sized) (t : State Sized (ℕ → Option Sized)) (go : Rest) (k : Counts) (o : Outcome)
-      → step (checked s.values) oper a lx xs ≡ Some t → Stack ds n ss xs → Locals ds n ls lx → n < top → Goes s ds n t go (plus (wide_op oper a) k) o
-      → runs s ds (put_op name oper a n ss ls go) k ≡ o
-  step_is s ds n (Push z) a ss ls xs lx t go k o q st l lt g =
-      let y : ℤ = cut_by a.shift z in
-      let u = next_some (sized a.width y) (pushed (checked s.values) lx xs) t q in
-      push_is s ds n a.width (c.Inner (type_of a.width) (constant y)) y ss ls xs lx u.0 t go k (plus (constant_wide y) k) o u.1
-      (λ h. constant_is s (hidden (type_of a.width) (name n) ∷ ds) a.width y k h) u.2 st l lt g
-  step_is s ds n (Input v) a ss ls xs lx t go k o q st l lt g =
-      let u = next_some (next (slice_get s.values v) (λ z. sized a.width z)) (pushed (checked s.values) lx xs) t q in
-      let p = next_some (slice_get s.values v) (λ (z : ℤ). sized a.width z) u.0 u.1 in
-      push_is s ds n a.width (c.Value (type_of a.width) v) p.0 ss ls xs lx u.0 t go k k o p.2
-      (λ h. value_at s (hidden (type_of a.width) (name n) ∷ ds) v a.width p.0 k p.1 h) u.2 st l lt g
-  step_is s ds n (Get j) a ss ls xs lx t go k o q st l lt g = get_is s ds n a ss ls xs lx j t go k o q st l lt g
-  step_is s ds n (Set j) a ss ls xs lx t go k o q st l lt g = set_is s ds n a ss ls xs lx j t go k o q st l lt g
-  step_is s ds n (Add w) a ss ls xs lx t go k o q st l lt g = two_step s ds n Plus w a ss ls xs lx t go k o q st l lt g
-  step_is s ds n (Sub w) a ss ls xs lx t go k o q st l lt g = two_step s ds n Minus w a ss ls xs lx t go k o q st l lt g
-  step_is s ds n (Mul w) a ss ls xs lx t go k o q st l lt g = two_step s ds n Times w a ss ls xs lx t go k o q st l lt g
-  step_is s ds n (Neg w) a ss ls xs lx t go k o q st l lt g = neg_step s ds n w a ss ls xs lx t go k o q st l lt g
-  step_is s ds n (Cut m) a ss ls xs lx t go k o q st l lt g = cut_step s ds n m a ss ls xs lx t go k o q st l lt g
+      -- a local that is read
+      get_is : (a : Way) (j : ℕ) → step (checked s.values) (Get j) a lx xs ≡ Some t → Goes s ds n t go k o
+          → runs s ds (put_get name a n (ls j) ss ls go) k ≡ o
+      get_is a j q g =
+          let r = next_some (next (lx j) (λ x. sized (wider x.width a.width) x.number)) (pushed (checked s.values) lx xs) t q in
+          let p = next_some (lx j) (λ (x : Sized). sized (wider x.width a.width) x.number) r.0 r.1 in
+          let f = local_get (l.each j) p.1 in
+          let w : Width = wider f.place.width a.width in
+          let e : wider p.0.width a.width ≡ w = ap (λ (u : Width). wider u a.width) (sym f.holds.same) in
+          let m : sized w p.0.number ≡ Some r.0 = subst (λ (u : Width). sized u p.0.number ≡ Some r.0) e p.2 in
+          let nw : no_wider p.0.width w ≡ true = subst (λ (u : Width). no_wider p.0.width u ≡ true) e (wider_than p.0.width a.width) in
+          rw f.is (push_is w (operand name w f.place) p.0.number r.0 k m (λ h. operand_is s w (type_of w) k lt f.holds nw) r.2 g)
+
+    -- a local that is set
+    set_is : (a : Way) (j : ℕ) (ss : List Slot) (xs : List Sized) → step (checked s.values) (Set j) a lx xs ≡ Some t → Stack ds n ss xs
+        → Goes s ds n t go k o → runs s ds (put_op name (Set j) a n ss ls go) k ≡ o
+    set_is a j [] [] q bottom g = cc
+    set_is a j [] (x ∷ xs) q st g = elim st [ ]
+    set_is a j (p ∷ ss) [] q st g = elim st [ ]
+    set_is a j (p ∷ ss) (x ∷ xs) q (on h st) g =
+        let w : Width = p.width in
+        let d : Seen = shown (type_of w) (name n) x.number in
+        let e : record { stack = xs; locals = with_local lx j x } ≡ t = cc in
+        let v = operand_is s w (type_of w) k lt h (subst (λ (u : Width). no_wider u w ≡ true) h.same (no_wider_self w)) in
+        let y : Holds (d ∷ ds) (suc n) (slot n w) (record { number = x.number; width = w }) = newest ds n w x.number h.small in
+        let z : Holds (d ∷ ds) (suc n) (slot n w) x = record { below = y.below; same = h.same; found = y.found; small = y.small } in
+        let g' = subst (λ (u : State Sized (ℕ → Option Sized)). Goes s ds n u go k o) (sym e) g in
+        declared s ds (type_of w) (name n) (operand name w p) (go ss (with_local ls j (slot n w))) x.number k k o (same_type w) v
+        (g' d ss (with_local ls j (slot n w)) (stack_on d lt refl st) (set_local j z (locals_on d lt refl l)))
+
+    -- a sum, a difference or a product
+    two_step : (kind : Two) (w : Width) (a : Way) (ss : List Slot) (xs : List Sized)
+        → with_two (checked s.values) ((checked s.values).two kind w a) lx xs ≡ Some t → Stack ds n ss xs
+        → Goes s ds n t go (plus (wide_at w) k) o → runs s ds (put_two name (op_of kind) w n ss ls go) k ≡ o
+    two_step kind w a [] [] q bottom g = cc
+    two_step kind w a [] (y ∷ xs) q st g = elim st [ ]
+    two_step kind w a (p ∷ []) [] q st g = elim st [ ]
+    two_step kind w a (p ∷ []) (y ∷ (x ∷ xs)) q (on h st) g = elim st [ ]
+    two_step kind w a (p ∷ (r ∷ ss)) [] q st g = elim st [ ]
+    two_step kind w a (p ∷ (r ∷ ss)) (y ∷ []) q (on h st) g = elim st [ ]
+    two_step kind w a (p ∷ []) (y ∷ []) q (on h bottom) g = cc
+    two_step kind w a (p ∷ (r ∷ ss)) (y ∷ (x ∷ xs)) q (on h (on f st)) g =
+        let u = next_some (if no_wider x.width w && no_wider y.width w then sized w (result_of kind x.number y.number) else None)
+        (pushed (checked s.values) lx xs) t q in
+        let i = if_some _ _ _ u.1 in
+        let b = and_parts _ _ i.0 in
+        let ds' : List Seen = hidden (type_of w) (name n) ∷ ds in
+        let v : unsigned_abs (result_of kind x.number y.number) ≤ limit w
+        → value_of s ds' (c.Two (op_of kind) (operand name w r) (operand name w p)) k
+        ≡ Gives (type_of w) (result_of kind x.number y.number) (plus (wide_at w) k)
+        = λ m. two_is s ds' (op_of kind) (type_of w) (operand name w r) (operand name w p) x.number y.number k k k
+        (operand_is s w (type_of w) k lt f b.0) (operand_is s w (type_of w) k lt h b.1) (same_type w) ∙ operated_is kind w x.number y.number k m in
+        push_is ss xs st w (c.Two (op_of kind) (operand name w r) (operand name w p)) (result_of kind x.number y.number) u.0 (plus (wide_at w) k) i.1 v u.2 g
+
+    -- a negation
+    neg_step : (w : Width) (a : Way) (ss : List Slot) (xs : List Sized) → step (checked s.values) (Neg w) a lx xs ≡ Some t → Stack ds n ss xs
+        → Goes s ds n t go (plus (wide_at w) k) o → runs s ds (put_neg name w n ss ls go) k ≡ o
+    neg_step w a [] [] q bottom g = cc
+    neg_step w a [] (x ∷ xs) q st g = elim st [ ]
+    neg_step w a (p ∷ ss) [] q st g = elim st [ ]
+    neg_step w a (p ∷ ss) (x ∷ xs) q (on h st) g =
+        let u = next_some (if no_wider x.width w then sized w (neg_ℤ x.number) else None) (pushed (checked s.values) lx xs) t q in
+        let i = if_some _ _ _ u.1 in
+        let ds' : List Seen = hidden (type_of w) (name n) ∷ ds in
+        let v : unsigned_abs (neg_ℤ x.number) ≤ limit w
+        → value_of s ds' (c.Minus (operand name w p)) k ≡ Gives (type_of w) (neg_ℤ x.number) (plus (wide_at w) k)
+        = λ m. minus_is s ds' (type_of w) (operand name w p) x.number k k (operand_is s w (type_of w) k lt h i.0) (room w (neg_ℤ x.number) m)
+        ∙ ap (λ j. Gives (type_of w) (neg_ℤ x.number) j) (counted_is w k) in
+        push_is ss xs st w (c.Minus (operand name w p)) (neg_ℤ x.number) u.0 (plus (wide_at w) k) i.1 v u.2 g
+
+    -- low bits that are cut off
+    cut_step : (m : ℕ) (a : Way) (ss : List Slot) (xs : List Sized) → step (checked s.values) (Cut m) a lx xs ≡ Some t → Stack ds n ss xs
+        → Goes s ds n t go k o → runs s ds (put_cut name m n ss ls go) k ≡ o
+    cut_step m a [] [] q bottom g = cc
+    cut_step m a [] (x ∷ xs) q st g = elim st [ ]
+    cut_step m a (p ∷ ss) [] q st g = elim st [ ]
+    cut_step m a (p ∷ ss) (x ∷ xs) q (on h st) g =
+        let u = next_some (if no_wider x.width W64 then sized W64 (cut_by m x.number) else None) (pushed (checked s.values) lx xs) t q in
+        let i = if_some _ _ _ u.1 in
+        let ds' : List Seen = hidden Int64 (name n) ∷ ds in
+        let b : unsigned_abs x.number ≤ limit W64 = narrow_64 p.width x.number (moved p.width x.width W64 h.same i.0) h.small in
+        push_is ss xs st W64 (cut_expr m (operand name W64 p)) (cut_by m x.number) u.0 k i.1
+        (λ r. cut_is s ds' m (operand name W64 p) x.number k (operand_is s W64 Int64 k lt h i.0) b r) u.2 g
+
+    -- one operation
+    step_is : (oper : Op) (a : Way) (ss : List Slot) (xs : List Sized) → step (checked s.values) oper a lx xs ≡ Some t → Stack ds n ss xs
+        → Goes s ds n t go (plus (wide_op oper a) k) o → runs s ds (put_op name oper a n ss ls go) k ≡ o
+    step_is (Push z) a ss xs q st g =
+        let y : ℤ = cut_by a.shift z in
+        let u = next_some (sized a.width y) (pushed (checked s.values) lx xs) t q in
+        push_is ss xs st a.width (c.Inner (type_of a.width) (constant y)) y u.0 (plus (constant_wide y) k) u.1
+        (λ h. constant_is s (hidden (type_of a.width) (name n) ∷ ds) a.width y k h) u.2 g
+    step_is (Input v) a ss xs q st g =
+        let u = next_some (next (slice_get s.values v) (λ z. sized a.width z)) (pushed (checked s.values) lx xs) t q in
+        let p = next_some (slice_get s.values v) (λ (z : ℤ). sized a.width z) u.0 u.1 in
+        push_is ss xs st a.width (c.Value (type_of a.width) v) p.0 u.0 k p.2
+        (λ h. value_at s (hidden (type_of a.width) (name n) ∷ ds) v a.width p.0 k p.1 h) u.2 g
+    step_is (Get j) a ss xs q st g = get_is ss xs st a j q g
+    step_is (Set j) a ss xs q st g = set_is a j ss xs q st g
+    step_is (Add w) a ss xs q st g = two_step Plus w a ss xs q st g
+    step_is (Sub w) a ss xs q st g = two_step Minus w a ss xs q st g
+    step_is (Mul w) a ss xs q st g = two_step Times w a ss xs q st g
+    step_is (Neg w) a ss xs q st g = neg_step w a ss xs q st g
+    step_is (Cut m) a ss xs q st g = cut_step m a ss xs q st g
 
   -- ---- the sign
 
@@ -411,24 +405,24 @@ module _ (name : ℕ → List ℕ) (top : ℕ) (differ : AreNames name top) wher
   named_runs s ds None b k = refl
   named_runs s ds (Some i) b k = refl
 
-  main : (s : Scene) (e : ℕ) (lines : List (Line Way)) (ds : List Seen) (n : ℕ) (ss : List Slot) (ls : ℕ → Option Slot) (xs : List Sized)
-      (lx : ℕ → Option Sized) (t : State Sized (ℕ → Option Sized)) (x : Sized) (k : Counts)
-      → Quiet e x.width → run (checked s.values) lines (record { stack = xs; locals = lx }) ≡ Some t → only t.stack ≡ Some x
-      → Stack ds n ss xs → Locals ds n ls lx → n + length lines ≤ top
-      → runs s ds (emitted name e lines n ss ls) k ≡ Said (sign_above e x.number) (plus (wide_lines lines) k)
-  main s e [] ds n ss ls xs lx t x k qu q p st l m =
-      let r : record { stack = xs; locals = lx } ≡ t = cc in
-      left_is s ds n e ss xs x k qu (subst (λ (u : State Sized (ℕ → Option Sized)). only u.stack ≡ Some x) (sym r) p) st
-  main s e (line ∷ lines) ds n ss ls xs lx t x k qu q p st l m =
-      let r = next_some (step (checked s.values) line.op line.bound lx xs) (λ u. run (checked s.values) lines u) t q in
-      step_is s ds n line.op line.bound ss ls xs lx r.0
-      (λ su ms. naming name (unread line.op (ops_of lines) n ss) (emitted name e lines (suc n) su ms)) k _ r.1 st l (omega (arith, m))
-      (λ d su ms st' l'. named_runs s (d ∷ ds) (unread line.op (ops_of lines) n ss) (emitted name e lines (suc n) su ms) _
-      ∙ main s e lines (d ∷ ds) (suc n) su ms r.0.stack r.0.locals t x (plus (wide_op line.op line.bound) k) qu r.2 p st' l' (omega (arith, m))
-      ∙ ap (λ j. Said (sign_above e x.number) j) (sym (plus_add (wide_op line.op line.bound) (wide_lines lines) k)))
+  module _ (s : Scene) (e : ℕ) (t : State Sized (ℕ → Option Sized)) (x : Sized) (qu : Quiet e x.width) (p : only t.stack ≡ Some x) where
+    -- where the remaining lines end in the state t, what is emitted for them returns the sign of its only value x
+    main : (lines : List (Line Way)) (ds : List Seen) (n : ℕ) (ss : List Slot) (ls : ℕ → Option Slot) (xs : List Sized) (lx : ℕ → Option Sized)
+        (k : Counts) → run (checked s.values) lines (record { stack = xs; locals = lx }) ≡ Some t → Stack ds n ss xs → Locals ds n ls lx
+        → n + length lines ≤ top → runs s ds (emitted name e lines n ss ls) k ≡ Said (sign_above e x.number) (plus (wide_lines lines) k)
+    main [] ds n ss ls xs lx k q st l m =
+        let r : record { stack = xs; locals = lx } ≡ t = cc in
+        left_is s ds n e ss xs x k qu (subst (λ (u : State Sized (ℕ → Option Sized)). only u.stack ≡ Some x) (sym r) p) st
+    main (line ∷ lines) ds n ss ls xs lx k q st l m =
+        let r = next_some (step (checked s.values) line.op line.bound lx xs) (λ u. run (checked s.values) lines u) t q in
+        step_is s ds n ls lx r.0 (λ su ms. naming name (unread line.op (ops_of lines) n ss) (emitted name e lines (suc n) su ms)) k _ l (omega (arith, m))
+        line.op line.bound ss xs r.1 st
+        (λ d su ms st' l'. named_runs s (d ∷ ds) (unread line.op (ops_of lines) n ss) (emitted name e lines (suc n) su ms) _
+        ∙ main lines (d ∷ ds) (suc n) su ms r.0.stack r.0.locals (plus (wide_op line.op line.bound) k) r.2 st' l' (omega (arith, m))
+        ∙ ap (λ j. Said (sign_above e x.number) j) (sym (plus_add (wide_op line.op line.bound) (wide_lines lines) k)))
 
 -- where the machine as C has it has a result, the emitted body returns its sign, and no line fails
 pub emitted_means : EmittedMeans
 emitted_means name e s lines x k differ qu q =
     let r = next_some (run (checked s.values) lines (record { stack = []; locals = no_locals })) (λ u. only u.stack) x q in
-    main name (length lines) differ s e lines [] 0 [] no_locals [] no_locals r.0 x k qu r.1 r.2 bottom (record { each = λ j. unset }) (omega arith)
+    main name (length lines) differ s e r.0 x qu r.2 lines [] 0 [] no_locals [] no_locals k r.1 bottom (record { each = λ j. unset }) (omega arith)

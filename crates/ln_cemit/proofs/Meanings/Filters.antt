@@ -47,25 +47,28 @@ narrow_input zs v a h q =
     let r = next_some (slice_get zs v) (λ (z : ℤ). held a z) h q in
     rw r.1 (reached a r.0 h r.2)
 
--- over a value x with the width u and the number z
-narrow_again : (a : Triple) (y h : Held) (z : ℤ) (u : Width) → z ≡ y.number → u ≡ W64 → held a y.number ≡ Some h → Reaches IsNarrow h (sized (wider u W64) z)
-narrow_again a y h z u e f q = rw (e, f) (reached a y.number h q)
+-- ---- an operand of the machine as C has it, with the number m and the width u, for the operand x of the machine of a filter
+module _ (a : Triple) (x h : Held) (m : ℤ) (u : Width) (e : m ≡ x.number) (f : u ≡ W64) where
+  -- a local that is read
+  narrow_again : held a x.number ≡ Some h → Reaches IsNarrow h (sized (wider u W64) m)
+  narrow_again q = rw (e, f) (reached a x.number h q)
 
-narrow_two : (t : Two) (w : Width) (a : Triple) (x y h : Held) (m n : ℤ) (u v : Width) → m ≡ x.number → u ≡ W64 → n ≡ y.number → v ≡ W64
-    → held_at w a (result_of t x.number y.number) ≡ Some h → Reaches IsNarrow h (if no_wider u w && no_wider v w then sized w (result_of t m n) else None)
-narrow_two t w a x y h m n u v e f g i q =
-    let r = held_at_says w a (result_of t x.number y.number) h q in
-    rw (e, f, g, i, r.0) (reached a (result_of t x.number y.number) h r.1)
+  -- a sum, a difference or a product, with the number n and the width v for the second operand y
+  narrow_two : (t : Two) (w : Width) (y : Held) (n : ℤ) (v : Width) → n ≡ y.number → v ≡ W64
+      → held_at w a (result_of t x.number y.number) ≡ Some h → Reaches IsNarrow h (if no_wider u w && no_wider v w then sized w (result_of t m n) else None)
+  narrow_two t w y n v g i q =
+      let r = held_at_says w a (result_of t x.number y.number) h q in
+      rw (e, f, g, i, r.0) (reached a (result_of t x.number y.number) h r.1)
 
-narrow_minus : (w : Width) (a : Triple) (x h : Held) (m : ℤ) (u : Width) → m ≡ x.number → u ≡ W64 → held_at w a (neg_ℤ x.number) ≡ Some h
-    → Reaches IsNarrow h (if no_wider u w then sized w (neg_ℤ m) else None)
-narrow_minus w a x h m u e f q =
-    let r = held_at_says w a (neg_ℤ x.number) h q in
-    rw (e, f, r.0) (reached a (neg_ℤ x.number) h r.1)
+  -- a negation
+  narrow_minus : (w : Width) → held_at w a (neg_ℤ x.number) ≡ Some h → Reaches IsNarrow h (if no_wider u w then sized w (neg_ℤ m) else None)
+  narrow_minus w q =
+      let r = held_at_says w a (neg_ℤ x.number) h q in
+      rw (e, f, r.0) (reached a (neg_ℤ x.number) h r.1)
 
-narrow_cut : (n : ℕ) (a : Triple) (x h : Held) (m : ℤ) (u : Width) → m ≡ x.number → u ≡ W64 → held a (cut_by n x.number) ≡ Some h
-    → Reaches IsNarrow h (if no_wider u W64 then sized W64 (cut_by n m) else None)
-narrow_cut n a x h m u e f q = rw (e, f) (reached a (cut_by n x.number) h q)
+  -- low bits that are cut off
+  narrow_cut : (n : ℕ) → held a (cut_by n x.number) ≡ Some h → Reaches IsNarrow h (if no_wider u W64 then sized W64 (cut_by n m) else None)
+  narrow_cut n q = rw (e, f) (reached a (cut_by n x.number) h q)
 
 -- each local of a filter's machine has the same number, 64 bits wide, in the machine as C has it
 abbrev pub NarrowLocals : (ℕ → Option Held) → (ℕ → Option Sized) → Type 0
@@ -85,9 +88,9 @@ narrow_follows zs = record {
   push = λ c a h q. reached a (cut_by a.k c) h q;
   input = narrow_input zs;
   again = λ y x a h f q. narrow_again a y h x.number x.width f.same f.width q;
-  two = λ t w a y y' x x' h f g q. narrow_two t w a y y' h x.number x'.number x.width x'.width f.same f.width g.same g.width q;
-  minus = λ w a y x h f q. narrow_minus w a y h x.number x.width f.same f.width q;
-  cut = λ n a y x h f q. narrow_cut n a y h x.number x.width f.same f.width q;
+  two = λ t w a y y' x x' h f g q. narrow_two a y h x.number x.width f.same f.width t w y' x'.number x'.width g.same g.width q;
+  minus = λ w a y x h f q. narrow_minus a y h x.number x.width f.same f.width w q;
+  cut = λ n a y x h f q. narrow_cut a y h x.number x.width f.same f.width n q;
   got = λ l m j h k q. k j h q;
   put = narrow_put;
   room = λ n q. refl;

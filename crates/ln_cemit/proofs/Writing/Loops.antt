@@ -57,17 +57,19 @@ pushed {a} {b} n wd y z st su e f p =
           (sym r) (record { is = λ t. q.is (spell_body (go (slot n wd ∷ reverse st) ls) t) });
     }
 
--- the case of a push in `put_operation`
-pub does_push : {a b : List ℕ} (o : Op) (x y : ℤ) (way : Way) (n : ℕ) (st su : List Slot) (os : List (Option Slot)) → o ≡ Push x
-    → y ≡ cut_by way.shift x → Moves a b su (λ ls go. pushing decl_name n way.width (c.Inner (type_of way.width) (constant y)) (reverse st) ls go)
-    → Does true a b su os (λ go. put_op decl_name o way n (reverse st) (locals_of os) go)
-does_push o x y way n st su os e f m = rw (e, ← f) (record { goes = λ go. m.goes (locals_of os) go })
+-- ---- the cases of `put_operation`
+module _ {a b : List ℕ} (o : Op) (way : Way) (n : ℕ) (st su : List Slot) (os : List (Option Slot)) where
+  -- the case of a push in `put_operation`
+  pub does_push : (x y : ℤ) → o ≡ Push x → y ≡ cut_by way.shift x
+      → Moves a b su (λ ls go. pushing decl_name n way.width (c.Inner (type_of way.width) (constant y)) (reverse st) ls go)
+      → Does true a b su os (λ go. put_op decl_name o way n (reverse st) (locals_of os) go)
+  does_push x y e f m = rw (e, ← f) (record { goes = λ go. m.goes (locals_of os) go })
 
--- the case of a get in `put_operation`
-pub does_get : {a b : List ℕ} (more : Bool) (o : Op) (j : ℕ) (way : Way) (n : ℕ) (s : Option Slot) (st su : List Slot) (os : List (Option Slot))
-    → o ≡ Get j → s ≡ locals_of os j → MayMove more a b su (λ ls go. put_get decl_name way n s (reverse st) ls go)
-    → Does more a b su os (λ go. put_op decl_name o way n (reverse st) (locals_of os) go)
-does_get {a} {b} more o j way n s st su os e f m = rw (e, ← f) (record { goes = λ go. m.goes (locals_of os) go })
+  -- the case of a get in `put_operation`
+  pub does_get : (more : Bool) (j : ℕ) (s : Option Slot) → o ≡ Get j → s ≡ locals_of os j
+      → MayMove more a b su (λ ls go. put_get decl_name way n s (reverse st) ls go)
+      → Does more a b su os (λ go. put_op decl_name o way n (reverse st) (locals_of os) go)
+  does_get more j s e f m = rw (e, ← f) (record { goes = λ go. m.goes (locals_of os) go })
 
 -- the cell of the array at a place is the local with that number
 pub local_is : (d : Option Slot) (os : List (Option Slot)) (k j : ℕ) → k ≡ j → k < length os → get_or os k d ≡ locals_of os j
@@ -96,24 +98,35 @@ lines_end (x ∷ xs) ws zero h = absurd (omega arith)
 lines_end (x ∷ xs) [] (suc i) h = refl
 lines_end (x ∷ xs) (y ∷ ys) (suc i) h = lines_end xs ys i (omega (arith, h))
 
--- the step of the loop in `put_lines`: one operation was appended, and the naming of what nothing reads is next
-pub loop_step : {start old new : List ℕ} {all : List Token → List Token} (more : Bool) (e : ℕ) (xs ys : List (Line Way)) (i : ℕ) (o : Op) (w : Way)
-    (st su : List Slot) (os os' : List (Option Slot)) (u : Option ℕ) → xs ≡ record { op = o; bound = w } ∷ ys → unread o (ops_of ys) i (reverse st) ≡ u
-    → Goes start old (spell_body (emitted decl_name e xs i (reverse st) (locals_of os))) all
-    → Does more old new su os' (λ go. put_op decl_name o w i (reverse st) (locals_of os) go)
-    → Goes start new (spell_body (rest_or more (naming decl_name u (emitted decl_name e ys (i + 1) (reverse su) (locals_of os'))))) all
-loop_step {start} {old} {new} {all} more e xs ys i o w st su os os' u q v g d =
-    let n : suc i ≡ i + 1 = omega arith in
-    let go : Rest = λ sv ms. naming decl_name (unread o (ops_of ys) i (reverse st)) (emitted decl_name e ys (suc i) sv ms) in
-    let h : Goes start old (spell_body (put_op decl_name o w i (reverse st) (locals_of os) go)) all =
-    subst (λ z. Goes start old (spell_body (emitted decl_name e z i (reverse st) (locals_of os))) all) q g in
-    let k = d.goes go in
-    let m : Goes start new
-    (spell_body (rest_or more (naming decl_name (unread o (ops_of ys) i (reverse st)) (emitted decl_name e ys (suc i) (reverse su) (locals_of os'))))) all =
-    record { is = λ r. k.is r ∙ h.is r } in
-    let m' =
-    subst (λ z. Goes start new (spell_body (rest_or more (naming decl_name z (emitted decl_name e ys (suc i) (reverse su) (locals_of os'))))) all) v m in
-    subst (λ z. Goes start new (spell_body (rest_or more (naming decl_name u (emitted decl_name e ys z (reverse su) (locals_of os'))))) all) n m'
+-- ---- the loop in `put_lines`, before the lines xs from the operation i on
+module _ {start old new : List ℕ} {all : List Token → List Token} (e : ℕ) (xs : List (Line Way)) (i : ℕ) (st : List Slot)
+    (os : List (Option Slot)) where
+  -- the step of the loop in `put_lines`: one operation was appended, and the naming of what nothing reads is next
+  pub loop_step : (more : Bool) (ys : List (Line Way)) (o : Op) (w : Way) (su : List Slot) (os' : List (Option Slot)) (u : Option ℕ)
+      → xs ≡ record { op = o; bound = w } ∷ ys → unread o (ops_of ys) i (reverse st) ≡ u
+      → Goes start old (spell_body (emitted decl_name e xs i (reverse st) (locals_of os))) all
+      → Does more old new su os' (λ go. put_op decl_name o w i (reverse st) (locals_of os) go)
+      → Goes start new (spell_body (rest_or more (naming decl_name u (emitted decl_name e ys (i + 1) (reverse su) (locals_of os'))))) all
+  loop_step more ys o w su os' u q v g d =
+      let n : suc i ≡ i + 1 = omega arith in
+      let go : Rest = λ sv ms. naming decl_name (unread o (ops_of ys) i (reverse st)) (emitted decl_name e ys (suc i) sv ms) in
+      let h : Goes start old (spell_body (put_op decl_name o w i (reverse st) (locals_of os) go)) all =
+      subst (λ z. Goes start old (spell_body (emitted decl_name e z i (reverse st) (locals_of os))) all) q g in
+      let k = d.goes go in
+      let m : Goes start new
+      (spell_body (rest_or more (naming decl_name (unread o (ops_of ys) i (reverse st)) (emitted decl_name e ys (suc i) (reverse su) (locals_of os'))))) all =
+      record { is = λ r. k.is r ∙ h.is r } in
+      let m' =
+      subst (λ z. Goes start new (spell_body (rest_or more (naming decl_name z (emitted decl_name e ys (suc i) (reverse su) (locals_of os'))))) all) v m in
+      subst (λ z. Goes start new (spell_body (rest_or more (naming decl_name u (emitted decl_name e ys z (reverse su) (locals_of os'))))) all) n m'
+
+  -- the end of the loop in `put_lines`: after the last line the sign was appended
+  pub loop_end : xs ≡ [] → Goes start old (spell_body (emitted decl_name e xs i (reverse st) (locals_of os))) all
+      → Puts old new (spell_body (put_sign decl_name e (reverse st))) → Puts start new all
+  loop_end q g p =
+      let h : Goes start old (spell_body (put_sign decl_name e (reverse st))) all =
+      subst (λ z. Goes start old (spell_body (emitted decl_name e z i (reverse st) (locals_of os))) all) q g in
+      record { is = λ r. p.is r ∙ h.is r }
 
 -- the statement that names a declaration, if there is one
 pub loop_named : {start mid new : List ℕ} {all : List Token → List Token} (u : Option ℕ) (b : Body) → Goes start mid (spell_body (naming decl_name u b)) all
@@ -132,15 +145,6 @@ ops_behind (o ∷ os) (w ∷ ws) (suc i) e = ops_behind os ws i (omega (arith, e
 pub unread_is : (o : Op) (ops left : List Op) (ws : List Way) (i : ℕ) (st : List Slot) (u : Option ℕ) → length ops ≡ length ws
     → left ≡ drop (i + 1) ops → u ≡ unread o left i (reverse st) → unread o (ops_of (drop (i + 1) (lines_of ops ws))) i (reverse st) ≡ u
 unread_is o ops left ws i st u e f g = ap (λ z. unread o z i (reverse st)) (ops_behind ops ws (i + 1) e ∙ sym f) ∙ sym g
-
--- the end of the loop in `put_lines`: after the last line the sign was appended
-pub loop_end : {start old new : List ℕ} {all : List Token → List Token} (e : ℕ) (xs : List (Line Way)) (i : ℕ) (st : List Slot)
-    (os : List (Option Slot)) → xs ≡ [] → Goes start old (spell_body (emitted decl_name e xs i (reverse st) (locals_of os))) all
-    → Puts old new (spell_body (put_sign decl_name e (reverse st))) → Puts start new all
-loop_end {start} {old} {new} {all} e xs i st os q g p =
-    let h : Goes start old (spell_body (put_sign decl_name e (reverse st))) all =
-    subst (λ z. Goes start old (spell_body (emitted decl_name e z i (reverse st) (locals_of os))) all) q g in
-    record { is = λ r. p.is r ∙ h.is r }
 
 -- what goes on with nothing is appended
 pub loop_stop : {start new : List ℕ} {all : List Token → List Token} (more : Bool) (b : Body) → more ≡ false
@@ -168,12 +172,6 @@ pub reads_lines : (ops : List Op) (ws : List Way) → length ops ≡ length ws �
 reads_lines [] ws e = refl
 reads_lines (o ∷ os) [] e = absurd (omega (arith, e))
 reads_lines (o ∷ os) (w ∷ ws) e = ap (λ v. reads o || v) (reads_lines os ws (omega (arith, e)))
-
--- the lines with their ways are the operations with the ways of their bounds
-pub ways_map : {B : Type 0} (g : B → Way) (ops : List Op) (bs : List B) → ways g (lines_of ops bs) ≡ lines_of ops (map g bs)
-ways_map g [] bs = refl
-ways_map g (o ∷ os) [] = refl
-ways_map g (o ∷ os) (b ∷ bs) = ap (λ z. record { op = o; bound = g b } ∷ z) (ways_map g os bs)
 
 touch_none : {a : List ℕ} (v : Bool) (b : Body) → v ≡ true → Goes a a (spell_body b) (spell_body (touching v b))
 touch_none v b e = rw e (record { is = λ r. refl })
@@ -205,31 +203,39 @@ body_put {a} {m} {n} v e ops ws q l g p =
     let f : v ≡ reads_row (lines_of ops ws) = q ∙ sym (reads_lines ops ws l) in
     subst (λ u. Puts a n (spell_body (touching u b))) f (record { is = λ r. p.is r ∙ (g b).is r })
 
--- a function appended for operations and ways is the one for the same operations with their bounds
-pub fun_put : {B : Type 0} {a n : List ℕ} (g : B → Way) (x : List ℕ) (d e : ℕ) (ops os : List Op) (bs : List B) (ws vs : List Way)
-    → ops ≡ os → vs ≡ ws → ws ≡ map g bs → d ≡ e → Puts a n (spell_fun (one_fun x (body_of decl_name d (lines_of ops vs))))
-    → Puts a n (spell_fun (one_fun x (body_of decl_name e (ways g (lines_of os bs)))))
-fun_put g x d e ops os bs ws vs p q r h u = rw (← p, ways_map g ops bs, ← r, ← q, ← h) u
+-- ---- functions by operations and bounds
+module _ {B : Type 0} (g : B → Way) where
+  -- the lines with their ways are the operations with the ways of their bounds
+  pub ways_map : (ops : List Op) (bs : List B) → ways g (lines_of ops bs) ≡ lines_of ops (map g bs)
+  ways_map [] bs = refl
+  ways_map (o ∷ os) [] = refl
+  ways_map (o ∷ os) (b ∷ bs) = ap (λ z. record { op = o; bound = g b } ∷ z) (ways_map os bs)
+
+  module _ {a n : List ℕ} (x : List ℕ) (d e : ℕ) where
+    -- a function appended for operations and ways is the one for the same operations with their bounds
+    pub fun_put : (ops os : List Op) (bs : List B) (ws vs : List Way) → ops ≡ os → vs ≡ ws → ws ≡ map g bs → d ≡ e
+        → Puts a n (spell_fun (one_fun x (body_of decl_name d (lines_of ops vs))))
+        → Puts a n (spell_fun (one_fun x (body_of decl_name e (ways g (lines_of os bs)))))
+    fun_put ops os bs ws vs p q r h u = rw (← p, ways_map ops bs, ← r, ← q, ← h) u
 
 -- ---- the function with two parameters
--- the step of the loop over the numbers of blocks: the call of one more block was appended
-pub tries_next : {start cur new : List ℕ} {all : List Token → List Token} (name : List ℕ) (numbers : List ℕ) (k n d : ℕ) (b : Body)
-    → k < length numbers → n ≡ get_or numbers k d
-    → Goes start cur (spell_body (tries (block_name name) answer_name (drop k numbers) b)) all
-    → ((e : Body) → Goes cur new (spell_body e) (spell_body (c.Group 2 (attempt answer_name (block_name name n)) e)))
-    → Goes start new (spell_body (tries (block_name name) answer_name (drop (k + 1) numbers) b)) all
-tries_next {start} {cur} {new} {all} name numbers k n d b l e g h =
-    let q : drop k numbers ≡ n ∷ drop (k + 1) numbers = drop_more numbers k d l ∙ ap (λ z. z ∷ drop (k + 1) numbers) (sym e) in
-    let f : Goes start cur (spell_body (tries (block_name name) answer_name (n ∷ drop (k + 1) numbers) b)) all =
-    subst (λ z. Goes start cur (spell_body (tries (block_name name) answer_name z b)) all) q g in
-    let i = h (tries (block_name name) answer_name (drop (k + 1) numbers) b) in
-    record { is = λ r. i.is r ∙ f.is r }
+module _ {start cur : List ℕ} {all : List Token → List Token} (name : List ℕ) (numbers : List ℕ) (k : ℕ) where
+  -- the step of the loop over the numbers of blocks: the call of one more block was appended
+  pub tries_next : {new : List ℕ} (n d : ℕ) (b : Body) → k < length numbers → n ≡ get_or numbers k d
+      → Goes start cur (spell_body (tries (block_name name) answer_name (drop k numbers) b)) all
+      → ((e : Body) → Goes cur new (spell_body e) (spell_body (c.Group 2 (attempt answer_name (block_name name n)) e)))
+      → Goes start new (spell_body (tries (block_name name) answer_name (drop (k + 1) numbers) b)) all
+  tries_next {new} n d b l e g h =
+      let q : drop k numbers ≡ n ∷ drop (k + 1) numbers = drop_more numbers k d l ∙ ap (λ z. z ∷ drop (k + 1) numbers) (sym e) in
+      let f : Goes start cur (spell_body (tries (block_name name) answer_name (n ∷ drop (k + 1) numbers) b)) all =
+      subst (λ z. Goes start cur (spell_body (tries (block_name name) answer_name z b)) all) q g in
+      let i = h (tries (block_name name) answer_name (drop (k + 1) numbers) b) in
+      record { is = λ r. i.is r ∙ f.is r }
 
--- the end of the loop in `put_tries`: no call remains
-pub tries_done : {start cur : List ℕ} {all : List Token → List Token} (name : List ℕ) (numbers : List ℕ) (k : ℕ) (b : Body) → length numbers ≤ k
-    → Goes start cur (spell_body (tries (block_name name) answer_name (drop k numbers) b)) all → Goes start cur (spell_body b) all
-tries_done {start} {cur} {all} name numbers k b l g =
-    subst (λ z. Goes start cur (spell_body (tries (block_name name) answer_name z b)) all) (drop_all k numbers l) g
+  -- the end of the loop in `put_tries`: no call remains
+  pub tries_done : (b : Body) → length numbers ≤ k → Goes start cur (spell_body (tries (block_name name) answer_name (drop k numbers) b)) all
+      → Goes start cur (spell_body b) all
+  tries_done b l g = subst (λ z. Goes start cur (spell_body (tries (block_name name) answer_name z b)) all) (drop_all k numbers l) g
 
 brace_past : (n : ℕ) (r : List Token) → close_braces n (lexeme (codes "}") ∷ r) ≡ lexeme (codes "}") ∷ close_braces n r
 brace_past zero r = refl
@@ -256,44 +262,45 @@ pub picks_first : {a : List ℕ} (go : ℕ → Body) (left : List ℕ) → false
 picks_first go [] h = absurd (cc)
 picks_first go (i ∷ js) h = record { is = λ r. refl }
 
--- the step of the loop in `put_picks`: the statements of one more site were appended
-pub picks_next : {start cur new : List ℕ} {all : List Token → List Token} (go : ℕ → Body) (left others : List ℕ) (k place d : ℕ)
-    → k < length left → place ≡ get_or left k d → others ≡ drop (k + 1) left
-    → Goes start cur (spell_body (picks_on go (drop k left))) all
-    → Puts cur new (λ r. open_guards place others (spell_body (go place) (close_braces (length others) r)))
-    → Goes start new (spell_body (picks_on go (drop (k + 1) left))) all
-picks_next {start} {cur} {new} {all} go left others k place d l e o g p =
-    let q : drop k left ≡ place ∷ others = drop_more left k d l ∙ ap (λ z. z ∷ drop (k + 1) left) (sym e) ∙ ap (λ z. place ∷ z) (sym o) in
-    let f : Goes start cur (spell_body (picks_on go (place ∷ others))) all = subst (λ z. Goes start cur (spell_body (picks_on go z)) all) q g in
-    subst (λ z. Goes start new (spell_body (picks_on go z)) all) o
-    (record { is = λ r. p.is (spell_body (picks_on go others) r) ∙ sym (ap (λ z. cur ++ written z) (pick_spelled go place others r)) ∙ f.is r })
+module _ {start cur : List ℕ} {all : List Token → List Token} (go : ℕ → Body) (left : List ℕ) where
+  -- the step of the loop in `put_picks`: the statements of one more site were appended
+  pub picks_next : {new : List ℕ} (others : List ℕ) (k place d : ℕ) → k < length left → place ≡ get_or left k d → others ≡ drop (k + 1) left
+      → Goes start cur (spell_body (picks_on go (drop k left))) all
+      → Puts cur new (λ r. open_guards place others (spell_body (go place) (close_braces (length others) r)))
+      → Goes start new (spell_body (picks_on go (drop (k + 1) left))) all
+  picks_next {new} others k place d l e o g p =
+      let q : drop k left ≡ place ∷ others = drop_more left k d l ∙ ap (λ z. z ∷ drop (k + 1) left) (sym e) ∙ ap (λ z. place ∷ z) (sym o) in
+      let f : Goes start cur (spell_body (picks_on go (place ∷ others))) all = subst (λ z. Goes start cur (spell_body (picks_on go z)) all) q g in
+      subst (λ z. Goes start new (spell_body (picks_on go z)) all) o
+      (record { is = λ r. p.is (spell_body (picks_on go others) r) ∙ sym (ap (λ z. cur ++ written z) (pick_spelled go place others r)) ∙ f.is r })
 
--- the end of the loop in `put_picks`: no site remains
-pub picks_done : {start cur : List ℕ} {all : List Token → List Token} (go : ℕ → Body) (left : List ℕ) (k : ℕ) → length left ≤ k
-    → Goes start cur (spell_body (picks_on go (drop k left))) all → Puts start cur all
-picks_done {start} {cur} {all} go left k l g =
-    let f : Goes start cur (spell_body (picks_on go [])) all = subst (λ z. Goes start cur (spell_body (picks_on go z)) all) (drop_all k left l) g in
-    record { is = f.is }
+  -- the end of the loop in `put_picks`: no site remains
+  pub picks_done : (k : ℕ) → length left ≤ k → Goes start cur (spell_body (picks_on go (drop k left))) all → Puts start cur all
+  picks_done k l g =
+      let f : Goes start cur (spell_body (picks_on go [])) all = subst (λ z. Goes start cur (spell_body (picks_on go z)) all) (drop_all k left l) g in
+      record { is = f.is }
 
--- the case in `put_walked` in which no site is placed any more: the calls of the prefix, and the return of 0
-pub walked_end : {a m n : List ℕ} (name x : List ℕ) (segment : List ℕ → List ℕ) (numbers : List ℕ) (d : ℕ) (p left : List ℕ) → name ≡ x
-    → numbers ≡ segment p → d ≡ 0 → ((b : Body) → Goes a m (spell_body b) (spell_body (tries (block_name name) answer_name numbers b)))
-    → Puts m n (spell_body says_nothing) → Puts a n (spell_body (walked (block_name x) answer_name segment d p left))
-walked_end name x segment numbers d p left e f z g u = rw (z, ← e, ← f) (record { is = λ r. u.is r ∙ (g says_nothing).is r })
+-- ---- the cases of `put_walked`
+module _ {a m n : List ℕ} (name x : List ℕ) (segment : List ℕ → List ℕ) (numbers : List ℕ) (d : ℕ) where
+  -- the case in `put_walked` in which no site is placed any more: the calls of the prefix, and the return of 0
+  pub walked_end : (p left : List ℕ) → name ≡ x → numbers ≡ segment p → d ≡ 0
+      → ((b : Body) → Goes a m (spell_body b) (spell_body (tries (block_name name) answer_name numbers b)))
+      → Puts m n (spell_body says_nothing) → Puts a n (spell_body (walked (block_name x) answer_name segment d p left))
+  walked_end p left e f z g u = rw (z, ← e, ← f) (record { is = λ r. u.is r ∙ (g says_nothing).is r })
 
--- the case in `put_walked` in which another site is placed: the calls of the prefix, and the statements of the sites
-pub walked_on : {a m n : List ℕ} (name x : List ℕ) (segment : List ℕ → List ℕ) (numbers : List ℕ) (d e : ℕ) (p left : List ℕ) → name ≡ x
-    → numbers ≡ segment p → d ≡ suc e → ((b : Body) → Goes a m (spell_body b) (spell_body (tries (block_name name) answer_name numbers b)))
-    → Puts m n (spell_body (picks (λ i. walked (block_name x) answer_name segment e (p ++ i ∷ []) (without i left)) left))
-    → Puts a n (spell_body (walked (block_name x) answer_name segment d p left))
-walked_on {a} {m} {n} name x segment numbers d e p left q f z g u =
-    let rest : Body = picks (λ i. walked (block_name x) answer_name segment e (p ++ i ∷ []) (without i left)) left in
-    let h : Puts a n (spell_body (tries (block_name name) answer_name numbers rest)) = record { is = λ r. u.is r ∙ (g rest).is r } in
-    let h2 : Puts a n (spell_body (tries (block_name x) answer_name numbers rest)) =
-    subst (λ y. Puts a n (spell_body (tries (block_name y) answer_name numbers rest))) q h in
-    let h3 : Puts a n (spell_body (tries (block_name x) answer_name (segment p) rest)) =
-    subst (λ y. Puts a n (spell_body (tries (block_name x) answer_name y rest))) f h2 in
-    subst (λ y. Puts a n (spell_body (walked (block_name x) answer_name segment y p left))) (sym z) h3
+  -- the case in `put_walked` in which another site is placed: the calls of the prefix, and the statements of the sites
+  pub walked_on : (e : ℕ) (p left : List ℕ) → name ≡ x → numbers ≡ segment p → d ≡ suc e
+      → ((b : Body) → Goes a m (spell_body b) (spell_body (tries (block_name name) answer_name numbers b)))
+      → Puts m n (spell_body (picks (λ i. walked (block_name x) answer_name segment e (p ++ i ∷ []) (without i left)) left))
+      → Puts a n (spell_body (walked (block_name x) answer_name segment d p left))
+  walked_on e p left q f z g u =
+      let rest : Body = picks (λ i. walked (block_name x) answer_name segment e (p ++ i ∷ []) (without i left)) left in
+      let h : Puts a n (spell_body (tries (block_name name) answer_name numbers rest)) = record { is = λ r. u.is r ∙ (g rest).is r } in
+      let h2 : Puts a n (spell_body (tries (block_name x) answer_name numbers rest)) =
+      subst (λ y. Puts a n (spell_body (tries (block_name y) answer_name numbers rest))) q h in
+      let h3 : Puts a n (spell_body (tries (block_name x) answer_name (segment p) rest)) =
+      subst (λ y. Puts a n (spell_body (tries (block_name x) answer_name y rest))) f h2 in
+      subst (λ y. Puts a n (spell_body (walked (block_name x) answer_name segment y p left))) (sym z) h3
 
 -- the same with functions by number
 tries-moved : (x : List ℕ) (f : Option FilterCode) (ns : List ℕ) (a b : Body) → a ≡ b
@@ -371,22 +378,21 @@ program_put {a} {n = n} p g h u =
     let e = ap (λ z. z ++ two_fun (call_name (part_name p)) (call_body p) ∷ []) (ones-are (part_name p) p.filter p.blocks) in
     subst (λ z. Lays a n z) (sym e) (lays_then (lays_then g h) u)
 
--- the step of the loop in `put_blocks`: the function of one more block was laid out
-pub blocks_next : {start cur new : List ℕ} {all : List Fun} (name : List ℕ) (cs : List Code) (k : ℕ) (b d : Code) → k < length cs → b ≡ get_or cs k d
-    → LaysRest start cur (one_funs (block_name name) k (map block_body (drop k cs))) all → Lays cur new (one_fun (block_name name k) (block_body b) ∷ [])
-    → LaysRest start new (one_funs (block_name name) (k + 1) (map block_body (drop (k + 1) cs))) all
-blocks_next {start} {cur} {new} {all} name cs k b d l e g p =
-    let q : drop k cs ≡ b ∷ drop (k + 1) cs = drop_more cs k d l ∙ ap (λ z. z ∷ drop (k + 1) cs) (sym e) in
-    let f : LaysRest start cur (one_funs (block_name name) k (map block_body (b ∷ drop (k + 1) cs))) all =
-    subst (λ z. LaysRest start cur (one_funs (block_name name) k (map block_body z)) all) q g in
-    let n : suc k ≡ k + 1 = omega arith in
-    subst (λ z. LaysRest start new (one_funs (block_name name) z (map block_body (drop (k + 1) cs))) all) n (one_laid f p)
+module _ {start cur : List ℕ} {all : List Fun} (name : List ℕ) (cs : List Code) (k : ℕ) where
+  -- the step of the loop in `put_blocks`: the function of one more block was laid out
+  pub blocks_next : {new : List ℕ} (b d : Code) → k < length cs → b ≡ get_or cs k d
+      → LaysRest start cur (one_funs (block_name name) k (map block_body (drop k cs))) all → Lays cur new (one_fun (block_name name k) (block_body b) ∷ [])
+      → LaysRest start new (one_funs (block_name name) (k + 1) (map block_body (drop (k + 1) cs))) all
+  blocks_next {new} b d l e g p =
+      let q : drop k cs ≡ b ∷ drop (k + 1) cs = drop_more cs k d l ∙ ap (λ z. z ∷ drop (k + 1) cs) (sym e) in
+      let f : LaysRest start cur (one_funs (block_name name) k (map block_body (b ∷ drop (k + 1) cs))) all =
+      subst (λ z. LaysRest start cur (one_funs (block_name name) k (map block_body z)) all) q g in
+      let n : suc k ≡ k + 1 = omega arith in
+      subst (λ z. LaysRest start new (one_funs (block_name name) z (map block_body (drop (k + 1) cs))) all) n (one_laid f p)
 
--- the end of the loop in `put_blocks`: the functions of all blocks were laid out
-pub blocks_done : {start cur : List ℕ} {all : List Fun} (name : List ℕ) (cs : List Code) (k : ℕ) → length cs ≤ k
-    → LaysRest start cur (one_funs (block_name name) k (map block_body (drop k cs))) all → Lays start cur all
-blocks_done {start} {cur} {all} name cs k l g =
-    all_laid (subst (λ z. LaysRest start cur (one_funs (block_name name) k (map block_body z)) all) (drop_all k cs l) g)
+  -- the end of the loop in `put_blocks`: the functions of all blocks were laid out
+  pub blocks_done : length cs ≤ k → LaysRest start cur (one_funs (block_name name) k (map block_body (drop k cs))) all → Lays start cur all
+  blocks_done l g = all_laid (subst (λ z. LaysRest start cur (one_funs (block_name name) k (map block_body z)) all) (drop_all k cs l) g)
 
 -- ---- segments
 same-is : (a b : List ℕ) → same_vector a b ≡ true → a ≡ b

@@ -9,8 +9,8 @@ returns-then-not-more c =
     let l = line_step _ _ c.args.ops.now c.args.ways.now c.ops.i _ _ c.requires (omega arith) refl refl in
     let u = unread_is _ c.args.ops.now c.behind.result.now c.args.ways.now c.ops.i c.ops.stack.items c.unread-idle.result c.requires
     c.behind.ensures (rw c.as_slice.ensures.value at c.unread-idle.ensures) in
-    loop_stop c.in_ok-more.more _ m (loop_step c.in_ok-more.more c.args.e _ _ c.ops.i _ _ c.ops.stack.items c.put_operation.new.stack.items
-    c.ops.locals c.put_operation.new.locals c.unread-idle.result l u c.ops.invariant.goes c.in_ok-more.ensures.put)
+    loop_stop c.in_ok-more.more _ m (loop_step c.args.e _ c.ops.i c.ops.stack.items c.ops.locals c.in_ok-more.more _ _ _
+    c.put_operation.new.stack.items c.put_operation.new.locals c.unread-idle.result l u c.ops.invariant.goes c.in_ok-more.ensures.put)
 
 pub ops-preserved : goal.ops-preserved
 ops-preserved c =
@@ -21,7 +21,7 @@ ops-preserved c =
     record {
       size = c.in_ok-more.ensures.size;
       goes = loop_named c.unread-idle.result _ (loop_goes c.in_ok-more.more _ m
-          (loop_step c.in_ok-more.more c.args.e _ _ c.ops.i _ _ c.ops.stack.items c.put_operation.new.stack.items c.ops.locals
+          (loop_step c.args.e _ c.ops.i c.ops.stack.items c.ops.locals c.in_ok-more.more _ _ _ c.put_operation.new.stack.items
           c.put_operation.new.locals c.unread-idle.result l u c.ops.invariant.goes c.in_ok-more.ensures.put)) c.in_ok-put_may_name.ensures;
     }
 

@@ -10,9 +10,9 @@ pub returns-in_ok-push-in-Push-clause-put : goal.returns-in_ok-push-in-Push-clau
 returns-in_ok-push-in-Push-clause-put c =
     let f : FitsSigned w128 c.cut.result = search rules in
     let e : c.cut.result ≡ cut_by c.args.way.shift c.in-Push.z = search rules in
-    does_push c.args.op c.in-Push.z _ c.args.way c.args.n c.args.stack.now.items c.push.new.stack.items c.args.locals.now c.in-Push.is
+    does_push c.args.op c.args.way c.args.n c.args.stack.now.items c.push.new.stack.items c.args.locals.now c.in-Push.z _ c.in-Push.is
     (to_z-of_z w128 c.cut.result f ∙ e) c.in_ok-push-in-Push.ensures
 
 pub returns-in_ok-more-in-Get-clause-put : goal.returns-in_ok-more-in-Get-clause-put
-returns-in_ok-more-in-Get-clause-put c = does_get c.in_ok-more-in-Get.more c.args.op c.in-Get.j c.args.way c.args.n _ c.args.stack.now.items
-    c.may_load.new.stack.items c.args.locals.now c.in-Get.is c.slot_at-slot.ensures c.in_ok-more-in-Get.ensures
+returns-in_ok-more-in-Get-clause-put c = does_get c.args.op c.args.way c.args.n c.args.stack.now.items
+    c.may_load.new.stack.items c.args.locals.now c.in_ok-more-in-Get.more c.in-Get.j _ c.in-Get.is c.slot_at-slot.ensures c.in_ok-more-in-Get.ensures
