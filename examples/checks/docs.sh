@@ -1,10 +1,12 @@
 # shellcheck shell=bash disable=SC2154  # examples/check, which reads this file, gives the names that stand for nothing here
-# cases: 4
+# cases: 5
 # the documents beside the repository: tables that are made from crates.txt; links, names and files that the documents speak of; the table of
-# README.md's first run, which has the sample's rows with their lines; the version of the toolchain, where it is installed
+# README.md's first run, which has the sample's rows with their lines; the version of the toolchain, where it is installed. Of the proofs, that
+# each public lemma and definition has a line of its own, and that each lemma is named somewhere
 case_ 'the tables of crates are those of crates.txt' 0 '' '' 'python3 examples/checks/crates.py compare'
 case_ 'links, names and files of the documents are there, and no line is too long' 0 '' '' 'python3 examples/checks/docs.py'
 case_ 'the rows of the first run' 0 "$(sed 1d "$rows" | paste -d' ' - <("$lnc" run "$orient" orient "$rows"))" '' \
   "sed -n 's/^| .\\([0-9,-]*\\). | .\\([-+] [F0-9]*\\). | .*/\\1 \\2/p' README.md"
+case_ 'public lemmas and definitions have a line each, and each lemma is named somewhere' 0 '' '' 'python3 examples/checks/proofs.py'
 kit=$(dirname "$(readlink -f "$(command -v rt || echo /nowhere/bin/rt)")")/../KIT-ID
 case_ 'the version of the toolchain' 0 'named' '' "[ ! -e $kit ] || grep -qF \"\$(cat $kit)\" README.md && echo named"

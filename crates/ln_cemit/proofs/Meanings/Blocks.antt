@@ -192,7 +192,7 @@ module _ (name : ℕ → List ℕ) (top : ℕ) (differ : AreNames name top) wher
   Goes s ds n t go k o = (d : Seen) (ss : List Slot) (ls : ℕ → Option Slot) → Stack (d ∷ ds) (suc n) ss t.stack
       → Locals (d ∷ ds) (suc n) ls t.locals → runs s (d ∷ ds) (go ss ls) k ≡ o
 
-  -- what has at most 64 bits, has so also as 64 bits
+  -- what is within the limit of a width of at most 64 bits is within that of 64 bits
   narrow_64 : (u : Width) (z : ℤ) → no_wider u W64 ≡ true → unsigned_abs z ≤ limit u → unsigned_abs z ≤ limit W64
   narrow_64 W64 z e h = h
   narrow_64 W128 z e h = cc

@@ -10,7 +10,7 @@ use Rattle.ln_algebra.proofs.Expanded.Normal.{same_vector-is}
 use Rattle.ln_tree.specs.declared.shape.VarInfo.{VarInfo}
 use Rattle.ln_tree.specs.Exps.{same_pairs}
 use Rattle.ln_poly.specs.Sparse.{Sparse}
-use Rattle.ln_stage.specs.Kept.{list_of, numbers_by, numbers_of, tallied, tallied_by}
+use Rattle.ln_stage.specs.Kept.{numbers_by, numbers_of, tallied_by}
 use Rattle.ln_stage.specs.Lists.{all_covering, all_seen_behind, covering, put_last, seen_behind, stage_count}
 use Rattle.ln_stage.specs.Staged.{count_numbers}
 use Rattle.ln_stage.specs.Tally.{IsOver, Tallied, next_list, number_in, pairs_of, put_exps, see, see_all}
@@ -198,19 +198,6 @@ extends-all bs (l ∷ ls) = extends-trans bs (seen_behind bs l) (all_seen_behind
 pub all-sized : (n : ℕ) (bs : List (List ℕ)) (ls : List (List (List ℕ))) → Sized n bs → AllSized n ls → Sized n (all_seen_behind bs ls)
 all-sized n bs [] s t = s
 all-sized n bs (l ∷ ls) s t = all-sized n (seen_behind bs l) ls (behind-sized n bs l s t.0) t.1
-
--- what is kept after the lists of these orders
-pub record IsAllSeen (vars : List VarInfo) (f : Sparse) (bs : List (List ℕ)) (t : Tallied) (os : List (List ℕ)) : Type 0 where
-  pub exps : (tallied vars f t os).exps ≡ map pairs_of (all_seen_behind bs (map (list_of vars f) os))
-  pub lists : (cs : List (List ℕ)) → Extends (all_seen_behind bs (map (list_of vars f) os)) cs
-      → map (λ l. map (λ i. get_or cs i []) l) (numbers_of vars f t os) ≡ map (list_of vars f) os
-  pub within : (cs : List (List ℕ)) → Extends (all_seen_behind bs (map (list_of vars f) os)) cs → All (λ l. All (λ i. i < length cs) l) (numbers_of vars f t os)
-  pub count : (tallied vars f t os).count ≡ t.count + stage_count (map (list_of vars f) os)
-  pub counted : count_numbers (numbers_of vars f t os) ≡ stage_count (map (list_of vars f) os)
-  pub weight : (tallied vars f t os).weight + all_covering (length vars) f bs
-      ≡ t.weight + all_covering (length vars) f (all_seen_behind bs (map (list_of vars f) os))
-  pub most : (tallied vars f t os).most ≡ t.most
-  pub heavy : (tallied vars f t os).heavy ≡ t.heavy
 
 -- the lists of no orders have no numbers
 pub numbers-nil : (vars : List VarInfo) (f : Sparse) (t : Tallied) → numbers_of vars f t [] ≡ []

@@ -143,12 +143,6 @@ before done (stops why) = stops why
 abbrev pub Behind : {A B : Type 0} → (A → Outcome B → Type 0) → List A → List A → List B → Type 0
 Behind {A} {B} step all left done = (o : Outcome (List B)) → Each step left o → Each step all (before done o)
 
--- before the first member there is no value
-pub behind_none : {A B : Type 0} (step : A → Outcome B → Type 0) (all : List A) → Behind step all all []
-behind_none step all (gives bs) e = e
-behind_none step all missing e = e
-behind_none step all (stops why) e = e
-
 before_one : {B : Type 0} (done : List B) (b : B) (o : Outcome (List B))
     → before done (before (b ∷ []) o) ≡ before (done ++ b ∷ []) o
 before_one done b (gives bs) = ap gives (sym (append_assoc done (b ∷ []) bs))

@@ -1,7 +1,7 @@
 -- Proves facts of writes, one after the other, and of where one of them fails.
-use Rattle.std.proofs.Common.{◌≡◌, ℕ, ◌+◌, ◌≤◌, List, [], ◌++◌, length, take, refl, ◌∙◌, arith, Option}
+use Rattle.std.proofs.Common.{◌≡◌, ℕ, ◌+◌, ◌≤◌, List, ◌++◌, length, take, refl, ◌∙◌, arith, Option}
 use Rattle.std.proofs.Common.{Some, None, Result, Ok, Err, OnErr, OnOk, append_assoc, length-append}
-use Rattle.std.proofs.lemmas.List.{append-nil, take-append-le}
+use Rattle.std.proofs.lemmas.List.{take-append-le}
 use Rattle.std.proofs.Math.Seq.{take-append-add}
 use Rattle.ln_base.specs.Outside.{Shown, appended}
 use Rattle.ln_base.specs.declared.outside.Port.{Port}
@@ -15,13 +15,6 @@ appended_twice Out xs ys None = refl
 appended_twice Out xs ys (Some s) = rw append_assoc refl
 appended_twice ErrPort xs ys None = refl
 appended_twice ErrPort xs ys (Some s) = rw append_assoc refl
-
--- a write of nothing
-pub appended_nothing : (port : Port) (s : Option Shown) → appended port [] s ≡ s
-appended_nothing Out None = refl
-appended_nothing Out (Some s) = rw append-nil refl
-appended_nothing ErrPort None = refl
-appended_nothing ErrPort (Some s) = rw append-nil refl
 
 -- the first of two writes fails
 pub fails_first : (port : Port) (xs ys : List ℕ) (was now : Option Shown) → FailsAfter port xs was now
