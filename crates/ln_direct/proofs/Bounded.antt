@@ -7,9 +7,9 @@ use Rattle.std.proofs.lemmas.Int.{ints}
 use Rattle.std.proofs.Math.IntN.{ℤ, pos, ◌+ℤ◌, ◌*ℤ◌}
 use Rattle.ln_algebra.specs.Coefficient.{Series, product}
 use Rattle.ln_direct.proofs.Digits.{vector-none, vector-step}
-use Rattle.ln_direct.proofs.Magnitudes.{large-bound, product-positive, up_to-plus}
+use Rattle.ln_direct.proofs.Magnitudes.{large-bound, product-nonnegative, up_to-plus}
 use Rattle.ln_direct.proofs.Splitting.{digits-one, product-parts, up_to}
-use Rattle.ln_direct.specs.Sizes.{IsHeld, IsPositive, IsUpTo}
+use Rattle.ln_direct.specs.Sizes.{IsHeld, IsNonnegative, IsUpTo}
 use Rattle.ln_direct.specs.Tables.{AreUpTo, IsEntryUpTo}
 use Rattle.ln_direct.specs.Vectors.{vector}
 
@@ -69,10 +69,10 @@ grows n h p m (suc d) =
     let l = p (m + d) (n - (m + d)) in
     rw e (omega (arith, ints, g, l))
 
-module _ (left right : Series) (p : IsPositive left) (q : IsPositive right) (k a : ℕ) where
+module _ (left right : Series) (p : IsNonnegative left) (q : IsNonnegative right) (k a : ℕ) where
   -- no part is below 0
-  part-positive : (b c : ℕ) → pos 0 ≤ℤ parts_of left right k a b c
-  part-positive b c = product-positive (λ bs. left (b ∷ bs)) (λ cs. right (c ∷ cs)) (λ bs. p (b ∷ bs)) (λ cs. q (c ∷ cs)) (vector (k - 1) (a / 5))
+  part-nonnegative : (b c : ℕ) → pos 0 ≤ℤ parts_of left right k a b c
+  part-nonnegative b c = product-nonnegative (λ bs. left (b ∷ bs)) (λ cs. right (c ∷ cs)) (λ bs. p (b ∷ bs)) (λ cs. q (c ∷ cs)) (vector (k - 1) (a / 5))
 
   -- the sum of all parts
   all-parts : (k ≡ 0 → ⊥) → up_to (a % 5 + 1) (a % 5) (parts_of left right k a) ≡ product left right (vector k a)
@@ -84,7 +84,7 @@ module _ (left right : Series) (p : IsPositive left) (q : IsPositive right) (k a
   up_to-product : (k ≡ 0 → ⊥) → (m : ℕ) → m ≤ a % 5 + 1 → up_to m (a % 5) (parts_of left right k a) ≤ℤ product left right (vector k a)
   up_to-product n m l =
       let e : m + (a % 5 + 1 - m) ≡ a % 5 + 1 = omega (arith, l) in
-      let g = grows (a % 5) (parts_of left right k a) part-positive m (a % 5 + 1 - m) in
+      let g = grows (a % 5) (parts_of left right k a) part-nonnegative m (a % 5 + 1 - m) in
       subst (λ (z : ℤ). up_to m (a % 5) (parts_of left right k a) ≤ℤ z) (all-parts n)
       (subst (λ (j : ℕ). up_to m (a % 5) (parts_of left right k a) ≤ℤ up_to j (a % 5) (parts_of left right k a)) e g)
 
@@ -98,7 +98,7 @@ module _ (left right : Series) (p : IsPositive left) (q : IsPositive right) (k a
       → pos (2 ^ 127) ≤ℤ product left right (vector k a)
   part-large n m l h =
       let z : 0 + m ≡ m = omega arith in
-      let g = subst (λ (j : ℕ). pos 0 ≤ℤ up_to j (a % 5) (parts_of left right k a)) z (grows (a % 5) (parts_of left right k a) part-positive 0 m) in
+      let g = subst (λ (j : ℕ). pos 0 ≤ℤ up_to j (a % 5) (parts_of left right k a)) z (grows (a % 5) (parts_of left right k a) part-nonnegative 0 m) in
       let u = up_to-product n (suc m) (omega (arith, l)) in
       omega (arith, ints, h, g, u)
 

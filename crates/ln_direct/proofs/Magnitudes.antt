@@ -9,53 +9,53 @@ use Rattle.std.proofs.Math.IntN.{ℤ, pos, negsuc, ◌+ℤ◌, ◌*ℤ◌}
 use Rattle.ln_algebra.specs.Coefficient.{Series, constant, power, product}
 use Rattle.ln_algebra.specs.Tree.{Tree, Num, Input, Name, Neg, Add, Sub, Mul, Pow}
 use Rattle.ln_algebra.specs.Vector.{is_unit, is_zero, splits, sum_over}
-use Rattle.ln_direct.specs.Sizes.{HasLarge, IsHeld, IsLarge, IsPositive, IsUpTo, magnitude}
+use Rattle.ln_direct.specs.Sizes.{HasLarge, IsHeld, IsLarge, IsNonnegative, IsUpTo, magnitude}
 
 -- ---- no number below 0
 -- a sum
-sum_over-positive : {A : Type 0} (h : A → ℤ) (xs : List A) → ((s : A) → pos 0 ≤ℤ h s) → pos 0 ≤ℤ sum_over h xs
-sum_over-positive h [] g = omega (arith, ints)
-sum_over-positive h (x ∷ xs) g = let i = g x in let r = sum_over-positive h xs g in omega (arith, ints, i, r)
+sum_over-nonnegative : {A : Type 0} (h : A → ℤ) (xs : List A) → ((s : A) → pos 0 ≤ℤ h s) → pos 0 ≤ℤ sum_over h xs
+sum_over-nonnegative h [] g = omega (arith, ints)
+sum_over-nonnegative h (x ∷ xs) g = let i = g x in let r = sum_over-nonnegative h xs g in omega (arith, ints, i, r)
 
 -- a product
-times-positive : (x y : ℤ) → pos 0 ≤ℤ x → pos 0 ≤ℤ y → pos 0 ≤ℤ (x *ℤ y)
-times-positive (pos a) (pos b) h i = omega (arith, ints)
-times-positive (pos a) (negsuc b) h i = absurd (omega (arith, ints, i))
-times-positive (negsuc a) y h i = absurd (omega (arith, ints, h))
+times-nonnegative : (x y : ℤ) → pos 0 ≤ℤ x → pos 0 ≤ℤ y → pos 0 ≤ℤ (x *ℤ y)
+times-nonnegative (pos a) (pos b) h i = omega (arith, ints)
+times-nonnegative (pos a) (negsuc b) h i = absurd (omega (arith, ints, i))
+times-nonnegative (negsuc a) y h i = absurd (omega (arith, ints, h))
 
 -- one of two numbers
-chosen-positive : (b : Bool) (x y : ℤ) → pos 0 ≤ℤ x → pos 0 ≤ℤ y → pos 0 ≤ℤ (if b then x else y)
-chosen-positive true x y h i = h
-chosen-positive false x y h i = i
+chosen-nonnegative : (b : Bool) (x y : ℤ) → pos 0 ≤ℤ x → pos 0 ≤ℤ y → pos 0 ≤ℤ (if b then x else y)
+chosen-nonnegative true x y h i = h
+chosen-nonnegative false x y h i = i
 
 -- a number at the vector of zeros
-constant-positive : (k : ℕ) → IsPositive (constant (pos k))
-constant-positive k a = chosen-positive (is_zero a) (pos k) (pos 0) (omega (arith, ints)) (omega (arith, ints))
+constant-nonnegative : (k : ℕ) → IsNonnegative (constant (pos k))
+constant-nonnegative k a = chosen-nonnegative (is_zero a) (pos k) (pos 0) (omega (arith, ints)) (omega (arith, ints))
 
 -- a product of series
-pub product-positive : (f g : Series) → IsPositive f → IsPositive g → IsPositive (product f g)
-product-positive f g p q a = sum_over-positive (λ s. f s.0 *ℤ g s.1) (splits a) (λ s. times-positive (f s.0) (g s.1) (p s.0) (q s.1))
+pub product-nonnegative : (f g : Series) → IsNonnegative f → IsNonnegative g → IsNonnegative (product f g)
+product-nonnegative f g p q a = sum_over-nonnegative (λ s. f s.0 *ℤ g s.1) (splits a) (λ s. times-nonnegative (f s.0) (g s.1) (p s.0) (q s.1))
 
 -- a power of a series
-power-positive : (f : Series) → IsPositive f → (n : ℕ) → IsPositive (power f n)
-power-positive f p zero = constant-positive 1
-power-positive f p (suc n) = product-positive (power f n) f (power-positive f p n) p
+power-nonnegative : (f : Series) → IsNonnegative f → (n : ℕ) → IsNonnegative (power f n)
+power-nonnegative f p zero = constant-nonnegative 1
+power-nonnegative f p (suc n) = product-nonnegative (power f n) f (power-nonnegative f p n) p
 
 -- magnitudes
-pub magnitude-positive : (p : ℕ → Bool) (x : ℕ → ℤ) (e : Tree) → IsPositive (magnitude p x e)
-magnitude-positive p x (Num c) a = constant-positive (unsigned_abs c) a
-magnitude-positive p x (Input v) a =
-    chosen-positive (is_zero a) (pos (unsigned_abs (x v))) (if p v && is_unit v a then pos 1 else pos 0) (omega (arith, ints))
-    (chosen-positive (p v && is_unit v a) (pos 1) (pos 0) (omega (arith, ints)) (omega (arith, ints)))
-magnitude-positive p x (Name j) a = constant-positive 0 a
-magnitude-positive p x (Neg e) a = magnitude-positive p x e a
-magnitude-positive p x (Add e f) a =
-    let h = magnitude-positive p x e a in let i = magnitude-positive p x f a in omega (arith, ints, h, i)
-magnitude-positive p x (Sub e f) a =
-    let h = magnitude-positive p x e a in let i = magnitude-positive p x f a in omega (arith, ints, h, i)
-magnitude-positive p x (Mul e f) a =
-    product-positive (magnitude p x e) (magnitude p x f) (magnitude-positive p x e) (magnitude-positive p x f) a
-magnitude-positive p x (Pow e n) a = power-positive (magnitude p x e) (magnitude-positive p x e) n a
+pub magnitude-nonnegative : (p : ℕ → Bool) (x : ℕ → ℤ) (e : Tree) → IsNonnegative (magnitude p x e)
+magnitude-nonnegative p x (Num c) a = constant-nonnegative (unsigned_abs c) a
+magnitude-nonnegative p x (Input v) a =
+    chosen-nonnegative (is_zero a) (pos (unsigned_abs (x v))) (if p v && is_unit v a then pos 1 else pos 0) (omega (arith, ints))
+    (chosen-nonnegative (p v && is_unit v a) (pos 1) (pos 0) (omega (arith, ints)) (omega (arith, ints)))
+magnitude-nonnegative p x (Name j) a = constant-nonnegative 0 a
+magnitude-nonnegative p x (Neg e) a = magnitude-nonnegative p x e a
+magnitude-nonnegative p x (Add e f) a =
+    let h = magnitude-nonnegative p x e a in let i = magnitude-nonnegative p x f a in omega (arith, ints, h, i)
+magnitude-nonnegative p x (Sub e f) a =
+    let h = magnitude-nonnegative p x e a in let i = magnitude-nonnegative p x f a in omega (arith, ints, h, i)
+magnitude-nonnegative p x (Mul e f) a =
+    product-nonnegative (magnitude p x e) (magnitude p x f) (magnitude-nonnegative p x e) (magnitude-nonnegative p x f) a
+magnitude-nonnegative p x (Pow e n) a = power-nonnegative (magnitude p x e) (magnitude-nonnegative p x e) n a
 
 -- ---- bounds
 -- a bound on an absolute value

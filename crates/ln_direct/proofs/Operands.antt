@@ -13,10 +13,10 @@ use Rattle.ln_direct.specs.declared.part.Part.TheVariants.{Difference, Minus, Pr
 use Rattle.ln_direct.specs.declared.point.Point.{Point}
 use Rattle.ln_direct.specs.declared.table.Table.{Table}
 use Rattle.ln_direct.proofs.Filling.{at-length}
-use Rattle.ln_direct.proofs.Magnitudes.{large-here, magnitude-positive}
+use Rattle.ln_direct.proofs.Magnitudes.{large-here, magnitude-nonnegative}
 use Rattle.ln_direct.proofs.Splitting.{mapped}
 use Rattle.ln_direct.specs.Parts.{combined}
-use Rattle.ln_direct.specs.Sizes.{HasLarge, IsHeld, IsPositive, IsUpTo, magnitude}
+use Rattle.ln_direct.specs.Sizes.{HasLarge, IsHeld, IsNonnegative, IsUpTo, magnitude}
 use Rattle.ln_direct.specs.Table.{AreOperands, IsEntry, IsList, IsNoPower}
 use Rattle.ln_direct.specs.Tables.{AreOf, AreUpTo, IsEntryUpTo, IsWhole, Reads}
 use Rattle.ln_direct.specs.Vectors.{vector}
@@ -93,7 +93,7 @@ module _ (n : ℕ) (p : ℕ → Bool) (x : ℕ → ℤ) (l r : Tree) (left right
   -- a product
   pub product-entry : (q : Part) (j k : ℕ) → q ≡ Product j k
       → ((f g : Series) → Reads left.entries.items 0 1 5 f → Reads right.entries.items 0 1 5 g → IfSome z (λ c. c ≡ product f g (vector 5 a)))
-      → ((f g : Series) → IsPositive f → IsPositive g → AreUpTo left.entries.items 0 1 5 a f → AreUpTo right.entries.items 0 1 5 a g
+      → ((f g : Series) → IsNonnegative f → IsNonnegative g → AreUpTo left.entries.items 0 1 5 a f → AreUpTo right.entries.items 0 1 5 a g
       → IsHeld (product f g (vector 5 a)) z) → IsEntryFor q
   product-entry q j k e v f = subst (λ (w : Part). IsEntryFor w) (sym e) (
     v (coefficient p x l) (coefficient p x r) (reads l left o.first.entries) (reads r right o.second.entries),
@@ -104,7 +104,7 @@ module _ (n : ℕ) (p : ℕ → Bool) (x : ℕ → ℤ) (l r : Tree) (left right
 
     held : a < n → IsWhole n (magnitude p x l) left.entries.items → IsWhole n (magnitude p x r) right.entries.items
         → IsHeld (product (magnitude p x l) (magnitude p x r) (vector 5 a)) z
-    held i h g = f (magnitude p x l) (magnitude p x r) (magnitude-positive p x l) (magnitude-positive p x r)
+    held i h g = f (magnitude p x l) (magnitude p x r) (magnitude-nonnegative p x l) (magnitude-nonnegative p x r)
         (whole-up_to n a (magnitude p x l) left.entries.items i h) (whole-up_to n a (magnitude p x r) right.entries.items i g)
 
 -- ---- lists that grow

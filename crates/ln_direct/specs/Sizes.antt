@@ -48,5 +48,5 @@ IsHeld m None = pos (2 ^ 127) ≤ℤ m
 IsHeld m (Some z) = IsUpTo m z
 
 -- No value of a series is below 0.
-abbrev pub IsPositive : Series → Type 0
-IsPositive m = (a : List ℕ) → pos 0 ≤ℤ m a
+abbrev pub IsNonnegative : Series → Type 0
+IsNonnegative m = (a : List ℕ) → pos 0 ≤ℤ m a

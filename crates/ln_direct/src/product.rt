@@ -1,7 +1,7 @@
 //! The coefficient of a product at a vector: the sum over all ways to write the vector as a sum of two.
 ghost use Rattle.std.specs.Prelude.{◌≡◌, ◌≤◌, ◌+◌, ◌*◌, ◌^◌, ◌*ℤ◌, ℤ, IfSome, MatchOption, None, Some, slice_get};
 ghost use Rattle.ln_algebra.specs.Coefficient.{Series, product};
-ghost use Rattle.ln_direct.specs.Sizes.{IsHeld, IsPositive};
+ghost use Rattle.ln_direct.specs.Sizes.{IsHeld, IsNonnegative};
 ghost use Rattle.ln_direct.specs.Tables.{AreUpTo, IsEntryUpTo, Reads};
 ghost use Rattle.ln_direct.specs.Vectors.{vector};
 
@@ -37,7 +37,7 @@ pub(crate) fn sum_of_splits(
     requires right { j + unit * 5 ^ k ≤ unit + 3124 }
     ensures value { (left right : Series) → Reads f.now i unit k left → Reads g.now j unit k right →
         IfSome result (λ z. z ≡ product left right (vector k a)) }
-    ensures held { (left right : Series) → IsPositive left → IsPositive right →
+    ensures held { (left right : Series) → IsNonnegative left → IsNonnegative right →
         AreUpTo f.now i unit k a left → AreUpTo g.now j unit k a right → IsHeld (product left right (vector k a)) result }
 {
     if k == 0 {
