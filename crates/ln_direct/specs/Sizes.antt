@@ -22,7 +22,7 @@ magnitude p x e = coefficient p (λ v. pos (unsigned_abs (x v))) (without_minus 
 abbrev pub IsLarge : (ℕ → Bool) → (ℕ → ℤ) → Tree → Type 0
 IsLarge p x e = (a : List ℕ) × (pos (2 ^ 127) ≤ℤ magnitude p x e a)
 
--- So is one of the expression, of a part of it, or of a smaller power of a base in it.
+-- A coefficient of the expression, of a part of it, or of a smaller power of a base in it is so large.
 abbrev pub HasLarge : (ℕ → Bool) → (ℕ → ℤ) → Tree → Type 0
 HasLarge p x (Num c) = IsLarge p x (Num c)
 HasLarge p x (Input v) = IsLarge p x (Input v)
