@@ -23,7 +23,7 @@ fn times(f: &[i128], i: usize, g: &[i128], j: usize) -> Option<i128>
 }
 
 // The coefficient of the product at the vector of k digits of a, where f has the coefficients of one factor from place i on, in steps of
-// this unit, and g those of the other from place j on.
+// this unit, and g those of the other from place j on. No place that is read is above 3124.
 pub(crate) fn sum_of_splits(
     f: &[i128],
     g: &[i128],
