@@ -3,8 +3,7 @@ ghost use Rattle.std.specs.Prelude.{◌≤◌, length, map};
 ghost use Rattle.ln_tree.specs.Table.{pred_of};
 ghost use Rattle.ln_compile.specs.Accepted.{AreSound};
 
-use crate::judged::{BOUNDS, RANGES, TURNS};
-use crate::rules::changed;
+use crate::changed::{BOUNDS, RANGES, TURNS, changed};
 use ln_base::NoMemory;
 use ln_cert::{ListStop, Listing, read_listing};
 use ln_compile::{Checked, Refusal, check};
