@@ -1,6 +1,7 @@
 """Lists for said.py what the commands that decide signs write, case by case: `product`, `graded`, `gen`, `edges`, `explain` and `audit` over sources,
 rows, points, seeds and traces, and `run` and `check` over circles and spheres. CASES has the cases of each group: the words, the files by their
-names, and the status and the bytes on standard output and standard error that they require, worked out by hand or from the documents"""
+names, and the status and the bytes on standard output and standard error that they require, worked out by hand or from the documents."""
+from commands_table import CIRCLE, ORIENT
 
 DONE, REFUSED, USAGE, ROWS, NO_PREDICATE, INVALID, READ, SHAPE, MANY = 0, 1, 2, 3, 4, 5, 6, 10, 11
 
@@ -10,21 +11,8 @@ def case(words, source, rows, status, out, err):
     return words.split(" ") if isinstance(words, str) else words, {"s.ln": source, "r.csv": rows}, status, out, err
 
 
-# Points in the plane; of three of them, whether they turn left.
-ORIENT = """site point { x: -1000 .. 1000; y: -1000 .. 1000; }
-predicate orient(p: point, q: point, r: point) { sign (p.x - r.x)*(q.y - r.y) - (p.y - r.y)*(q.x - r.x); }
-"""
 ORIENT_HEAD = "p,p.x,p.y,q,q.x,q.y,r,r.x,r.y\n"
 
-CIRCLE = """site point { x: -1048576 .. 1048576; y: -1048576 .. 1048576; }
-predicate incircle(a: point, b: point, c: point, d: point) {
-  let ax = a.x - d.x; let ay = a.y - d.y;
-  let bx = b.x - d.x; let by = b.y - d.y;
-  let cx = c.x - d.x; let cy = c.y - d.y;
-  let aw = ax^2 + ay^2; let bw = bx^2 + by^2; let cw = cx^2 + cy^2;
-  sign ax*(by*cw - bw*cy) - ay*(bx*cw - bw*cx) + aw*(bx*cy - by*cx);
-}
-"""
 CIRCLE_HEAD = "a,a.x,a.y,b,b.x,b.y,c,c.x,c.y,d,d.x,d.y"
 
 SPHERE = """site point { x: -1048576 .. 1048576; y: -1048576 .. 1048576; z: -1048576 .. 1048576; }
