@@ -6,51 +6,59 @@ use ln_base::{
 use std::alloc::Global;
 use std::test::Fail;
 
-const NUMBERS: &[(&str, i64)] = &[
-    ("0", 0),
-    ("-0", 0),
-    ("007", 7),
-    ("-12", -12),
-    ("9223372036854775807", 9_223_372_036_854_775_807),
+/// Fields, and what they say: a number, one outside of the range, or none.
+const FIELDS: &[(&str, Reading)] = &[
+    ("0", Reading::Value(0)),
+    ("-0", Reading::Value(0)),
+    ("007", Reading::Value(7)),
+    ("-12", Reading::Value(-12)),
+    (
+        "9223372036854775807",
+        Reading::Value(9_223_372_036_854_775_807),
+    ),
+    ("-9223372036854775808", Reading::Outside),
+    (
+        "99999999999999999999999999999999999999999",
+        Reading::Outside,
+    ),
+    ("", Reading::NotANumber),
+    ("-", Reading::NotANumber),
+    ("+5", Reading::NotANumber),
+    (" 1", Reading::NotANumber),
 ];
 
-const OUTSIDE: &[&str] = &[
-    "-9223372036854775808",
-    "99999999999999999999999999999999999999999",
-];
-
-const NO_NUMBERS: &[&str] = &["", "-", "+5", " 1"];
-
-/// Is it this number that the field says?
-fn says(field: &str, want: i64) -> bool {
+/// Is this what the field says?
+fn says(field: &str, want: &Reading) -> bool {
     match integer(field.as_bytes()) {
-        Reading::Value(z) => z == want,
-        _ => false,
+        Reading::Value(z) => matches!(want, Reading::Value(n) if *n == z),
+        Reading::Outside => matches!(want, Reading::Outside),
+        Reading::NotANumber => matches!(want, Reading::NotANumber),
     }
 }
 
 #[test]
 fn fields_say_numbers(rt: HostRuntime) {
-    for (field, want) in NUMBERS {
-        assert!(rt; says(field, *want));
+    for (field, want) in FIELDS {
+        assert!(rt; says(field, want));
     }
-    for field in OUTSIDE {
-        assert!(rt; matches!(integer(field.as_bytes()), Reading::Outside));
+    let near = unsigned(b"0340282366920938463463374607431768211454") == u128::MAX - 1;
+    assert!(rt; near && unsigned(b"340282366920938463463374607431768211456") == u128::MAX);
+}
+
+/// Is the byte at this place of the text in this line and column?
+fn is_placed(text: &[u8], at: u32, line: u32, col: u32) -> bool {
+    if text.len() > 99 || at as usize > text.len() {
+        return false;
     }
-    for field in NO_NUMBERS {
-        assert!(rt; matches!(integer(field.as_bytes()), Reading::NotANumber));
-    }
-    assert!(rt; unsigned(b"0340282366920938463463374607431768211454") == u128::MAX - 1);
-    assert!(rt; unsigned(b"340282366920938463463374607431768211456") == u128::MAX);
+    let found = line_col(text, at);
+    found.0 == line && found.1 == col
 }
 
 #[test]
 fn places_count_from_one(rt: HostRuntime) {
     let text = b"site a { }\nsite b\n\n";
-    assert!(rt; line_col(text, 0) == (1, 1));
-    assert!(rt; line_col(text, 9) == (1, 10));
-    assert!(rt; line_col(text, 11) == (2, 1));
-    assert!(rt; line_col(text, 19) == (4, 1));
+    let first = is_placed(text, 0, 1, 1) && is_placed(text, 9, 1, 10);
+    assert!(rt; first && is_placed(text, 11, 2, 1) && is_placed(text, 19, 4, 1));
 }
 
 /// A list to which these two were pushed.
@@ -61,13 +69,17 @@ fn pair(alloc: Global, first: u8, second: u8) -> Result<Seq<u8>, NoMemory> {
     Ok(list)
 }
 
+/// Has the list these two items, and no third?
+fn holds_pair(list: &Seq<u8>, pair: &[u8]) -> bool {
+    list.as_slice() == pair && list.get(1).is_some() && list.get(2).is_none()
+}
+
 #[test]
 fn lists_hold_what_was_pushed(rt: HostRuntime) -> Result<(), Fail> {
     let list = pair(rt.alloc(), 4, 9)?;
-    assert!(rt; list.len() == 2 && !list.is_empty());
+    let is_two = list.len() == 2 && !list.is_empty();
     let list = Seq::from_vec(list.into_vec());
-    assert!(rt; list.as_slice() == b"\x04\x09".as_slice());
-    assert!(rt; list.get(1).is_some() && list.get(2).is_none());
+    assert!(rt; is_two && holds_pair(&list, b"\x04\x09"));
     Ok(())
 }
 
@@ -78,14 +90,23 @@ fn file(alloc: Global, name: &str, bytes: &[u8]) -> Result<(String, Vec<u8>), No
     ))
 }
 
-/// Two files named "a" and one named "b", whose calls listed in `fails` will fail.
-fn shelf(alloc: Global, fails: &[u64]) -> Result<MemFiles, NoMemory> {
+/// Files of these names and bytes.
+fn held(alloc: Global, all: &[(&str, &[u8])]) -> Result<Vec<(String, Vec<u8>)>, NoMemory> {
     let mut files = Vec::new(alloc);
-    files.push(file(alloc, "b", b"xy")?)?;
-    files.push(file(alloc, "a", b"abc")?)?;
-    files.push(file(alloc, "a", b"later")?)?;
-    Ok(MemFiles::new(files, Vec::from_slice(alloc, fails)?))
+    for (name, bytes) in all {
+        files.push(file(alloc, name, bytes)?)?;
+    }
+    Ok(files)
 }
+
+/// Files of these names and bytes, whose calls listed in `fails` will fail.
+fn shelf(alloc: Global, all: &[(&str, &[u8])], fails: &[u64]) -> Result<MemFiles, NoMemory> {
+    let fails = Vec::from_slice(alloc, fails)?;
+    Ok(MemFiles::new(held(alloc, all)?, fails))
+}
+
+/// Two files named "a" and one named "b".
+const SHORT: &[(&str, &[u8])] = &[("b", b"xy"), ("a", b"abc"), ("a", b"later")];
 
 /// Are these the bytes of the file?
 fn reads(alloc: Global, files: &mut MemFiles, name: &str, limit: usize, want: &[u8]) -> bool {
@@ -111,22 +132,29 @@ fn is_fault(alloc: Global, files: &mut MemFiles, name: &str) -> bool {
     }
 }
 
+/// Is "a" read with limit 3, is it too long for limit 2, and isn't "c" there?
+fn has_three_bytes(alloc: Global, files: &mut MemFiles) -> bool {
+    reads(alloc, files, "a", 3, b"abc")
+        && is_too_long(alloc, files, "a", 2)
+        && is_fault(alloc, files, "c")
+}
+
 #[test]
 fn three_bytes_are_read_with_limit_three(rt: HostRuntime) -> Result<(), Fail> {
-    let alloc = rt.alloc();
-    let mut files = shelf(alloc, &[])?;
-    assert!(rt; reads(alloc, &mut files, "a", 3, b"abc"));
-    assert!(rt; is_too_long(alloc, &mut files, "a", 2));
-    assert!(rt; is_fault(alloc, &mut files, "c"));
+    let mut files = shelf(rt.alloc(), SHORT, &[])?;
+    assert!(rt; has_three_bytes(rt.alloc(), &mut files));
     Ok(())
+}
+
+/// Is "b" read only at the second time?
+fn fails_once(alloc: Global, files: &mut MemFiles) -> bool {
+    is_fault(alloc, files, "b") && reads(alloc, files, "b", 9, b"xy")
 }
 
 #[test]
 fn a_listed_call_fails(rt: HostRuntime) -> Result<(), Fail> {
-    let alloc = rt.alloc();
-    let mut files = shelf(alloc, &[2])?;
-    assert!(rt; is_fault(alloc, &mut files, "b"));
-    assert!(rt; reads(alloc, &mut files, "b", 9, b"xy"));
+    let mut files = shelf(rt.alloc(), SHORT, &[2])?;
+    assert!(rt; fails_once(rt.alloc(), &mut files));
     Ok(())
 }
 
@@ -139,48 +167,62 @@ fn many_bytes(alloc: Global) -> Result<Vec<u8>, NoMemory> {
     Ok(bytes)
 }
 
-/// An empty file, and after it a file with these bytes.
-fn small_and_large(alloc: Global, bytes: &[u8]) -> Result<MemFiles, NoMemory> {
-    let mut held = Vec::new(alloc);
-    held.push(file(alloc, "small", b"")?)?;
-    held.push(file(alloc, "large", bytes)?)?;
-    Ok(MemFiles::new(held, Vec::new(alloc)))
-}
+/// The calls that read the second file whole, and then one that isn't there: the file and the place of each.
+const CALLS: &[(Option<usize>, u64)] = &[
+    (Some(1), 0),
+    (Some(1), 65_536),
+    (Some(1), 131_072),
+    (Some(1), 196_608),
+    (Some(1), 200_000),
+    (None, 0),
+];
 
-/// Was the second file asked at each of these places in turn, and then a file that isn't there?
-fn asked_at(files: &MemFiles, places: &[u64]) -> bool {
-    let calls = files.asked();
-    for (at, call) in places.iter().zip(calls) {
-        if call.file != Some(1) || call.at != *at {
+/// Were the files asked by these calls, and no others?
+fn asked_at(files: &MemFiles, calls: &[(Option<usize>, u64)]) -> bool {
+    let mut rest = calls;
+    for call in files.asked() {
+        let [(file, at), more @ ..] = rest else {
+            return false;
+        };
+        if call.file != *file || call.at != *at {
             return false;
         }
+        rest = more;
     }
-    match calls.last() {
-        Some(call) => call.file.is_none() && call.at == 0 && calls.len() - 1 == places.len(),
-        None => false,
-    }
+    rest.is_empty()
+}
+
+/// Is the large file read whole, and isn't another there?
+fn is_large_read(alloc: Global, files: &mut MemFiles, bytes: &[u8]) -> bool {
+    reads(alloc, files, "large", 67_108_864, bytes)
+        && is_fault(alloc, files, "none")
+        && asked_at(files, CALLS)
 }
 
 #[test]
 fn a_large_file_is_read_whole_by_calls_that_are_listed(rt: HostRuntime) -> Result<(), Fail> {
-    let alloc = rt.alloc();
-    let bytes = many_bytes(alloc)?;
-    let mut files = small_and_large(alloc, &bytes)?;
-    assert!(rt; reads(alloc, &mut files, "large", 67_108_864, &bytes));
-    assert!(rt; is_fault(alloc, &mut files, "none"));
-    assert!(rt; asked_at(&files, &[0, 65_536, 131_072, 196_608, 200_000]));
+    let bytes = many_bytes(rt.alloc())?;
+    let mut files = shelf(rt.alloc(), &[("small", b""), ("large", &bytes)], &[])?;
+    assert!(rt; is_large_read(rt.alloc(), &mut files, &bytes));
     Ok(())
+}
+
+/// Is a text written whole as is wanted, and does the port hold these bytes then?
+fn is_put(con: &mut MemConsole, port: Port, text: &[u8], whole: bool, held: &[u8]) -> bool {
+    put_all(con, port, text).is_ok() == whole && con.bytes(port) == held
+}
+
+/// Do ports with room for three bytes, whose second call fails, take what they have room for?
+fn takes_by_room(con: &mut MemConsole) -> bool {
+    is_put(con, Port::Err, b"no", false, b"n")
+        && is_put(con, Port::Out, b"orient", false, b"ori")
+        && is_put(con, Port::Err, b"o", true, b"no")
 }
 
 #[test]
 fn a_port_takes_what_it_has_room_for(rt: HostRuntime) -> Result<(), Fail> {
-    let alloc = rt.alloc();
-    let mut con = MemConsole::new(alloc, 3, 1, Vec::from_slice(alloc, &[2])?)?;
-    assert!(rt; put_all(&mut con, Port::Err, b"no").is_err());
-    assert!(rt; con.bytes(Port::Err) == b"n".as_slice());
-    assert!(rt; put_all(&mut con, Port::Out, b"orient").is_err());
-    assert!(rt; con.bytes(Port::Out) == b"ori".as_slice());
-    assert!(rt; put_all(&mut con, Port::Err, b"o").is_ok());
-    assert!(rt; con.bytes(Port::Err) == b"no".as_slice());
+    let fails = Vec::from_slice(rt.alloc(), &[2])?;
+    let mut con = MemConsole::new(rt.alloc(), 3, 1, fails)?;
+    assert!(rt; takes_by_room(&mut con));
     Ok(())
 }

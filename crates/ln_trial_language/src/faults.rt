@@ -204,19 +204,26 @@ fn is_refused(alloc: Global, source: &str, want: ParseStop) -> bool {
     }
 }
 
-/// Is the source of these three parts refused with this fault at the second part?
+/// Adds three texts.
+fn add(to: &mut String, first: &str, second: &str, third: &str) -> Result<(), NoMemory> {
+    to.push_str(first)?;
+    to.push_str(second)?;
+    to.push_str(third)?;
+    Ok(())
+}
+
+/// Is the source refused with this fault at the token, where these three go on with it?
 fn is_refused_at(
     alloc: Global,
-    front: &str,
+    source: &mut String,
     token: &str,
-    rest: &str,
+    behind: &str,
+    tail: &str,
     fault: Fault,
-) -> Result<bool, NoMemory> {
-    let mut source = String::from_str(alloc, front)?;
-    source.push_str(token)?;
-    source.push_str(rest)?;
-    let at = span_of(front.len(), token.len());
-    Ok(is_refused(alloc, source.as_str(), stop(fault, at)))
+) -> bool {
+    let at = span_of(source.len(), token.len());
+    let whole = add(source, token, behind, tail).is_ok();
+    whole && is_refused(alloc, source.as_str(), stop(fault, at))
 }
 
 /// The letter and the number, as one name.
@@ -236,9 +243,7 @@ fn most_of(
 ) -> Result<String, NoMemory> {
     let mut front = String::from_str(alloc, head)?;
     for n in 0..most {
-        front.push_str(before)?;
-        front.push_str(named(alloc, letter, n)?.as_str())?;
-        front.push_str(behind)?;
+        add(&mut front, before, &named(alloc, letter, n)?, behind)?;
     }
     front.push_str(before)?;
     Ok(front)
@@ -247,9 +252,10 @@ fn most_of(
 #[test]
 fn each_fault_of_names_and_limits_stands_at_its_token(rt: HostRuntime) -> Result<(), Fail> {
     for (front, token, rest, fault) in AT_A_TOKEN {
+        let mut source = String::from_str(rt.alloc(), front)?;
         assert!(rt;
-            is_refused_at(rt.alloc(), front, token, rest, *fault)?,
-            "{front}{token}"
+            is_refused_at(rt.alloc(), &mut source, token, rest, "", *fault),
+            "{front}"
         );
     }
     Ok(())
@@ -257,30 +263,36 @@ fn each_fault_of_names_and_limits_stands_at_its_token(rt: HostRuntime) -> Result
 
 #[test]
 fn one_more_than_a_limit_allows_is_refused(rt: HostRuntime) -> Result<(), Fail> {
-    let alloc = rt.alloc();
     for (head, before, letter, most, behind, tail, what) in ONE_TOO_MANY {
-        let front = most_of(alloc, head, before, letter, *most, behind)?;
-        let token = named(alloc, letter, *most)?;
-        let mut rest = String::from_str(alloc, behind)?;
-        rest.push_str(tail)?;
+        let mut front = most_of(rt.alloc(), head, before, letter, *most, behind)?;
+        let token = named(rt.alloc(), letter, *most)?;
         let fault = Fault::Limit(*what);
-        assert!(rt; is_refused_at(alloc, front.as_str(), token.as_str(), rest.as_str(), fault)?);
+        assert!(rt; is_refused_at(rt.alloc(), &mut front, &token, behind, tail, fault));
     }
     Ok(())
 }
 
-#[test]
-fn faults_of_tokens_nesting_and_syntax_come_first(rt: HostRuntime) -> Result<(), Fail> {
-    let alloc = rt.alloc();
-    for (source, want) in FIRST {
-        assert!(rt; is_refused(alloc, source, *want));
+/// One more than 65,536 semicolons, and than 64 open parentheses.
+const ONE_MORE: &[(&str, u32, LimitWhat)] = &[
+    (";", 65_536, LimitWhat::Tokens),
+    ("(", 64, LimitWhat::Nesting),
+];
+
+/// Is a source of one more than `most` of these tokens refused at the last?
+fn is_one_too_many(alloc: Global, token: &str, most: u32, what: LimitWhat) -> bool {
+    let at = span_of(most as usize, 1);
+    match token.repeat(alloc, most as usize + 1) {
+        Ok(source) => is_refused(alloc, source.as_str(), ParseStop::Limit(what, at)),
+        Err(_) => false,
     }
-    // 65,536 semicolons and one more; 64 open parentheses and one more.
-    let tokens = ";".repeat(alloc, 65_537)?;
-    let want = ParseStop::Limit(LimitWhat::Tokens, span_of(65_536, 1));
-    assert!(rt; is_refused(alloc, tokens.as_str(), want));
-    let nested = "(".repeat(alloc, 65)?;
-    let want = ParseStop::Limit(LimitWhat::Nesting, span_of(64, 1));
-    assert!(rt; is_refused(alloc, nested.as_str(), want));
-    Ok(())
+}
+
+#[test]
+fn faults_of_tokens_nesting_and_syntax_come_first(rt: HostRuntime) {
+    for (source, want) in FIRST {
+        assert!(rt; is_refused(rt.alloc(), source, *want));
+    }
+    for (token, most, what) in ONE_MORE {
+        assert!(rt; is_one_too_many(rt.alloc(), token, *most, *what));
+    }
 }

@@ -1,35 +1,54 @@
 //! Tests the tokens of sources, their first faults and the limit of their number.
-use ln_lex::{Kind, LexStop, tokens};
+use ln_lex::{Kind, LexStop, Token, tokens};
 use std::alloc::Global;
 use std::test::Fail;
 
-const TOKENS: &[(Kind, u32, u32)] = &[
-    (Kind::Name, 0, 1),
-    (Kind::Dot, 1, 2),
-    (Kind::Name, 2, 3),
-    (Kind::Dots, 3, 5),
-    (Kind::Number, 5, 6),
+/// Sources and their tokens, each of a kind and from a byte to a byte.
+const TEXTS: &[(&[u8], &[(Kind, u32, u32)])] = &[
+    (
+        b"p.x..2 // end",
+        &[
+            (Kind::Name, 0, 1),
+            (Kind::Dot, 1, 2),
+            (Kind::Name, 2, 3),
+            (Kind::Dots, 3, 5),
+            (Kind::Number, 5, 6),
+        ],
+    ),
+    (b"// a\rb\n\t\r x", &[(Kind::Name, 10, 11)]),
 ];
 
-/// Has the source these tokens, each of its kind and in its place?
+/// Are these the tokens, each of its kind and in its place?
+fn are_tokens(found: &[Token], want: &[(Kind, u32, u32)]) -> bool {
+    let mut rest = want;
+    for token in found {
+        let [(kind, start, end), more @ ..] = rest else {
+            return false;
+        };
+        if token.kind != *kind || token.span.start != *start || token.span.end != *end {
+            return false;
+        }
+        rest = more;
+    }
+    rest.is_empty()
+}
+
+/// Has the source these tokens?
 fn has_tokens(alloc: Global, source: &[u8], want: &[(Kind, u32, u32)]) -> bool {
     if source.len() > 1_048_576 {
         return false;
     }
-    let Ok(found) = tokens(alloc, source) else {
-        return false;
-    };
-    for (token, (kind, start, end)) in found.as_slice().iter().zip(want) {
-        if token.kind != *kind || token.span.start != *start || token.span.end != *end {
-            return false;
-        }
+    match tokens(alloc, source) {
+        Ok(found) => are_tokens(found.as_slice(), want),
+        Err(_) => false,
     }
-    found.len() == want.len()
 }
 
 #[test]
 fn tokens_of_a_source(rt: HostRuntime) {
-    assert!(rt; has_tokens(rt.alloc(), b"p.x..2 // end", TOKENS));
+    for (source, want) in TEXTS {
+        assert!(rt; has_tokens(rt.alloc(), source, want));
+    }
 }
 
 const KINDS: &[(&str, Kind)] = &[
@@ -64,7 +83,6 @@ fn kinds_of_tokens(rt: HostRuntime) {
         let end = source.len().min(9) as u32;
         assert!(rt; has_tokens(rt.alloc(), source.as_bytes(), &[(*kind, 0, end)]));
     }
-    assert!(rt; has_tokens(rt.alloc(), b"// a\rb\n\t\r x", &[(Kind::Name, 10, 11)]));
 }
 
 const FAULTS: &[(&[u8], u32)] = &[
@@ -93,38 +111,31 @@ fn faults_and_their_places(rt: HostRuntime) {
     }
 }
 
-/// Has the source this many tokens?
-fn has_count(alloc: Global, source: &[u8], want: usize) -> bool {
+/// Has the source this many tokens, or one too many, which begins at this byte?
+fn has_count(alloc: Global, source: &[u8], want: &Result<usize, u32>) -> bool {
     if source.len() > 1_048_576 {
         return false;
     }
     match tokens(alloc, source) {
-        Ok(found) => found.len() == want,
+        Ok(found) => matches!(want, Ok(count) if *count == found.len()),
+        Err(LexStop::Limit(at)) => matches!(want, Err(byte) if *byte == at),
         Err(_) => false,
     }
 }
 
-/// Does one token too many begin at this byte?
-fn has_limit(alloc: Global, source: &[u8], want: u32) -> bool {
-    if source.len() > 1_048_576 {
-        return false;
-    }
-    match tokens(alloc, source) {
-        Err(LexStop::Limit(at)) => at == want,
-        _ => false,
-    }
-}
+/// A byte, how many of it make a source, and how many tokens that has, or the byte at which one too many begins.
+const LARGE: &[(u8, usize, Result<usize, u32>)] = &[
+    (b' ', 1_048_576, Ok(0)),
+    (b'/', 1_048_576, Ok(0)),
+    (b';', 65_536, Ok(65_536)),
+    (b';', 65_537, Err(65_536)),
+];
 
 #[test]
 fn large_sources(rt: HostRuntime) -> Result<(), Fail> {
-    let alloc = rt.alloc();
-    let blanks = vec![in alloc; b' '; 1_048_576]?;
-    assert!(rt; has_count(alloc, &blanks, 0));
-    let comment = vec![in alloc; b'/'; 1_048_576]?;
-    assert!(rt; has_count(alloc, &comment, 0));
-    let many = vec![in alloc; b';'; 65_536]?;
-    assert!(rt; has_count(alloc, &many, 65_536));
-    let more = vec![in alloc; b';'; 65_537]?;
-    assert!(rt; has_limit(alloc, &more, 65_536));
+    for (byte, len, want) in LARGE {
+        let source = vec![in rt.alloc(); *byte; *len]?;
+        assert!(rt; has_count(rt.alloc(), &source, want));
+    }
     Ok(())
 }

@@ -1,26 +1,19 @@
 //! The first fault of names and limits, and the numbers of a source.
-use ln_lex::tokens;
+ghost use Rattle.std.specs.Prelude.{◌≤◌, length};
+
+use ln_lex::{Token, tokens};
 use ln_names::{Fault, LimitWhat, check_names};
 use ln_parse::parse;
-use ln_syntax::{read_items, syntax_fault};
+use ln_syntax::{RawItem, read_items, syntax_fault};
+use ln_tree::Table;
 use std::alloc::Global;
 
-/// Whether the first fault of a source is this limit, and begins at this byte; none wants a file without a fault.
-fn is_first(alloc: Global, source: &str, want: Option<(LimitWhat, u32)>) -> bool {
-    if source.len() > 1_048_576 {
-        return false;
-    }
-    let Ok(found) = tokens(alloc, source.as_bytes()) else {
-        return false;
-    };
-    let ts = found.as_slice();
-    if syntax_fault(ts).is_some() {
-        return false;
-    }
-    let Ok(its) = read_items(alloc, ts) else {
-        return false;
-    };
-    match check_names(source.as_bytes(), ts, &its) {
+/// A limit and the byte at which its fault begins; none is no fault.
+type Want = Option<(LimitWhat, u32)>;
+
+/// Whether the first fault of these items is as is wanted.
+fn is_fault(source: &[u8], ts: &[Token], its: &[RawItem], want: Want) -> bool {
+    match check_names(source, ts, its) {
         Ok(()) => want.is_none(),
         Err(found) => match found.fault {
             Fault::Limit(what) => want == Some((what, found.at.start)),
@@ -29,7 +22,31 @@ fn is_first(alloc: Global, source: &str, want: Option<(LimitWhat, u32)>) -> bool
     }
 }
 
-const FILES: &[(&str, Option<(LimitWhat, u32)>)] = &[
+/// Whether the tokens are those of a file, whose first fault is as is wanted.
+fn is_fault_of(alloc: Global, source: &[u8], ts: &[Token], want: Want) -> bool
+    requires { length ts.now ≤ 65536 }
+{
+    if syntax_fault(ts).is_some() {
+        return false;
+    }
+    match read_items(alloc, ts) {
+        Ok(its) => is_fault(source, ts, &its, want),
+        Err(_) => false,
+    }
+}
+
+/// Whether the first fault of a source is as is wanted.
+fn is_first(alloc: Global, source: &str, want: Want) -> bool {
+    if source.len() > 1_048_576 {
+        return false;
+    }
+    match tokens(alloc, source.as_bytes()) {
+        Ok(found) => is_fault_of(alloc, source.as_bytes(), found.as_slice(), want),
+        Err(_) => false,
+    }
+}
+
+const FILES: &[(&str, Want)] = &[
     ("param a: 1 .. 2;", None),
     ("param a: 2 .. 1;", Some((LimitWhat::RangeEnd, 14))),
     ("param abcdefghijklmnopqrstuvwxyzabcdef: 0 .. 1;", None),
@@ -46,16 +63,21 @@ fn names_of_33_letters_and_ranges_out_of_order_are_refused(rt: HostRuntime) {
     }
 }
 
+/// Is the range of the table's one param from `lo` to `hi`?
+fn is_range(table: &Table, lo: i64, hi: i64) -> bool {
+    match table.params.as_slice() {
+        [param] => param.lo == lo && param.hi == hi,
+        _ => false,
+    }
+}
+
 /// Is the range of the source's one param from `lo` to `hi`?
 fn has_range(alloc: Global, source: &str, lo: i64, hi: i64) -> bool {
     if source.len() > 1_048_576 {
         return false;
     }
     match parse(alloc, source.as_bytes()) {
-        Ok(table) => match table.params.as_slice() {
-            [param] => param.lo == lo && param.hi == hi,
-            _ => false,
-        },
+        Ok(table) => is_range(&table, lo, hi),
         Err(_) => false,
     }
 }

@@ -172,40 +172,50 @@ fn is_scaleds(table: &Table) -> bool {
     }
 }
 
+/// Is this the table's text?
+fn is_text_of(alloc: Global, table: &Table, want: &str) -> bool {
+    match print(alloc, table) {
+        Ok(text) => text.as_slice() == want.as_bytes(),
+        Err(_) => false,
+    }
+}
+
 /// Is it a source whose table has this text?
 fn is_printed(alloc: Global, source: &str, want: &str) -> bool {
     match read(alloc, source) {
-        Some(table) => match print(alloc, &table) {
-            Ok(text) => text.as_slice() == want.as_bytes(),
-            Err(_) => false,
-        },
+        Some(table) => is_text_of(alloc, &table, want),
         None => false,
     }
 }
 
 #[test]
 fn a_source_has_its_table(rt: HostRuntime) {
-    match read(rt.alloc(), ORIENT) {
-        Some(table) => assert!(rt; is_orients(&table)),
-        None => assert!(rt; false),
-    }
+    let orient = match read(rt.alloc(), ORIENT) {
+        Some(table) => is_orients(&table),
+        None => false,
+    };
+    assert!(rt; orient);
 }
 
 #[test]
 fn powers_lets_minus_and_params_are_in_the_table(rt: HostRuntime) {
-    match read(rt.alloc(), SQUARES) {
-        Some(table) => assert!(rt; is_squares(&table)),
-        None => assert!(rt; false),
-    }
-    match read(rt.alloc(), SCALED) {
-        Some(table) => assert!(rt; is_scaleds(&table)),
-        None => assert!(rt; false),
-    }
+    let squares = match read(rt.alloc(), SQUARES) {
+        Some(table) => is_squares(&table),
+        None => false,
+    };
+    let scaled = match read(rt.alloc(), SCALED) {
+        Some(table) => is_scaleds(&table),
+        None => false,
+    };
+    assert!(rt; squares && scaled);
 }
+
+/// Sources, and the texts of their tables.
+const PRINTED: &[(&str, &str)] = &[(SQUARES, SQUARES), (ALL, ALL), (OTHERWISE, ALL)];
 
 #[test]
 fn a_table_has_its_canonical_text(rt: HostRuntime) {
-    assert!(rt; is_printed(rt.alloc(), SQUARES, SQUARES));
-    assert!(rt; is_printed(rt.alloc(), ALL, ALL));
-    assert!(rt; is_printed(rt.alloc(), OTHERWISE, ALL));
+    for (source, text) in PRINTED {
+        assert!(rt; is_printed(rt.alloc(), source, text));
+    }
 }

@@ -1,5 +1,7 @@
 //! The items of sources, and the places of their faults.
-use ln_base::Span;
+ghost use Rattle.std.specs.Prelude.{◌≤◌, length};
+
+use ln_base::{NoMemory, Span};
 use ln_lex::{Token, tokens};
 use ln_syntax::{RawArg, RawCoord, RawItem, RawLet, nesting_fault, read_items, syntax_fault};
 use std::alloc::Global;
@@ -49,27 +51,38 @@ fn is_of_source(item: &RawItem) -> bool {
     }
 }
 
+/// Whether these three items are those of `SOURCE`.
+fn are_of_source(items: &[RawItem]) -> bool {
+    for item in items {
+        if !is_of_source(item) {
+            return false;
+        }
+    }
+    items.len() == 3
+}
+
+/// Whether the tokens are those of a file whose three items are those of `SOURCE`.
+fn have_items_of_source(alloc: Global, ts: &[Token]) -> bool
+    requires { length ts.now ≤ 65536 }
+{
+    if syntax_fault(ts).is_some() {
+        return false;
+    }
+    match read_items(alloc, ts) {
+        Ok(items) => are_of_source(&items),
+        Err(_) => false,
+    }
+}
+
 /// Whether the source is a file whose three items are those of `SOURCE`.
 fn has_items_of_source(alloc: Global, source: &str) -> bool {
     if source.len() > 1_048_576 {
         return false;
     }
-    let Ok(found) = tokens(alloc, source.as_bytes()) else {
-        return false;
-    };
-    let ts = found.as_slice();
-    if syntax_fault(ts).is_some() {
-        return false;
+    match tokens(alloc, source.as_bytes()) {
+        Ok(found) => have_items_of_source(alloc, found.as_slice()),
+        Err(_) => false,
     }
-    let Ok(read) = read_items(alloc, ts) else {
-        return false;
-    };
-    for item in &read {
-        if !is_of_source(item) {
-            return false;
-        }
-    }
-    read.len() == 3
 }
 
 #[test]
@@ -147,17 +160,19 @@ const FRONTS: &[(&str, &str)] = &[
     ("predicate f(p: a) { sign (p.x)", "); }"),
 ];
 
-#[test]
-fn a_fault_of_each_rule_stands_at_its_token(rt: HostRuntime) -> Result<(), Fail> {
-    for (front, rest) in FRONTS {
-        let mut source = String::from_str(rt.alloc(), front)?;
-        source.push_str(rest)?;
-        assert!(rt;
-            has_faults(rt.alloc(), source.as_str(), None, Some(front.len())),
-            "{source}"
-        );
+/// Is the source of these two parts no file, and does its fault stand where the second begins?
+fn is_fault_behind(alloc: Global, front: &str, rest: &str) -> bool {
+    match repeated(alloc, front, rest, 1, "") {
+        Ok(source) => has_faults(alloc, source.as_str(), None, Some(front.len())),
+        Err(_) => false,
     }
-    Ok(())
+}
+
+#[test]
+fn a_fault_of_each_rule_stands_at_its_token(rt: HostRuntime) {
+    for (front, rest) in FRONTS {
+        assert!(rt; is_fault_behind(rt.alloc(), front, rest), "{front}");
+    }
 }
 
 /// A text, another one n times, and a last one.
@@ -167,7 +182,7 @@ fn repeated(
     part: &str,
     times: u32,
     behind: &str,
-) -> Result<String, Fail> {
+) -> Result<String, NoMemory> {
     let mut source = String::from_str(alloc, before)?;
     for _ in 0..times {
         source.push_str(part)?;
@@ -178,11 +193,14 @@ fn repeated(
 
 const SIGN: &str = "predicate f(c: param) { sign ";
 
+/// A part of an expression, and how often it stands in it.
+const LONG: &[(&str, u32)] = &[("-", 65_000), ("c+", 32_000), ("(c)*", 16_000)];
+
 #[test]
 fn long_sources_are_files(rt: HostRuntime) -> Result<(), Fail> {
     let alloc = rt.alloc();
-    for (part, times) in [("-", 65_000), ("c+", 32_000), ("(c)*", 16_000)] {
-        let source = repeated(alloc, SIGN, part, times, "c; }")?;
+    for (part, times) in LONG {
+        let source = repeated(alloc, SIGN, part, *times, "c; }")?;
         assert!(rt; has_faults(alloc, source.as_str(), None, None));
     }
     Ok(())
