@@ -7,10 +7,8 @@ use ln_base::NoMemory;
 use ln_bound::size::{negated, number, size};
 use ln_bound::weigh::weigh;
 use ln_bound::{BoundStop, Fitted, FittedPred, Width};
-use ln_interval::Pair;
 use ln_tree::Pred;
 use std::alloc::Global;
-use std::test::Fail;
 
 // An orientation; two products of numbers from the largest range that 64 bits can say; differences of squares of sums.
 const SOURCE: &str = "site point { x: -1000 .. 1000; y: -1000 .. 1000; }
@@ -23,40 +21,14 @@ predicate cross(a: half, b: half) { sign (a.t + b.t)^2 - (a.t - b.t)^2; }
 predicate up(a: count, b: count) { sign (a.t + b.t)^2 - (a.t - b.t)^2; }
 ";
 
-/// The facts of a predicate's root: its size, its ends, and whether it is wide.
-struct Known {
-    size: u128,
-    low: i128,
-    high: i128,
-    wide: bool,
-}
+// The ends of the roots: of the two products, of the first difference of squares, and both of the second.
+const BIG: i128 = 170141183460469231694793815568465002498;
 
-const KNOWN: &[Known] = &[
-    Known {
-        size: 32,
-        low: -8000000,
-        high: 8000000,
-        wide: false,
-    },
-    Known {
-        size: 8,
-        low: -170141183460469231694793815568465002498,
-        high: 170141183460469231694793815568465002498,
-        wide: true,
-    },
-    Known {
-        size: 32,
-        low: -170141183460469231657900327421045899272,
-        high: 170141183460469231657900327421045899272,
-        wide: true,
-    },
-    Known {
-        size: 32,
-        low: -25000000000000000000000000000000000000,
-        high: 125000000000000000000000000000000000000,
-        wide: true,
-    },
-];
+const CROSS: i128 = 170141183460469231657900327421045899272;
+
+const UP: i128 = 25000000000000000000000000000000000000;
+
+const UP_HIGH: i128 = 125000000000000000000000000000000000000;
 
 // Its root's left operand is wide, so the root is, whose range is 1 .. 1.
 const WITH_LETS: &str = "site num { t: -2 .. 3; }
@@ -65,6 +37,7 @@ predicate lets(a: num) { let d = a.t - 1; let e = d^3; sign -e*57646075230342348
 const WIDE: &str = "site num { t: -5000000000000000000 .. 5000000000000000000; }
 predicate cross(a: num, b: num) { sign (a.t + b.t)^2 - (a.t - b.t)^2; }";
 
+/// Is the width that of 128 bits?
 fn is_wide(w: Width) -> bool {
     match w {
         Width::W64 => false,
@@ -77,41 +50,57 @@ fn is(t: &Fitted, low: i128, high: i128, wide: bool) -> bool {
     t.pair.low == low && t.pair.high == high && is_wide(t.width) == wide
 }
 
-/// The size of the root, its ends and its width.
-fn root_of(alloc: Global, p: &Pred) -> Result<(u128, Pair, Width), BoundStop> {
-    let w = weigh(alloc, p)?;
-    let trees = size(alloc, p)?;
-    Ok((w.root(), trees.root.pair, trees.root.width))
-}
-
-/// Is this known of the predicate's root?
-fn is_known(alloc: Global, p: &Pred, want: &Known) -> bool {
-    match root_of(alloc, p) {
-        Ok((size, pair, width)) => {
-            size == want.size
-                && pair.low == want.low
-                && pair.high == want.high
-                && is_wide(width) == want.wide
-        }
-        Err(_) => false,
-    }
-}
-
-#[test]
-fn roots_have_their_sizes_ends_and_widths(rt: HostRuntime) -> Result<(), Fail> {
-    let t = table(&rt, rt.alloc(), SOURCE)?;
-    assert!(rt; t.preds.len() == KNOWN.len());
-    for (p, want) in t.preds.as_slice().iter().zip(KNOWN) {
-        assert!(rt; is_known(rt.alloc(), p, want));
-    }
-    Ok(())
-}
-
-/// The trees of a predicate.
+/// The trees of a predicate, whose ranges and sizes have to fit.
 fn trees_of(alloc: Global, p: &Pred) -> Result<FittedPred, BoundStop> {
     weigh(alloc, p)?;
     let trees = size(alloc, p)?;
     Ok(trees)
+}
+
+/// Has the predicate's root this size?
+fn weighs(alloc: Global, p: &Pred, root: u128) -> bool {
+    match weigh(alloc, p) {
+        Ok(w) => w.root() == root,
+        Err(_) => false,
+    }
+}
+
+/// Has the predicate's root these ends, and is it wide?
+fn is_root(alloc: Global, p: &Pred, low: i128, high: i128, wide: bool) -> bool {
+    match trees_of(alloc, p) {
+        Ok(trees) => is(&trees.root, low, high, wide),
+        Err(_) => false,
+    }
+}
+
+/// Have the roots their sizes, ends and widths?
+fn are_known(alloc: Global, preds: &[Pred]) -> bool {
+    match preds {
+        [orient, big, cross, up] => {
+            weighs(alloc, orient, 32)
+                && is_root(alloc, orient, -8000000, 8000000, false)
+                && weighs(alloc, big, 8)
+                && is_root(alloc, big, -BIG, BIG, true)
+                && weighs(alloc, cross, 32)
+                && is_root(alloc, cross, -CROSS, CROSS, true)
+                && weighs(alloc, up, 32)
+                && is_root(alloc, up, -UP, UP_HIGH, true)
+        }
+        _ => false,
+    }
+}
+
+/// Is all that is known true of the source's predicates?
+fn has_known_roots(alloc: Global) -> bool {
+    match table(alloc, SOURCE) {
+        Some(t) => are_known(alloc, t.preds.as_slice()),
+        None => false,
+    }
+}
+
+#[test]
+fn roots_have_their_sizes_ends_and_widths(rt: HostRuntime) {
+    assert!(rt; has_known_roots(rt.alloc()));
 }
 
 /// Are these the trees of the predicate with lets?
@@ -122,43 +111,74 @@ fn are_with_lets(trees: &FittedPred) -> bool {
     }
 }
 
-#[test]
-fn lets_and_powers_carry_ranges_and_widths(rt: HostRuntime) -> Result<(), Fail> {
-    let t = table(&rt, rt.alloc(), WITH_LETS)?;
-    match trees_of(rt.alloc(), &t.preds.as_slice()[0]) {
-        Ok(trees) => assert!(rt; are_with_lets(&trees)),
-        Err(_) => assert!(rt; false),
-    }
-    Ok(())
-}
-
-/// Where the first node is that is too large.
-fn refused_at(alloc: Global, p: &Pred) -> Option<u32> {
-    match weigh(alloc, p) {
-        Err(BoundStop::Bound(at)) => Some(at.start),
-        _ => None,
+/// Are the trees of the one predicate those with lets?
+fn have_lets(alloc: Global, preds: &[Pred]) -> bool {
+    match preds {
+        [p] => match trees_of(alloc, p) {
+            Ok(trees) => are_with_lets(&trees),
+            Err(_) => false,
+        },
+        _ => false,
     }
 }
 
-#[test]
-fn a_root_past_128_bits_is_refused(rt: HostRuntime) -> Result<(), Fail> {
-    let t = table(&rt, rt.alloc(), WIDE)?;
-    assert!(rt; refused_at(rt.alloc(), &t.preds.as_slice()[0]) == Some(114));
-    Ok(())
+/// Has the source with lets the trees of its predicate?
+fn has_lets(alloc: Global) -> bool {
+    match table(alloc, WITH_LETS) {
+        Some(t) => have_lets(alloc, t.preds.as_slice()),
+        None => false,
+    }
 }
 
-/// Are the trees of -2 and of -n one?
-fn is_opposite_of_two(alloc: Global, n: i128) -> Result<bool, NoMemory>
+#[test]
+fn lets_and_powers_carry_ranges_and_widths(rt: HostRuntime) {
+    assert!(rt; has_lets(rt.alloc()));
+}
+
+/// Is the first node of the one predicate that is too large at this place?
+fn are_refused_at(alloc: Global, preds: &[Pred], place: u32) -> bool {
+    match preds {
+        [p] => match weigh(alloc, p) {
+            Err(BoundStop::Bound(at)) => at.start == place,
+            _ => false,
+        },
+        _ => false,
+    }
+}
+
+/// Is the first node of the wide source that is too large at this place?
+fn is_refused_at(alloc: Global, place: u32) -> bool {
+    match table(alloc, WIDE) {
+        Some(t) => are_refused_at(alloc, t.preds.as_slice(), place),
+        None => false,
+    }
+}
+
+#[test]
+fn a_root_past_128_bits_is_refused(rt: HostRuntime) {
+    assert!(rt; is_refused_at(rt.alloc(), 114));
+}
+
+/// Is the tree that of -n?
+fn is_opposite(alloc: Global, t: &Fitted, n: i128) -> Result<bool, NoMemory>
     requires { unsigned_abs n ≤ most }
 {
-    let one = negated(alloc, number(2))?;
     let other = negated(alloc, number(n))?;
-    Ok(one.same(&other))
+    Ok(t.same(&other))
+}
+
+/// Is the tree of -2 the same as another of -2, and not that of -3?
+fn is_one(alloc: Global) -> bool {
+    match negated(alloc, number(2)) {
+        Ok(t) => {
+            matches!(is_opposite(alloc, &t, 2), Ok(true))
+                && matches!(is_opposite(alloc, &t, 3), Ok(false))
+        }
+        Err(_) => false,
+    }
 }
 
 #[test]
-fn equal_trees_are_one(rt: HostRuntime) -> Result<(), Fail> {
-    assert!(rt; is_opposite_of_two(rt.alloc(), 2)?);
-    assert!(rt; !is_opposite_of_two(rt.alloc(), 3)?);
-    Ok(())
+fn equal_trees_are_one(rt: HostRuntime) {
+    assert!(rt; is_one(rt.alloc()));
 }

@@ -1,12 +1,13 @@
 //! Stages by total degree first: their count, blocks and weight, and the limits, of which the last is passed and the first refused.
+ghost use Rattle.std.specs.Prelude.{length};
+ghost use Rattle.ln_poly.specs.Sparse.{AreBelow};
+
+use crate::sources::{poly_of, table};
 use crate::spheres::SPHERE;
-use ln_bound::weigh::weigh;
-use ln_parse::parse;
-use ln_poly::normal;
+use ln_poly::Poly;
 use ln_stage::{StageStop, graded_stages};
-use ln_tree::Pred;
+use ln_tree::{Pred, Shape};
 use std::alloc::Global;
-use std::test::Fail;
 
 const ORIENT: &str = "site point { x: -9 .. 9; y: -9 .. 9; }
 predicate orient(p: point, q: point, r: point) { sign (p.x - r.x)*(q.y - r.y) - (p.y - r.y)*(q.x - r.x); }";
@@ -32,71 +33,85 @@ predicate all(k: wide, l: wide, m: wide, n: wide) {
   sign kp*lp*mp*np;
 }";
 
-// The count of the stages of a predicate within these limits, and how many blocks there are.
-fn counts(alloc: Global, p: &Pred, most: u64, heavy: u32) -> Result<(u64, usize), StageStop> {
-    if weigh(alloc, p).is_err() {
-        return Err(StageStop::NoMemory);
-    }
-    match normal(alloc, p) {
-        Ok(f) => {
-            let st = graded_stages(alloc, &f, &p.shape, most, u64::from(heavy))?;
-            Ok((st.count(), st.blocks()))
-        }
-        Err(_) => Err(StageStop::NoMemory),
-    }
+/// The count of the stages of a polynomial within these limits, and how many blocks there are.
+fn counts(
+    alloc: Global,
+    f: &Poly,
+    s: &Shape,
+    most: u64,
+    heavy: u32,
+) -> Result<(u64, usize), StageStop>
+    requires { AreBelow (length s.now.vars) f.now }
+{
+    let st = graded_stages(alloc, f, s, most, u64::from(heavy))?;
+    Ok((st.count(), st.blocks()))
 }
 
-// The same of the first predicate of a source. A source without one counts as out of memory.
-fn counted(alloc: Global, source: &str, most: u64, heavy: u32) -> Result<(u64, usize), StageStop> {
-    let bytes = source.as_bytes();
-    if bytes.len() > 1_048_576 {
-        return Err(StageStop::NoMemory);
-    }
-    match parse(alloc, bytes) {
-        Ok(t) => match t.preds.as_slice().first() {
-            Some(p) => counts(alloc, p, most, heavy),
-            None => Err(StageStop::NoMemory),
+/// The count and the blocks of the one predicate.
+fn counts_of(
+    alloc: Global,
+    preds: &[Pred],
+    most: u64,
+    heavy: u32,
+) -> Result<(u64, usize), StageStop> {
+    match preds {
+        [p] => match poly_of(alloc, p) {
+            Ok(f) => counts(alloc, &f, &p.shape, most, heavy),
+            Err(_) => Err(StageStop::NoMemory),
         },
-        Err(_) => Err(StageStop::NoMemory),
+        _ => Err(StageStop::NoMemory),
     }
 }
 
-// Does a limit stop the stages of a source?
+/// The count and the blocks of the one predicate of a source. A source without one counts as out of memory.
+fn counted(alloc: Global, source: &str, most: u64, heavy: u32) -> Result<(u64, usize), StageStop> {
+    match table(alloc, source) {
+        Some(t) => counts_of(alloc, t.preds.as_slice(), most, heavy),
+        None => Err(StageStop::NoMemory),
+    }
+}
+
+/// Does a limit stop the stages of a source?
 fn is_past(alloc: Global, source: &str, most: u64, heavy: u32) -> bool {
     matches!(counted(alloc, source, most, heavy), Err(StageStop::Stages))
 }
 
+/// Has a source as many stages as the limit allows, and this many blocks?
+fn is_full(alloc: Global, source: &str, most: u64, heavy: u32, blocks: usize) -> bool {
+    match counted(alloc, source, most, heavy) {
+        Ok(found) => found.0 == most && found.1 == blocks,
+        Err(_) => false,
+    }
+}
+
 #[test]
-fn orientation_has_48_stages_of_weight_24(rt: HostRuntime) -> Result<(), Fail> {
+fn orientation_has_48_stages_of_weight_24(rt: HostRuntime) {
     let alloc = rt.alloc();
     // 1, the six coordinates, and of the six products one for each order; 1 is covered six times, each coordinate twice.
-    assert!(rt; matches!(counted(alloc, ORIENT, 48, 24), Ok((48, 13))));
-    assert!(rt; is_past(alloc, ORIENT, 47, 24));
-    assert!(rt; is_past(alloc, ORIENT, 48, 23));
-    assert!(rt; matches!(counted(alloc, NOTHING, 48, 24), Err(StageStop::Zero)));
-    Ok(())
+    assert!(rt;
+        is_full(alloc, ORIENT, 48, 24, 13)
+            && is_past(alloc, ORIENT, 47, 24)
+            && is_past(alloc, ORIENT, 48, 23)
+            && matches!(counted(alloc, NOTHING, 48, 24), Err(StageStop::Zero))
+    );
 }
 
 #[test]
-fn insphere_has_151440_stages(rt: HostRuntime) -> Result<(), Fail> {
-    let alloc = rt.alloc();
-    assert!(rt; matches!(counted(alloc, SPHERE, 151_440, 8_400), Ok((151_440, 1_381))));
-    assert!(rt; is_past(alloc, SPHERE, 151_440, 8_399));
-    Ok(())
-}
-
-#[test]
-fn the_last_within_the_limits_is_passed_and_the_next_refused(rt: HostRuntime) -> Result<(), Fail> {
+fn insphere_has_151440_stages(rt: HostRuntime) {
     let alloc = rt.alloc();
     assert!(rt;
-        matches!(
-            counted(alloc, PRODUCT, 262_144, 131_072),
-            Ok((262_144, 131_072))
-        )
+        is_full(alloc, SPHERE, 151_440, 8_400, 1_381) && is_past(alloc, SPHERE, 151_440, 8_399)
     );
-    assert!(rt; is_past(alloc, PRODUCT, 262_143, 131_072));
-    assert!(rt; is_past(alloc, PRODUCT, 262_144, 131_071));
-    // Refused after as many stages as the limit allows, of 2^124.
-    assert!(rt; is_past(alloc, LONG, 262_144, 131_072));
-    Ok(())
+}
+
+#[test]
+fn the_last_within_the_limits_is_passed_and_the_next_refused(rt: HostRuntime) {
+    let alloc = rt.alloc();
+    // The long one is refused after as many stages as the limit allows, of 2^124.
+    assert!(rt;
+        is_full(alloc, PRODUCT, 262_144, 131_072, 131_072)
+            && is_past(alloc, PRODUCT, 262_143, 131_072)
+            && is_past(alloc, PRODUCT, 262_144, 131_071)
+            && is_past(alloc, LONG, 262_144, 131_072)
+    );
 }

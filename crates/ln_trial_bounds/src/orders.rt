@@ -1,11 +1,16 @@
 //! The order of a row's sites, all orders of this many sites with their prefixes, and which exponents are earlier in one.
-ghost use Rattle.std.specs.Prelude.{◌≡◌, IfOk};
+ghost use Rattle.std.specs.Prelude.{◌≡◌, length};
+ghost use Rattle.ln_order.specs.Places.{order_places};
 
-use ln_base::{NoMemory, Seq};
+use crate::sources::table;
+use ln_base::NoMemory;
 use ln_order::{Front, Order, all_orders, all_prefixes, earlier, order_of, prefix_number, ranking};
-use ln_tree::{Exps, Name, Shape, VarInfo, is_shape};
+use ln_tree::{Exps, Pred, Shape};
 use std::alloc::Global;
-use std::test::Fail;
+
+// One site of two coordinates.
+const PLANE: &str =
+    "site plane { x: -9 .. 9; y: -9 .. 9; } predicate of(a: plane) { sign a.x*a.y; }";
 
 /// Is this the order of the sites with these indices?
 fn is_order(indices: [i64; 3], places: [u8; 3]) -> bool {
@@ -15,32 +20,17 @@ fn is_order(indices: [i64; 3], places: [u8; 3]) -> bool {
     }
 }
 
-/// Coordinate k of the one site.
-fn coord(k: u8) -> VarInfo {
-    VarInfo {
-        arg: 0,
-        site: Some(0),
-        coord: k,
-        lo: -9,
-        hi: 9,
+/// The place of the first site whose index is that of an earlier one.
+fn equal_at(indices: [i64; 2]) -> Option<u8> {
+    match order_of(&indices) {
+        Ok(_) => None,
+        Err(equal) => Some(equal.0),
     }
 }
 
-/// A shape with one site of two coordinates.
-fn plane(alloc: Global) -> Result<Shape, NoMemory>
-    ensures { IfOk result (λ s. s.sites ≡ 1) }
-{
-    let mut vars = Seq::new(alloc);
-    vars.push(coord(0))?;
-    vars.push(coord(1))?;
-    if !is_shape(1, vars.as_slice()) {
-        return Err(NoMemory);
-    }
-    Ok(Shape {
-        name: Name::of(b"plane"),
-        sites: 1,
-        vars,
-    })
+#[test]
+fn places_stand_by_rising_index(rt: HostRuntime) {
+    assert!(rt; is_order([2, 1, 3], [1, 0, 2]) && matches!(equal_at([4, 4]), Some(1)));
 }
 
 /// The exponents of a variable alone.
@@ -50,78 +40,130 @@ fn alone(alloc: Global, v: u8) -> Result<Exps, NoMemory> {
     Ok(e)
 }
 
-/// Is it the order of places 0 and 1 with this number?
+/// Are the exponents of coordinate 1 alone earlier than these, and not the other way round?
+fn is_last_before(alloc: Global, o: &Order, s: &Shape, x: &Exps) -> bool
+    requires { length (order_places o.now) ≡ s.now.sites }
+{
+    match alone(alloc, 1) {
+        Ok(y) => earlier(o, s, &y, x) && !earlier(o, s, x, &y),
+        Err(_) => false,
+    }
+}
+
+/// Is coordinate 1 alone earlier than coordinate 0 alone?
+fn is_last_earlier(alloc: Global, o: &Order, s: &Shape) -> bool
+    requires { length (order_places o.now) ≡ s.now.sites }
+{
+    match alone(alloc, 0) {
+        Ok(x) => is_last_before(alloc, o, s, &x),
+        Err(_) => false,
+    }
+}
+
+/// Is the ranking that of coordinate 0 before coordinate 1?
+fn is_ranked(alloc: Global, o: &Order, s: &Shape) -> bool
+    requires { length (order_places o.now) ≡ s.now.sites }
+{
+    match ranking(alloc, o, s) {
+        Ok(vars) => vars.as_slice() == [0u8, 1].as_slice(),
+        Err(_) => false,
+    }
+}
+
+/// Has the second coordinate of the one site the larger infinitesimal?
+fn is_largest_last(alloc: Global, preds: &[Pred]) -> bool {
+    let o = Order::of_arguments(1);
+    match preds {
+        [p] if p.shape.sites == 1 => {
+            is_last_earlier(alloc, &o, &p.shape) && is_ranked(alloc, &o, &p.shape)
+        }
+        _ => false,
+    }
+}
+
+/// Has the second coordinate of the plane the larger infinitesimal?
+fn is_plane(alloc: Global) -> bool {
+    match table(alloc, PLANE) {
+        Some(t) => is_largest_last(alloc, t.preds.as_slice()),
+        None => false,
+    }
+}
+
+#[test]
+fn the_last_coordinate_is_the_largest(rt: HostRuntime) {
+    assert!(rt; is_plane(rt.alloc()));
+}
+
+/// Is it the order of these places with this number?
 fn is_of_two(order: &Order, places: [u8; 2], number: usize) -> bool {
     order.places() == places.as_slice() && order.number() == number
+}
+
+/// Are there two orders of two sites, numbered from 0?
+fn has_two_orders(alloc: Global) -> bool {
+    match all_orders(alloc, 2) {
+        Ok(all) => match all.as_slice() {
+            [a, b] => is_of_two(a, [0, 1], 0) && is_of_two(b, [1, 0], 1),
+            _ => false,
+        },
+        Err(_) => false,
+    }
+}
+
+#[test]
+fn two_sites_have_two_orders(rt: HostRuntime) {
+    assert!(rt; has_two_orders(rt.alloc()));
+}
+
+/// Are these the places of the prefix?
+fn has_places(p: &Front, places: &[u8]) -> bool {
+    p.places() == places
 }
 
 /// Are these the prefixes of the orders of two sites?
 fn are_of_two(all: &[Front]) -> bool {
     match all {
         [none, a, ab, b, ba] => {
-            none.places().is_empty()
-                && a.places() == [0u8].as_slice()
-                && ab.places() == [0u8, 1].as_slice()
-                && b.places() == [1u8].as_slice()
-                && ba.places() == [1u8, 0].as_slice()
+            has_places(none, &[])
+                && has_places(a, &[0])
+                && has_places(ab, &[0, 1])
+                && has_places(b, &[1])
+                && has_places(ba, &[1, 0])
         }
         _ => false,
     }
 }
 
-/// Has the second coordinate of the one site the larger infinitesimal?
-fn is_largest_last(alloc: Global, s: &Shape) -> Result<bool, NoMemory>
-    requires { s.now.sites ≡ 1 }
-{
-    let o = Order::of_arguments(1);
-    let x = alone(alloc, 0)?;
-    let y = alone(alloc, 1)?;
-    if !earlier(&o, s, &y, &x) || earlier(&o, s, &x, &y) {
-        return Ok(false);
-    }
-    let vars = ranking(alloc, &o, s)?;
-    Ok(vars.as_slice() == [0u8, 1].as_slice())
-}
-
-#[test]
-fn places_stand_by_rising_index(rt: HostRuntime) {
-    assert!(rt; is_order([2, 1, 3], [1, 0, 2]));
-    match order_of(&[4, 4]) {
-        Ok(_) => assert!(rt; false),
-        Err(equal) => assert!(rt; equal.0 == 1),
+/// Have two sites their five prefixes?
+fn has_prefixes_of_two(alloc: Global) -> bool {
+    match all_prefixes(alloc, 2) {
+        Ok(two) => are_of_two(two.as_slice()),
+        Err(_) => false,
     }
 }
 
-#[test]
-fn the_last_coordinate_is_the_largest(rt: HostRuntime) -> Result<(), Fail> {
-    let s = plane(rt.alloc())?;
-    assert!(rt; is_largest_last(rt.alloc(), &s)?);
-    Ok(())
+/// How many prefixes the orders of five sites have.
+fn prefixes_of_five(alloc: Global) -> Result<usize, NoMemory> {
+    let all = all_prefixes(alloc, 5)?;
+    Ok(all.len())
 }
 
 #[test]
-fn two_sites_have_two_orders(rt: HostRuntime) -> Result<(), Fail> {
-    let all = all_orders(rt.alloc(), 2)?;
-    match all.as_slice() {
-        [a, b] => assert!(rt; is_of_two(a, [0, 1], 0) && is_of_two(b, [1, 0], 1)),
-        _ => assert!(rt; false),
-    }
-    Ok(())
+fn five_sites_have_326_prefixes(rt: HostRuntime) {
+    let alloc = rt.alloc();
+    assert!(rt; matches!(prefixes_of_five(alloc), Ok(326)) && has_prefixes_of_two(alloc));
 }
 
-#[test]
-fn five_sites_have_326_prefixes(rt: HostRuntime) -> Result<(), Fail> {
-    assert!(rt; all_prefixes(rt.alloc(), 5)?.len() == 326);
-    let two = all_prefixes(rt.alloc(), 2)?;
-    assert!(rt; are_of_two(two.as_slice()));
-    Ok(())
+/// Is the order of three sites found site by site, and have its prefixes their numbers?
+fn is_found(indices: [i64; 3]) -> bool {
+    let one = Order::of_arguments(3).found(0, &indices);
+    let two = one.found(1, &indices);
+    two.places() == [1u8, 0, 2].as_slice()
+        && prefix_number(&two, 0) == 0
+        && prefix_number(&two, 2) == 7
 }
 
 #[test]
 fn sites_are_found_one_by_one(rt: HostRuntime) {
-    let indices = [2i64, 1, 3];
-    let one = Order::of_arguments(3).found(0, &indices);
-    let two = one.found(1, &indices);
-    assert!(rt; two.places() == [1u8, 0, 2].as_slice());
-    assert!(rt; prefix_number(&two, 0) == 0 && prefix_number(&two, 2) == 7);
+    assert!(rt; is_found([2, 1, 3]));
 }

@@ -1,18 +1,15 @@
 //! Polynomials: expanded predicates, sums, products, derivatives and weights.
-ghost use Rattle.std.specs.Prelude.{◌≤◌, IfOk, length};
+ghost use Rattle.std.specs.Prelude.{◌<◌, ◌≤◌, ◌^◌, length, unsigned_abs};
 ghost use Rattle.ln_algebra.specs.Weights.{weighted_sum};
 ghost use Rattle.ln_bound.specs.Light.{most};
 ghost use Rattle.ln_bound.specs.Value.{weights};
 ghost use Rattle.ln_poly.specs.Sparse.{AreBelow, terms_of};
 
-use crate::sources::table;
+use crate::sources::{poly_of, table};
 use ln_base::NoMemory;
-use ln_bound::weigh::weigh;
-use ln_poly::{Poly, PolyStop, add, derive, heft, mul, mul_within, normal, number, power, weight};
-use ln_tree::Pred;
+use ln_poly::{Poly, PolyStop, add, derive, heft, mul, mul_within, number, power, weight};
+use ln_tree::{Pred, Shape};
 use std::alloc::Global;
-use std::process::Abort;
-use std::test::Fail;
 
 /// A term: the pairs of its exponents, and its factor.
 type Want = (&'static [(u8, u8)], i128);
@@ -23,27 +20,12 @@ fn has(f: &Poly, terms: &[Want]) -> bool {
     if f.len() != terms.len() {
         return false;
     }
-    for (t, want) in f.iter().zip(terms) {
-        if t.1 != want.1 || t.0.pairs() != want.0 {
+    for k in 0..terms.len() {
+        if f[k].1 != terms[k].1 || f[k].0.pairs() != terms[k].0 {
             return false;
         }
     }
     true
-}
-
-// x + x, and x * x, of variable 0.
-fn twice(alloc: Global) -> Result<(Poly, Poly), NoMemory> {
-    let x = power(alloc, 0, 1, 1)?;
-    let sum = add(alloc, &x, &x)?;
-    let square = mul(alloc, &x, &x)?;
-    Ok((sum, square))
-}
-
-// x * x, of variable 0, where it has at most `most` terms.
-fn square_within(alloc: Global, most: usize) -> Result<Option<Poly>, NoMemory> {
-    let x = power(alloc, 0, 1, 1)?;
-    let square = mul_within(alloc, &x, &x, most)?;
-    Ok(square)
 }
 
 /// Are these x + x and x * x?
@@ -52,31 +34,47 @@ fn are_twice(sum: &Poly, square: &Poly) -> bool {
     apart && has(sum, TWO_X) && has(square, X_SQUARED)
 }
 
-/// Is 0 no term, and -3 a constant?
-fn are_numbers(zero: &Poly, three: &Poly) -> bool {
-    zero.is_zero() && three.is_constant() && !three.is_zero()
+/// Have x + x and x * x, of variable 0, their coefficients?
+fn twice(alloc: Global) -> Result<bool, NoMemory> {
+    let x = power(alloc, 0, 1, 1)?;
+    let sum = add(alloc, &x, &x)?;
+    let square = mul(alloc, &x, &x)?;
+    Ok(are_twice(&sum, &square))
 }
 
 #[test]
-fn sums_and_products_have_their_coefficients(rt: HostRuntime) -> Result<(), Fail> {
-    let (sum, square) = twice(rt.alloc())?;
-    assert!(rt; are_twice(&sum, &square));
-    Ok(())
+fn sums_and_products_have_their_coefficients(rt: HostRuntime) {
+    assert!(rt; matches!(twice(rt.alloc()), Ok(true)));
+}
+
+/// Is the number constant as a polynomial, and is it as is said whether it is 0?
+fn is_kind(alloc: Global, c: i128, zero: bool) -> bool
+    requires { unsigned_abs c < 2 ^ 127 }
+{
+    match number(alloc, c) {
+        Ok(f) => f.is_constant() && f.is_zero() == zero,
+        Err(_) => false,
+    }
 }
 
 #[test]
-fn numbers_are_constant(rt: HostRuntime) -> Result<(), Fail> {
-    let zero = number(rt.alloc(), 0)?;
-    let three = number(rt.alloc(), -3)?;
-    assert!(rt; are_numbers(&zero, &three));
-    Ok(())
+fn numbers_are_constant(rt: HostRuntime) {
+    assert!(rt; is_kind(rt.alloc(), 0, true) && is_kind(rt.alloc(), -3, false));
+}
+
+/// Has x * x, of variable 0, at most this many terms?
+fn square_within(alloc: Global, most: usize) -> Result<bool, NoMemory> {
+    let x = power(alloc, 0, 1, 1)?;
+    let square = mul_within(alloc, &x, &x, most)?;
+    Ok(square.is_some())
 }
 
 #[test]
-fn products_of_too_many_terms_are_given_up(rt: HostRuntime) -> Result<(), Fail> {
-    assert!(rt; square_within(rt.alloc(), 1)?.is_some());
-    assert!(rt; square_within(rt.alloc(), 0)?.is_none());
-    Ok(())
+fn products_of_too_many_terms_are_given_up(rt: HostRuntime) {
+    let alloc = rt.alloc();
+    assert!(rt;
+        matches!(square_within(alloc, 1), Ok(true)) && matches!(square_within(alloc, 0), Ok(false))
+    );
 }
 
 const TWO_X: &[Want] = &[(&[(0, 1)], 2)];
@@ -100,90 +98,100 @@ struct Case {
     derived: &'static [Want],
 }
 
-const CASES: &[Case] = &[
-    Case {
-        terms: &[
-            (&[(3, 1), (4, 1)], -1),
-            (&[(2, 1), (5, 1)], 1),
-            (&[(1, 1), (4, 1)], 1),
-            (&[(1, 1), (2, 1)], -1),
-            (&[(0, 1), (5, 1)], -1),
-            (&[(0, 1), (3, 1)], 1),
-        ],
-        // Six products: 6 * 1000 * 1000, and 6 * 1001 * 1001.
-        weight: 6_000_000,
-        heft: 6_012_006,
-        times: 1,
-        derived: &[(&[(2, 1)], 1), (&[(0, 1)], -1)],
-    },
-    // The second derivative of the cube is six times the number; scaled, three times.
-    Case {
-        terms: &[(&[(0, 3)], 1)],
-        weight: 1000000000,
-        heft: 1003003001,
-        times: 2,
-        derived: &[(&[(0, 1)], 3)],
-    },
-    Case {
-        terms: &[],
-        weight: 0,
-        heft: 0,
-        times: 1,
-        derived: &[],
-    },
-];
+const ORIENT: &Case = &Case {
+    terms: &[
+        (&[(3, 1), (4, 1)], -1),
+        (&[(2, 1), (5, 1)], 1),
+        (&[(1, 1), (4, 1)], 1),
+        (&[(1, 1), (2, 1)], -1),
+        (&[(0, 1), (5, 1)], -1),
+        (&[(0, 1), (3, 1)], 1),
+    ],
+    // Six products: 6 * 1000 * 1000, and 6 * 1001 * 1001.
+    weight: 6_000_000,
+    heft: 6_012_006,
+    times: 1,
+    derived: &[(&[(2, 1)], 1), (&[(0, 1)], -1)],
+};
 
-/// The normal polynomial of a predicate, whose ranges and sizes have to fit.
-fn poly_of(alloc: Global, p: &Pred) -> Result<Poly, PolyStop>
-    ensures { IfOk result (AreBelow (length p.now.shape.vars)) }
+// The second derivative of the cube is six times the number; scaled, three times.
+const CUBE: &Case = &Case {
+    terms: &[(&[(0, 3)], 1)],
+    weight: 1000000000,
+    heft: 1003003001,
+    times: 2,
+    derived: &[(&[(0, 1)], 3)],
+};
+
+const NONE: &Case = &Case {
+    terms: &[],
+    weight: 0,
+    heft: 0,
+    times: 1,
+    derived: &[],
+};
+
+/// Has the polynomial the derivative that is wanted?
+fn is_derived(alloc: Global, f: &Poly, s: &Shape, case: &Case) -> bool
+    requires below { AreBelow (length s.now.vars) f.now }
+    requires light { weighted_sum (weights s.now.vars) (terms_of (length s.now.vars) f.now) ≤ most }
 {
-    match weigh(alloc, p) {
-        Ok(_) => normal(alloc, p),
-        Err(_) => Err(PolyStop::NoMemory),
+    let n = s.vars.len();
+    if n == 0 || n > 168 {
+        return false;
     }
-}
-
-/// The normal polynomial of a predicate, whose weighted sums have to be these.
-fn weighed(rt: &impl Abort, alloc: Global, p: &Pred, case: &Case) -> Result<Poly, PolyStop>
-    ensures below { IfOk result (AreBelow (length p.now.shape.vars)) }
-    ensures light { IfOk result (λ f. weighted_sum (weights p.now.shape.vars) (terms_of (length p.now.shape.vars) f) ≤ most) }
-{
-    let f = poly_of(alloc, p)?;
-    assert!(rt; weight(&f, &p.shape) == Some(case.weight));
-    assert!(rt; heft(&f, &p.shape) == Some(case.heft));
-    Ok(f)
-}
-
-/// The normal polynomial of a predicate, and its derivative by the last variable.
-fn derived(
-    rt: &impl Abort,
-    alloc: Global,
-    p: &Pred,
-    case: &Case,
-) -> Result<(Poly, Poly), PolyStop> {
-    let f = weighed(rt, alloc, p, case)?;
-    let n = p.shape.vars.len();
-    assert!(rt; 0 < n && n <= 168);
-    let g = derive(alloc, &f, &p.shape, (n - 1) as u8, case.times)?;
-    Ok((f, g))
-}
-
-/// Has the predicate the polynomial and the derivative that are wanted?
-fn is_case(rt: &impl Abort, alloc: Global, p: &Pred, case: &Case) -> bool {
-    match derived(rt, alloc, p, case) {
-        Ok((f, g)) => has(&f, case.terms) && has(&g, case.derived),
+    match derive(alloc, f, s, (n - 1) as u8, case.times) {
+        Ok(g) => has(&g, case.derived),
         Err(_) => false,
     }
 }
 
-#[test]
-fn predicates_have_their_polynomials_and_derivatives(rt: HostRuntime) -> Result<(), Fail> {
-    let t = table(&rt, rt.alloc(), SOURCE)?;
-    assert!(rt; t.preds.len() == CASES.len());
-    for (p, case) in t.preds.as_slice().iter().zip(CASES) {
-        assert!(rt; is_case(&rt, rt.alloc(), p, case));
+/// Has the polynomial the terms, the weighted sums and the derivative that are wanted?
+fn is_wanted(alloc: Global, f: &Poly, s: &Shape, case: &Case) -> bool
+    requires { AreBelow (length s.now.vars) f.now }
+{
+    match (heft(f, s), weight(f, s)) {
+        (Some(h), Some(w)) => {
+            h == case.heft
+                && w == case.weight
+                && has(f, case.terms)
+                && is_derived(alloc, f, s, case)
+        }
+        _ => false,
     }
-    Ok(())
+}
+
+/// Has the predicate the polynomial that is wanted?
+fn is_case(alloc: Global, p: &Pred, case: &Case) -> bool {
+    match poly_of(alloc, p) {
+        Ok(f) => is_wanted(alloc, &f, &p.shape, case),
+        Err(_) => false,
+    }
+}
+
+/// Have the predicates the polynomials that are wanted?
+fn are_cases(alloc: Global, preds: &[Pred]) -> bool {
+    match preds {
+        [orient, cube, none] => {
+            is_case(alloc, orient, ORIENT)
+                && is_case(alloc, cube, CUBE)
+                && is_case(alloc, none, NONE)
+        }
+        _ => false,
+    }
+}
+
+/// Are the polynomials of the source's predicates those that are wanted?
+fn has_cases(alloc: Global) -> bool {
+    match table(alloc, SOURCE) {
+        Some(t) => are_cases(alloc, t.preds.as_slice()),
+        None => false,
+    }
+}
+
+#[test]
+fn predicates_have_their_polynomials_and_derivatives(rt: HostRuntime) {
+    assert!(rt; has_cases(rt.alloc()));
 }
 
 // Predicates with 1,024 terms; with one more; with a product of 1,024 by 32; and with the power of a let.
@@ -209,9 +217,6 @@ predicate product(p: ten, q: ten, r: ten, s: ten) {
 predicate power(p: ten) { let s = p.a + p.b + p.c + p.d; sign s^15; }
 ";
 
-// How many terms each of them has; or where the first node is that has too many: the sum with 1, and the product.
-const COUNTS: &[Result<usize, u32>] = &[Ok(1024), Err(499), Err(782), Ok(816)];
-
 /// How many terms a predicate has; or where the first node is that has too many.
 fn count(alloc: Global, p: &Pred) -> Result<usize, u32> {
     match poly_of(alloc, p) {
@@ -221,12 +226,28 @@ fn count(alloc: Global, p: &Pred) -> Result<usize, u32> {
     }
 }
 
-#[test]
-fn nodes_have_1024_terms_at_most(rt: HostRuntime) -> Result<(), Fail> {
-    let t = table(&rt, rt.alloc(), LARGE)?;
-    assert!(rt; t.preds.len() == COUNTS.len());
-    for (p, want) in t.preds.as_slice().iter().zip(COUNTS) {
-        assert!(rt; count(rt.alloc(), p) == *want);
+/// Have the predicates 1,024 terms at most? The sum with 1 and the product have too many.
+fn are_counted(alloc: Global, preds: &[Pred]) -> bool {
+    match preds {
+        [most, more, product, power] => {
+            matches!(count(alloc, most), Ok(1024))
+                && matches!(count(alloc, more), Err(499))
+                && matches!(count(alloc, product), Err(782))
+                && matches!(count(alloc, power), Ok(816))
+        }
+        _ => false,
     }
-    Ok(())
+}
+
+/// Have the predicates of the large source their counts of terms?
+fn has_counts(alloc: Global) -> bool {
+    match table(alloc, LARGE) {
+        Some(t) => are_counted(alloc, t.preds.as_slice()),
+        None => false,
+    }
+}
+
+#[test]
+fn nodes_have_1024_terms_at_most(rt: HostRuntime) {
+    assert!(rt; has_counts(rt.alloc()));
 }

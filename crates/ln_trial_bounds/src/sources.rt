@@ -1,20 +1,31 @@
 //! Parses the sources of this crate's tests to their tables.
-ghost use Rattle.std.specs.Prelude.{◌<◌, IfOk, length};
+ghost use Rattle.std.specs.Prelude.{IfOk, length};
+ghost use Rattle.ln_poly.specs.Sparse.{AreBelow};
 
+use ln_bound::weigh::weigh;
 use ln_parse::parse;
-use ln_tree::Table;
+use ln_poly::{Poly, PolyStop, normal};
+use ln_tree::{Pred, Table};
 use std::alloc::Global;
-use std::process::Abort;
-use std::test::Fail;
 
-/// The table of a source, which has to have a predicate.
-pub fn table(rt: &impl Abort, alloc: Global, source: &str) -> Result<Table, Fail>
-    ensures { IfOk result (λ t. 0 < length t.preds) }
+/// The table of a source, where it isn't refused.
+pub(crate) fn table(alloc: Global, source: &str) -> Option<Table> {
+    let bytes = source.as_bytes();
+    if bytes.len() > 1_048_576 {
+        return None;
+    }
+    match parse(alloc, bytes) {
+        Ok(t) => Some(t),
+        Err(_) => None,
+    }
+}
+
+/// The normal polynomial of a predicate, whose ranges and sizes have to fit.
+pub(crate) fn poly_of(alloc: Global, p: &Pred) -> Result<Poly, PolyStop>
+    ensures { IfOk result (AreBelow (length p.now.shape.vars)) }
 {
-    assert!(rt; source.len() <= 1048576);
-    let Ok(t) = parse(alloc, source.as_bytes()) else {
-        return Err(Fail::new("the source is refused"));
-    };
-    assert!(rt; t.preds.len() > 0);
-    Ok(t)
+    match weigh(alloc, p) {
+        Ok(_) => normal(alloc, p),
+        Err(_) => Err(PolyStop::NoMemory),
+    }
 }

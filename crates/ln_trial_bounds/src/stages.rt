@@ -2,14 +2,11 @@
 //! coordinates of one site.
 ghost use Rattle.std.specs.Prelude.{◌≡◌, ◌≤◌, IfOk, length};
 
-use ln_bound::weigh::weigh;
+use crate::sources::{poly_of, table};
 use ln_order::order_of;
-use ln_parse::parse;
-use ln_poly::normal;
 use ln_stage::{StageStop, Stages, stages};
-use ln_tree::{Pred, Table};
+use ln_tree::Pred;
 use std::alloc::Global;
-use std::test::Fail;
 
 const SQUARES: &str =
     "site num { t: -10 .. 10; } predicate s(a: num, b: num) { sign a.t^2 - b.t^2; }";
@@ -21,35 +18,33 @@ const CUBE: &str =
 i: -1 .. 1; j: -1 .. 1; k: -1 .. 1; l: -1 .. 1; m: -1 .. 1; n: -1 .. 1; o: -1 .. 1; p: -1 .. 1; }
 predicate all(x: cube) { sign x.a*x.b*x.c*x.d*x.e*x.f*x.g*x.h*x.i*x.j*x.k*x.l*x.m*x.n*x.o*x.p; }";
 
-// The stages of a predicate over this many sites.
-fn staged(alloc: Global, p: &Pred, sites: u8, most: u64, heavy: u32) -> Result<Stages, StageStop>
-    ensures { IfOk result (λ st. st.sites ≡ sites) }
+/// The stages of a predicate within these limits.
+fn staged(alloc: Global, p: &Pred, most: u64, heavy: u32) -> Result<Stages, StageStop>
+    ensures { IfOk result (λ st. st.sites ≡ p.now.shape.sites) }
 {
-    if p.shape.sites != sites || weigh(alloc, p).is_err() {
-        return Err(StageStop::NoMemory);
-    }
-    match normal(alloc, p) {
+    match poly_of(alloc, p) {
         Ok(f) => stages(alloc, &f, &p.shape, most, u64::from(heavy)),
         Err(_) => Err(StageStop::NoMemory),
     }
 }
 
-fn staged_first(
+/// The stages of the one predicate, which has this many sites.
+fn staged_one(
     alloc: Global,
-    t: &Table,
+    preds: &[Pred],
     sites: u8,
     most: u64,
     heavy: u32,
 ) -> Result<Stages, StageStop>
     ensures { IfOk result (λ st. st.sites ≡ sites) }
 {
-    match t.preds.as_slice().first() {
-        Some(p) => staged(alloc, p, sites, most, heavy),
-        None => Err(StageStop::NoMemory),
+    match preds {
+        [p] if p.shape.sites == sites => staged(alloc, p, most, heavy),
+        _ => Err(StageStop::NoMemory),
     }
 }
 
-/// The stages of the first predicate of a source, which has this many sites, within these limits. A source without such a predicate
+/// The stages of the one predicate of a source, which has this many sites, within these limits. A source without such a predicate
 /// counts as out of memory.
 pub(crate) fn stages_of(
     alloc: Global,
@@ -60,22 +55,18 @@ pub(crate) fn stages_of(
 ) -> Result<Stages, StageStop>
     ensures { IfOk result (λ st. st.sites ≡ sites) }
 {
-    let bytes = source.as_bytes();
-    if bytes.len() > 1_048_576 {
-        return Err(StageStop::NoMemory);
-    }
-    match parse(alloc, bytes) {
-        Ok(t) => staged_first(alloc, &t, sites, most, heavy),
-        Err(_) => Err(StageStop::NoMemory),
+    match table(alloc, source) {
+        Some(t) => staged_one(alloc, t.preds.as_slice(), sites, most, heavy),
+        None => Err(StageStop::NoMemory),
     }
 }
 
-// Has the block with this number the one pair of variable v and exponent e?
+/// Has the block with this number the one pair of variable v and exponent e?
 fn is_power(st: &Stages, i: usize, v: u8, e: u8) -> bool {
     i < st.blocks() && st.exps(i).pairs() == [(v, e)].as_slice()
 }
 
-// Is the segment of an order of two sites at its first j places this?
+/// Is the segment of an order of two sites at its first j places this?
 fn is_segment(st: &Stages, indices: &[i64], j: u8, numbers: &[u32]) -> bool
     requires sites { st.now.sites ≡ 2 }
     requires indices { length indices.now ≡ 2 }
@@ -87,7 +78,7 @@ fn is_segment(st: &Stages, indices: &[i64], j: u8, numbers: &[u32]) -> bool
     }
 }
 
-// Each second segment comes after the cut.
+/// Have the two orders these segments? Each second segment comes after the cut.
 fn have_segments(st: &Stages) -> bool
     requires { st.now.sites ≡ 2 }
 {
@@ -98,7 +89,7 @@ fn have_segments(st: &Stages) -> bool
         && is_segment(st, &[8, 5], 2, &[])
 }
 
-// Are the blocks after block 0 those of a.t, a.t^2, b.t and b.t^2?
+/// Are the blocks after block 0 those of a.t, a.t^2, b.t and b.t^2?
 fn have_powers(st: &Stages) -> bool {
     st.blocks() == 5
         && is_power(st, 1, 0, 1)
@@ -107,6 +98,7 @@ fn have_powers(st: &Stages) -> bool {
         && is_power(st, 4, 1, 2)
 }
 
+/// Have the squares six stages in the five blocks and segments of their lists?
 fn are_of_squares(alloc: Global) -> bool {
     match stages_of(alloc, SQUARES, 2, 6, 6) {
         Ok(st) => st.count() == 6 && have_powers(&st) && have_segments(&st),
@@ -115,18 +107,17 @@ fn are_of_squares(alloc: Global) -> bool {
 }
 
 #[test]
-fn two_lists_of_three_have_five_blocks(rt: HostRuntime) -> Result<(), Fail> {
+fn two_lists_of_three_have_five_blocks(rt: HostRuntime) {
     assert!(rt; are_of_squares(rt.alloc()));
-    Ok(())
 }
 
-// How many stages a source has within these limits.
+/// How many stages a source has within these limits.
 fn count(alloc: Global, source: &str, sites: u8, most: u64, heavy: u32) -> Result<u64, StageStop> {
     let st = stages_of(alloc, source, sites, most, heavy)?;
     Ok(st.count())
 }
 
-// Does a limit stop the stages of a source?
+/// Does a limit stop the stages of a source?
 fn is_past(alloc: Global, source: &str, sites: u8, most: u64, heavy: u32) -> bool {
     matches!(
         count(alloc, source, sites, most, heavy),
@@ -135,18 +126,20 @@ fn is_past(alloc: Global, source: &str, sites: u8, most: u64, heavy: u32) -> boo
 }
 
 #[test]
-fn a_limit_that_is_passed_stops(rt: HostRuntime) -> Result<(), Fail> {
+fn a_limit_that_is_passed_stops(rt: HostRuntime) {
     let alloc = rt.alloc();
-    assert!(rt; is_past(alloc, SQUARES, 2, 5, 6));
-    assert!(rt; is_past(alloc, SQUARES, 2, 6, 5));
-    assert!(rt; matches!(count(alloc, NOTHING, 2, 6, 6), Err(StageStop::Zero)));
-    Ok(())
+    assert!(rt;
+        is_past(alloc, SQUARES, 2, 5, 6)
+            && is_past(alloc, SQUARES, 2, 6, 5)
+            && matches!(count(alloc, NOTHING, 2, 6, 6), Err(StageStop::Zero))
+    );
 }
 
 #[test]
-fn sixteen_coordinates_have_65536_stages(rt: HostRuntime) -> Result<(), Fail> {
+fn sixteen_coordinates_have_65536_stages(rt: HostRuntime) {
     let alloc = rt.alloc();
-    assert!(rt; matches!(count(alloc, CUBE, 1, 65_536, 131_072), Ok(65_536)));
-    assert!(rt; is_past(alloc, CUBE, 1, 65_535, 131_072));
-    Ok(())
+    assert!(rt;
+        matches!(count(alloc, CUBE, 1, 65_536, 131_072), Ok(65_536))
+            && is_past(alloc, CUBE, 1, 65_535, 131_072)
+    );
 }

@@ -1,6 +1,6 @@
 use Rattle.std.proofs.lemmas.Result.{IfOk-weaker}
-use Rattle.ln_trial_bounds.proofs.poly.poly_of.Goals as goal
-use Rattle.ln_trial_bounds.proofs.poly.poly_of.Goals.{in-Ok, in-Err}
+use Rattle.ln_trial_bounds.proofs.sources.poly_of.Goals as goal
+use Rattle.ln_trial_bounds.proofs.sources.poly_of.Goals.{in-Ok, in-Err}
 
 pub returns : goal.returns
 returns c = elim c.match-weigh.branch [
