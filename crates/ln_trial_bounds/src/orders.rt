@@ -5,7 +5,7 @@ ghost use Rattle.ln_order.specs.Places.{order_places};
 use crate::sources::table;
 use ln_base::NoMemory;
 use ln_order::{Front, Order, all_orders, all_prefixes, earlier, order_of, prefix_number, ranking};
-use ln_tree::{Exps, Pred, Shape};
+use ln_tree::{Exps, Pred, Shape, is_shape};
 use std::alloc::Global;
 
 // One site of two coordinates.
@@ -75,7 +75,9 @@ fn is_largest_last(alloc: Global, preds: &[Pred]) -> bool {
     let o = Order::of_arguments(1);
     match preds {
         [p] if p.shape.sites == 1 => {
-            is_last_earlier(alloc, &o, &p.shape) && is_ranked(alloc, &o, &p.shape)
+            is_shape(1, p.shape.vars.as_slice())
+                && is_last_earlier(alloc, &o, &p.shape)
+                && is_ranked(alloc, &o, &p.shape)
         }
         _ => false,
     }

@@ -1,0 +1,117 @@
+//! What the library's `judge` says of traces that are read whole first. The program's command judges line by line, with the same rules.
+ghost use Rattle.std.specs.Prelude.{◌≤◌, length, map};
+ghost use Rattle.ln_tree.specs.Table.{pred_of};
+ghost use Rattle.ln_stage.specs.Sound.{AreSound, IsSound};
+
+use ln_base::NoMemory;
+use ln_compile::{Checked, Refusal, check};
+use ln_rows::Rows;
+use ln_sample::ORIENT;
+use ln_trace::{Trace, TraceStop, judge, read_trace};
+use ln_tree::{Pred, Table};
+use ln_verify::cases::case_of;
+use std::alloc::Global;
+use std::test::Fail;
+
+// Three points in one place, without the names of the columns.
+const RECORD: &[u8] = b"1,5,5,2,5,5,3,5,5\n";
+
+// Traces, with the first line that fails, 0 where none does and 1 where a form fault is in line 1.
+const WANTED: &[(&str, u32)] = &[
+    (
+        "trace 1\nrow 1\nat : 0\nat 1^1 : 0\nat 0^1 : 0\nat 3^1 : 0\nat 0^1 3^1 : 1\nsign +\n",
+        0,
+    ),
+    // Another value, a stage that is left out, another sign, no sign, no record.
+    (
+        "trace 1\nrow 1\nat : 1\nat 1^1 : 0\nat 0^1 : 0\nat 3^1 : 0\nat 0^1 3^1 : 1\nsign +\n",
+        3,
+    ),
+    (
+        "trace 1\nrow 1\nat : 0\nat 1^1 : 0\nat 3^1 : 0\nat 0^1 3^1 : 1\nsign +\n",
+        5,
+    ),
+    (
+        "trace 1\nrow 1\nat : 0\nat 1^1 : 0\nat 0^1 : 0\nat 3^1 : 0\nat 0^1 3^1 : 1\nsign -\n",
+        8,
+    ),
+    (
+        "trace 1\nrow 1\nat : 0\nat 1^1 : 0\nat 0^1 : 0\nat 3^1 : 0\nat 0^1 3^1 : 1\n",
+        8,
+    ),
+    ("trace 1\n", 2),
+    ("trace 2\n", 1),
+];
+
+// The first line that fails by a predicate, 0 where none does.
+fn fault_by(alloc: Global, p: &Pred, trace: &Trace) -> Result<u32, NoMemory>
+    requires { IsSound (pred_of p.now) }
+{
+    let case = case_of(alloc, p)?;
+    let mut rows = Rows::new(alloc, RECORD);
+    match judge(alloc, p, &case.poly, &case.stages, &mut rows, trace)? {
+        Some(line) => Ok(line),
+        None => Ok(0),
+    }
+}
+
+// The same by the one predicate of a source; none where there is another number of them.
+fn fault_in(alloc: Global, preds: &[Pred], trace: &Trace) -> Result<Option<u32>, NoMemory>
+    requires { AreSound (map pred_of preds.now) }
+{
+    match preds {
+        [p] => {
+            let line = fault_by(alloc, p, trace)?;
+            Ok(Some(line))
+        }
+        _ => Ok(None),
+    }
+}
+
+// The table of an accepted source.
+fn accepted(c: &Checked) -> &Table
+    requires { AreSound (map pred_of c.now.table.preds) }
+    ensures { AreSound (map pred_of result.now.preds) }
+{
+    c.table()
+}
+
+// The first line of a trace of the orientation that fails; none where the source is refused.
+fn first_failing(alloc: Global, trace: &Trace) -> Result<Option<u32>, NoMemory> {
+    let source = ORIENT.as_bytes();
+    if source.len() > 1_048_576 {
+        return Ok(None);
+    }
+    match check(alloc, source) {
+        Ok(c) => fault_in(alloc, accepted(&c).preds.as_slice(), trace),
+        Err(Refusal::NoMemory) => Err(NoMemory),
+        Err(_) => Ok(None),
+    }
+}
+
+// Is this the first line of the text that fails, of its form or by its rule?
+fn fails_at(alloc: Global, text: &[u8], line: u32) -> Result<bool, NoMemory> {
+    if text.len() > 67_108_864 {
+        return Ok(false);
+    }
+    match read_trace(alloc, text) {
+        Ok(trace) => Ok(first_failing(alloc, &trace)? == Some(line)),
+        Err(TraceStop::Form(at)) => Ok(at == line),
+        Err(TraceStop::NoMemory) => Err(NoMemory),
+    }
+}
+
+fn all_fail(alloc: Global) -> Result<bool, NoMemory> {
+    for (text, line) in WANTED {
+        if !fails_at(alloc, text.as_bytes(), *line)? {
+            return Ok(false);
+        }
+    }
+    Ok(true)
+}
+
+#[test]
+fn traces_that_are_read_whole_are_judged(rt: HostRuntime) -> Result<(), Fail> {
+    assert!(rt; all_fail(rt.alloc())?);
+    Ok(())
+}
