@@ -4,8 +4,9 @@
 //! fail at each of their calls, `commands` streams that are too short and which files are read, `watchers` what watchers that are handed in say of
 //! records, `panel` what they say of verdicts, `listings` what `list` writes, read back, `emitted` what `emit` writes, read back and called, `repeated`
 //! predicates whose equal parts are computed once, `compare` random predicates against the definition of the perturbed sign, `direct` worked values of
-//! the program of that definition, `many` long runs, of which no clause speaks. `verdicts`, `verified` and `traced` call `run_row`, `verify`
-//! and `judge` themselves, `verified` on listings of `changed`. `products`, `graded`, `generated`, `edges` and `traces` have a case or two of each command, `spheres` a source.
+//! the program of that definition, `many` long runs, of which no clause speaks. `verdicts`, `verified` and `traced` call `run_row`, `verify` and
+//! `judge` themselves, `verified` on listings of `changed`. `products`, `graded`, `generated`, `edges` and `traces` have a case or two of each command,
+//! `spheres` a source.
 //!
 //! One function of `support` calls `lnc`, and the others call that: each caller of `lnc` takes the check long.
 #![tactic(auto)]
