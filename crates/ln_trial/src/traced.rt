@@ -1,5 +1,5 @@
 //! What the library's `judge` says of traces that are read whole first. The program's command judges line by line, with the same rules.
-ghost use Rattle.std.specs.Prelude.{◌≤◌, length, map};
+ghost use Rattle.std.specs.Prelude.{map};
 ghost use Rattle.ln_tree.specs.Table.{pred_of};
 ghost use Rattle.ln_stage.specs.Sound.{AreSound, IsSound};
 

@@ -191,7 +191,7 @@ fn well_read<F: Files>(files: &mut F, buf: &mut [u8]) -> usize {
     well
 }
 
-/// Does the read behind this many that are well fail?
+/// Does the read after this many that are well fail?
 fn fails_behind<F: Files>(files: &mut F, well: usize) -> bool {
     let mut buf = [0u8; 100];
     // successive reads go through one file, whose read of the number that its habit names fails

@@ -193,7 +193,7 @@ fn repeated(
 
 const SIGN: &str = "predicate f(c: param) { sign ";
 
-/// A part of an expression, and how often it stands in it.
+/// A part of an expression, and how often it occurs in it.
 const LONG: &[(&str, u32)] = &[("-", 65_000), ("c+", 32_000), ("(c)*", 16_000)];
 
 #[test]
