@@ -61,8 +61,8 @@ template <class Mine, class Theirs, class P, class Base> static bool tried(int D
   double emitted = seconds(m, mine), own = seconds(t, theirs);
   bool fine = m.is_valid() && m.dimension() == D && m.number_of_vertices() == mine.size();
   if (std::string(name) == "random") fine = fine && cells(m) == cells(t);
-  printf("%dD %-6s %7zu points: emitted %7.3f s, %8zu cells; CGAL %7.3f s, %8zu cells; ratio %.2f%s\n", D, name, mine.size(), emitted,
-         cells(m), own, cells(t), emitted / own, fine ? "" : "  BAD");
+  // what bench/c reads: the scene, and the two times
+  printf("%dD %s, %zu points;%.4f;%.4f;%zu cells, CGAL %zu%s\n", D, name, mine.size(), emitted, own, cells(m), cells(t), fine ? "" : "  BAD");
   fflush(stdout);
   return fine;
 }

@@ -1,19 +1,23 @@
-// Nanoseconds a call of emitted C beside CGAL's exact predicates (Exact_predicates_inexact_constructions_kernel), on the same rows in
-// one run: for each predicate rows at random, and rows whose plain value is 0. CGAL answers these with 0, the emitted C with the
-// perturbed sign. Where CGAL's answer isn't 0, both have to say the same. Built and run by bench/c.
+// Nanoseconds a call on the same rows in one run: C with the filter (`lnc emit`), C without (`lnc_exact`), a determinant written by hand
+// (bench/plain.c), and CGAL's exact predicates (Exact_predicates_inexact_constructions_kernel). For each predicate rows at random, points near
+// one another, and rows whose plain value is 0: these CGAL and the determinant answer with 0, the other two with the perturbed sign. Where CGAL's
+// answer isn't 0, all four have to say the same. Built and run by bench/c.
 #include <CGAL/Exact_predicates_inexact_constructions_kernel.h>
 #include <algorithm>
 #include <chrono>
 #include <cstdint>
 #include <cstdio>
 #include <cstdlib>
+#include <numeric>
+#include <utility>
 #include <vector>
 
+typedef int Call(const int64_t *x, const int64_t *v);
+
 extern "C" {
-int ln_orient(const int64_t *x, const int64_t *v);
-int ln_wide(const int64_t *x, const int64_t *v);
-int ln_incircle(const int64_t *x, const int64_t *v);
-int ln_insphere(const int64_t *x, const int64_t *v);
+Call ln_orient, ln_wide, ln_orient3, ln_incircle, ln_minors, ln_insphere;
+Call exact_orient, exact_wide, exact_orient3, exact_incircle, exact_minors, exact_insphere;
+Call plain_orient, plain_wide, plain_orient3, plain_incircle, plain_insphere;
 }
 
 typedef CGAL::Exact_predicates_inexact_constructions_kernel K;
@@ -53,6 +57,19 @@ static Rows at_random(int sites, int coordinates, int64_t most, int count) {
   return rows;
 }
 
+// the points of a row are at most this far from one place, by each coordinate
+static Rows near_by(int sites, int coordinates, int64_t most, int count) {
+  const int64_t far = std::max(most / 512, INT64_C(30));
+  Rows rows{sites, coordinates, {}, {}};
+  for (int i = 0; i < count; i++) {
+    rows.index();
+    std::vector<int64_t> place;
+    for (int k = 0; k < coordinates; k++) place.push_back(within(most - far));
+    for (int k = 0; k < sites * coordinates; k++) rows.values.push_back(place[k % coordinates] + within(far));
+  }
+  return rows;
+}
+
 // three points on a line
 static Rows on_lines(int64_t most, int count) {
   Rows rows{3, 2, {}, {}};
@@ -63,6 +80,21 @@ static Rows on_lines(int64_t most, int count) {
       int64_t t = within(100);
       rows.values.push_back(x + t * dx);
       rows.values.push_back(y + t * dy);
+    }
+  }
+  return rows;
+}
+
+// four points in a plane
+static Rows in_planes(int64_t most, int count) {
+  Rows rows{4, 3, {}, {}};
+  for (int i = 0; i < count; i++) {
+    rows.index();
+    int64_t place[3], one[3], other[3];
+    for (int k = 0; k < 3; k++) place[k] = within(most / 2), one[k] = within(most / 200), other[k] = within(most / 200);
+    for (int n = 0; n < 4; n++) {
+      int64_t s = within(30), t = within(30);
+      for (int k = 0; k < 3; k++) rows.values.push_back(place[k] + s * one[k] + t * other[k]);
     }
   }
   return rows;
@@ -104,71 +136,87 @@ static std::vector<K::Point_3> points_3(const Rows &rows) {
   return points;
 }
 
-// the seconds of a pass over all rows, and the signs
-template <class Call> static double pass(int count, std::vector<signed char> &signs, Call call) {
-  signs.resize(count);
-  auto began = std::chrono::steady_clock::now();
-  for (int i = 0; i < count; i++) signs[i] = (signed char)call(i);
-  return std::chrono::duration<double>(std::chrono::steady_clock::now() - began).count();
-}
+// of each thousand rows the best seconds so far, and the signs of all
+struct Best {
+  std::vector<double> seconds;
+  std::vector<signed char> signs;
+
+  template <class Call> void pass(int count, Call call) {
+    signs.resize(count);
+    seconds.resize((count + 999) / 1000, 1e9);
+    for (size_t k = 0; k < seconds.size(); k++) {
+      int from = 1000 * (int)k, to = std::min(from + 1000, count);
+      auto began = std::chrono::steady_clock::now();
+      for (int i = from; i < to; i++) signs[i] = (signed char)call(i);
+      seconds[k] = std::min(seconds[k], std::chrono::duration<double>(std::chrono::steady_clock::now() - began).count());
+    }
+  }
+
+  double each() const { return std::accumulate(seconds.begin(), seconds.end(), 0.0) / (double)signs.size() * 1e9; }
+};
 
 static int bad = 0;
 
-// turn: -1 where a positive sign of the one is a negative sign of the other
-template <class Other>
-static void measure(const char *name, const char *kind, const Rows &rows, int (*call)(const int64_t *, const int64_t *), int turn, Other other) {
+// A predicate, by the four; turn is -1 where a positive sign of CGAL is a negative one of the others.
+struct Subject {
+  const char *name;
+  Call *with, *without, *plain;
+  int turn;
+};
+
+template <class Other> static void measure(const Subject &of, const char *kind, const Rows &rows, Other other) {
   int count = (int)rows.indices.size() / rows.sites, wide = rows.sites * rows.coordinates, zero = 0, differ = 0;
-  std::vector<signed char> mine, theirs;
-  double best = 1e9, best_other = 1e9;
   const int64_t *x = rows.indices.data(), *v = rows.values.data();
-  for (int round = 0; round < 7; round++) {
-    best = std::min(best, pass(count, mine, [=](int i) { return call(x + (size_t)i * rows.sites, v + (size_t)i * wide); }));
-    best_other = std::min(best_other, pass(count, theirs, other));
+  Call *const calls[3] = {of.with, of.without, of.plain};
+  Best best[4];
+  for (int round = 0; round < 15; round++) {
+    for (int k = 0; k < 3; k++) {
+      Call *call = calls[k];
+      best[k].pass(count, [=](int i) { return call(x + (size_t)i * rows.sites, v + (size_t)i * wide); });
+    }
+    best[3].pass(count, other);
   }
   for (int i = 0; i < count; i++) {
-    if (theirs[i] == 0) zero++; else if (mine[i] != turn * theirs[i]) differ++;
-    if (mine[i] == 0) differ++;
+    int mine = best[0].signs[i], theirs = of.turn * best[3].signs[i];
+    zero += theirs == 0;
+    differ += mine == 0 || best[1].signs[i] != mine || best[2].signs[i] != theirs || (theirs != 0 && mine != theirs);
   }
-  bool slow = best > best_other;
-  printf("%-9s %-10s %8.1f ns  CGAL %8.1f ns  ratio %5.2f  (%d rows, %d of plain value 0, %d differ)%s\n", name, kind, best / count * 1e9,
-         best_other / count * 1e9, best / best_other, count, zero, differ, slow ? "  SLOWER" : "");
-  // the limit: no slower than CGAL
+  // the limit: no slower than CGAL, but for the filter where points are near one another
+  bool slow = best[1].each() > best[3].each() || (best[0].each() > best[3].each() && kind[0] != 'n');
+  printf("%-9s %-10s", of.name, kind);
+  for (const Best &of : best) printf(" %8.1f", of.each());
+  printf("   %d rows, %d of plain value 0, %d differ%s\n", count, zero, differ, slow ? "  SLOWER" : "");
+  fflush(stdout);
   if (differ || slow) bad = 1;
 }
 
-static void orientation(const char *name, const char *kind, const Rows &rows, int (*call)(const int64_t *, const int64_t *)) {
-  auto p = points_2(rows);
-  const K::Point_2 *at = p.data();
-  K::Orientation_2 orientation;
-  measure(name, kind, rows, call, 1, [=](int i) { return (int)orientation(at[3 * i], at[3 * i + 1], at[3 * i + 2]); });
+// CGAL's answers for rows of S points
+template <class Ask, class P, size_t... N> static auto asked(const std::vector<P> &points, std::index_sequence<N...>) {
+  const P *at = points.data();
+  return [at](int i) { return (int)Ask()(at[sizeof...(N) * i + N]...); };
 }
 
-static void incircle(const char *kind, const Rows &rows) {
-  auto p = points_2(rows);
-  const K::Point_2 *at = p.data();
-  K::Side_of_oriented_circle_2 side;
-  measure("incircle", kind, rows, ln_incircle, 1, [=](int i) { return (int)side(at[4 * i], at[4 * i + 1], at[4 * i + 2], at[4 * i + 3]); });
-}
-
-// CGAL calls four points positive in the order that the sample calls negative
-static void insphere(const char *kind, const Rows &rows) {
-  auto p = points_3(rows);
-  const K::Point_3 *at = p.data();
-  K::Side_of_oriented_sphere_3 side;
-  measure("insphere", kind, rows, ln_insphere, -1,
-          [=](int i) { return (int)side(at[5 * i], at[5 * i + 1], at[5 * i + 2], at[5 * i + 3], at[5 * i + 4]); });
+template <class Ask, int S, int D, class P>
+static void subject(const Subject &of, int64_t most, int count, std::vector<P> (*points)(const Rows &), const Rows &degenerate) {
+  auto tried = [&](const char *kind, const Rows &rows) {
+    std::vector<P> at = points(rows);
+    measure(of, kind, rows, asked<Ask>(at, std::make_index_sequence<S>()));
+  };
+  tried("random", at_random(S, D, most, count));
+  tried("near", near_by(S, D, most, count));
+  tried("degenerate", degenerate);
 }
 
 int main(int argc, char **argv) {
-  int count = argc > 1 ? atoi(argv[1]) : 100000;
+  int n = argc > 1 ? atoi(argv[1]) : 100000;
   const int64_t near = 1000, far = INT64_C(1) << 20, farthest = INT64_C(1) << 40;
-  orientation("orient", "random", at_random(3, 2, near, count), ln_orient);
-  orientation("orient", "degenerate", on_lines(near, count), ln_orient);
-  orientation("wide", "random", at_random(3, 2, farthest, count), ln_wide);
-  orientation("wide", "degenerate", on_lines(farthest, count), ln_wide);
-  incircle("random", at_random(4, 2, far, count));
-  incircle("degenerate", on_spheres(2, far, count));
-  insphere("random", at_random(5, 3, far, count));
-  insphere("degenerate", on_spheres(3, far, count));
+  printf("%-9s %-10s %8s %8s %8s %8s   nanoseconds a call\n", "", "", "with", "without", "plain", "CGAL");
+  subject<K::Orientation_2, 3, 2>({"orient", ln_orient, exact_orient, plain_orient, 1}, near, n, points_2, on_lines(near, n));
+  subject<K::Orientation_2, 3, 2>({"wide", ln_wide, exact_wide, plain_wide, 1}, farthest, n, points_2, on_lines(farthest, n));
+  // CGAL calls four points positive in the order that the samples call negative
+  subject<K::Orientation_3, 4, 3>({"orient3", ln_orient3, exact_orient3, plain_orient3, -1}, far, n, points_3, in_planes(far, n));
+  subject<K::Side_of_oriented_circle_2, 4, 2>({"incircle", ln_incircle, exact_incircle, plain_incircle, 1}, far, n, points_2, on_spheres(2, far, n));
+  subject<K::Side_of_oriented_circle_2, 4, 2>({"minors", ln_minors, exact_minors, plain_incircle, 1}, far, n, points_2, on_spheres(2, far, n));
+  subject<K::Side_of_oriented_sphere_3, 5, 3>({"insphere", ln_insphere, exact_insphere, plain_insphere, -1}, far, n, points_3, on_spheres(3, far, n));
   return bad;
 }

@@ -1,11 +1,6 @@
 # shellcheck shell=bash disable=SC2154  # examples/check, which reads this file, gives the names that stand for nothing here
-# cases: 37
-# the program lnc_c, which the gate builds: the one in LNC_C, or that of the checkout. Calls of emitted C beside the signs of `run`, and what is refused
-calls=$(readlink -f "${LNC_C:-crates/lnc_c/out/lnc_c}")
-if [ ! -x "$calls" ]; then
-  skipped=$((skipped + 37)); echo 'calls.sh: skipped: crates/lnc_c/out/lnc_c is not built'
-  return 0
-fi
+# the program lnc_c: calls of emitted C beside the signs of `run`, and what is refused
+calls=$(readlink -f "${LNC_C:-$(bin/lnc_c --path)}")
 c=crates/lnc_c/data/example.c
 case_ 'the calls of docs/C.md' 0 "$(cat crates/lnc_c/stdout)" '' "$calls $c crates/lnc_c/data/calls"
 for words in '' "$c" "$c $scratch/calls $scratch/calls"; do

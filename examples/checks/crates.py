@@ -1,11 +1,11 @@
-"""The tables of crates in docs/MAP.md and README.md, made from crates.txt. Usage, at the top of the repository:
-crates.py compare   prints where a table isn't the one of crates.txt, or a crate has no line that says what it does
-crates.py write     writes the tables anew, each between the two comments that mark it"""
+"""The table of crates in docs/MAP.md, made from crates.txt. Usage, at the top of the repository:
+crates.py compare   prints where the table isn't the one of crates.txt, or a crate has no line that says what it does
+crates.py write     writes it anew, between the two comments that mark it"""
 import re
 import sys
 from pathlib import Path
 
-BEGIN, END = "<!-- from crates.txt: {} -->", "<!-- to here -->"
+END = "<!-- to here -->"
 
 
 def read():
@@ -29,11 +29,6 @@ def read():
     return groups
 
 
-def plain(name):
-    """A crate of this repository without its `ln_`, a library of the toolchain in code font."""
-    return name[3:] if name.startswith("ln_") else f"`{name}`"
-
-
 def contracts(groups):
     for title, crates in groups:
         yield from [f"### {title}", "", "| crate | what it does | its contract |", "|---|---|---|"]
@@ -41,19 +36,23 @@ def contracts(groups):
         yield ""
 
 
-def depends(groups):
-    yield from ["| crate | depends on |", "|---|---|"]
-    for _, crates in groups:
-        yield from (f"| {name} | {' '.join(map(plain, below)) or 'the standard library alone'} |" for name, _, below in crates)
+TABLES = [("docs/MAP.md", "contracts", contracts)]
 
 
-def proved(groups):
-    yield from ["| crate | proved | tested, not proved |", "|---|---|---|"]
-    for _, crates in groups:
-        yield from (f"| {name} | {said['proved'] or 'nothing: it has tests'} | {said['tested']} |" for name, said, _ in crates)
-
-
-TABLES = [("docs/MAP.md", "contracts", contracts), ("docs/MAP.md", "what they depend on", depends), ("README.md", "what is proved", proved)]
+def renew(path, begin, lines, write):
+    """Writes the lines of a table anew, between its comment and the next that ends one, or prints where they differ."""
+    text = Path(path).read_text()
+    if begin not in text:
+        print(f"{path}: no line {begin}")
+        return
+    head, rest = text.split(begin, 1)
+    old, tail = rest.split(END, 1)
+    new = "\n\n" + "\n".join(lines).strip() + "\n\n"
+    if write:
+        Path(path).write_text(head + begin + new + END + tail)
+    elif old != new:
+        wrong = [line for line in old.splitlines() if line not in new.splitlines()] + ["(a line is missing)"]
+        print(f"{path}: {begin}: the table isn't the one that is made: {wrong[0]}")
 
 
 def main():
@@ -63,19 +62,8 @@ def main():
             if not said["does"] or not (said["proved"] or said["tested"]):
                 print(f"crates.txt: {name} lacks a line that says what it does, or what of it is proved or tested")
     for path, title, made in TABLES:
-        text = Path(path).read_text()
-        begin = BEGIN.format(title)
-        if begin not in text:
-            print(f"{path}: no line {begin}")
-            continue
-        head, rest = text.split(begin, 1)
-        old, tail = rest.split(END, 1)
-        new = "\n\n" + "\n".join(made(groups)).strip() + "\n\n"
-        if sys.argv[1:] == ["write"]:
-            Path(path).write_text(head + begin + new + END + tail)
-        elif old != new:
-            wrong = [line for line in old.splitlines() if line not in new.splitlines()] + ["(a line is missing)"]
-            print(f"{path}: the table of {title} isn't the one of crates.txt: {wrong[0]}")
+        renew(path, f"<!-- from crates.txt: {title} -->", made(groups), sys.argv[1:] == ["write"])
 
 
-main()
+if __name__ == "__main__":
+    main()

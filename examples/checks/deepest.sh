@@ -1,5 +1,4 @@
 # shellcheck shell=bash disable=SC2154  # examples/check, which reads this file, gives the names that stand for nothing here
-# cases: 30
 # the deepest sources that are accepted (examples/checks/deepest.py), through every command with a stack of 4 MiB; bench/stack measures the
 # least that each takes
 deepest=$scratch/deepest; mkdir "$deepest"

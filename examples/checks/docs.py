@@ -5,7 +5,7 @@ the repository: docs.py"""
 import re
 from pathlib import Path
 
-PAGES = [Path("README.md"), Path("CONTRIBUTING.md"), Path("CHANGELOG.md"), Path("examples/README.md"), *sorted(Path("docs").glob("*.md"))]
+PAGES = [*map(Path, ["README.md", "CONTRIBUTING.md", "CHANGELOG.md", "examples/README.md"]), *sorted([*Path("docs").glob("*.md"), *Path("predicates").glob("*.md")])]
 
 
 def anchors(text):

@@ -1,5 +1,4 @@
 # shellcheck shell=bash disable=SC2154  # examples/check, which reads this file, gives the names that stand for nothing here
-# cases: 5
 # edges of points: the hull of a cloud beside a plain monotone chain, 200 clouds in general position beside it, 200 degenerate ones beside the
 # definition, each of them one cycle, and a points file of the largest size
 hull="$lnc edges examples/hull/orient.ln orient"

@@ -1,13 +1,21 @@
-"""The further edits of the crates, those in also-must-fail/, which `rt ci` doesn't try. bin/edits tries them, and keeps in also-must-fail/tried the
-checksum of the sources on which all of a crate's were refused: of its code, definitions, proofs and edits, and of the code and definitions of all
-crates below it, without blank lines and lines of comments. Usage, at the top of the repository:
-edits.py compare        prints each crate whose edits weren't tried on the sources as they are, and each edit that can't be applied to them
-edits.py stale          the names of these crates
-edits.py sum NAME       the checksum of a crate
-edits.py keep NAME SUM  writes it, as that on which the edits were refused"""
+"""The edits of the crates, those in must-fail/, which `rt ci` tries, and those in also-must-fail/, which it doesn't. bin/edits tries both, and keeps in
+also-must-fail/tried: the checksum of the sources on which all of a crate's were refused, that is of its code, definitions, proofs and edits, and of the
+code and definitions of all crates below it, without blank lines and lines of comments; the logic of the prover; how many edits these are; and of each
+edit the function at which it was refused and the goal there. Where TRIED names a folder, records are kept there, in TRIED/NAME, and those count too: so the gate
+tries what has no record of these sources (.ci/run). Usage, at the top of the repository:
+edits.py compare                prints each crate whose edits weren't tried on the sources as they are by this prover, and each edit that can't be applied
+edits.py stale                  the names of these crates
+edits.py sum NAME               the checksum of a crate
+edits.py keep NAME SUM SAID W   keeps how the edits of a crate came out, by what the prover said, where each was tried, and prints it; status 1 where not
+                                each is refused, and 3 where some wasn't tried and W isn't `all`"""
 import hashlib
+import os
+import re
+import shutil
 import sys
 from pathlib import Path
+
+from sources import file_at, functions
 
 
 def below():
@@ -36,7 +44,7 @@ def lines_of(path):
 
 
 def edits_of(name):
-    return sorted(Path("crates", name, "also-must-fail").glob("*.edit"))
+    return sorted([*Path("crates", name, "also-must-fail").glob("*.edit"), *Path("crates", name, "must-fail").glob("*.edit")], key=lambda path: path.name)
 
 
 def sum_of(name, deps):
@@ -70,9 +78,85 @@ def faults_of(path):
             texts[file] = texts[file].replace(old, rest)
 
 
-def tried(name):
-    kept = Path("crates", name, "also-must-fail", "tried")
-    return kept.read_text().strip() if kept.is_file() else ""
+def logic():
+    """The logic of the prover that is on the path, or none."""
+    rt = shutil.which("rt")
+    kit = Path(rt).resolve().parent.parent / "KIT-ID" if rt else None
+    found = re.search(r"logic (\w+)", kit.read_text()) if kit and kit.is_file() else None
+    return found[1] if found else ""
+
+
+def place_of(name, tried):
+    """Where the record of a crate is: in the folder TRIED, or beside its edits."""
+    return Path(tried, name) if tried else Path("crates", name, "also-must-fail", "tried")
+
+
+def record(name, tried=None):
+    """What is kept of a crate: the checksum, the logic and the number of edits, and of each edit the function and the goal."""
+    path = place_of(name, tried)
+    kept, refused = {}, {}
+    for line in path.read_text().splitlines() if path.is_file() else []:
+        word, _, rest = line.partition(" ")
+        if word in ("sources", "logic", "edits"):
+            kept[word] = rest
+        else:
+            refused[word] = tuple(rest.split(" ", 1))
+    return kept, refused
+
+
+def is_stale(name, deps):
+    """Whether a crate's edits weren't tried, all of them, on its sources by this prover."""
+    names = {path.stem for path in edits_of(name)}
+    total = sum_of(name, deps)
+    for tried in {None, os.environ.get("TRIED") or None}:
+        kept, refused = record(name, tried)
+        known = logic() in ("", kept.get("logic"))
+        if kept.get("sources") == total and known and refused.keys() == names and kept.get("edits") == str(len(names)):
+            return False
+    return True
+
+
+def at_line(crate, path, number):
+    """The function of a file of code at a line."""
+    file = file_at(f"crates/{crate}/{path}")
+    found = [function for function in functions(file) if function.at < int(number)] if file else []
+    return "::".join(filter(None, (found[-1].around, found[-1].name))) if found else "?"
+
+
+def refusal(crate, said):
+    """The function at which the prover refused, and the goal there, by the first line that it said."""
+    goal = re.search(r"`([^` ]+)`", said)
+    proof = re.search(r"proofs/([\w/+]+)/(?:Answers|Invariants|Proof)\.antt", said)
+    place = re.search(r"(src/[\w/]+\.rt):(\d+):", said)
+    if proof:
+        path = [part for part in proof[1].split("/") if part[:1].isupper()] + [proof[1].split("/")[-1]]
+        function = "::".join(dict.fromkeys(path))
+    else:
+        function = at_line(crate, place[1], place[2]) if place else "?"
+    return f"{function} {goal[1] if goal else said}"
+
+
+def keep(name, total, said, which):
+    """Keeps how the edits of a crate came out, where each was tried and refused."""
+    text = Path(said).read_text(errors="replace")
+    outcome = {path.stem: re.search(rf"^(?:rt: )?must-fail {name}/{path.name}: (.*)", text, flags=re.M) for path in edits_of(name)}
+    if which != "all" and not all(outcome.values()):
+        return 3
+    lines, wrong = [], []
+    for edit, found in outcome.items():
+        came = found[1] if found else "NOT TRIED"
+        if came.startswith("refused, as it must be") and not came.startswith("refused, as it must be (only because"):
+            lines.append(f"{edit} {refusal(name, came)}")
+        else:
+            wrong.append(f"{name}/{edit}: {came}")
+    print("\n".join([*wrong, f"{name}: {len(lines)} of {len(outcome)} refused"]), flush=True)
+    if wrong:
+        return 1
+    kept = [f"sources {total}", f"logic {logic()}", f"edits {len(lines)}", *lines]
+    path = place_of(name, os.environ.get("TRIED"))
+    path.parent.mkdir(parents=True, exist_ok=True)
+    path.write_text("\n".join(kept) + "\n")
+    return 0
 
 
 def main():
@@ -80,20 +164,21 @@ def main():
     verb, *words = sys.argv[1:] or ["compare"]
     if verb == "sum":
         print(sum_of(words[0], deps))
-        return
+        return 0
     if verb == "keep":
-        Path("crates", words[0], "also-must-fail", "tried").write_text(words[1] + "\n")
-        return
-    stale = [name for name in deps if edits_of(name) and tried(name) != sum_of(name, deps)]
+        return keep(*words)
+    stale = [name for name in deps if edits_of(name) and is_stale(name, deps)]
     if verb == "stale":
         print("\n".join(stale))
-        return
+        return 0
     for name in stale:
-        print(f"{name}: its further edits weren't tried on these sources: bin/edits {name}")
+        print(f"{name}: its edits weren't all tried on these sources by this prover: bin/edits {name}")
     for name in deps:
-        for path in [*edits_of(name), *sorted(Path("crates", name, "must-fail").glob("*.edit"))]:
+        for path in edits_of(name):
             for fault in faults_of(path):
                 print(fault)
+    return 0
 
 
-main()
+if __name__ == "__main__":
+    sys.exit(main())

@@ -1,5 +1,4 @@
 # shellcheck shell=bash disable=SC2154  # examples/check, which reads this file, gives the names that stand for nothing here
-# cases: 25
 # files
 case_ 'a source that is not there' 6 '' 'error read' "$lnc check nosuch.ln"
 case_ 'a rows file that is not there' 6 '' 'error read' "$run nosuch.csv"
@@ -13,6 +12,15 @@ case_ 'rows that are made for a folder' 6 '' 'error read' "$lnc gen examples inc
 case_ 'a source that opens and cannot be read' 6 '' 'error read' "$lnc check /proc/self/mem"
 case_ 'a rows file that opens and cannot be read' 6 '' 'error read' "$run /proc/self/mem"
 case_ 'a source from a pipe' 0 'orient sites 3 stages 30' '' "cat $orient | $lnc check /dev/stdin"
+# a pipe whose bytes come in two parts, the second after a pause: a file is opened once, and read on after a read that fills no buffer
+slowly() { printf '{ head -c %s %s; sleep 0.3; tail -c +%s %s; }' "$2" "$1" $(($2 + 1)) "$1"; }
+case_ 'a source from a slow pipe' 0 'orient sites 3 stages 30' '' "$(slowly "$orient" 200) | $lnc check /dev/stdin"
+case_ 'rows from a slow pipe' 0 "$six" '' "$(slowly "$rows" 50) | $run /dev/stdin"
+"$lnc" list "$orient" >"$scratch/slow.list"
+case_ 'a listing from a slow pipe' 0 'valid' '' "$(slowly "$scratch/slow.list" 1000) | $lnc verify $orient /dev/stdin"
+{ head -1 "$rows"; seq 300000 | sed 's/.*/&,0,0,0,2,1,300001,3,-1/'; } >"$scratch/slow.csv"
+case_ 'more than 2 MiB of rows from a slow pipe' 0 '300000 - F' '' "[ \$(wc -c <$scratch/slow.csv) -gt 6000000 ] && $(slowly "$scratch/slow.csv" 2500000) | $run /dev/stdin | sort | uniq -c | sed 's/^ *//'"
+rm -f "$scratch/slow.csv" "$scratch/slow.list"
 # (root may read every file: then a copy of the program tries as nobody)
 as_other=''; other=$program
 cp "$orient" "$scratch/closed.ln"; chmod 000 "$scratch/closed.ln"

@@ -1,5 +1,4 @@
 # shellcheck shell=bash disable=SC2154  # examples/check, which reads this file, gives the names that stand for nothing here
-# cases: 5
 # the order of infinitesimals by total degree first
 { head -1 "$rows"; echo 1,0,1,2,0,0,3,0,0; } >"$scratch/differ.csv"
 case_ 'one row in both orders' 0 $'+ 4\n- 4' '' "$lnc run $orient orient $scratch/differ.csv; $lnc graded $orient orient $scratch/differ.csv"

@@ -1,7 +1,6 @@
 # shellcheck shell=bash disable=SC2154  # examples/check, which reads this file, gives the names that stand for nothing here
-# cases: 3
 # the tables and the first sample of docs/LANGUAGE.md, and the sample of docs/C.md
-case_ 'the tables of the language' 0 '28 sources and 5 sets of points agree' '' "python3 examples/checks/language.py $lnc $scratch"
+case_ 'the tables of the language' 0 '37 sources and 5 sets of points agree' '' "python3 examples/checks/language.py $lnc $scratch"
 sample() { # FILE: the first sample of a page, which is indented, from its first site type on
   awk '/^    site/ { inside = 1 } inside && /^    / { print substr($0, 5) } inside && !/^    / { exit }' "$1"
 }

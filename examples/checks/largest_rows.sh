@@ -1,5 +1,4 @@
 # shellcheck shell=bash disable=SC2154  # examples/check, which reads this file, gives the names that stand for nothing here
-# cases: 12
 # rows files and listings of the largest size. How much memory a command may hold is a limit of each case (examples/checks/held.c)
 gcc -std=gnu11 -Wall -Wextra -Werror -O2 -o "$scratch/rows" examples/checks/rows.c && gcc -std=gnu11 -Wall -Wextra -Werror -O2 -o "$scratch/held" examples/checks/held.c
 held=$scratch/held

@@ -1,5 +1,4 @@
 # shellcheck shell=bash disable=SC2154  # examples/check, which reads this file, gives the names that stand for nothing here
-# cases: 19
 # one source that has the most of all at once: bytes, tokens, predicates, nodes, lets, sites, params, coordinates and letters of names;
 # what each command puts is that of a plain program of the definitions (examples/checks/plain.py)
 plain=examples/checks/plain.py; full=$scratch/full.ln

@@ -1,5 +1,4 @@
 # shellcheck shell=bash disable=SC2154  # examples/check, which reads this file, gives the names that stand for nothing here
-# cases: 43
 # listings and C
 case_ 'the first line of a listing' 0 'listing 2' '' "$lnc list $orient | head -1"
 case_ 'the first line of C' 0 '#include <stdint.h>' '' "$lnc emit $orient | head -1"

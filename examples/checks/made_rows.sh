@@ -1,5 +1,4 @@
 # shellcheck shell=bash disable=SC2154  # examples/check, which reads this file, gives the names that stand for nothing here
-# cases: 9
 # rows that are made
 circle="$lnc gen examples/incircle/incircle.ln incircle"
 case_ 'the same rows twice' 0 'same' '' "$circle 1 100000 >$scratch/once; $circle 1 100000 >$scratch/twice; cmp $scratch/once $scratch/twice && [ -s $scratch/once ] && echo same"

@@ -1,12 +1,24 @@
 # shellcheck shell=bash disable=SC2154  # examples/check, which reads this file, gives the names that stand for nothing here
-# cases: 5
-# memory: less than it takes, and nothing put
+# memory: less than it takes, and nothing put; the system refuses an allocation, which refusals.c counts
+gcc -std=gnu11 -Wall -Wextra -Werror -O2 -shared -fPIC -o "$scratch/refusals.so" examples/checks/refusals.c
 head -c 33554432 /dev/zero | tr '\0' '\n' >"$scratch/large.csv"
-case_ 'no memory for rows' 9 '' '' "ulimit -v 24000; $program run $orient orient $scratch/large.csv"
-case_ 'no memory for a listing' 9 '' '' "ulimit -v 5000; $program list $insphere"
-case_ 'no memory for C' 9 '' '' "ulimit -v 5000; $program emit $insphere"
+while read -r what most words; do
+  # shellcheck disable=SC2016  # the command's own variable
+  case_ "no memory for $what" 9 'refused' '' "(ulimit -v $most; LD_PRELOAD=$scratch/refusals.so ASKED=$scratch/asked $program $words)"'; s=$?'"
+    [ \$(cut -d' ' -f2 $scratch/asked) -gt 0 ] && echo refused; exit \$s"
+done <<CASES
+rows 24000 run $orient orient $scratch/large.csv
+listing 5000 list $insphere
+C 5000 emit $insphere
+CASES
 rm -f "$scratch/large.csv"
-case_ 'each of the first 50 allocations of each command refused' 0 '24 cases: each as required' '' "LNC=$program bench/memory first 50 | tail -1"
+case_ 'each of the first 50 allocations of each command refused' 0 '24 cases: each as required' '' "LNC=$program bench/memory first 50 lnc | tail -1"
+calls=$(readlink -f "${LNC_C:-crates/lnc_c/out/lnc_c}")
+if [ -x "$calls" ]; then
+  case_ 'each allocation of lnc_c refused' 0 '7 cases: each as required' '' "LNC=$program LNC_C=$calls bench/memory first 1000 lnc_c | tail -1"
+else
+  skipped=$((skipped + 1)); echo 'memory.sh: skipped: crates/lnc_c/out/lnc_c is not built'
+fi
 
 # signals: none is caught
 mkfifo "$scratch/pipe"

@@ -1,5 +1,4 @@
 # shellcheck shell=bash disable=SC2154  # examples/check, which reads this file, gives the names that stand for nothing here
-# cases: 48
 circle=examples/incircle/incircle.ln
 # words: more of them than any command has
 case_ 'eight words' 2 '' 'error usage' "$program run $orient orient $rows a b c d"
@@ -16,7 +15,7 @@ case_ 'rows by a path of 4,000 bytes' 0 "$six" '' "cat $rows >$deep && $program 
 case_ 'a listing by a path of 4,000 bytes' 0 'valid' '' "$lnc list $orient >$deep && $program verify $orient $deep"
 case_ 'no file by a path of 4,000 bytes' 6 '' 'error read' "$program check ${deep%?}2"
 case_ 'a path of 5,000 bytes' 6 '' 'error read' "$program check $deep$(printf '%01000d' 0)"
-for name in 'ä' 'Ω≈ç√' '点と線.ln' $'a\xcc\x88' '🔺' $'a\tb\nc' '-' '--help' '*' '"'; do
+for name in 'ä' 'Ω≈ç√' '点と線.ln' $'a\xcc\x88' '🔺' $'a\tb\nc' '-' '--' '--help' '*' '"' 'at its end ' ' at its begin' ' '; do
   cp "$orient" "$scratch/$name"
   case_ "a file of the name $name" 0 'orient sites 3 stages 30' '' "cd $scratch && $program check '$name'"
 done
@@ -46,12 +45,20 @@ case_ 'one perturbed row' 0 'first 6' '' "$program gen examples/squares/squares.
 gcc -Wall -Wextra -Werror -O2 -shared -fPIC -o "$scratch/interrupted.so" examples/checks/interrupted.c
 case_ 'three interruptions in a row' 0 "$six" '' "LD_PRELOAD=$scratch/interrupted.so INTERRUPTED=$scratch/count $program run $orient orient $rows"
 case_ 'before each call' 0 'yes' '' "[ \$(cat $scratch/count) -ge 9 ] && echo yes"
+{ head -1 "$rows"; yes 1,0,0,2,1,0,3,0,1 | head -100000; } >"$scratch/many.csv"
+case_ 'a hundred thousand rows are read and written in pieces' 0 $'100000\nfew calls' '' "LD_PRELOAD=$scratch/interrupted.so INTERRUPTED=$scratch/count $program run $orient orient $scratch/many.csv | wc -l; [ \$(cat $scratch/count) -lt 3000 ] && echo few calls"
+rm -f "$scratch/many.csv"
 case_ 'and a refusal' 1 '' 'error bound 2:62' "LD_PRELOAD=$scratch/interrupted.so $program check examples/limits/too_heavy.ln"
 
 # ports: a file that is full before the last bytes of a long text; a full pipe that doesn't block; no standard error
 "$program" list "$insphere" >"$scratch/long"
 blocks=$((($(wc -c <"$scratch/long") - 1) / 1024))
-case_ 'the last bytes of a long text find no room' 7 'the rest is there' '' "(trap '' XFSZ; ulimit -f $blocks; exec $program list $insphere) >$scratch/most; s=\$?
+# (by bin/lnc, in a checkout in which the program is built)
+mkdir -p "$scratch/built/bin" "$scratch/built/crates/lnc/src" "$scratch/built/crates/lnc/out"
+cp bin/lnc bin/stamp "$scratch/built/bin"; cp "$program" "$scratch/built/crates/lnc/out/lnc"
+echo 'lnc:' >"$scratch/built/crates.txt"; : >"$scratch/built/crates/lnc/src/main.rt"
+"$scratch/built/bin/stamp" lnc "$scratch/built/crates/lnc/out/lnc" >"$scratch/built/crates/lnc/out/stamp"
+case_ 'the last bytes of a long text find no room' 7 'the rest is there' '' "(ulimit -f $blocks; exec $scratch/built/bin/lnc list $insphere) >$scratch/most; s=\$?
   head -c $((1024 * blocks)) $scratch/long | cmp - $scratch/most && echo the rest is there; exit \$s"
 cat >"$scratch/nonblocking.py" <<'PY'
 import fcntl, os, subprocess, sys

@@ -7,8 +7,10 @@ plain.py product SEED                   a source of three random predicates f, g
 plain.py check FILE                     the lines of `check`
 plain.py run FILE NAME ROWS             the lines of `run`; where the plain value isn't 0 it stands as decided by 0, also where a filter does
 plain.py graded FILE NAME ROWS          the lines of `graded`, with 0 in place of F as well
-plain.py gen FILE NAME SEED COUNT       the lines of `gen`; what the filter decides counts as decided by the plain value"""
-import functools, itertools, math, random, re, sys
+plain.py gen FILE NAME SEED COUNT       the lines of `gen`; what the filter decides counts as decided by the plain value
+plain.py random LNC FOLDER SEED COUNT   compares `run` and `graded` of the program LNC with the lines of random predicates of three shapes, COUNT of
+                                        each, F where the filter decides, and prints how many there were of each kind"""
+import collections, functools, itertools, math, pathlib, random, re, subprocess, sys
 
 BITS = 8  # of an exponent in a monomial, which is one whole number
 
@@ -38,6 +40,58 @@ class Poly(dict):
     def __pow__(self, n):
         return functools.reduce(Poly.__mul__, [self] * n, Poly({0: 1}))
 
+    @classmethod
+    def number(cls, c):
+        return cls({0: c} if c else {})
+
+
+class NoFilter(Exception):
+    """an error above 2^31 - 1, or a division by more than 2^255"""
+
+
+class Truncated:
+    """what a filter knows of a node: its value is within e * 2^k of h * 2^k, and |h| is at most m"""
+
+    def __init__(self, k, m, e, h):
+        self.k, self.m, self.e, self.h = k, m, e, h
+
+    def divided(self, n):
+        """by 2^n towards 0"""
+        h = abs(self.h) >> n
+        return Truncated(self.k + n, self.m >> n, -(-self.e >> n) + (n > 0), h if self.h > 0 else -h)
+
+    def trimmed(self):
+        """with 31 binary digits"""
+        out = self.divided(max(0, self.m.bit_length() - 31))
+        if out.e >= 2 ** 31 or out.k > 255:
+            raise NoFilter
+        return out
+
+    @staticmethod
+    def leaf(m, z):
+        return Truncated(0, m, 0, z).trimmed()
+
+    @staticmethod
+    def number(c):
+        return Truncated.leaf(c, c)
+
+    def __neg__(self):
+        return Truncated(self.k, self.m, self.e, -self.h)
+
+    def __add__(self, other):
+        l, r = self.divided(max(0, other.k - self.k)), other.divided(max(0, self.k - other.k))
+        return Truncated(l.k, l.m + r.m, l.e + r.e, l.h + r.h).trimmed()
+
+    def __sub__(self, other):
+        return self + -other
+
+    def __mul__(self, other):
+        e = self.m * other.e + other.m * self.e + self.e * other.e
+        return Truncated(self.k + other.k, self.m * other.m, e, self.h * other.h).trimmed()
+
+    def __pow__(self, n):
+        return functools.reduce(Truncated.__mul__, [self] * n) if n else Truncated.number(1)
+
 
 def exponents(m):
     """the variables of a monomial with their exponents"""
@@ -55,27 +109,38 @@ class Predicate:
 
     def __init__(self, name, arguments, body, sites, params):
         self.name, self.arguments = name, [tuple(w.strip() for w in a.split(":")) for a in arguments.split(",")]
-        self.columns, self.variables, scope = [], [], {}
+        self.columns, self.variables, self.body = [], [], body
         for a, kind in self.arguments:
             if kind == "param":
-                scope[a] = self.variable(a, None, 0, params[a])
+                self.variables.append((a, None, 0, params[a]))
                 self.columns.append(a)
                 continue
-            scope[a] = type("Site", (), {})()
-            for k, (c, range_) in enumerate(sites[kind].items()):
-                setattr(scope[a], c, self.variable(a, a, k, range_))
+            self.variables += [(f"{a}.{c}", a, k, range_) for k, (c, range_) in enumerate(sites[kind].items())]
             self.columns += [a] + [f"{a}.{c}" for c in sites[kind]]
-        number = lambda text: re.sub(r"(?<![\w.*])(\d+)\b", r"Poly({0: \1} if \1 else {})", re.sub(r"\^\s*0*(\d+)", r"**\1", text))
-        scope["Poly"] = Poly
-        for let, text in re.findall(r"let (\w+) = (.*?);", body, re.S):
-            scope[let] = eval(number(text), {}, scope)
-        self.poly = eval(number(re.search(r"sign (.*?);", body, re.S).group(1)), {}, scope)
+        self.poly = self.evaluate([Poly({1 << BITS * v: 1}) for v in range(len(self.variables))], Poly.number)
         self.sites = [a for a, kind in self.arguments if kind != "param"]
         self.lists = {}
 
-    def variable(self, name, site, place, range_):
-        self.variables.append((name, site, place, range_))
-        return Poly({1 << BITS * (len(self.variables) - 1): 1})
+    def evaluate(self, values, number):
+        """the sign expression after its lets, over these values of the variables and what stands for a number"""
+        scope = {"Number": number, **{a: type("Site", (), {})() for a, kind in self.arguments if kind != "param"}}
+        for (name, site, _, _), value in zip(self.variables, values):
+            if site:
+                setattr(scope[site], name.split(".")[1], value)
+            else:
+                scope[name] = value
+        text = re.sub(r"\^\s*(\d+)|(?<![\w.])(\d+)\b", lambda n: f"**{int(n[1])}" if n[1] else f"Number({int(n[2])})", self.body)
+        for let, value in re.findall(r"let (\w+) = (.*?);", text, re.S):
+            scope[let] = eval(value, {}, scope)
+        return eval(re.search(r"sign (.*?);", text, re.S)[1], {}, scope)
+
+    def decides(self, values):
+        """whether the filter decides a row"""
+        try:
+            root = self.evaluate([Truncated.leaf(max(map(abs, v[3])), z) for v, z in zip(self.variables, values)], Truncated.number)
+        except NoFilter:
+            return False
+        return abs(root.h) > root.e
 
     @functools.cached_property
     def covered(self):
@@ -233,6 +298,165 @@ def product(seed):
     print(predicate("whole", "*".join(f"({body})" for body in bodies)))
 
 
+class Draw:
+    """random expressions and rows over four coordinates and a param, by a linear congruential generator with Knuth's numbers for MMIX"""
+
+    def __init__(self, seed):
+        self.state = seed
+
+    def below(self, n):
+        self.state = (self.state * 6364136223846793005 + 1442695040888963407) % 2 ** 64
+        return (self.state >> 33) % n
+
+    def within(self, most):
+        return self.below(2 * most + 1) - most
+
+    def operation(self, factors, place):
+        """one on two of the last parts before this place, and how many factors its terms have at most: no more than four"""
+        right = place - 1 - self.below(2)
+        left = right - 1 - self.below(min(right, 6))
+        exponent, kind, l, r = self.below(5), self.below(10), factors[left], factors[right]
+        if kind == 0:
+            return ("neg", right, None), r
+        if kind == 1 and r * exponent <= 4:
+            return ("^", right, exponent), max(r * exponent, 1)
+        if kind in (2, 3, 4) and l + r <= 4:
+            return ("*", left, right), l + r
+        if kind in (5, 6) and r + r <= 4:
+            return ("*", right, right), r + r
+        return ("+" if kind == 7 else "-", left, right), max(l, r)
+
+    def expression(self):
+        """its parts: a number, the inputs, and operations on parts before them"""
+        parts = [("number", 1 + self.below(3), None)] + [("input", v, None) for v in (4, 0, 1, 2, 3)]
+        factors = [1] * 6
+        for place in range(6, 12 + self.below(6)):
+            part, most = self.operation(factors, place)
+            parts.append(part)
+            factors.append(most)
+        return parts
+
+    def values(self):
+        """mostly small, coordinates near one another, so that many rows are degenerate"""
+        most = [0, 0, 999999, 1, 1, 1][self.below(6)]
+        middle = self.within(1)
+        return [middle + self.within(most) for _ in range(4)] + [self.within(1)]
+
+
+def text_of(parts, inputs):
+    """the body of a predicate: parentheses where it needs them, and a let for each operation at a place that 3 divides"""
+    body, texts = "", []
+    operand = lambda place, least: texts[place][0] if texts[place][1] >= least else f"({texts[place][0]})"
+    for place, (op, l, r) in enumerate(parts):
+        text = {"number": lambda: (str(l), 4), "input": lambda: (inputs[l], 4), "^": lambda: (f"{operand(l, 4)}^{r}", 3),
+                "neg": lambda: ("-" + operand(l, 2), 2), "*": lambda: (f"{operand(l, 1)}*{operand(r, 2)}", 1),
+                "+": lambda: (f"{operand(l, 0)} + {operand(r, 1)}", 0), "-": lambda: (f"{operand(l, 0)} - {operand(r, 1)}", 0)}[op]()
+        if place >= 6 and place % 3 == 0:
+            body, text = f"{body} let d{place} = {text[0]};", (f"d{place}", 4)
+        texts.append(text)
+    return f"{body} sign {texts[-1][0]};"
+
+
+def value_of(parts, inputs):
+    """the polynomial, by the parts and not by their text"""
+    out = []
+    for op, l, r in parts:
+        out.append({"number": lambda: Poly.number(l), "input": lambda: inputs[l], "neg": lambda: -out[l], "^": lambda: out[l] ** r,
+                    "*": lambda: out[l] * out[r], "+": lambda: out[l] + out[r], "-": lambda: out[l] - out[r]}[op]())
+    return out[-1]
+
+
+def repeats(parts):
+    """whether an operation is at two places of the text, which aren't names of a let"""
+    places = [0] * len(parts)
+    places[-1] = 1
+    named = lambda place: place % 3 == 0
+    for place in reversed(range(6, len(parts))):
+        op, l, r = parts[place]
+        if places[place] or named(place):
+            for operand in [l] if op in ("neg", "^") else [l, r]:
+                places[operand] += 1
+    return any(n > 1 and not named(place) for place, n in enumerate(places[:-1]) if place >= 6)
+
+
+# sources before the braces of their predicate, with its inputs
+WIDE = "-1000000 .. 1000000"
+POINT, NUM, PARAM = f"site point {{ x: {WIDE}; y: {WIDE}; }}", f"site num {{ t: {WIDE}; }}", "param c: -2 .. 2;"
+SHAPES = [
+    (f"{PARAM} {POINT}\npredicate f(p: point, q: point, c: param)", ["p.x", "p.y", "q.x", "q.y", "c"]),
+    (f"{NUM} {PARAM}\npredicate f(p: num, q: num, c: param, r: num, s: num)", ["p.t", "q.t", "r.t", "s.t", "c"]),
+    (f"{PARAM} {NUM} {POINT}\npredicate f(c: param, p: num, q: point, r: num)", ["p.t", "q.x", "q.y", "r.t", "c"])]
+
+
+def worked():
+    """coefficients that were worked out by hand: (2 + e)(3 + f) at 1, e, f and ef, a fourth power at 0, and what a param alone has"""
+    both = Predicate("f", "a: num, b: num, c: param", "sign a.t*b.t;", {"num": {"t": (-9, 9)}}, {"c": (-9, 9)})
+    assert [both.coefficient(v, [2, 3, 0]) for v in (0, 1, 256, 257)] == [6, 3, 2, 1]
+    one = Predicate("f", "a: num, c: param", "sign a.t*c;", {"num": {"t": (-9, 9)}}, {"c": (-9, 9)})
+    assert [one.coefficient(v, [2, 3]) for v in (0, 1, 256, 257)] == [6, 3, 0, 0]
+    fourth = Predicate("f", "a: num", "sign a.t^4;", {"num": {"t": (-9, 9)}}, {})
+    assert [fourth.coefficient(v, [0]) for v in range(5)] == [0, 0, 0, 0, 1] and fourth.answer({"a": 7}, [0]) == (1, 4)
+    less = Predicate("f", "a: num, b: num", "sign a.t - b.t;", {"num": {"t": (-9, 9)}}, {})
+    for graded in (False, True):
+        assert less.answer({"a": 7, "b": 3}, [4, 1], graded) == (3, 0) and less.answer({"a": 7, "b": 3}, [4, 4], graded) == (-1, 1)
+    param = Predicate("f", "a: num, c: param", "sign c;", {"num": {"t": (-9, 9)}}, {"c": (-9, 9)})
+    assert param.answer({"a": 7}, [4, 0]) == (0, None)
+
+
+def random_rows(draw, predicate, inputs):
+    """the text of rows, one for each order of four sites, and for each of both orders of infinitesimals what decides them, and their lines"""
+    letters = list(dict.fromkeys(name[0] for name in inputs[:4]))
+    text, deciders, lines = ",".join(predicate.columns) + "\n", [[], []], ["", ""]
+    for order in range(24):
+        index = [0, 7, 1000000007, 2 ** 63 - 1]
+        for i, j in ((0, order % 4), (1, 1 + order // 4 % 3), (2, 2 + order // 12 % 2)):
+            index[i], index[j] = index[j], index[i]
+        index, row = dict(zip(letters, index)), dict(zip(inputs, draw.values()))
+        text += ",".join(str(index[c] if c in index else row[c]) for c in predicate.columns) + "\n"
+        values = [row[v[0]] for v in predicate.variables]
+        for graded in (0, 1):
+            sign, place = predicate.answer(index, values, graded == 1)
+            deciders[graded].append("F" if predicate.decides(values) else "-" if place is None else place)
+            lines[graded] += f"{'+' if sign > 0 else '-' if sign < 0 else '0'} {deciders[graded][-1]}\n"
+    return text, deciders, lines
+
+
+def random_predicates(program, folder, seed, count):
+    """the same expressions and rows at each run, and so the same counts"""
+    worked()
+    draw, of = Draw(int(seed)), collections.Counter()
+    by = [collections.Counter(), collections.Counter()]
+    source, table = pathlib.Path(folder, "random.ln"), pathlib.Path(folder, "random.csv")
+
+    def says(command, *required):
+        said = subprocess.run([program, command, source, "f", table], capture_output=True, text=True)
+        assert (said.returncode, said.stdout, said.stderr) == required, (source.read_text(), table.read_text(), command, said, required)
+
+    for head, inputs in SHAPES * int(count):
+        parts = draw.expression()
+        source.write_text(f"{head} {{{text_of(parts, inputs)} }}\n")
+        predicate = read(source)["f"]
+        place = {v[0]: Poly({1 << BITS * n: 1}) for n, v in enumerate(predicate.variables)}
+        assert predicate.poly == value_of(parts, [place[name] for name in inputs])
+        if not predicate.poly:
+            table.write_text("")
+            says("run", 1, "", "error zero 2:11\n")
+            of["that are 0 everywhere"] += 1
+            continue
+        text, deciders, lines = random_rows(draw, predicate, inputs)
+        table.write_text(text)
+        says("run", 0, lines[0], "")
+        says("graded", 0, lines[1], "")
+        of["predicates"] += 1
+        of["with equal parts"] += repeats(parts)
+        of["that differ by total degree"] += lines[0] != lines[1]
+        by = [all_ + collections.Counter(here) for all_, here in zip(by, deciders)]
+    print(", ".join(f"{of[kind]} {kind}" for kind in ("predicates", "with equal parts", "that differ by total degree", "that are 0 everywhere")))
+    for name, counts in zip(("run", "graded"), by):
+        kinds = sorted(counts, key=lambda kind: (isinstance(kind, int), kind))
+        print(f"rows by {name}:", ", ".join(f"{counts[kind]} {kind if isinstance(kind, str) else f'at {kind}'}" for kind in kinds))
+
+
 TOKEN = re.compile(r"\s+|//[^\n]*|(\w+|\.\.|[{}():;,.+*^=-])")
 count_tokens = lambda text: sum(t.group(1) is not None for t in TOKEN.finditer(text))
 LONG = 32
@@ -292,4 +516,5 @@ def largest():
 
 
 if __name__ == "__main__":
-    {"largest": largest, "product": product, "check": check, "run": run, "graded": graded, "gen": gen, "rows": rows}[sys.argv[1]](*sys.argv[2:])
+    commands = {"largest": largest, "product": product, "check": check, "run": run, "graded": graded, "gen": gen, "rows": rows}
+    {**commands, "random": random_predicates}[sys.argv[1]](*sys.argv[2:])

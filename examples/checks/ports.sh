@@ -1,5 +1,4 @@
 # shellcheck shell=bash disable=SC2154  # examples/check, which reads this file, gives the names that stand for nothing here
-# cases: 15
 # ports
 { head -1 "$rows"; yes 1,0,0,2,1,0,3,0,1 | head -200000; } >"$scratch/many.csv"
 case_ 'two hundred thousand rows' 0 '200000' '' "$run $scratch/many.csv | grep -c '^+ F\$'"

@@ -1,6 +1,5 @@
 # shellcheck shell=bash disable=SC2154
 # The sign of a product of predicates.
-# cases: 8
 sides='examples/sides/sides.ln'; ends=examples/sides/rows.csv; three='r_side s_side r_side'
 printf 'site num { t: -5 .. 5; }\npredicate s(a: num, b: num) { sign a.t + b.t; }\npredicate n(b: num, a: num) { sign a.t + b.t; }\n' >"$scratch/unlike.ln"
 case_ 'a square' 0 $'+ F,F\n+ F,F\n+ 1,1\n+ 1,1' '' "$lnc product $sides r_side r_side $ends"

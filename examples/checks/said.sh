@@ -1,5 +1,4 @@
 # shellcheck shell=bash disable=SC2154  # examples/check, which reads this file, gives the names that stand for nothing here
-# cases: 3
 # what is written for words, sources, rows and listings, by the tables commands_table.py, rules_table.py and
 # signs_table.py; each group with the number of its cases
 case_ 'what is written for words, sources and rows' 0 'each record has its line: 10 cases

@@ -1,5 +1,4 @@
 # shellcheck shell=bash disable=SC2154  # examples/check, which reads this file, gives the names that stand for nothing here
-# cases: 12
 # traces of rows: what `explain` writes and what `audit` says, by a plain program of the rules
 same=examples/orientation/same.csv
 trace="$scratch/trace"

@@ -1,5 +1,4 @@
 # shellcheck shell=bash disable=SC2154  # examples/check, which reads this file, gives the names that stand for nothing here
-# cases: 11
 # words
 case_ 'no words' 2 '' 'error usage' "$program"
 case_ 'a word that is no command' 2 '' 'error usage' "$lnc draw $orient"

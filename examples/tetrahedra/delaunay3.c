@@ -1,48 +1,50 @@
-/* A Delaunay tetrahedralization with no case for degenerate input.
+/* A regular tetrahedralization with no case for degenerate input; where all weights are 0, it is the Delaunay tetrahedralization.
 
-   The two predicates that it calls, ln_orient3 and ln_insphere, are emitted by lnc from tetrahedra.ln. They never return 0: four points
-   of a plane still have an orientation, and of five points on a sphere the fifth is still inside or outside, always in the same way for
-   the same points. So nothing here asks what to do on "coplanar" or "cospherical".
+   Its two predicates are ready-made, in predicates/: worient3 and power3 of weighted_space. They never return 0: four points of a plane
+   still have an orientation, and of five points on a sphere the fifth is still inside or outside, always in the same way for the same
+   points. So nothing here asks what to do on "coplanar" or "cospherical". The weight is moved most, so the points of a sphere come apart
+   by their heights first, and a flat tetrahedron lies only along the hull, from where it is peeled off. With -DUNLIFTED the program takes
+   orient3 and insphere of space in their place: then some flat ones are inside.
 
-   Points are inserted one by one: the tetrahedra whose sphere has the point inside are removed, and the hole is filled from the point.
-   Outside of the hull there are tetrahedra too, from each face of the hull to the vertex OUTSIDE, whose "sphere" is the half space
-   beyond the face. A tetrahedron is flat where its four points lie in a plane; such a one has volume 0 and is part of the result.
+   Points are inserted one by one: the tetrahedra in conflict with the point, whose sphere has it inside, are removed, and the hole is
+   filled from the point. A point that no tetrahedron is in conflict with is hidden by the weights of others. Outside of the hull there are
+   tetrahedra too, from each face of the hull to the vertex OUTSIDE, whose "sphere" is the half space beyond the face.
 
-   Usage: delaunay3 grid|sphere|random|mixed [SIZE] > picture.svg. What was checked goes to standard error. */
+   Usage: delaunay3 grid|sphere|random|mixed|weighted [SIZE [cells]] > picture.svg, or with `cells` the points and the tetrahedra in place of
+   a picture. What was checked goes to standard error. */
 #include <stdint.h>
 #include <stdio.h>
 #include <stdlib.h>
 #include <string.h>
 
-/* -1, 0 or 1; the first parameter has the index of each site, the second its coordinates in turn */
-int ln_orient3(const int64_t *x, const int64_t *v);
-int ln_insphere(const int64_t *x, const int64_t *v);
+#ifdef UNLIFTED
+#include "lnc_space.h"
+typedef ln_point3 Point;
+#define ORIENT ln_orient3_at
+#define INSIDE ln_insphere_at
+#define WEIGHT(p) 0
+#else
+#include "lnc_weighted_space.h"
+typedef ln_weighted3 Point;
+#define ORIENT ln_worient3_at
+#define INSIDE ln_power3_at
+#define WEIGHT(p) ((p)->w)
+#endif
 
-enum { MOST = 2000, CELLS = 40 * MOST, OUTSIDE = MOST, NONE = -1 };
+enum { MOST = 20000, CELLS = 40 * MOST, OUTSIDE = MOST, NONE = -1, FEW = 2000, SLOTS = 1 << 20 };
 
-typedef struct { int64_t at[3]; } Point;
 /* four corners, positively oriented; beside[i] is the cell across from corner i */
 typedef struct { int corner[4], beside[4], alive, seen; } Cell;
 
 static Point points[MOST];
 static int count;
 static Cell cells[CELLS];
-static int made;
+static int made, last, spare[CELLS], spares;
 static long asked;
 
-/* the corners in a call: their numbers are the indices */
-static void pack(const int *corners, int n, int64_t *x, int64_t *v) {
-  for (int i = 0; i < n; i++) {
-    x[i] = corners[i];
-    for (int j = 0; j < 3; j++) v[3 * i + j] = points[corners[i]].at[j];
-  }
-}
-
-static int is_positive(const int *corners) {
-  int64_t x[4], v[12];
-  pack(corners, 4, x, v);
+static int is_positive(const int *c) {
   asked++;
-  return ln_orient3(x, v) > 0;
+  return ORIENT(&points[c[0]], &points[c[1]], &points[c[2]], &points[c[3]]) > 0;
 }
 
 /* the place of OUTSIDE among the corners of a cell, or 4 */
@@ -52,27 +54,28 @@ static int outer(const int *corners) {
   return i;
 }
 
+/* the orientation of a cell with p in place of one corner */
+static int is_positive_with(const Cell *cell, int place, int p) {
+  int corners[4];
+  memcpy(corners, cell->corner, sizeof corners);
+  corners[place] = p;
+  return is_positive(corners);
+}
+
 /* is the point p in the sphere of this cell? Beyond a face of the hull it is where the cell is positive with p in place of OUTSIDE */
 static int is_inside(const Cell *cell, int p) {
-  int corners[5];
-  memcpy(corners, cell->corner, sizeof cell->corner);
-  int place = outer(corners);
-  if (place < 4) {
-    corners[place] = p;
-    return is_positive(corners);
-  }
-  int64_t x[5], v[15];
-  corners[4] = p;
-  pack(corners, 5, x, v);
+  const int *c = cell->corner, place = outer(c);
+  if (place < 4) return is_positive_with(cell, place, p);
   asked++;
-  return ln_insphere(x, v) > 0;
+  return INSIDE(&points[c[0]], &points[c[1]], &points[c[2]], &points[c[3]], &points[p]) > 0;
 }
 
 static int add(const int *corners) {
-  if (made == CELLS) { fprintf(stderr, "too many cells\n"); exit(2); }
+  if (!spares && made == CELLS) { fprintf(stderr, "too many cells\n"); exit(2); }
   Cell cell = {{corners[0], corners[1], corners[2], corners[3]}, {NONE, NONE, NONE, NONE}, 1, NONE};
-  cells[made] = cell;
-  return made++;
+  last = spares ? spare[--spares] : made++;
+  cells[last] = cell;
+  return last;
 }
 
 /* face i of the cell t and face j of the cell u are the same */
@@ -86,18 +89,26 @@ static int side_of(int t, int u) {
   abort();
 }
 
-/* the new cells of an insertion meet at edges of the hole: the first cell at an edge is kept here until the second one comes */
-static struct { int cell, side; } waiting[MOST + 1][MOST + 1];
+/* the new cells of an insertion meet at edges of the hole: the first cell at an edge is kept here until the second one comes, in the first
+   slot from the edge's own on that this insertion hasn't taken for another edge */
+static struct { int a, b, point, cell, side; } waiting[SLOTS];
 
-static void meet(int t, int side, int a, int b) {
+static void meet(int t, int side, int a, int b, int p) {
   if (a > b) { int c = a; a = b; b = c; }
-  if (waiting[a][b].cell) {
-    join(t, side, waiting[a][b].cell - 1, waiting[a][b].side);
-    waiting[a][b].cell = 0;
-  } else {
-    waiting[a][b].cell = t + 1;
-    waiting[a][b].side = side;
+  unsigned slot = (unsigned)a * 40503u + (unsigned)b * 9973u;
+  for (;; slot++) {
+    slot %= SLOTS;
+    if (waiting[slot].point != p) break;
+    if (waiting[slot].a == a && waiting[slot].b == b) {
+      join(t, side, waiting[slot].cell, waiting[slot].side);
+      return;
+    }
   }
+  waiting[slot].a = a;
+  waiting[slot].b = b;
+  waiting[slot].point = p;
+  waiting[slot].cell = t;
+  waiting[slot].side = side;
 }
 
 /* a new cell from face i of the removed cell t to the point p, beside the cell u that stays */
@@ -111,15 +122,27 @@ static void fill(int t, int i, int u, int p) {
     if (j == i) continue;
     int edge[2], n = 0;
     for (int k = 0; k < 4; k++) if (k != i && k != j) edge[n++] = corners[k];
-    meet(fresh, j, edge[0], edge[1]);
+    meet(fresh, j, edge[0], edge[1], p);
+  }
+}
+
+/* the cell that has the point p in it, or one of OUTSIDE from whose face it is seen: from cell to cell, across a face that p is beyond */
+static int locate(int p) {
+  int t = last, i = outer(cells[t].corner);
+  if (i < 4) t = cells[t].beside[i];
+  for (;;) {
+    for (i = 0; i < 4 && is_positive_with(&cells[t], i, p); i++) {}
+    if (i == 4) return t;
+    t = cells[t].beside[i];
+    if (outer(cells[t].corner) < 4) return t;
   }
 }
 
 /* removes what has p inside, beginning at one such cell, and fills the hole */
 static void insert(int p) {
   static int hole[CELLS];
-  int size = 0, first = made - 1;
-  while (!cells[first].alive || !is_inside(&cells[first], p)) first--;
+  int size = 0, first = locate(p);
+  if (!is_inside(&cells[first], p)) return;
   hole[size++] = first;
   cells[first].alive = 0;
   for (int k = 0; k < size; k++)
@@ -133,6 +156,7 @@ static void insert(int p) {
       int u = cells[hole[k]].beside[i];
       if (cells[u].alive) fill(hole[k], i, u, p);
     }
+  for (int k = 0; k < size; k++) spare[spares++] = hole[k];
 }
 
 static void tetrahedralize(void) {
@@ -162,18 +186,27 @@ static void tetrahedralize(void) {
 
 static int by_place(const void *a, const void *b) {
   const Point *p = a, *q = b;
-  for (int i = 0; i < 3; i++) if (p->at[i] != q->at[i]) return p->at[i] < q->at[i] ? -1 : 1;
-  return 0;
+  if (p->x != q->x) return p->x < q->x ? -1 : 1;
+  if (p->y != q->y) return p->y < q->y ? -1 : 1;
+  return p->z < q->z ? -1 : p->z > q->z;
 }
 
-static void put(int64_t x, int64_t y, int64_t z) {
+static Point *put(int64_t x, int64_t y, int64_t z) {
   if (count == MOST) { fprintf(stderr, "too many points\n"); exit(2); }
-  points[count++] = (Point){{x, y, z}};
+  points[count] = (Point){.x = x, .y = y, .z = z};
+  return &points[count++];
 }
 
-/* the points of a scene: a cube's grid, a sphere, random points, or all three */
+static int64_t below(int64_t most) {
+  static uint64_t state = 1;
+  state = state * 6364136223846793005u + 1442695040888963407u;
+  return (int64_t)(state >> 40) % most;
+}
+
+/* the points of a scene: a cube's grid, a sphere, random points, or all three; or random points with random weights. They are inserted in the
+   order of their places, so that each is near the one before: any order will do, since the index says how a point is moved */
 static void scene(const char *name, int size) {
-  int mixed = !strcmp(name, "mixed");
+  int mixed = !strcmp(name, "mixed"), weighted = !strcmp(name, "weighted");
   const int64_t step = 800000 / size, magnified = 80000;
   if (mixed || !strcmp(name, "grid"))
     for (int i = 0; i < size; i++)
@@ -184,21 +217,21 @@ static void scene(const char *name, int size) {
     for (int x = -9; x <= 9; x++)
       for (int y = -9; y <= 9; y++)
         for (int z = -9; z <= 9; z++) if (x * x + y * y + z * z == 81) put(magnified * x, magnified * y, magnified * z);
-  uint64_t state = 1;
-  if (mixed || !strcmp(name, "random"))
+  if (mixed || weighted || !strcmp(name, "random"))
     for (int i = 0; i < size * size * size; i++) {
-      int64_t at[3];
-      for (int j = 0; j < 3; j++) {
-        state = state * 6364136223846793005u + 1442695040888963407u;
-        at[j] = (int64_t)(state >> 40) % 800000 - 400000;
-      }
-      put(at[0], at[1], at[2]);
+      int64_t x = below(800000) - 400000, y = below(800000) - 400000, z = below(800000) - 400000;
+      Point *p = put(x, y, z);
+#ifndef UNLIFTED
+      if (weighted) p->w = below(step) * below(step);
+#endif
+      (void)p;
     }
   /* no point twice */
   qsort(points, count, sizeof *points, by_place);
   int kept = 0;
   for (int i = 0; i < count; i++) if (!kept || by_place(&points[kept - 1], &points[i])) points[kept++] = points[i];
   count = kept;
+  for (int i = 0; i < count; i++) points[i].index = i;
 }
 
 /* the plain values, in 128 bits: six times the volume of a tetrahedron, and whether a point lies strictly inside the sphere */
@@ -207,12 +240,14 @@ static __int128 det3(const __int128 *a, const __int128 *b, const __int128 *c) {
 }
 
 static void from(const int *corners, int n, int base, __int128 d[][4]) {
+  static const Point origin = {0};
+  const Point *o = base == OUTSIDE ? &origin : &points[base];
   for (int i = 0; i < n; i++) {
-    d[i][3] = 0;
-    for (int j = 0; j < 3; j++) {
-      d[i][j] = points[corners[i]].at[j] - (base == OUTSIDE ? 0 : points[base].at[j]);
-      d[i][3] += d[i][j] * d[i][j];
-    }
+    const Point *p = &points[corners[i]];
+    d[i][0] = p->x - o->x;
+    d[i][1] = p->y - o->y;
+    d[i][2] = p->z - o->z;
+    d[i][3] = d[i][0] * d[i][0] + d[i][1] * d[i][1] + d[i][2] * d[i][2] - (WEIGHT(p) - WEIGHT(o));
   }
 }
 
@@ -234,7 +269,66 @@ static int strictly_inside(const int *corners, int p) {
   return sum > 0;
 }
 
-/* every sphere is empty by the plain value, the volumes add up to the hull's, and each face lies between two cells */
+/* how many points are strictly inside the sphere of a cell: of all, or where there are many of the four across its faces, which suffice */
+static int intruders(const Cell *cell) {
+  int bad = 0;
+  for (int p = 0; p < count && count <= FEW; p++) bad += strictly_inside(cell->corner, p);
+  for (int i = 0; i < 4; i++) {
+    const Cell *u = &cells[cell->beside[i]];
+    int p = u->corner[side_of(cell->beside[i], (int)(cell - cells))];
+    if (p != OUTSIDE && strictly_inside(cell->corner, p)) bad++;
+  }
+  return bad;
+}
+
+static int is_flat(const Cell *cell) { return outer(cell->corner) == 4 && !volume(cell->corner, cell->corner[3]); }
+
+/* removes flat cells at the hull, and so on with what is then at the hull; how many of the flat ones are left */
+static int flat_inside(void) {
+  static char gone[CELLS];
+  int left, more = 1;
+  while (more) {
+    more = left = 0;
+    for (int t = 0; t < made; t++) {
+      if (!cells[t].alive || gone[t] || !is_flat(&cells[t])) continue;
+      int open = 0;
+      for (int i = 0; i < 4; i++) open |= gone[cells[t].beside[i]] || outer(cells[cells[t].beside[i]].corner) < 4;
+      if (open) gone[t] = more = 1; else left++;
+    }
+  }
+  return left;
+}
+
+static int by_number(const void *a, const void *b) {
+  uint64_t x = *(const uint64_t *)a, y = *(const uint64_t *)b;
+  return x < y ? -1 : x > y;
+}
+
+static long different(uint64_t *numbers, long n) {
+  long found = 0;
+  qsort(numbers, n, sizeof *numbers, by_number);
+  for (long i = 0; i < n; i++) found += !i || numbers[i] != numbers[i - 1];
+  return found;
+}
+
+/* vertices - edges + faces - cells is 0, with OUTSIDE; each cell has half of four faces */
+static int is_euler(long *vertices) {
+  static uint64_t edge[6 * CELLS], corner[4 * CELLS];
+  long edges = 0, corners = 0;
+  for (int t = 0; t < made; t++) {
+    const int *c = cells[t].corner;
+    if (!cells[t].alive) continue;
+    for (int i = 0; i < 4; i++) {
+      corner[corners++] = (uint64_t)c[i];
+      for (int j = 0; j < i; j++) edge[edges++] = (uint64_t)(c[i] < c[j] ? c[i] : c[j]) << 32 | (unsigned)(c[i] < c[j] ? c[j] : c[i]);
+    }
+  }
+  long n = corners / 4;
+  *vertices = different(corner, corners);
+  return *vertices - different(edge, edges) + n == 0;
+}
+
+/* Euler's formula holds, every sphere is empty by the plain value, the volumes add up to the hull's, and each face lies between two cells */
 static int check(void) {
   int inner = 0, flat = 0, faces = 0, bad = 0;
   __int128 sum = 0, hull = 0;
@@ -260,13 +354,26 @@ static int check(void) {
     if (!six) flat++;
     sum += six;
     inner++;
-    for (int p = 0; p < count; p++)
-      if (p != cell->corner[0] && p != cell->corner[1] && p != cell->corner[2] && p != cell->corner[3] && strictly_inside(cell->corner, p)) bad++;
+    bad += intruders(cell);
   }
   if (sum != hull && sum != -hull) bad++;
-  fprintf(stderr, "%d points, %d faces of the hull, %d tetrahedra (%d flat), %ld questions: %s\n", count, faces, inner, flat, asked,
-          bad ? "WRONG" : "every sphere is empty, and the volumes add up to the hull's");
+  long vertices;
+  if (!is_euler(&vertices)) bad++;
+  fprintf(stderr, "%d points, %ld hidden, %d faces of the hull, %d tetrahedra, %d flat, %d inside after peeling, %ld questions: %s\n", count,
+          count + 1 - vertices, faces, inner, flat, flat_inside(), asked,
+          bad ? "WRONG" : "Euler's formula holds, every sphere is empty, and the volumes add up to the hull's");
   return bad != 0;
+}
+
+/* the points, and the corners of each tetrahedron in order */
+static void list(void) {
+  printf("%d\n", count);
+  for (int i = 0; i < count; i++)
+    printf("%lld %lld %lld %lld\n", (long long)points[i].x, (long long)points[i].y, (long long)points[i].z, (long long)WEIGHT(&points[i]));
+  for (int t = 0; t < made; t++) {
+    const int *c = cells[t].corner;
+    if (cells[t].alive && outer(c) == 4) printf("%d %d %d %d\n", c[0], c[1], c[2], c[3]);
+  }
 }
 
 /* the edges seen from the front and a little from above and the right: those of the hull dark, those within light */
@@ -281,27 +388,27 @@ static void picture(void) {
           if (a >= b || b == OUTSIDE) continue;
           double at[2][2];
           for (int k = 0; k < 2; k++) {
-            const int64_t *p = points[k ? b : a].at;
-            at[k][0] = 240 + (p[0] + 0.35 * p[1]) * 0.00029;
-            at[k][1] = 240 - (p[2] + 0.25 * p[1]) * 0.00029;
+            const Point *p = &points[k ? b : a];
+            at[k][0] = 240 + (p->x + 0.35 * p->y) * 0.00029;
+            at[k][1] = 240 - (p->z + 0.25 * p->y) * 0.00029;
           }
           printf("<path stroke=\"%s\" stroke-width=\"%s\" d=\"M%.1f %.1fL%.1f %.1f\"/>\n", dark ? "#24527a" : "#c9d9ea", dark ? "0.7" : "0.4",
                  at[0][0], at[0][1], at[1][0], at[1][1]);
         }
     }
   for (int p = 0; p < count; p++)
-    printf("<circle cx=\"%.1f\" cy=\"%.1f\" r=\"1.6\" fill=\"#b03a2e\"/>\n", 240 + (points[p].at[0] + 0.35 * points[p].at[1]) * 0.00029,
-           240 - (points[p].at[2] + 0.25 * points[p].at[1]) * 0.00029);
+    printf("<circle cx=\"%.1f\" cy=\"%.1f\" r=\"1.6\" fill=\"#b03a2e\"/>\n", 240 + (points[p].x + 0.35 * points[p].y) * 0.00029,
+           240 - (points[p].z + 0.25 * points[p].y) * 0.00029);
   printf("</svg>\n");
 }
 
 int main(int argc, char **argv) {
   const char *name = argc > 1 ? argv[1] : "grid";
   int size = argc > 2 ? atoi(argv[2]) : 5;
-  if (size < 2 || size > 8) { fprintf(stderr, "a size is from 2 to 8\n"); return 2; }
+  if (size < 2 || size > 27) { fprintf(stderr, "a size is from 2 to 27\n"); return 2; }
   scene(name, size);
-  if (count < 4) { fprintf(stderr, "no such scene: grid, sphere, random or mixed\n"); return 2; }
+  if (count < 4) { fprintf(stderr, "no such scene: grid, sphere, random, mixed or weighted\n"); return 2; }
   tetrahedralize();
-  picture();
+  if (argc > 3) list(); else picture();
   return check();
 }

@@ -8,7 +8,7 @@ use Rattle.ln_bound.specs.Light.{most, IsBoundFault}
 -- the stop is the first node whose weight is too large
 abbrev pub StopsWeighing : List (Span × ℕ) → BoundStop → Type 0
 StopsWeighing nodes (Bound at) = IsBoundFault nodes at
-StopsWeighing nodes NoMemory = Unit {0}
+StopsWeighing nodes (NoMemory _) = Unit {0}
 
 -- a weight that has no number of 128 bits, or is too large
 abbrev pub IsHeavy : Option ℕ → Type 0
@@ -18,4 +18,4 @@ IsHeavy (Some w) = most < w
 -- the stop names this node, whose weight is too large, or is out of memory
 abbrev pub IsHeavyOrNoMemory : Span → Option ℕ → BoundStop → Type 0
 IsHeavyOrNoMemory at weight (Bound s) = (s ≡ at) × IsHeavy weight
-IsHeavyOrNoMemory at weight NoMemory = Unit {0}
+IsHeavyOrNoMemory at weight (NoMemory _) = Unit {0}

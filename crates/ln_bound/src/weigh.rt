@@ -30,16 +30,17 @@ use std::marker::Model;
 pub enum BoundStop {
     /// The first node in order of evaluation whose range or size exceeds `2^127 - 1`.
     Bound(Span),
-    NoMemory,
+    NoMemory(NoMemory),
 }
 
 impl From<NoMemory> for BoundStop {
     ghost use Rattle.ln_bound.specs.declared.weigh.BoundStop.TheVariants.{NoMemory};
+    ghost use Rattle.ln_base.specs.Outside.{refused};
 
-    ghost from_gives = { λ _ e. e ≡ NoMemory };
+    ghost from_gives = { λ _ e. e ≡ NoMemory refused };
 
-    fn from(_e: NoMemory) -> Self {
-        BoundStop::NoMemory
+    fn from(e: NoMemory) -> Self {
+        BoundStop::NoMemory(e)
     }
 }
 

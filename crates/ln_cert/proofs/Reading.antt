@@ -3,7 +3,6 @@ pub mod FirstWords
 pub mod OneLine
 pub mod OrderLines
 pub mod Walk
-pub mod Fault
+pub mod Sound
 pub mod Whole
-pub mod Left
-pub mod OneFault
+pub mod Gathered

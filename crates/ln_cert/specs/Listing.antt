@@ -1,5 +1,5 @@
 -- Listings, and the first line of a text at which it stops being one.
-use Rattle.std.specs.Prelude.{◌≡◌, ℕ, ◌+◌, ◌<◌, ◌≤◌, List, [], ◌∷◌, ◌++◌, length, map, take, codes}
+use Rattle.std.specs.Prelude.{◌≡◌, ℕ, ◌+◌, ◌≤◌, List, [], ◌∷◌, ◌++◌, length, map, codes}
 use Rattle.std.proofs.Common.{◌⊎◌}
 use Rattle.ln_code.specs.declared.op.Op.{Op}
 use Rattle.ln_code.specs.declared.op.Triple.{Triple}
@@ -7,7 +7,8 @@ use Rattle.ln_cert.specs.declared.part.Entry.{Entry}
 use Rattle.ln_cert.specs.declared.part.Part.{Part}
 use Rattle.ln_cert.specs.declared.part.Part.TheVariants.{Predicate, NoFilter, Filter, FilterOp, Decide}
 use Rattle.ln_cert.specs.declared.part.Part.TheVariants.{Block, BlockOp, RangeOp, End, Order, Done}
-use Rattle.ln_base.specs.Lines.{joined, lines}
+use Rattle.ln_base.specs.Lines.{joined}
+use Rattle.ln_lines.specs.Fault.{IsFaultOf}
 use Rattle.ln_cert.specs.Text.{Each, IsLine, text_of}
 use Rattle.std.specs.Prelude.{ℤ}
 
@@ -96,16 +97,7 @@ pub record IsWhole (texts : List (List ℕ)) : Type 0 where
   pub listing : IsListing version parts
   pub same : texts ≡ texts_of version parts
 
--- these lines are the first of a listing
-abbrev pub IsFront : List (List ℕ) → Type 0
-IsFront texts = (more : List (List ℕ)) × IsWhole (texts ++ more)
-
 -- line `at`, from 1, is the first at which the lines so far are no prefix of a listing; where all lines are one and the bytes are
 -- no listing, it is one more than there are lines
-pub record IsFormFault (bytes : List ℕ) (at : ℕ) : Type 0 where
-  pub before : ℕ
-  pub number : at ≡ before + 1
-  pub within : before ≤ length (lines bytes)
-  pub front : IsFront (take before (lines bytes))
-  pub refused : before < length (lines bytes) → IsFront (take at (lines bytes)) → ⊥
-  pub unfinished : before ≡ length (lines bytes) → IsWhole (lines bytes) → ⊥
+abbrev pub IsFormFault : List ℕ → ℕ → Type 0
+IsFormFault bytes at = IsFaultOf IsWhole bytes at

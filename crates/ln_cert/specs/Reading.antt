@@ -11,8 +11,11 @@ use Rattle.ln_cert.specs.declared.part.State.{State}
 use Rattle.ln_cert.specs.declared.part.State.TheVariants.{Top, Opened, InFilter, Planned, InBlock, Blocks, Orders}
 use Rattle.ln_cert.specs.declared.part.Verb.{Verb}
 use Rattle.ln_cert.specs.declared.part.Verb.TheVariants as verb
+use Rattle.ln_lines.specs.Form.{Rules}
+use Rattle.ln_lines.specs.Form as form
+use Rattle.ln_cert.specs.Listing.{first_line}
 use Rattle.ln_cert.specs.Text.{IsLine, IsOp, args_of, block_word, filter_word, kind_of}
-use Rattle.ln_cert.specs.Text.{number_words, of_block, of_filter, text_of, verb_of, words_of}
+use Rattle.ln_cert.specs.Text.{number_words, of_block, of_filter, verb_of, words_of}
 
 -- ---- first words
 -- the first of these whose word it is
@@ -92,35 +95,22 @@ good k = true
 abbrev pub next_of : ℕ → State → Part → Option State
 next_of v s p = if may v s (kind_of p) then Some (after (kind_of p)) else None
 
--- may the lines end in this state?
-abbrev pub is_end : State → Bool
-is_end Top = true
-is_end s = false
-
--- one line more, if the lines so far lead anywhere
-abbrev pub next_at : ℕ → Option State → Part → Option State
-next_at v None p = None
-next_at v (Some s) p = next_of v s p
+-- the form of listings of version v, as the reader of lines takes it
+abbrev pub list_rules : ℕ → Rules State Part
+list_rules v = record { first = first_line v; words_of = words_of; IsLine = IsLine; next_of = next_of v; start = Top }
 
 -- where lines lead
 abbrev pub goes : ℕ → Option State → List Part → Option State
-goes v o [] = o
-goes v o (p ∷ ps) = goes v (next_at v o p) ps
+goes v o ps = form.goes (list_rules v) o ps
 
 -- ---- lines
 -- the words are this line, which is allowed in the state and leads to the next
-pub record IsRead (v : ℕ) (s : State) (ws : List (List ℕ)) (p : Part) (t : State) : Type 0 where
-  pub spelled : ws ≡ words_of p
-  pub range : IsLine p
-  pub goes : next_of v s p ≡ Some t
+abbrev pub IsRead : ℕ → State → List (List ℕ) → Part → State → Type 0
+IsRead v s ws p t = form.IsRead (list_rules v) s ws p t
 
 -- no line of these words is allowed in the state
 abbrev pub Refuses : ℕ → State → List (List ℕ) → Type 0
-Refuses v s ws = (p : Part) (t : State) → IsRead v s ws p t → ⊥
-
--- this text is no line that is allowed in the state
-abbrev pub RefusesText : ℕ → State → List ℕ → Type 0
-RefusesText v s t = (p : Part) (u : State) → IsLine p → next_of v s p ≡ Some u → t ≡ text_of p → ⊥
+Refuses v s ws = form.Refuses (list_rules v) s ws
 
 -- the words are the arguments of this line of a kind
 pub record HasArgs (k : Kind) (ws : List (List ℕ)) (p : Part) : Type 0 where

@@ -1,11 +1,12 @@
 //! First words, by what the lines so far end in.
-ghost use Rattle.std.specs.Prelude.{◌≡◌, Some, None, if◌then◌else◌, bytes_eq};
+ghost use Rattle.std.specs.Prelude.{◌≡◌, ◌↔◌, IsTrue};
 ghost use Rattle.ln_cert.specs.Text.{block_word, filter_word};
-ghost use Rattle.ln_cert.specs.Reading.{after, block_kind, block_verbs, filter_verbs, found, is_end, kind_in};
-ghost use Rattle.ln_cert.specs.declared.part.State.TheVariants.{InFilter, InBlock};
+ghost use Rattle.ln_cert.specs.Reading.{after, block_kind, block_verbs, filter_verbs, found, kind_in};
+ghost use Rattle.ln_cert.specs.declared.part.State.TheVariants.{Top, InFilter, InBlock};
 
 use crate::part::{Kind, State, Verb};
 use ln_bound::Width;
+use ln_lines::{either, only};
 
 /// The word of an operation in a filter, where all are 64 bits wide.
 pub fn filter_word(verb: Verb) -> &'static [u8]
@@ -138,25 +139,6 @@ fn in_block(version: u8, w: &[u8]) -> Option<Kind>
     }
 }
 
-// One of two words.
-fn either(w: &[u8], first: &[u8], one: Kind, second: &[u8], two: Kind) -> Option<Kind>
-    ensures { result ≡ (if bytes_eq w.now first.now then Some one else if bytes_eq w.now second.now then Some two else None) }
-{
-    if w == first {
-        Some(one)
-    } else if w == second {
-        Some(two)
-    } else {
-        None
-    }
-}
-
-fn only(w: &[u8], first: &[u8], one: Kind) -> Option<Kind>
-    ensures { result ≡ (if bytes_eq w.now first.now then Some one else None) }
-{
-    if w == first { Some(one) } else { None }
-}
-
 /// The kind of the line that begins with this word, where the lines so far end in this.
 pub fn kind(version: u8, state: State, w: &[u8]) -> Option<Kind>
     ensures { result ≡ kind_in version state w.now }
@@ -189,7 +171,7 @@ pub fn after(kind: Kind) -> State
 
 /// Whether the lines may end here.
 pub fn is_end(state: State) -> bool
-    ensures { result ≡ is_end state }
+    ensures { IsTrue result ↔ (state ≡ Top) }
 {
     match state {
         State::Top => true,

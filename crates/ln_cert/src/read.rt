@@ -5,22 +5,15 @@ ghost use Rattle.ln_cert.specs.Stop.{Stops};
 ghost use Rattle.ln_cert.specs.Unread.{AreLeft, IsOpened};
 ghost use Rattle.ln_cert.specs.declared.part.Part.{Part as AnyPart};
 
-use crate::lines::{Lines, opened};
+use crate::lines::{Lines, Listings};
 use crate::listing::Listing;
 use crate::part::Entry;
-use ln_base::scan::{between, find};
 use ln_base::{NoMemory, Seq};
-use std::alloc::{AllocFailed, Global};
+use ln_lines::{first_line, opened};
+use std::alloc::Global;
 
 /// Why bytes are no listing.
-#[derive(Clone, Copy)]
-pub enum ListStop {
-    /// The bytes are no listing: the first line, from 1, at which the lines so far are no prefix of a listing. A last line without a
-    /// line feed is such a line; where the bytes end too early it is the number of lines plus 1.
-    Form(u32),
-    /// Memory ran out.
-    NoMemory,
-}
+pub use ln_lines::TextStop as ListStop;
 
 fn version(first: &[u8]) -> Option<u8>
     ensures { MatchOption result ((v : ℕ) → (v ≡ 1) ⊎ (v ≡ 2) → first.now ≡ first_line v → ⊥)
@@ -42,18 +35,14 @@ pub fn listing_lines<'a>(alloc: Global, bytes: &'a [u8]) -> Result<Lines<'a>, Li
     ensures ok { IfOk result (λ l. IsOpened bytes.now l) }
     ensures err { IfErr result (λ e. Stops bytes.now e) }
 {
-    if bytes.len() == 0 {
-        return Err(ListStop::Form(1));
-    }
-    let end = find(bytes, 0, b'\n');
-    if end == bytes.len() {
-        return Err(ListStop::Form(1));
-    }
-    let Some(version) = version(between(bytes, 0, end + 1)) else {
+    let Some((first, behind)) = first_line(bytes) else {
         return Err(ListStop::Form(1));
     };
-    let lines = opened(alloc, bytes, end + 1, version)?;
-    Ok(lines)
+    let Some(version) = version(first) else {
+        return Err(ListStop::Form(1));
+    };
+    let rest = opened(alloc, &Listings { version }, bytes, behind)?;
+    Ok(Lines { version, rest })
 }
 
 // All remaining lines, with their numbers.
@@ -78,26 +67,4 @@ pub fn read_listing(alloc: Global, bytes: &[u8]) -> Result<Listing, ListStop>
     let version = lines.version();
     let entries = entries_of(alloc, &mut lines)?;
     Ok(Listing::of(version, entries))
-}
-
-impl From<NoMemory> for ListStop {
-    ghost use Rattle.std.specs.Prelude.{◌≡◌};
-    ghost use Rattle.ln_cert.specs.declared.read.ListStop.TheVariants.{NoMemory as OutOfMemory};
-
-    ghost from_gives = { λ _ e. e ≡ OutOfMemory };
-
-    fn from(_e: NoMemory) -> Self {
-        ListStop::NoMemory
-    }
-}
-
-impl<T: Drop> From<AllocFailed<T>> for ListStop {
-    ghost use Rattle.std.specs.Prelude.{◌≡◌};
-    ghost use Rattle.ln_cert.specs.declared.read.ListStop.TheVariants.{NoMemory as OutOfMemory};
-
-    ghost from_gives = { λ _ e. e ≡ OutOfMemory };
-
-    fn from(_e: AllocFailed<T>) -> Self {
-        ListStop::NoMemory
-    }
 }

@@ -1,6 +1,7 @@
-pub mod Look
 pub mod Slots
-pub mod Funs
+pub mod Chains
+pub mod Look
+pub mod Places
 pub mod Within
 pub mod Named
 pub mod Runs

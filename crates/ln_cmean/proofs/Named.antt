@@ -4,7 +4,7 @@ use Rattle.std.specs.Prelude.{ℤ, nat_eq, Result, Ok, Err}
 use Rattle.std.specs.List.{list_any}
 use Rattle.std.proofs.lemmas.List.Folds.{Any-from_list_any, list_any-from_Any}
 use Rattle.std.proofs.lemmas.Bool.Decides.{nat_tests}
-use Rattle.std.proofs.lemmas.Bool.{and_parts, true≢false, false_from_ne_true}
+use Rattle.std.proofs.lemmas.Bool.{and_parts, or_parts, true≢false, false_from_ne_true}
 use Rattle.ln_csyn.specs.Tree.{Fun}
 use Rattle.ln_csyn.specs.Meaning.{CCall, CNamed, CMeaning, called_behind, called_at, runs_behind, is_wanted, same_bool, same_name}
 use Rattle.ln_csyn.specs.Meaning as m
@@ -20,7 +20,8 @@ letter_is m n h = grind (arith, nat_tests)
 letter_self : (n : ℕ) → nat_eq n n ≡ true
 letter_self n = grind (arith, nat_tests)
 
-name_is : (x y : List ℕ) → same_name x y ≡ true → x ≡ y
+-- names that test equal are equal
+pub name_is : (x y : List ℕ) → same_name x y ≡ true → x ≡ y
 name_is [] [] h = refl
 name_is [] (b ∷ bs) h = cc
 name_is (a ∷ as') [] h = cc
@@ -29,7 +30,8 @@ name_is (a ∷ as') (b ∷ bs) h =
     let e = letter_is a b p.0 in
     let f = name_is as' bs p.1 in cc
 
-name_self : (x : List ℕ) → same_name x x ≡ true
+-- a name tests equal to itself
+pub name_self : (x : List ℕ) → same_name x x ≡ true
 name_self [] = refl
 name_self (a ∷ as') = let e = name_self as' in rw (letter_self a) e
 
@@ -51,15 +53,11 @@ abbrev test : List ℕ → Fun → Bool
 test name f = is_wanted f true name
 
 -- a call is looked for among all functions
-none-behind : (before fs : List Fun) (name : List ℕ) (index values : List ℤ) →
+pub none-behind : (before fs : List Fun) (name : List ℕ) (index values : List ℤ) →
     list_any (test name) fs ≡ false → called_behind before fs name index values ≡ None
 none-behind before [] name index values h = refl
-none-behind before (f ∷ fs) name index values h = by_case (is_wanted f true name) refl (none-behind (before ++ f ∷ []) fs name index values) where
-  by_case : (v : Bool) → is_wanted f true name ≡ v →
-      (list_any (test name) fs ≡ false → called_behind (before ++ f ∷ []) fs name index values ≡ None) →
-      called_behind before (f ∷ fs) name index values ≡ None
-  by_case true e go = absurd (true≢false (rw e at h))
-  by_case false e go = rw e (go (rw e at h))
+none-behind before (f ∷ fs) name index values h =
+    let p = or_parts (test name f) (list_any (test name) fs) h in rw p.0 (none-behind (before ++ f ∷ []) fs name index values p.1)
 
 some-behind : (before fs : List Fun) (name : List ℕ) (index values : List ℤ) →
     list_any (test name) fs ≡ true → called_behind before fs name index values ≡ None → ⊥

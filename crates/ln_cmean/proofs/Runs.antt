@@ -1,8 +1,8 @@
 -- Steps one after the other: the room that they leave, and what they mean together.
-use Rattle.std.proofs.Common.{◌≡◌, ℕ, ◌+◌, ◌<◌, ◌≤◌, List, [], ◌∷◌, ◌++◌, length, take, drop, get_or, Result, Ok, Err, refl, sym, ap, ◌∙◌}
-use Rattle.std.proofs.Common.{arith, length-append, length-take}
+use Rattle.std.proofs.Common.{◌≡◌, ℕ, ◌+◌, ◌<◌, ◌≤◌, List, length, take, drop, get_or, Result, Ok, Err, refl, sym, ap, ◌∙◌}
+use Rattle.std.proofs.Common.{arith, length-take}
 use Rattle.std.specs.Prelude.{OnOk}
-use Rattle.std.proofs.lemmas.List.{at_drop_more, drop_all, take_all, take-take, take-append-le}
+use Rattle.std.proofs.lemmas.List.{at_drop_more, drop_all, take_all, take-take}
 use Rattle.ln_csyn.specs.declared.tree.CStmt.{CStmt}
 use Rattle.ln_csyn.specs.Tree.{Body}
 use Rattle.ln_csyn.specs.View.{stmt_front, body_tree}
@@ -10,10 +10,9 @@ use Rattle.ln_csyn.specs.Meaning.{Scene, Seen, Counts, Outcome, runs}
 use Rattle.ln_csyn.specs.Meaning as m
 use Rattle.ln_cmean.specs.declared.body.Flow.{Flow}
 use Rattle.ln_cmean.specs.declared.body.Flow.TheVariants.{Went}
-use Rattle.ln_cmean.specs.declared.scratch.Slot.{Slot}
-use Rattle.ln_cmean.specs.declared.scratch.CScratch.{CScratch}
+use Rattle.ln_cmean.specs.declared.stack.Stack.{Stack}
 use Rattle.ln_cmean.specs.Answered.{goes_on}
-use Rattle.ln_cmean.specs.Room.{HasRoom, IsNoSmaller, IsSame, IsFront}
+use Rattle.ln_cmean.specs.Room.{IsSame, IsFront}
 
 -- what holds anyway holds where there is a value
 pub on_ok : {T E P : Type 0} (r : Result T E) → P → OnOk r P
@@ -22,13 +21,9 @@ on_ok (Err e) p = tt
 
 -- ---- the room
 
--- two steps, neither of which lessens the room, don't lessen it together
-pub no_smaller_then : (a b c : CScratch) → IsNoSmaller a b → IsNoSmaller b c → IsNoSmaller a c
-no_smaller_then a b c p q = record { slots_stay = omega (arith, p.slots_stay, q.slots_stay); names_stay = omega (arith, p.names_stay, q.names_stay) }
-
 -- two steps that both leave the declarations as they are leave them so together
-pub same_then : (a b c : CScratch) → IsSame a b → IsSame b c → IsSame a c
-same_then a b c p q = record { base_same = q.base_same ∙ p.base_same; slots_same = q.slots_same ∙ p.slots_same; names_same = q.names_same ∙ p.names_same }
+pub same_then : (a b c : Stack) → IsSame a b → IsSame b c → IsSame a c
+same_then a b c p q = record { base_same = q.base_same ∙ p.base_same; slots_same = q.slots_same ∙ p.slots_same }
 
 -- a prefix of a prefix
 fronts : {X : Type 0} (xs ys zs : List X) → take (length xs) ys ≡ xs → take (length ys) zs ≡ ys → take (length xs) zs ≡ xs
@@ -37,41 +32,20 @@ fronts xs ys zs p q =
     sym (take-take (length xs) (length ys) zs l) ∙ ap (λ ws. take (length xs) ws) q ∙ p
 
 -- declarations that each of two steps keeps as a prefix are a prefix after both
-pub front_then : (a b c : CScratch) → IsFront a b → IsFront b c → IsFront a c
+pub front_then : (a b c : Stack) → IsFront a b → IsFront b c → IsFront a c
 front_then a b c p q = record {
   base_front = q.base_front ∙ p.base_front;
   slots_front = fronts a.slots.items b.slots.items c.slots.items p.slots_front q.slots_front;
-  names_front = fronts a.names.items b.names.items c.names.items p.names_front q.names_front;
 }
 
--- with one more declaration
-pub opened : (old new : CScratch) (d : Slot) (x : List ℕ) (a b : ℕ) → HasRoom old (1 + a) (length x + b) → new.base ≡ old.base →
-    new.slots.items ≡ old.slots.items ++ d ∷ [] → new.names.items ≡ old.names.items ++ x → IsNoSmaller old new → HasRoom new a b
-opened old new d x a b r e s n c =
-    let l : length new.slots.items ≡ length old.slots.items + 1 = ap length s ∙ length-append old.slots.items (d ∷ []) in
-    let m : length new.names.items ≡ length old.names.items + length x = ap length n ∙ length-append old.names.items x in
-    record {
-      based = omega (arith, r.based, e, l);
-      slots_fit = omega (arith, r.slots_fit, l, c.slots_stay);
-      letters_fit = omega (arith, r.letters_fit, m, c.names_stay);
-    }
-
-front_of : {X : Type 0} (xs ys : List X) → take (length xs) (xs ++ ys) ≡ xs
-front_of xs ys = take-append-le (length xs) xs ys (omega arith) ∙ take_all (length xs) xs (omega arith)
-
--- the declarations before one more are a prefix
-pub front_more : (old new : CScratch) (d : Slot) (x : List ℕ) → new.base ≡ old.base → new.slots.items ≡ old.slots.items ++ d ∷ []
-    → new.names.items ≡ old.names.items ++ x → IsFront old new
-front_more old new d x e s n = record {
-  base_front = e;
-  slots_front = ap (λ ys. take (length old.slots.items) ys) s ∙ front_of old.slots.items (d ∷ []);
-  names_front = ap (λ ys. take (length old.names.items) ys) n ∙ front_of old.names.items x;
+-- the declarations before one more, which has a number now, are a prefix
+pub front_set : (old opened at new : Stack) → IsFront old opened → length opened.slots.items ≡ length old.slots.items + 1 → IsSame opened at →
+    new.base ≡ at.base → ((n : ℕ) → n < length at.slots.items → take n new.slots.items ≡ take n at.slots.items) → IsFront old new
+front_set old opened at new f r s b t = record {
+  base_front = b ∙ s.base_same ∙ f.base_front;
+  slots_front = t (length old.slots.items) (omega (arith, r, ap length s.slots_same)) ∙ ap (λ ys. take (length old.slots.items) ys) s.slots_same
+      ∙ f.slots_front;
 }
-
--- one more declaration takes one slot, and the letters of its name
-pub room_more : (old new : CScratch) (d : Slot) (x : List ℕ) → new.slots.items ≡ old.slots.items ++ d ∷ [] → new.names.items ≡ old.names.items ++ x →
-    (length new.slots.items ≡ length old.slots.items + 1) × (length new.names.items ≡ length old.names.items + length x)
-room_more old new d x s n = (ap length s ∙ length-append old.slots.items (d ∷ []), ap length n ∙ length-append old.names.items x)
 
 -- ---- one statement further
 
@@ -95,20 +69,15 @@ pub left_on : (need : Body → ℕ) (ss : List CStmt) (i : ℕ) (s : CStmt) (a b
 left_on need ss i s a b all l g h r = omega (arith, h, r (body_tree (drop (i + 1) ss)), ap need (next_body ss i s l g))
 
 -- only what was there remains
-pub left_same : (old at new : CScratch) (n m : ℕ) → n ≡ length old.slots.items → m ≡ length old.names.items → IsFront old at → new.base ≡ at.base →
-    new.slots.items ≡ take n at.slots.items → new.names.items ≡ take m at.names.items → IsSame old new
-left_same old at new n m e f p b s t = record {
-  base_same = b ∙ p.base_front;
-  slots_same = s ∙ ap (λ i. take i at.slots.items) e ∙ p.slots_front;
-  names_same = t ∙ ap (λ i. take i at.names.items) f ∙ p.names_front;
-}
+pub left_same : (old at new : Stack) (n : ℕ) → n ≡ length old.slots.items → IsFront old at → new.base ≡ at.base →
+    new.slots.items ≡ take n at.slots.items → IsSame old new
+left_same old at new n e p b s = record { base_same = b ∙ p.base_front; slots_same = s ∙ ap (λ i. take i at.slots.items) e ∙ p.slots_front }
 
 -- the same declarations are a prefix
-pub same_front : (old new : CScratch) → IsSame old new → IsFront old new
+pub same_front : (old new : Stack) → IsSame old new → IsFront old new
 same_front old new p = record {
   base_front = p.base_same;
   slots_front = ap (λ ys. take (length old.slots.items) ys) p.slots_same ∙ take_all (length old.slots.items) old.slots.items (omega arith);
-  names_front = ap (λ ys. take (length old.names.items) ys) p.names_same ∙ take_all (length old.names.items) old.names.items (omega arith);
 }
 
 -- after the last statement

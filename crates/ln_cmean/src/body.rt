@@ -5,14 +5,16 @@ ghost use Rattle.ln_csyn.specs.Meaning as m;
 ghost use Rattle.ln_csyn.specs.Tree.{Body, Decl};
 ghost use Rattle.ln_csyn.specs.View.{expr_tree, body_tree, stmt_front};
 ghost use Rattle.ln_cmean.specs.Answered.{goes_on, goes_with, ended, fault_line, tally};
-ghost use Rattle.ln_cmean.specs.Room.{HasRoom, IsNoSmaller, IsSame, IsFront, slots_in, letters_in};
+ghost use Rattle.ln_cmean.specs.Room.{HasRoom, IsNoSmaller, IsSame, IsFront, slots_in};
 ghost use Rattle.ln_cmean.specs.Slots.{seen};
 ghost use Rattle.ln_cmean.specs.Scene.{scene_of};
 
 use crate::calls::Calls;
-use crate::expr::{Inputs, value};
+use crate::expr::value;
+use crate::inputs::Inputs;
 use crate::number::{Counts, Fault, same_kind};
-use crate::scratch::{CScratch, Slot, leave, open, settle};
+use crate::scratch::{leave, open, settle};
+use crate::stack::Stack;
 use ln_csyn::{CExpr, CForm, CStmt, CType};
 
 /// Where statements lead: to the next one, or out with a result.
@@ -32,16 +34,16 @@ fn line_at(line: u32, fault: Fault) -> u32
 }
 
 // A number of the type that is wanted, at a statement of this line.
-fn wanted_value<C: Calls>(
+fn wanted_value<'a, C: Calls>(
     calls: &C,
-    inputs: &Inputs<'_>,
+    inputs: &Inputs<'a, '_>,
     line: u32,
     kind: CType,
     e: &CExpr,
-    s: &mut CScratch,
+    s: &mut Stack<'a>,
     counts: &mut Counts,
 ) -> Result<i128, u32>
-    requires { HasRoom s.old (C.slots calls.now) (C.letters calls.now) }
+    requires { HasRoom s.old (C.slots calls.now inputs.now) }
     ensures meaning { (go : ℤ → m.Counts → Outcome) →
         wanted line kind (value_of (scene_of (C.given calls.now) inputs.now) (seen s.old) (expr_tree e.now) (tally counts.old)) go
         ≡ goes_with result (tally counts.new) go }
@@ -61,37 +63,28 @@ fn wanted_value<C: Calls>(
     }
 }
 
-fn declare<C: Calls>(
+fn declare<'a, C: Calls>(
     calls: &C,
-    inputs: &Inputs<'_>,
+    inputs: &Inputs<'a, '_>,
     line: u32,
     kind: CType,
-    name: &[u8],
+    name: &'a [u8],
     e: &CExpr,
-    s: &mut CScratch,
+    s: &mut Stack<'a>,
     counts: &mut Counts,
 ) -> Result<Flow, u32>
-    requires { HasRoom s.old (1 + C.slots calls.now) (length name.now + C.letters calls.now) }
+    requires { HasRoom s.old (1 + C.slots calls.now inputs.now) }
     ensures meaning { (rest : Body) → runs (scene_of (C.given calls.now) inputs.now) (seen s.old)
         (Decl line kind name.now (expr_tree e.now) rest) (tally counts.old) ≡ goes_on result (tally counts.new)
         (λ k. runs (scene_of (C.given calls.now) inputs.now) (seen s.new) rest k) }
     ensures capacity { IsNoSmaller s.old s.new }
     ensures front { OnOk result (IsFront s.old s.new) }
-    ensures room { OnOk result ((length s.new.slots.items ≡ length s.old.slots.items + 1)
-        × (length s.new.names.items ≡ length s.old.names.items + length name.now)) }
+    ensures room { OnOk result (length s.new.slots.items ≡ length s.old.slots.items + 1) }
 {
-    let start = s.names.len();
     open(s, kind, name);
     match wanted_value(calls, inputs, line, kind, e, s, counts) {
         Ok(number) => {
-            settle(
-                s,
-                Slot {
-                    start,
-                    kind,
-                    number: Some(number),
-                },
-            );
+            settle(s, number);
             Ok(Flow::Went)
         }
         Err(l) => Err(l),
@@ -100,32 +93,31 @@ fn declare<C: Calls>(
 
 /// Runs statements from the first on. The declarations that they make remain.
 #[cycle(run)]
-pub fn run<C: Calls>(
+pub fn run<'a, C: Calls>(
     calls: &C,
-    inputs: &Inputs<'_>,
-    stmts: &[CStmt],
-    s: &mut CScratch,
+    inputs: &Inputs<'a, '_>,
+    stmts: &'a [CStmt],
+    s: &mut Stack<'a>,
     counts: &mut Counts,
 ) -> Result<Flow, u32>
-    requires { HasRoom s.old (slots_in (body_tree stmts.now) + C.slots calls.now) (letters_in (body_tree stmts.now) + C.letters calls.now) }
+    requires { HasRoom s.old (slots_in (body_tree stmts.now) + C.slots calls.now inputs.now) }
     ensures meaning { runs (scene_of (C.given calls.now) inputs.now) (seen s.old) (body_tree stmts.now)
         (tally counts.old) ≡ ended result (tally counts.new) }
     ensures capacity { IsNoSmaller s.old s.new }
     ensures same { OnOk result (IsSame s.old s.new) }
 {
     let slots = s.slots.len();
-    let letters = s.names.len();
     'stmts: for stmt in stmts {
         match step(calls, inputs, stmt, s, counts) {
             Ok(Flow::Went) => {}
             Ok(Flow::Said(z)) => {
-                leave(s, slots, letters);
+                leave(s, slots);
                 return Ok(Flow::Said(z));
             }
             Err(l) => return Err(l),
         }
     }
-    leave(s, slots, letters);
+    leave(s, slots);
     Ok(Flow::Went)
 }
 
@@ -138,23 +130,21 @@ fn said(number: i128) -> Flow
 }
 
 #[cycle(run)]
-fn step<C: Calls>(
+fn step<'a, C: Calls>(
     calls: &C,
-    inputs: &Inputs<'_>,
-    stmt: &CStmt,
-    s: &mut CScratch,
+    inputs: &Inputs<'a, '_>,
+    stmt: &'a CStmt,
+    s: &mut Stack<'a>,
     counts: &mut Counts,
 ) -> Result<Flow, u32>
-    requires { (rest : Body) × HasRoom s.old (slots_in (stmt_front stmt.now rest) + C.slots calls.now)
-        (letters_in (stmt_front stmt.now rest) + C.letters calls.now) }
+    requires { (rest : Body) × HasRoom s.old (slots_in (stmt_front stmt.now rest) + C.slots calls.now inputs.now) }
     ensures meaning { (rest : Body) → runs (scene_of (C.given calls.now) inputs.now) (seen s.old) (stmt_front stmt.now rest)
         (tally counts.old) ≡ goes_on result (tally counts.new)
         (λ k. runs (scene_of (C.given calls.now) inputs.now) (seen s.new) rest k) }
     ensures capacity { IsNoSmaller s.old s.new }
     ensures front { OnOk result (IsFront s.old s.new) }
     ensures room { OnOk result ((rest : Body) →
-        (length s.new.slots.items + slots_in rest ≤ length s.old.slots.items + slots_in (stmt_front stmt.now rest))
-        × (length s.new.names.items + letters_in rest ≤ length s.old.names.items + letters_in (stmt_front stmt.now rest))) }
+        length s.new.slots.items + slots_in rest ≤ length s.old.slots.items + slots_in (stmt_front stmt.now rest)) }
 {
     match &stmt.form {
         CForm::Decl(kind, name, e) => declare(

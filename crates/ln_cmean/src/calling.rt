@@ -1,17 +1,20 @@
 //! A call of a file's function.
-ghost use Rattle.std.specs.Prelude.{◌≡◌, ◌↔◌, ℕ, map, Err, OnOk, None, Some, [], ◌+◌};
-ghost use Rattle.ln_csyn.specs.Meaning.{CCall, CNamed, called, called_at, answer_of, runs, runs_behind, Fails, is_wanted as is_fun};
+ghost use Rattle.std.specs.Prelude.{◌≡◌, ◌↔◌, ◌≤◌, ℕ, map, Err, OnOk, None, Some, [], ◌+◌, vec_capacity};
+ghost use Rattle.ln_csyn.specs.Meaning.{CCall, CNamed, called, called_at, answer_of, runs, Fails};
 ghost use Rattle.ln_csyn.specs.Meaning as m;
 ghost use Rattle.ln_csyn.specs.View.{fun_tree, body_tree};
 ghost use Rattle.ln_cmean.specs.Answered.{answered, told, tally, ended as ended_as};
-ghost use Rattle.ln_cmean.specs.Room.{HasRoom, IsNoSmaller, IsSame, MadeFor, most_slots, most_letters, slots_in, letters_in};
+ghost use Rattle.ln_cmean.specs.Room.{HasRoom, IsNoSmaller, IsSame, MadeFor, most_slots, slots_in};
+ghost use Rattle.ln_cmean.specs.Scene.{scene_of};
 ghost use Rattle.ln_cmean.specs.Slots.{seen};
 
 use crate::body::{Flow, run};
 use crate::calls::{Calls, NoCalls};
-use crate::expr::Inputs;
+use crate::functions::Functions;
+use crate::inputs::Inputs;
 use crate::number::{Counts, Fault, Number};
-use crate::scratch::{CScratch, is_named, leave};
+use crate::scratch::{CScratch, leave};
+use crate::stack::Stack;
 use ln_csyn::{CFile, CFun, CType};
 
 /// The result of a call: its sign, how many `+`, `-`, `*`, `/` and unary `-` were evaluated in `__int128`, and how many functions the called
@@ -33,12 +36,6 @@ pub enum CFault {
     Undefined(u32),
 }
 
-/// The functions before one.
-#[derive(Clone, Copy)]
-pub struct Earlier<'a> {
-    pub funs: &'a [CFun],
-}
-
 // Returns the result of a function whose last brace is on this line.
 fn answer_at(end: u32, ended: Result<Flow, u32>) -> Result<Number, Fault>
     ensures { (k : m.Counts) → answered result k ≡ answer_of end (ended_as ended k) }
@@ -53,28 +50,23 @@ fn answer_at(end: u32, ended: Result<Flow, u32>) -> Result<Number, Fault>
     }
 }
 
-fn is_wanted(f: &CFun, indexed: bool, name: &[u8]) -> bool
-    ensures { result ≡ is_fun (fun_tree f.now) indexed name.now }
-{
-    f.indexed == indexed && is_named(f.name.as_slice(), name)
-}
-
-fn call_one(
-    f: &CFun,
-    values: &[i64],
-    s: &mut CScratch,
+fn call_one<'a>(
+    f: &'a CFun,
+    caller: &Inputs<'a, '_>,
+    s: &mut Stack<'a>,
     counts: &mut Counts,
 ) -> Result<Number, Fault>
-    requires { HasRoom s.old (slots_in (body_tree f.now.body.items)) (letters_in (body_tree f.now.body.items)) }
+    requires { HasRoom s.old (slots_in (body_tree f.now.body.items)) }
     ensures meaning { answered result (tally counts.new)
-        ≡ answer_of f.now.end (runs (record { values = values.now; index = None; call = λ g j. Fails None }) []
+        ≡ answer_of f.now.end (runs (record { values = caller.now.values.now; index = None; call = λ g j. Fails None }) []
         (body_tree f.now.body.items) (tally counts.old)) }
     ensures capacity { IsNoSmaller s.old s.new }
     ensures same { OnOk result (IsSame s.old s.new) }
 {
     let inputs = Inputs {
-        values,
+        values: caller.values,
         index: None,
+        before: caller.before,
     };
     let base = s.base;
     s.base = s.slots.len();
@@ -83,76 +75,44 @@ fn call_one(
     answer_at(f.end, ended)
 }
 
-fn call_earlier(
-    funs: &[CFun],
-    values: &[i64],
-    name: &[u8],
-    s: &mut CScratch,
-    counts: &mut Counts,
-) -> Result<Number, Fault>
-    requires { HasRoom s.old (most_slots (map fun_tree funs.now)) (most_letters (map fun_tree funs.now)) }
-    ensures meaning { answered result (tally counts.new) ≡ called (map fun_tree funs.now) values.now name.now (tally counts.old) }
-    ensures capacity { IsNoSmaller s.old s.new }
-    ensures same { OnOk result (IsSame s.old s.new) }
-{
-    'funs: for f in funs {
-        if is_wanted(f, false, name) {
-            return call_one(f, values, s, counts);
-        }
-    }
-    Err(Fault::Here)
-}
+/// The functions before the one that calls.
+pub struct Earlier {}
 
-impl<'a> Calls for Earlier<'a> {
+impl Calls for Earlier {
     ghost use Rattle.std.specs.Prelude.{map};
     ghost use Rattle.ln_csyn.specs.Meaning.{called};
     ghost use Rattle.ln_csyn.specs.View.{fun_tree};
-    ghost use Rattle.ln_cmean.specs.Room.{most_slots, most_letters};
+    ghost use Rattle.ln_cmean.specs.Room.{most_slots};
 
-    ghost given = { λ e values name k. called (map fun_tree e.funs.now) values name k };
+    ghost given = { λ _ i name k. called (map fun_tree i.before.funs.now) i.values.now name k };
 
-    ghost slots = { λ e. most_slots (map fun_tree e.funs.now) };
+    ghost slots = { λ _ i. most_slots (map fun_tree i.before.funs.now) };
 
-    ghost letters = { λ e. most_letters (map fun_tree e.funs.now) };
-
-    fn call(
+    fn call<'a>(
         &self,
-        values: &[i64],
+        inputs: &Inputs<'a, '_>,
         name: &[u8],
-        s: &mut CScratch,
+        s: &mut Stack<'a>,
         counts: &mut Counts,
     ) -> Result<Number, Fault> {
-        call_earlier(self.funs, values, name, s, counts)
+        match inputs.before.place(false, name) {
+            Some(at) => call_one(&inputs.before.funs[at], inputs, s, counts),
+            None => Err(Fault::Here),
+        }
     }
 }
 
 // A call of a function with two parameters, with those before it.
-fn call_two(
-    f: &CFun,
-    before: &[CFun],
-    index: &[i64],
-    values: &[i64],
-    s: &mut CScratch,
-) -> Result<CAnswer, CFault>
-    requires room { HasRoom s.old (slots_in (body_tree f.now.body.items) + most_slots (map fun_tree before.now))
-        (letters_in (body_tree f.now.body.items) + most_letters (map fun_tree before.now)) }
+fn call_two<'a>(f: &'a CFun, inputs: &Inputs<'a, '_>, s: &mut Stack<'a>) -> Result<CAnswer, CFault>
+    requires room { HasRoom s.old (slots_in (body_tree f.now.body.items) + most_slots (map fun_tree inputs.now.before.funs.now)) }
     requires empty { seen s.old ≡ [] }
-    ensures meaning { told result ≡ Some
-        (called_at f.now.end (runs_behind (map fun_tree before.now) (body_tree f.now.body.items) index.now values.now)) }
+    ensures meaning { told result ≡ Some (called_at f.now.end
+        (runs (scene_of (λ i. called (map fun_tree i.before.funs.now) i.values.now) inputs.now) []
+        (body_tree f.now.body.items) (record { wide = 0; calls = 0 }))) }
     ensures capacity { IsNoSmaller s.old s.new }
 {
-    let inputs = Inputs {
-        values,
-        index: Some(index),
-    };
     let mut counts = Counts { wide: 0, calls: 0 };
-    let ended = run(
-        &Earlier { funs: before },
-        &inputs,
-        f.body.as_slice(),
-        s,
-        &mut counts,
-    );
+    let ended = run(&Earlier {}, inputs, f.body.as_slice(), s, &mut counts);
     match ended {
         Ok(Flow::Went) => Err(CFault::Undefined(f.end)),
         Ok(Flow::Said(sign)) => Ok(CAnswer {
@@ -165,36 +125,39 @@ fn call_two(
 }
 
 // A call of the function with two parameters that has the name.
-fn call_in(
-    funs: &[CFun],
+fn call_in<'a>(
+    all: &Functions<'a, '_>,
     name: &[u8],
     index: &[i64],
     values: &[i64],
-    s: &mut CScratch,
+    s: &mut Stack<'a>,
 ) -> Result<CAnswer, CFault>
-    requires { MadeFor (map fun_tree funs.now) s.old }
-    ensures meaning { told result ≡ CCall (map fun_tree funs.now) name.now index.now values.now }
-    ensures made { MadeFor (map fun_tree funs.now) s.new }
+    requires { most_slots (map fun_tree all.now.funs.now) + most_slots (map fun_tree all.now.funs.now) ≤ vec_capacity s.old.slots }
+    ensures meaning { told result ≡ CCall (map fun_tree all.now.funs.now) name.now index.now values.now }
+    ensures capacity { IsNoSmaller s.old s.new }
 {
     s.base = 0;
-    leave(s, 0, 0);
-    'funs: for i in 0..funs.len() {
-        if is_wanted(&funs[i], true, name) {
-            return call_two(&funs[i], &funs[..i], index, values, s);
-        }
-    }
-    Err(CFault::NoFunction)
+    leave(s, 0);
+    let Some(at) = all.place(true, name) else {
+        return Err(CFault::NoFunction);
+    };
+    let inputs = Inputs {
+        values,
+        index: Some(index),
+        before: all.before(at),
+    };
+    call_two(&all.funs[at], &inputs, s)
 }
 
 /// Returns the meaning of a call of the file's function with two parameters and this name on these indices and values, or the first
 /// statement at which it has none, or that there is no such function. Allocates nothing; the scratch has to be made for
 /// the file, and stays so.
-pub fn call(
-    f: &CFile,
+pub fn call<'a>(
+    f: &'a CFile,
     name: &str,
     index: &[i64],
     values: &[i64],
-    s: &mut CScratch,
+    s: &mut CScratch<'a>,
 ) -> Result<CAnswer, CFault>
     requires { MadeFor (map fun_tree f.now.funs) s.old }
     ensures meaning { told result ≡ CCall (map fun_tree f.now.funs) name.now index.now values.now }
@@ -203,5 +166,9 @@ pub fn call(
         ↔ (CCall (map fun_tree f.now.funs) name.now index.now values.now ≡ Some (m.Undefined line)) }
     ensures made { MadeFor (map fun_tree f.now.funs) s.new }
 {
-    call_in(f.funs.as_slice(), name.as_bytes(), index, values, s)
+    let all = Functions {
+        funs: f.funs.as_slice(),
+        names: &s.funs,
+    };
+    call_in(&all, name.as_bytes(), index, values, &mut s.stack)
 }

@@ -1,32 +1,32 @@
 //! The functions that a function can call.
-ghost use Rattle.std.specs.Prelude.{◌≡◌, ℕ, List, ℤ, OnOk};
+ghost use Rattle.std.specs.Prelude.{◌≡◌, ℕ, List, OnOk};
 ghost use Rattle.ln_csyn.specs.Meaning.{Answer, Fails};
 ghost use Rattle.ln_cmean.specs.Answered.{answered, tally};
 ghost use Rattle.ln_cmean.specs.Room.{HasRoom, IsNoSmaller, IsSame};
+ghost use Rattle.ln_cmean.specs.declared.inputs.Inputs.{Inputs};
 
+use crate::inputs::Inputs;
 use crate::number::{Counts, Fault, Number};
-use crate::scratch::CScratch;
+use crate::stack::Stack;
 
-/// The functions that one can call, and the room that they need.
+/// What a function can call, and the room that it needs.
 pub trait Calls {
     ghost use Rattle.ln_csyn.specs.Meaning.{Counts};
 
-    ghost given: { Self → List ℤ → List ℕ → Counts → Answer };
+    ghost given: { Self → Inputs → List ℕ → Counts → Answer };
 
-    ghost slots: { Self → ℕ };
+    ghost slots: { Self → Inputs → ℕ };
 
-    ghost letters: { Self → ℕ };
-
-    /// Calls the function of this name on these values.
-    fn call(
+    /// Calls the function of this name on the same values.
+    fn call<'a>(
         &self,
-        values: &[i64],
+        inputs: &Inputs<'a, '_>,
         name: &[u8],
-        s: &mut CScratch,
+        s: &mut Stack<'a>,
         counts: &mut Counts,
     ) -> Result<Number, Fault>
-        requires { HasRoom s.old (slots self.now) (letters self.now) }
-        ensures meaning { answered result (tally counts.new) ≡ given self.now values.now name.now (tally counts.old) }
+        requires { HasRoom s.old (slots self.now inputs.now) }
+        ensures meaning { answered result (tally counts.new) ≡ given self.now inputs.now name.now (tally counts.old) }
         ensures capacity { IsNoSmaller s.old s.new }
         ensures same { OnOk result (IsSame s.old s.new) };
 }
@@ -39,15 +39,13 @@ impl Calls for NoCalls {
 
     ghost given = { λ _ _ _ _. Fails None };
 
-    ghost slots = { λ _. 0 };
+    ghost slots = { λ _ _. 0 };
 
-    ghost letters = { λ _. 0 };
-
-    fn call(
+    fn call<'a>(
         &self,
-        _values: &[i64],
+        _inputs: &Inputs<'a, '_>,
         _name: &[u8],
-        _s: &mut CScratch,
+        _s: &mut Stack<'a>,
         _counts: &mut Counts,
     ) -> Result<Number, Fault> {
         Err(Fault::Here)

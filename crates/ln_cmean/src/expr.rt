@@ -9,16 +9,11 @@ ghost use Rattle.ln_cmean.specs.Slots.{seen};
 ghost use Rattle.ln_cmean.specs.Scene.{scene_of};
 
 use crate::calls::Calls;
+use crate::inputs::Inputs;
 use crate::number::{Counts, Fault, Number, enter, in_type, negate, operate, same_kind};
-use crate::scratch::{CScratch, look_up};
+use crate::scratch::look_up;
+use crate::stack::Stack;
 use ln_csyn::{CExpr, CPrim, CType};
-
-/// The arguments of a function: the values, and the indices where it has the parameter `x`.
-#[derive(Clone, Copy)]
-pub struct Inputs<'a> {
-    pub values: &'a [i64],
-    pub index: Option<&'a [i64]>,
-}
 
 fn cast_to(kind: CType, answer: Result<Number, Fault>) -> Result<Number, Fault>
     ensures { (k : m.Counts) → answered result k ≡ cast kind (answered answer k) }
@@ -54,14 +49,14 @@ fn index_place(index: Option<&[i64]>, at: u64) -> Result<Number, Fault>
 
 /// The value of an expression.
 #[cycle(value)]
-pub fn value<C: Calls>(
+pub fn value<'a, C: Calls>(
     calls: &C,
-    inputs: &Inputs<'_>,
+    inputs: &Inputs<'a, '_>,
     e: &CExpr,
-    s: &mut CScratch,
+    s: &mut Stack<'a>,
     counts: &mut Counts,
 ) -> Result<Number, Fault>
-    requires { HasRoom s.old (C.slots calls.now) (C.letters calls.now) }
+    requires { HasRoom s.old (C.slots calls.now inputs.now) }
     ensures meaning { answered result (tally counts.new) ≡ value_of (scene_of (C.given calls.now) inputs.now) (seen s.old)
         (expr_tree e.now) (tally counts.old) }
     ensures capacity { IsNoSmaller s.old s.new }
@@ -91,15 +86,15 @@ pub fn value<C: Calls>(
 }
 
 #[cycle(value)]
-fn primary<C: Calls>(
+fn primary<'a, C: Calls>(
     calls: &C,
-    inputs: &Inputs<'_>,
+    inputs: &Inputs<'a, '_>,
     kind: CType,
     of: &CPrim,
-    s: &mut CScratch,
+    s: &mut Stack<'a>,
     counts: &mut Counts,
 ) -> Result<Number, Fault>
-    requires { HasRoom s.old (C.slots calls.now) (C.letters calls.now) }
+    requires { HasRoom s.old (C.slots calls.now inputs.now) }
     ensures meaning { answered result (tally counts.new) ≡ value_of (scene_of (C.given calls.now) inputs.now) (seen s.old)
         (cast_tree kind of.now) (tally counts.old) }
     ensures capacity { IsNoSmaller s.old s.new }
@@ -112,7 +107,7 @@ fn primary<C: Calls>(
         CPrim::Index(at) => cast_to(kind, index_place(inputs.index, *at)),
         CPrim::Call(name) => {
             enter(counts);
-            cast_to(kind, calls.call(inputs.values, name.as_slice(), s, counts))
+            cast_to(kind, calls.call(inputs, name.as_slice(), s, counts))
         }
         CPrim::Inner(e) => cast_to(kind, value(calls, inputs, e, s, counts)),
     }

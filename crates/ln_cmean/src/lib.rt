@@ -10,9 +10,14 @@ mod body;
 mod calling;
 mod calls;
 mod expr;
+mod functions;
+mod inputs;
+mod names;
 mod need;
 mod number;
 mod scratch;
+mod slot;
+mod stack;
 
 pub use calling::{CAnswer, CFault, call};
 pub use scratch::CScratch;

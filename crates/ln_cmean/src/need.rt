@@ -1,115 +1,86 @@
 //! The need of the functions of a file for a scratch.
-ghost use Rattle.std.specs.Prelude.{◌≡◌, ◌+◌, max, map, IfOk};
+ghost use Rattle.std.specs.Prelude.{◌≡◌, ◌+◌, ◌-◌, ◌^◌, min, max, map, IfOk, true, ◌≤◌, vec_capacity};
 ghost use Rattle.ln_csyn.specs.Tree.{Body};
+ghost use Rattle.ln_csyn.specs.Keeps.{distinct, names_of};
 ghost use Rattle.ln_csyn.specs.View.{body_tree, fun_tree, stmt_front};
-ghost use Rattle.ln_cmean.specs.Room.{MadeFor, slots_in, letters_in, most_slots, most_letters};
+ghost use Rattle.ln_cmean.specs.Room.{MadeFor, slots_in, most_slots};
 
 use crate::scratch::CScratch;
+use crate::stack::Stack;
 use ln_base::NoMemory;
+use ln_csyn::keep::put_names;
+use ln_csyn::names::no_names;
 use ln_csyn::{CFile, CForm, CFun, CStmt};
 use std::alloc::Global;
 
-/// How many declarations are visible at once at most, and how many letters their names have.
-#[derive(Clone, Copy)]
-struct Need {
-    slots: usize,
-    letters: usize,
-}
-
-fn larger(a: Need, b: Need) -> Need
-    ensures { result ≡ record { slots = max a.slots b.slots; letters = max a.letters b.letters } }
-{
-    Need {
-        slots: a.slots.max(b.slots),
-        letters: a.letters.max(b.letters),
-    }
-}
-
-// No memory has more places than a `usize` counts.
-fn together(a: Need, b: Need) -> Result<Need, NoMemory>
-    ensures { IfOk result (λ n. n ≡ record { slots = a.slots + b.slots; letters = a.letters + b.letters }) }
-{
-    let Some(slots) = a.slots.checked_add(b.slots) else {
-        return Err(NoMemory);
-    };
-    let Some(letters) = a.letters.checked_add(b.letters) else {
-        return Err(NoMemory);
-    };
-    Ok(Need { slots, letters })
-}
-
+// How many declarations are visible at once at most. No vector has as many as the largest `usize`, which a larger number stands for too.
 #[cycle(need)]
-fn need_of(stmts: &[CStmt]) -> Result<Need, NoMemory>
-    ensures { IfOk result (λ n. n ≡ record { slots = slots_in (body_tree stmts.now); letters = letters_in (body_tree stmts.now) }) }
+fn need_of(stmts: &[CStmt]) -> usize
+    ensures { result ≡ min (slots_in (body_tree stmts.now)) (2 ^ 64 - 1) }
 {
-    let mut need = Need {
-        slots: 0,
-        letters: 0,
-    };
+    let mut need = 0usize;
     let mut left = stmts.len();
     'stmts: while left > 0 {
         left -= 1;
-        let next = need_with(&stmts[left], need)?;
-        need = next;
+        need = need_with(&stmts[left], need);
     }
-    Ok(need)
+    need
 }
 
 // Returns the need of a statement, together with those after it.
 #[cycle(need)]
-fn need_with(stmt: &CStmt, behind: Need) -> Result<Need, NoMemory>
-    ensures { IfOk result (λ n. (rest : Body) → behind ≡ record { slots = slots_in rest; letters = letters_in rest } →
-        n ≡ record { slots = slots_in (stmt_front stmt.now rest); letters = letters_in (stmt_front stmt.now rest) }) }
+fn need_with(stmt: &CStmt, after: usize) -> usize
+    ensures { (rest : Body) → after ≡ min (slots_in rest) (2 ^ 64 - 1) → result ≡ min (slots_in (stmt_front stmt.now rest)) (2 ^ 64 - 1) }
 {
     match &stmt.form {
-        CForm::Decl(_, name, _) => {
-            let own = Need {
-                slots: 1,
-                letters: name.len(),
-            };
-            let all = together(own, behind)?;
-            Ok(all)
-        }
-        CForm::Group(body) | CForm::If(_, body) => {
-            let inner = need_of(body.as_slice())?;
-            Ok(larger(inner, behind))
-        }
-        CForm::Return(_) => Ok(behind),
+        CForm::Decl(_, _, _) => after.saturating_add(1),
+        CForm::Group(body) | CForm::If(_, body) => need_of(body.as_slice()).max(after),
+        CForm::Return(_) => after,
     }
 }
 
-fn most(funs: &[CFun]) -> Result<Need, NoMemory>
-    ensures { IfOk result (λ n. n ≡ record { slots = most_slots (map fun_tree funs.now); letters = most_letters (map fun_tree funs.now) }) }
+fn most(funs: &[CFun]) -> usize
+    ensures { result ≡ min (most_slots (map fun_tree funs.now)) (2 ^ 64 - 1) }
 {
-    let mut need = Need {
-        slots: 0,
-        letters: 0,
-    };
+    let mut need = 0usize;
     let mut left = funs.len();
     'funs: while left > 0 {
         left -= 1;
-        let own = need_of(funs[left].body.as_slice())?;
-        need = larger(own, need);
+        need = need_of(funs[left].body.as_slice()).max(need);
     }
-    Ok(need)
+    need
 }
 
-// A scratch made for a file of these functions.
-fn made_for(alloc: Global, funs: &[CFun]) -> Result<CScratch, NoMemory>
-    ensures { IfOk result (λ s. MadeFor (map fun_tree funs.now) s) }
+// An empty stack with room for this many declarations, and as many buckets, but at least one.
+fn stack<'a>(alloc: Global, slots: usize) -> Result<Stack<'a>, NoMemory>
+    ensures { IfOk result (λ s. slots ≤ vec_capacity s.slots) }
 {
-    let one = most(funs)?;
-    let two = together(one, one)?;
-    Ok(CScratch {
+    let mut tops = Vec::new(alloc);
+    tops.resize(slots.max(1), 0usize)?;
+    Ok(Stack {
         base: 0,
-        slots: Vec::with_capacity(alloc, two.slots)?,
-        names: Vec::with_capacity(alloc, two.letters)?,
+        slots: Vec::with_capacity(alloc, slots)?,
+        tops,
     })
 }
 
-impl CScratch {
+// A scratch made for a file of these functions.
+fn made_for<'a>(alloc: Global, funs: &'a [CFun]) -> Result<CScratch<'a>, NoMemory>
+    requires { distinct (names_of (map fun_tree funs.now)) ≡ true }
+    ensures { IfOk result (λ s. MadeFor (map fun_tree funs.now) s) }
+{
+    let need = most(funs);
+    let mut names = no_names(alloc);
+    let _differ = put_names(&mut names, funs)?;
+    Ok(CScratch {
+        stack: stack(alloc, need.saturating_add(need))?,
+        funs: names,
+    })
+}
+
+impl<'a> CScratch<'a> {
     /// A scratch made for a file: with room for all that a call of any of its functions needs.
-    pub fn new(alloc: Global, f: &CFile) -> Result<CScratch, NoMemory>
+    pub fn new(alloc: Global, f: &'a CFile) -> Result<CScratch<'a>, NoMemory>
         ensures { IfOk result (λ s. MadeFor (map fun_tree f.now.funs) s) }
     {
         made_for(alloc, f.funs.as_slice())

@@ -1,51 +1,26 @@
-//! The declarations that are visible, in memory that was made beforehand.
-ghost use Rattle.std.specs.Prelude.{◌≡◌, List, [], ◌∷◌, ◌++◌, ◌≤◌, ◌<◌, length, take, drop, min, vec_len, None, Some, slice_get};
-ghost use Rattle.ln_csyn.specs.Meaning.{find, same_name, number_in};
+//! What a call does with the declarations: it looks a name up, and makes declarations visible and invisible.
+ghost use Rattle.std.specs.Prelude.{◌≡◌, ℕ, List, ◌∷◌, ◌+◌, ◌-◌, ◌≤◌, ◌<◌, length, take, vec_len, vec_capacity, None, slice_get, Some};
+ghost use Rattle.ln_csyn.specs.Meaning.{find, number_in, Seen};
 ghost use Rattle.ln_csyn.specs.Meaning as m;
-ghost use Rattle.ln_cmean.specs.Room.{HasRoom, IsNoSmaller};
+ghost use Rattle.ln_cmean.specs.Room.{HasRoom, IsNoSmaller, IsFront};
 ghost use Rattle.ln_cmean.specs.Slots.{seen};
 ghost use Rattle.ln_cmean.specs.Answered.{answered};
 
+use crate::names::{bucket, is_named};
 use crate::number::{Fault, Number};
+use crate::slot::Slot;
+use crate::stack::Stack;
+use indexmap::IndexSet;
 use ln_csyn::CType;
 
-/// A declaration: where its name begins, its type, and its number once it has one.
-#[derive(Clone, Copy)]
-pub struct Slot {
-    pub start: usize,
-    pub kind: CType,
-    pub number: Option<i128>,
-}
-
-/// Room for the declarations that a call makes visible, with their names one after the other. Those below the base are the caller's.
+/// Room for the declarations that a call of a file's function makes visible, and the names of the file's functions.
 #[derive(Drop)]
-pub struct CScratch {
-    pub(crate) base: usize,
-    pub(crate) slots: Vec<Slot>,
-    pub(crate) names: Vec<u8>,
+pub struct CScratch<'a> {
+    pub(crate) stack: Stack<'a>,
+    pub(crate) funs: IndexSet<&'a [u8]>,
 }
 
-/// Whether two names are one.
-pub fn is_named(a: &[u8], b: &[u8]) -> bool
-    ensures { result ≡ same_name a.now b.now }
-{
-    a == b
-}
-
-fn least(a: usize, b: usize) -> usize
-    ensures { result ≡ min a b }
-{
-    if a < b { a } else { b }
-}
-
-fn piece(names: &[u8], start: usize, end: usize) -> &[u8]
-    requires { end ≤ length names.now }
-    ensures { result.now ≡ drop start (take end names.now) }
-{
-    &names[least(start, end)..end]
-}
-
-fn number_of(slot: &Slot) -> Result<Number, Fault>
+fn number_of(slot: &Slot<'_>) -> Result<Number, Fault>
     ensures { (k : m.Counts) → answered result k ≡ number_in slot.now.number slot.now.kind k }
 {
     match slot.number {
@@ -57,68 +32,82 @@ fn number_of(slot: &Slot) -> Result<Number, Fault>
     }
 }
 
-fn slot_at(s: &CScratch, n: usize) -> Slot
+fn slot_at<'s, 'a>(s: &'s Stack<'a>, n: usize) -> &'s Slot<'a>
     requires { n < vec_len s.now.slots }
-    ensures { slice_get s.now.slots.items n ≡ Some result }
+    ensures { slice_get s.now.slots.items n ≡ Some result.now }
 {
-    s.slots[n]
+    &s.slots[n]
 }
 
 /// The innermost declaration of the name.
-pub fn look_up(s: &CScratch, name: &[u8]) -> Result<Number, Fault>
+pub fn look_up(s: &Stack<'_>, name: &[u8]) -> Result<Number, Fault>
     ensures { (k : m.Counts) → answered result k ≡ find (seen s.now) name.now k }
 {
-    let mut end = s.names.len();
-    let mut n = s.slots.len().saturating_sub(s.base);
-    'slots: while n > 0 {
-        let slot = slot_at(s, s.base + (n - 1));
-        let own = piece(s.names.as_slice(), slot.start, end);
-        if is_named(own, name) {
-            return number_of(&slot);
+    let at = bucket(name, s.tops.len());
+    let mut n = s.tops[at];
+    'slots: while n > s.base {
+        let slot = slot_at(s, n - 1);
+        if is_named(slot.name, name) {
+            return number_of(slot);
         }
-        end = least(slot.start, end);
-        n -= 1;
+        n = slot.below;
     }
     Err(Fault::Here)
 }
 
 /// A declaration that has no number yet.
-pub fn open(s: &mut CScratch, kind: CType, name: &[u8])
-    requires { HasRoom s.old 1 (length name.now) }
-    ensures slots { s.new.slots.items ≡ s.old.slots.items ++ record { start = length s.old.names.items; kind = kind; number = None } ∷ [] }
-    ensures names { s.new.names.items ≡ s.old.names.items ++ name.now }
-    ensures base { s.new.base ≡ s.old.base }
+pub fn open<'a>(s: &mut Stack<'a>, kind: CType, name: &'a [u8])
+    requires { HasRoom s.old 1 }
+    ensures seen { seen s.new ≡ record { name = name.now; kind = kind; number = None } ∷ seen s.old }
+    ensures front { IsFront s.old s.new }
+    ensures room { length s.new.slots.items ≡ length s.old.slots.items + 1 }
     ensures capacity { IsNoSmaller s.old s.new }
 {
-    let start = s.names.len();
+    let at = bucket(name, s.tops.len());
+    let below = s.tops[at];
     let _ = s.slots.push(Slot {
-        start,
+        name,
         kind,
         number: None,
+        bucket: at,
+        below,
     });
-    let _ = s.names.extend_from_slice(name);
+    s.tops[at] = s.slots.len();
 }
 
-/// The innermost declaration is this one now.
-pub fn settle(s: &mut CScratch, slot: Slot)
-    ensures slots { (xs : List Slot) (d : Slot) → s.old.slots.items ≡ xs ++ d ∷ [] → s.new.slots.items ≡ xs ++ slot ∷ [] }
-    ensures names { s.new.names.items ≡ s.old.names.items }
+/// The innermost declaration has this number now.
+pub fn settle(s: &mut Stack<'_>, number: i128)
+    ensures seen { (d : Seen) (ds : List Seen) → seen s.old ≡ d ∷ ds →
+        seen s.new ≡ record { name = d.name; kind = d.kind; number = Some number } ∷ ds }
+    ensures before { (n : ℕ) → n < length s.old.slots.items → take n s.new.slots.items ≡ take n s.old.slots.items }
+    ensures room { length s.new.slots.items ≡ length s.old.slots.items }
     ensures base { s.new.base ≡ s.old.base }
     ensures capacity { IsNoSmaller s.old s.new }
 {
     let n = s.slots.len();
     if n > 0 {
-        s.slots[n - 1] = slot;
+        s.slots[n - 1].number = Some(number);
+    }
+}
+
+// The innermost declaration goes.
+fn close(s: &mut Stack<'_>)
+    ensures slots { s.new.slots.items ≡ take (length s.old.slots.items - 1) s.old.slots.items }
+    ensures base { s.new.base ≡ s.old.base }
+    ensures capacity { IsNoSmaller s.old s.new }
+{
+    if let Some(slot) = s.slots.pop() {
+        s.tops[slot.bucket] = slot.below;
     }
 }
 
 /// Only the first declarations stay.
-pub fn leave(s: &mut CScratch, slots: usize, letters: usize)
+pub fn leave(s: &mut Stack<'_>, slots: usize)
     ensures slots { s.new.slots.items ≡ take slots s.old.slots.items }
-    ensures names { s.new.names.items ≡ take letters s.old.names.items }
     ensures base { s.new.base ≡ s.old.base }
     ensures capacity { IsNoSmaller s.old s.new }
 {
-    s.slots.truncate(slots);
-    s.names.truncate(letters);
+    'slots: while s.slots.len() > slots {
+        close(s);
+    }
 }

@@ -37,6 +37,10 @@ pub record Part : Type 0 where
   pub blocks : List Code
   pub segments : List (List ℕ)
 
+-- the part without its filter
+abbrev pub without_filter : Part → Part
+without_filter p = record { shape = p.shape; filter = None; blocks = p.blocks; segments = p.segments }
+
 -- operations with their bounds
 abbrev pub lines_of : {B : Type 0} → List Op → List B → List (Line B)
 lines_of [] bounds = []

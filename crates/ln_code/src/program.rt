@@ -1,7 +1,7 @@
 //! Defines the stack program of a predicate: its filter, its blocks, and which blocks are run at each prefix of an order.
 ghost use Rattle.std.specs.Prelude.{◌≡◌, ◌<◌, ◌≤◌, length, take, All, MatchOption};
 ghost use Rattle.ln_order.specs.Places.{order_places};
-ghost use Rattle.ln_code.specs.Part.{Part};
+ghost use Rattle.ln_code.specs.Part.{Part, without_filter};
 ghost use Rattle.ln_code.specs.Kept.{IsProgram};
 ghost use Rattle.ln_code.specs.Lists.{segment_of};
 
@@ -53,6 +53,13 @@ impl Program {
             blocks,
             segments,
         }
+    }
+
+    /// The program without its filter: on every row the blocks decide. It allocates nothing, and drops the filter.
+    pub fn without_filter(self) -> Program
+        ensures { result ≡ without_filter self }
+    {
+        Program::join(self.shape, None, self.blocks, self.segments)
     }
 
     /// The shape of its predicate.

@@ -1,5 +1,6 @@
 -- Sources that are refused, and for what.
 use Rattle.std.specs.Prelude.{◌≡◌, ℕ, List, ◌∷◌, ◌++◌, length, codes, Option, Some, None, ◌⊎◌}
+use Rattle.ln_base.specs.Outside.{refused}
 use Rattle.ln_base.specs.declared.span.Span.{Span}
 use Rattle.ln_tree.specs.Formula.{Formula, FNum, FInput, FName, FNeg, FAdd, FSub, FMul, FPow}
 use Rattle.ln_tree.specs.Table.{PredOf, TableOf}
@@ -19,7 +20,7 @@ refusal_of (parse.Lexical at) = Lexical at
 refusal_of (parse.Limit what at) = Limit what at
 refusal_of (parse.Syntax at) = Syntax at
 refusal_of (parse.Name what at) = Name what at
-refusal_of parse.NoMemory = NoMemory
+refusal_of (parse.NoMemory m) = NoMemory m
 
 -- what it is for, in a word
 abbrev pub word_of : Refusal → List ℕ
@@ -31,7 +32,7 @@ word_of (Bound pred at) = codes "bound"
 word_of (Terms pred at) = codes "terms"
 word_of (Zero pred at) = codes "zero"
 word_of (Stages pred at) = codes "stages"
-word_of NoMemory = codes "memory"
+word_of (NoMemory m) = codes "memory"
 
 -- its place in the source; out of memory has none
 abbrev pub span_of : Refusal → Option Span
@@ -43,7 +44,7 @@ span_of (Bound pred at) = Some at
 span_of (Terms pred at) = Some at
 span_of (Zero pred at) = Some at
 span_of (Stages pred at) = Some at
-span_of NoMemory = None
+span_of (NoMemory m) = None
 
 -- the token of a node itself
 abbrev pub token_of : Formula → Span
@@ -84,24 +85,20 @@ pub data IsRefusedFor (bytes : List ℕ) : Refusal → Type 0 where
 
 -- the refusal of one predicate: its fault, or out of memory
 abbrev pub StopsPred : ℕ → PredOf → Refusal → Type 0
-StopsPred k p r = IsPredFault k p r ⊎ (r ≡ NoMemory)
+StopsPred k p r = IsPredFault k p r ⊎ (r ≡ NoMemory refused)
 
 -- the refusal of several: the fault of the first that has one, or out of memory
 abbrev pub StopsPreds : List PredOf → Refusal → Type 0
-StopsPreds preds r = IsFirstFault preds r ⊎ (r ≡ NoMemory)
+StopsPreds preds r = IsFirstFault preds r ⊎ (r ≡ NoMemory refused)
 
 -- the refusal of a source: what it is refused for, or out of memory
 abbrev pub IsRefusal : List ℕ → Refusal → Type 0
-IsRefusal bytes r = IsRefusedFor bytes r ⊎ (r ≡ NoMemory)
+IsRefusal bytes r = IsRefusedFor bytes r ⊎ (r ≡ NoMemory refused)
 
 -- an accepted source is refused only when out of memory
 abbrev pub IsUnaccepted : List ℕ → Refusal → Type 0
-IsUnaccepted bytes r = (t : TableOf) → Accepted bytes t → r ≡ NoMemory
+IsUnaccepted bytes r = (t : TableOf) → Accepted bytes t → r ≡ NoMemory refused
 
 -- what a source is refused for is its refusal, unless it is out of memory
 abbrev pub IsTheOne : List ℕ → Refusal → Type 0
-IsTheOne bytes r = (s : Refusal) → IsRefusedFor bytes s → (r ≡ s) ⊎ (r ≡ NoMemory)
-
--- the refusal is out of memory
-abbrev pub IsNoMemory : Refusal → Type 0
-IsNoMemory r = r ≡ NoMemory
+IsTheOne bytes r = (s : Refusal) → IsRefusedFor bytes s → (r ≡ s) ⊎ (r ≡ NoMemory refused)

@@ -30,7 +30,7 @@ pub(crate) fn measured(alloc: Global, k: u8, p: &Pred) -> Result<(), Refusal>
     match weigh(alloc, p) {
         Ok(_) => Ok(()),
         Err(BoundStop::Bound(at)) => Err(Refusal::Bound(k, at)),
-        Err(BoundStop::NoMemory) => Err(Refusal::NoMemory),
+        Err(BoundStop::NoMemory(e)) => Err(Refusal::NoMemory(e)),
     }
 }
 
@@ -46,7 +46,7 @@ pub(crate) fn expanded(alloc: Global, k: u8, p: &Pred) -> Result<Poly, Refusal>
     match normal(alloc, p) {
         Ok(f) => Ok(f),
         Err(PolyStop::Terms(at)) => Err(Refusal::Terms(k, at)),
-        Err(PolyStop::NoMemory) => Err(Refusal::NoMemory),
+        Err(PolyStop::NoMemory(e)) => Err(Refusal::NoMemory(e)),
     }
 }
 
@@ -82,6 +82,6 @@ pub(crate) fn staged(alloc: Global, k: u8, p: &Pred, f: &Poly) -> Result<Stages,
         Ok(st) => Ok(st),
         Err(StageStop::Zero) => Err(Refusal::Zero(k, p.at)),
         Err(StageStop::Stages) => Err(Refusal::Stages(k, p.at)),
-        Err(StageStop::NoMemory) => Err(Refusal::NoMemory),
+        Err(StageStop::NoMemory(e)) => Err(Refusal::NoMemory(e)),
     }
 }

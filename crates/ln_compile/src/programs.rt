@@ -9,7 +9,7 @@ ghost use Rattle.ln_poly.specs.Expansion.{HaveFewTerms, IsNormal};
 ghost use Rattle.ln_compile.specs.Accepted.{AreSound, IsSound, expanded_of, loaded_of, root_of};
 ghost use Rattle.ln_compile.specs.Compiled.{AreProgramsOf, IsProgramOf, IsStageCount};
 ghost use Rattle.ln_compile.specs.Made.{AreCounted};
-ghost use Rattle.ln_compile.specs.Refused.{IsNoMemory, StopsPred, StopsPreds};
+ghost use Rattle.ln_compile.specs.Refused.{StopsPred, StopsPreds};
 
 use crate::judge::{expanded, measured, staged, weighed};
 use crate::program::program;
@@ -88,13 +88,6 @@ fn compiled(alloc: Global, p: &Pred) -> Result<Program, Refusal>
     compiled_of(alloc, p, &f)
 }
 
-// Turns a refusal that is out of memory into `NoMemory`.
-fn memory_of(_r: Refusal) -> NoMemory
-    requires { IsNoMemory _r }
-{
-    NoMemory
-}
-
 /// The program of a predicate that has no fault.
 pub(crate) fn program_of(alloc: Global, p: &Pred) -> Result<Program, NoMemory>
     requires { IsSound (pred_of p.now) }
@@ -104,7 +97,7 @@ pub(crate) fn program_of(alloc: Global, p: &Pred) -> Result<Program, NoMemory>
 {
     match compiled(alloc, p) {
         Ok(program) => Ok(program),
-        Err(r) => Err(memory_of(r)),
+        Err(r) => Err(r.memory()),
     }
 }
 

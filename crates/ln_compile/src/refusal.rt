@@ -1,5 +1,5 @@
 //! Why a source is refused.
-ghost use Rattle.std.specs.Prelude.{◌≡◌};
+ghost use Rattle.std.specs.Prelude.{◌≡◌, None};
 ghost use Rattle.ln_compile.specs.Refused.{refusal_of, span_of, word_of};
 
 use ln_base::{NoMemory, Span};
@@ -66,7 +66,7 @@ pub enum Refusal {
     Stages(u8, Span),
     /// Out of memory.
     #[error("out of memory")]
-    NoMemory,
+    NoMemory(NoMemory),
 }
 
 impl Refusal {
@@ -83,7 +83,7 @@ impl Refusal {
             Refusal::Terms(..) => "terms",
             Refusal::Zero(..) => "zero",
             Refusal::Stages(..) => "stages",
-            Refusal::NoMemory => "memory",
+            Refusal::NoMemory(_) => "memory",
         }
     }
 
@@ -100,19 +100,30 @@ impl Refusal {
             | Refusal::Terms(_, at)
             | Refusal::Zero(_, at)
             | Refusal::Stages(_, at) => Some(at),
-            Refusal::NoMemory => None,
+            Refusal::NoMemory(_) => None,
+        }
+    }
+
+    /// The refused allocation of a refusal that has no place: it is out of memory.
+    pub fn memory(self) -> NoMemory
+        requires { span_of self ≡ None }
+    {
+        match self {
+            Refusal::NoMemory(e) => e,
+            _ => unreachable!(),
         }
     }
 }
 
 impl From<NoMemory> for Refusal {
-    ghost use Rattle.std.specs.Prelude.{◌≡◌};
+    ghost use Rattle.std.specs.Prelude.{◌≡◌, None};
     ghost use Rattle.ln_compile.specs.declared.refusal.Refusal.TheVariants.{NoMemory};
+    ghost use Rattle.ln_base.specs.Outside.{refused};
 
-    ghost from_gives = { λ _ e. e ≡ NoMemory };
+    ghost from_gives = { λ _ e. e ≡ NoMemory refused };
 
-    fn from(_e: NoMemory) -> Self {
-        Refusal::NoMemory
+    fn from(e: NoMemory) -> Self {
+        Refusal::NoMemory(e)
     }
 }
 
@@ -125,6 +136,6 @@ pub fn refusal_of(e: ParseStop) -> Refusal
         ParseStop::Limit(what, at) => Refusal::Limit(what, at),
         ParseStop::Syntax(at) => Refusal::Syntax(at),
         ParseStop::Name(what, at) => Refusal::Name(what, at),
-        ParseStop::NoMemory => Refusal::NoMemory,
+        ParseStop::NoMemory(e) => Refusal::NoMemory(e),
     }
 }

@@ -1,5 +1,6 @@
 //! The reader of expressions: one function for each function of specs/Reading.antt.
 ghost use Rattle.std.specs.Prelude.{◌≡◌, None, Some, IfOk, IfErr, Option, option_map};
+ghost use Rattle.ln_base.specs.Outside.{refused};
 ghost use Rattle.ln_csyn.specs.Seen.{tokens_of};
 ghost use Rattle.ln_csyn.specs.View.{expr_tree};
 ghost use Rattle.ln_csyn.specs.declared.stop.CStop.TheVariants.{NotSubset, NoMemory as OutOfMemory};
@@ -16,7 +17,7 @@ use std::alloc::Global;
 /// A copy of a name.
 pub fn copied(alloc: Global, name: &[u8]) -> Result<Seq<u8>, CStop>
     ensures ok { IfOk result (λ x. x ≡ name.now) }
-    ensures err { IfErr result (λ e. e ≡ OutOfMemory) }
+    ensures err { IfErr result (λ e. e ≡ OutOfMemory refused) }
 {
     Ok(Seq::from_vec(name.to_vec(alloc)?))
 }
@@ -175,7 +176,7 @@ fn minus_rest<'t, 'a>(
 // An operation on two operands.
 fn both(alloc: Global, op: COp, a: CExpr, b: CExpr) -> Result<CExpr, CStop>
     ensures ok { IfOk result (λ e. expr_tree e ≡ Two op (expr_tree a) (expr_tree b)) }
-    ensures err { IfErr result (λ e. e ≡ OutOfMemory) }
+    ensures err { IfErr result (λ e. e ≡ OutOfMemory refused) }
 {
     let a = Box::new(alloc, a)?;
     let b = Box::new(alloc, b)?;

@@ -17,7 +17,7 @@ pub fn words_of(rt: &(impl Env + Alloc<A = Global>)) -> Result<Vec<String>, NoMe
         }
         Err(e) => {
             if e.kind() == ErrorKind::OutOfMemory {
-                return Err(NoMemory);
+                return Err(NoMemory::reported());
             }
         }
     }

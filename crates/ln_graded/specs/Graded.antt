@@ -73,7 +73,7 @@ pub record IsWithin (s : Shape) (f : Sparse) (limit heavy : ℕ) (q : Part) : Ty
 abbrev pub StopsFor : Shape → Sparse → ℕ → ℕ → GradedStop → Type 0
 StopsFor s f count heavy Stages =
     (lists : List (List (List ℕ))) × AreStageListsIn ByDegree s.sites s.vars f lists × Passes (length s.vars) f count heavy lists
-StopsFor s f count heavy NoMemory = Unit {0}
+StopsFor s f count heavy (NoMemory _) = Unit {0}
 
 -- ---- laws
 -- the verdict on a row in range of a program by total degree is the one that the row requires in that order of infinitesimals

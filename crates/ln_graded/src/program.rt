@@ -26,7 +26,7 @@ fn staged(alloc: Global, f: &Poly, s: &Shape, most: u64, heavy: u64) -> Result<S
 {
     match graded_stages(alloc, f, s, most, heavy) {
         Ok(st) => Ok(st),
-        Err(StageStop::NoMemory) => Err(GradedStop::NoMemory),
+        Err(StageStop::NoMemory(e)) => Err(GradedStop::NoMemory(e)),
         Err(StageStop::Zero) => Err(GradedStop::Stages),
         Err(StageStop::Stages) => Err(GradedStop::Stages),
     }

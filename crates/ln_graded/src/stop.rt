@@ -7,16 +7,17 @@ pub enum GradedStop {
     /// Its stage lists by total degree have too many stages, or too many monomials cover them.
     Stages,
     /// Memory ran out.
-    NoMemory,
+    NoMemory(NoMemory),
 }
 
 impl From<NoMemory> for GradedStop {
     ghost use Rattle.std.specs.Prelude.{◌≡◌};
     ghost use Rattle.ln_graded.specs.declared.stop.GradedStop.TheVariants.{NoMemory};
+    ghost use Rattle.ln_base.specs.Outside.{refused};
 
-    ghost from_gives = { λ _ e. e ≡ NoMemory };
+    ghost from_gives = { λ _ e. e ≡ NoMemory refused };
 
-    fn from(_e: NoMemory) -> Self {
-        GradedStop::NoMemory
+    fn from(e: NoMemory) -> Self {
+        GradedStop::NoMemory(e)
     }
 }

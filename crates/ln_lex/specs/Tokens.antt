@@ -149,7 +149,7 @@ pub record IsLexLimit (bytes : List ℕ) (at : ℕ) : Type 0 where
 abbrev pub StopsLexing : List ℕ → LexStop → Type 0
 StopsLexing bytes (Lexical at) = IsLexFault bytes at
 StopsLexing bytes (Limit at) = IsLexLimit bytes at
-StopsLexing bytes NoMemory = Unit {0}
+StopsLexing bytes (NoMemory _) = Unit {0}
 
 -- the token has at least one byte, ends within the bytes, and its slice is a text of its kind
 pub record IsSlice (bytes : List ℕ) (t : Token) : Type 0 where

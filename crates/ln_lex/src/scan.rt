@@ -19,14 +19,16 @@ use std::alloc::Global;
 pub enum LexStop {
     Lexical(u32),
     Limit(u32),
-    NoMemory,
+    NoMemory(NoMemory),
 }
 
 impl From<NoMemory> for LexStop {
-    ghost from_gives = { λ _ e. e ≡ OutOfMemory };
+    ghost use Rattle.ln_base.specs.Outside.{refused};
 
-    fn from(_e: NoMemory) -> Self {
-        LexStop::NoMemory
+    ghost from_gives = { λ _ e. e ≡ OutOfMemory refused };
+
+    fn from(e: NoMemory) -> Self {
+        LexStop::NoMemory(e)
     }
 }
 

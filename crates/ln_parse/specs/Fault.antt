@@ -1,5 +1,6 @@
 -- Why a text has no table.
 use Rattle.std.specs.Prelude.{◌≡◌, ℕ, suc, ◌≤◌, ◌⊎◌, nat_lt, if◌then◌else◌, List, length}
+use Rattle.ln_base.specs.Outside.{refused}
 use Rattle.ln_base.specs.declared.span.Span.{Span}
 use Rattle.ln_lex.specs.declared.token.Token.{Token}
 use Rattle.ln_lex.specs.Tokens.{Lexed, IsLexFault, IsLexLimit}
@@ -55,8 +56,8 @@ pub record IsFaultless (bytes : List ℕ) (ts : List Token) (is : List Item) : T
 
 -- a refusal is the fault of the text, or out of memory
 abbrev pub IsRefusal : List ℕ → ParseStop → Type 0
-IsRefusal bytes e = TextFault bytes e ⊎ (e ≡ NoMemory)
+IsRefusal bytes e = TextFault bytes e ⊎ (e ≡ NoMemory refused)
 
 -- a text with a table is refused only when out of memory
 abbrev pub IsWithoutTable : List ℕ → ParseStop → Type 0
-IsWithoutTable bytes e = (t : TableOf) → TextOf bytes t → e ≡ NoMemory
+IsWithoutTable bytes e = (t : TableOf) → TextOf bytes t → e ≡ NoMemory refused

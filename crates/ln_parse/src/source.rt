@@ -24,7 +24,7 @@ pub enum ParseStop {
     Limit(LimitWhat, Span),
     Syntax(Span),
     Name(NameWhat, Span),
-    NoMemory,
+    NoMemory(NoMemory),
 }
 
 /// The table of a source; or the first fault of its text and its place, and then no table has the text.
@@ -39,7 +39,7 @@ pub fn parse(alloc: Global, bytes: &[u8]) -> Result<Table, ParseStop>
     let its = checked(alloc, bytes, ts)?;
     match build(alloc, bytes, ts, &its) {
         Ok(table) => Ok(table),
-        Err(NoMemory) => Err(ParseStop::NoMemory),
+        Err(e) => Err(ParseStop::NoMemory(e)),
     }
 }
 
@@ -55,7 +55,7 @@ fn scanned(alloc: Global, bytes: &[u8]) -> Result<Seq<Token>, ParseStop>
         Ok(ts) => Ok(ts),
         Err(LexStop::Lexical(at)) => Err(ParseStop::Lexical(byte_at(at))),
         Err(LexStop::Limit(at)) => Err(ParseStop::Limit(LimitWhat::Tokens, byte_at(at))),
-        Err(LexStop::NoMemory) => Err(ParseStop::NoMemory),
+        Err(LexStop::NoMemory(e)) => Err(ParseStop::NoMemory(e)),
     }
 }
 
@@ -75,7 +75,7 @@ fn checked(alloc: Global, bytes: &[u8], ts: &[Token]) -> Result<Vec<RawItem>, Pa
     }
     let its = match read_items(alloc, ts) {
         Ok(its) => its,
-        Err(NoMemory) => return Err(ParseStop::NoMemory),
+        Err(e) => return Err(ParseStop::NoMemory(e)),
     };
     match check_names(bytes, ts, &its) {
         Ok(()) => Ok(its),

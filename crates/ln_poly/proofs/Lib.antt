@@ -4,3 +4,4 @@ pub mod Loads
 pub mod Derivations
 pub mod Evaluations
 pub mod Expansions
+pub mod Packing

@@ -9,6 +9,8 @@ pub mod Values
 pub mod Lean
 pub mod Expansion
 pub mod Within
+pub mod Keyed
+pub mod Packed
 pub mod Stop
 pub mod Ready
 pub mod OfPred

@@ -9,4 +9,4 @@ use Rattle.ln_poly.specs.Expansion.{IsTermsFault}
 -- the stop is the first node that has too many terms
 abbrev pub StopsExpanding : ℕ → List (Span × Tree) → PolyStop → Type 0
 StopsExpanding n nodes (Terms at) = IsTermsFault n nodes at
-StopsExpanding n nodes NoMemory = Unit {0}
+StopsExpanding n nodes (NoMemory _) = Unit {0}

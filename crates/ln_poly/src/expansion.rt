@@ -18,9 +18,11 @@ ghost use Rattle.ln_bound.specs.Typed.{two_of};
 ghost use Rattle.ln_poly.specs.Ready.{AreLight, AreNormal, Expands, HasPower, HaveRoom, LetsAreLight};
 ghost use Rattle.ln_poly.specs.Stop.{StopsExpanding};
 
-use crate::arithmetic::{add, mul, sub};
+use crate::arithmetic::{add, sub};
 use crate::leaf::{number, power};
+use crate::packed::Room;
 use crate::poly::Poly;
+use crate::within::mul_in;
 use ln_base::{NoMemory, Seq, Span};
 use ln_bound::Two;
 use ln_bound::size::kind_of;
@@ -33,16 +35,17 @@ use std::alloc::Global;
 pub enum PolyStop {
     /// The first node in order of evaluation that has more than 1,024 terms, or a power of which a lower one has.
     Terms(Span),
-    NoMemory,
+    NoMemory(NoMemory),
 }
 
 impl From<NoMemory> for PolyStop {
     ghost use Rattle.ln_poly.specs.declared.expansion.PolyStop.TheVariants.{NoMemory};
+    ghost use Rattle.ln_base.specs.Outside.{refused};
 
-    ghost from_gives = { λ _ e. e ≡ NoMemory };
+    ghost from_gives = { λ _ e. e ≡ NoMemory refused };
 
-    fn from(_e: NoMemory) -> Self {
-        PolyStop::NoMemory
+    fn from(e: NoMemory) -> Self {
+        PolyStop::NoMemory(e)
     }
 }
 
@@ -123,7 +126,7 @@ fn difference(alloc: Global, at: Span, f: &Poly, g: &Poly) -> Result<Poly, PolyS
 }
 
 // The product.
-fn product(alloc: Global, at: Span, f: &Poly, g: &Poly) -> Result<Poly, PolyStop>
+fn product(alloc: Global, room: &mut Room, at: Span, f: &Poly, g: &Poly) -> Result<Poly, PolyStop>
     requires room { size_of f.now * size_of g.now < 2 ^ 127 }
     requires powers { All (λ s. PowersFit s g.now) f.now }
     ensures ok { IfOk result (λ h. (n : ℕ) (d e : Tree) → IsNormal n d f.now → IsNormal n e g.now →
@@ -131,12 +134,22 @@ fn product(alloc: Global, at: Span, f: &Poly, g: &Poly) -> Result<Poly, PolyStop
     ensures err { IfErr result (λ s. (n : ℕ) (d e : Tree) → IsNormal n d f.now → IsNormal n e g.now →
         StopsExpanding n ((at, Mul d e) ∷ []) s) }
 {
-    let h = mul(alloc, f, g)?;
-    counted(at, h)
+    let found = mul_in(alloc, room, f, g, 1024)?;
+    match found {
+        Some(h) => Ok(h),
+        None => Err(PolyStop::Terms(at)),
+    }
 }
 
 // The sum, the difference or the product of two polynomials, at the place of its node.
-fn both(alloc: Global, at: Span, kind: Two, f: Poly, g: Poly) -> Result<Poly, PolyStop>
+fn both(
+    alloc: Global,
+    room: &mut Room,
+    at: Span,
+    kind: Two,
+    f: Poly,
+    g: Poly,
+) -> Result<Poly, PolyStop>
     requires { HaveRoom kind f g }
     ensures ok { IfOk result (λ h. (n : ℕ) (d e : Tree) → IsNormal n d f → IsNormal n e g →
         Expands n ((at, two_of kind d e) ∷ []) (two_of kind d e) h) }
@@ -146,7 +159,7 @@ fn both(alloc: Global, at: Span, kind: Two, f: Poly, g: Poly) -> Result<Poly, Po
     match kind {
         Two::Plus => sum(alloc, at, &f, &g),
         Two::Minus => difference(alloc, at, &f, &g),
-        Two::Times => product(alloc, at, &f, &g),
+        Two::Times => product(alloc, room, at, &f, &g),
     }
 }
 
@@ -162,14 +175,14 @@ fn negation(alloc: Global, at: Span, f: &Poly) -> Result<Poly, PolyStop>
 }
 
 // The k-th power, by all lower ones.
-fn raised(alloc: Global, at: Span, f: &Poly, k: u8) -> Result<Poly, PolyStop>
+fn raised(alloc: Global, room: &mut Room, at: Span, f: &Poly, k: u8) -> Result<Poly, PolyStop>
     requires { HasPower f.now k }
     ensures ok { IfOk result (λ h. (n : ℕ) (e : Tree) → IsNormal n e f.now → Expands n (powers at e k) (Pow e k) h) }
     ensures err { IfErr result (λ s. (n : ℕ) (e : Tree) → IsNormal n e f.now → StopsExpanding n (powers at e k) s) }
 {
     let mut p = number(alloc, 1)?;
     'powers: for _j in 0..k {
-        p = product(alloc, at, &p, f)?;
+        p = product(alloc, room, at, &p, f)?;
     }
     Ok(p)
 }
@@ -177,6 +190,7 @@ fn raised(alloc: Global, at: Span, f: &Poly, k: u8) -> Result<Poly, PolyStop>
 // The polynomial of an expression after lets of these polynomials.
 fn expand(
     alloc: Global,
+    room: &mut Room,
     e: &Expr,
     vars: &[VarInfo],
     lets: &[Expr],
@@ -197,23 +211,28 @@ fn expand(
         Node::Input(v) => variable(alloc, e.at, vars, *v),
         Node::Name(j) => let_named(alloc, e.at, polys, *j),
         Node::Neg(x) => {
-            let f = expand(alloc, x, vars, lets, polys)?;
+            let f = expand(alloc, room, x, vars, lets, polys)?;
             negation(alloc, e.at, &f)
         }
         Node::Add(x, y) | Node::Sub(x, y) | Node::Mul(x, y) => {
-            let f = expand(alloc, x, vars, lets, polys)?;
-            let g = expand(alloc, y, vars, lets, polys)?;
-            both(alloc, e.at, kind_of(e), f, g)
+            let f = expand(alloc, room, x, vars, lets, polys)?;
+            let g = expand(alloc, room, y, vars, lets, polys)?;
+            both(alloc, room, e.at, kind_of(e), f, g)
         }
         Node::Pow(x, n) => {
-            let f = expand(alloc, x, vars, lets, polys)?;
-            raised(alloc, e.at, &f, *n)
+            let f = expand(alloc, room, x, vars, lets, polys)?;
+            raised(alloc, room, e.at, &f, *n)
         }
     }
 }
 
 // The polynomials of the lets, each after those before it.
-fn expand_lets(alloc: Global, lets: &[Expr], vars: &[VarInfo]) -> Result<Seq<Poly>, PolyStop>
+fn expand_lets(
+    alloc: Global,
+    room: &mut Room,
+    lets: &[Expr],
+    vars: &[VarInfo],
+) -> Result<Seq<Poly>, PolyStop>
     requires few { length vars.now ≤ 168 }
     requires fit { lets_fit (length vars.now) 0 (map (tree vars.now) (map formula lets.now)) ≡ true }
     requires light { LetsAreLight (length vars.now) two [] (map (tree vars.now) (map formula lets.now)) }
@@ -223,7 +242,7 @@ fn expand_lets(alloc: Global, lets: &[Expr], vars: &[VarInfo]) -> Result<Seq<Pol
 {
     let mut done = Seq::new(alloc);
     'each: for (j, e) in lets.iter().enumerate() {
-        let f = expand(alloc, e, vars, &lets[..j], done.as_slice())?;
+        let f = expand(alloc, room, e, vars, &lets[..j], done.as_slice())?;
         done.push(f)?;
     }
     Ok(done)
@@ -247,6 +266,7 @@ pub fn normal(alloc: Global, p: &Pred) -> Result<Poly, PolyStop>
 {
     let vars = p.shape.vars.as_slice();
     let lets = p.lets.as_slice();
-    let polys = expand_lets(alloc, lets, vars)?;
-    expand(alloc, &p.root, vars, lets, polys.as_slice())
+    let mut room = Room::new(alloc);
+    let polys = expand_lets(alloc, &mut room, lets, vars)?;
+    expand(alloc, &mut room, &p.root, vars, lets, polys.as_slice())
 }

@@ -123,9 +123,9 @@ impl<'a> Left<'a> {
                 self.end();
                 Ok(false)
             }
-            Err(_) => {
+            Err(e) => {
                 self.end();
-                Err(NoMemory)
+                Err(e)
             }
         }
     }

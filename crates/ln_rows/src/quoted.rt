@@ -42,7 +42,7 @@ impl<'a> Quoted<'a> {
             .from_reader(alloc, line_end().chain(bytes));
         match reader.set_byte_headers(ByteRecord::new(alloc)) {
             Ok(()) => Ok(Quoted { reader }),
-            Err(_) => Err(NoMemory),
+            Err(_) => Err(NoMemory::reported()),
         }
     }
 
@@ -51,7 +51,7 @@ impl<'a> Quoted<'a> {
         ensures { IfOk result (λ found. TakesWithin most found self.old self.new (fields_of into.new)) }
     {
         let Ok(found) = self.reader.read_byte_record(into) else {
-            return Err(NoMemory);
+            return Err(NoMemory::reported());
         };
         let count = into.len().min(most);
         into.truncate(count);

@@ -41,4 +41,4 @@ abbrev pub StopsGraded : ℕ → List VarInfo → Sparse → ℕ → ℕ → Sta
 StopsGraded k vars f most heavy Zero = f ≡ []
 StopsGraded k vars f most heavy Stages = (f ≢ [])
     × ((lists : List (List (List ℕ))) × AreStageListsIn ByDegree k vars f lists × Passes (length vars) f most heavy lists)
-StopsGraded k vars f most heavy NoMemory = Unit {0}
+StopsGraded k vars f most heavy (NoMemory _) = Unit {0}

@@ -64,4 +64,4 @@ abbrev pub StopsListing : ℕ → List VarInfo → Sparse → ℕ → ℕ → St
 StopsListing k vars f most heavy Zero = f ≡ []
 StopsListing k vars f most heavy Stages = (f ≢ [])
     × ((lists : List (List (List ℕ))) × AreStageLists k vars f lists × Passes (length vars) f most heavy lists)
-StopsListing k vars f most heavy NoMemory = Unit {0}
+StopsListing k vars f most heavy (NoMemory _) = Unit {0}

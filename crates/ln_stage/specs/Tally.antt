@@ -65,4 +65,4 @@ next_list t = record { exps = t.exps; list = []; count = t.count; weight = t.wei
 abbrev pub IsStoppedBy : StageStop → Type 0 → Type 0
 IsStoppedBy Zero P = ⊥
 IsStoppedBy Stages P = P
-IsStoppedBy NoMemory P = Unit {0}
+IsStoppedBy (NoMemory _) P = Unit {0}

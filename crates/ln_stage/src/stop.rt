@@ -10,27 +10,29 @@ pub enum StageStop {
     /// The stage count exceeds its limit, or the stage weight does.
     Stages,
     /// Out of memory.
-    NoMemory,
+    NoMemory(NoMemory),
 }
 
 impl From<NoMemory> for StageStop {
     ghost use Rattle.std.specs.Prelude.{◌≡◌};
     ghost use Rattle.ln_stage.specs.declared.stop.StageStop.TheVariants.{NoMemory};
+    ghost use Rattle.ln_base.specs.Outside.{refused};
 
-    ghost from_gives = { λ _ e. e ≡ NoMemory };
+    ghost from_gives = { λ _ e. e ≡ NoMemory refused };
 
-    fn from(_e: NoMemory) -> Self {
-        StageStop::NoMemory
+    fn from(e: NoMemory) -> Self {
+        StageStop::NoMemory(e)
     }
 }
 
 impl<T: Drop> From<AllocFailed<T>> for StageStop {
     ghost use Rattle.std.specs.Prelude.{◌≡◌};
     ghost use Rattle.ln_stage.specs.declared.stop.StageStop.TheVariants.{NoMemory};
+    ghost use Rattle.ln_base.specs.Outside.{refused};
 
-    ghost from_gives = { λ _ e. e ≡ NoMemory };
+    ghost from_gives = { λ _ e. e ≡ NoMemory refused };
 
-    fn from(_e: AllocFailed<T>) -> Self {
-        StageStop::NoMemory
+    fn from(e: AllocFailed<T>) -> Self {
+        StageStop::NoMemory(NoMemory::from(e))
     }
 }

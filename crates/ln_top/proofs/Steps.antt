@@ -6,6 +6,8 @@ pub mod FindLaws
 pub mod SourceLaws
 pub mod Prepared
 pub mod WordsLaws
+pub mod Grounded
+pub mod Laws
 pub mod PutLemmas
 pub mod TopLaws
 pub mod OneAnswer

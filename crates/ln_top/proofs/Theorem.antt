@@ -4,6 +4,7 @@ pub mod GoodParts
 pub mod ListedParts
 pub mod GoodLines
 pub mod Lightness
+pub mod ByValueLaws
 pub mod HeadlineLaws
 pub mod EmittedLaws
 pub mod Standing

@@ -9,7 +9,7 @@ use Rattle.ln_top.specs.Said.{Said}
 use Rattle.ln_top.specs.Stop.{said_of}
 use Rattle.ln_top.specs.Plan.{Plan, plan_of}
 use Rattle.ln_top.specs.Steps.{stops, missing, gives, Given, Prepares}
-use Rattle.ln_top.specs.Work.{WorkOwes, WorkPart}
+use Rattle.ln_top.specs.Works.{WorkOwes, WorkPart}
 
 -- what a plan requires: the line of the step that stops, or what its work requires
 pub data PlanOwes (plan : Plan) (told : Option Shelf) (boxes : List State) : Said → Type 0 where

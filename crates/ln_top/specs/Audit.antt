@@ -1,6 +1,6 @@
 -- `audit FILE NAME ROWS TRACE`: whether a trace, whoever made it, is agreed by the predicate and the records of the rows file.
 use Rattle.std.specs.Prelude.{◌≡◌, ℕ, List, [], ◌∷◌, ◌++◌, length, codes, decimal, Option, Result, Err}
-use Rattle.ln_base.specs.Outside.{Shown}
+use Rattle.ln_base.specs.Outside.{Shown, refused}
 use Rattle.ln_tree.specs.Table.{PredOf}
 use Rattle.ln_rows.specs.Left.{Records, records_in}
 use Rattle.ln_trace.specs.declared.line.TraceLine.{TraceLine}
@@ -19,9 +19,10 @@ use Rattle.ln_top.specs.Columns.{columns_of}
 use Rattle.ln_top.specs.Explain.{subject_of}
 use Rattle.ln_top.specs.Run.{IsWrongHeader}
 use Rattle.ln_top.specs.Said.{Count, IsCalm, Said, line, whole}
-use Rattle.ln_top.specs.Carried.{PutsText}
 use Rattle.ln_top.specs.Steps.{Given}
 use Rattle.ln_top.specs.Stop.{said_of}
+use Rattle.ln_top.specs.Carried.{NoPart, PutsText}
+use Rattle.ln_top.specs.Work.{Work}
 
 -- the predicate, the names of its columns, the records of the rows file, and the bytes of the trace
 pub record HasTrace (g : Given) (p : PredOf) (names : List (List ℕ)) (records : Records) (trace : List ℕ) : Type 0 where
@@ -83,4 +84,8 @@ IsAuditOf p records trace (Wrong at) = IsWrongAt p records trace at
 -- a text was written or cut off; or memory ran out before
 pub data PutsOrStops (text : List ℕ) (end : End) (puts : Count) (result : Result End Early) (was now : Option Shown) : Type 0 where
   puts_it : PutsText text end puts result was now → PutsOrStops text end puts result was now
-  stops_before : IsCalm puts → result ≡ Err Memory → now ≡ was → PutsOrStops text end puts result was now
+  stops_before : IsCalm puts → result ≡ Err (Memory refused) → now ≡ was → PutsOrStops text end puts result was now
+
+-- the work of `audit`
+abbrev pub audit_work : Work
+audit_work = record { owes = λ boxes. AuditSaid; part = λ boxes g. NoPart; ends = AuditEnds; one = Unit {0} }

@@ -1,6 +1,6 @@
 -- The promises of the program on a call, whatever its command.
 use Rattle.std.specs.Prelude.{◌≡◌, ◌≢◌, ◌⊎◌, ℕ, List, [], Option, Some, None, IfSome}
-use Rattle.ln_base.specs.Outside.{Shelf, Shown, Rose}
+use Rattle.ln_base.specs.Outside.{Shelf, Shown, Rose, refused}
 use Rattle.ln_watch.specs.Panel.{State}
 use Rattle.ln_top.specs.declared.status.End.{End}
 use Rattle.ln_top.specs.declared.status.End.TheVariants.{Done}
@@ -57,7 +57,7 @@ pub record Keeps (c : Call) : Type 0 where
   pub usage : ExactlyWhere status.Usage (plan_of c.words ≡ None) c.result (HasRisen c.reads) (HasRisen c.puts)
   -- valid input is carried out, where no count rises and no allocation fails
   pub complete : IfSome c.told (λ shelf. Ends c.words (Some shelf) Done → (HasRisen c.reads → ⊥) → (HasRisen c.puts → ⊥)
-      → (c.result ≡ status.Done) ⊎ (c.result ≡ status.Memory))
+      → (c.result ≡ status.Done) ⊎ (c.result ≡ status.Memory refused))
   -- an end that no work has comes with its error line alone
   pub line : (e : End) → c.result ≡ end_status e → (IsWorkEnd e → ⊥) → SaysLine e c.was c.now
   -- a fault of reading has its cause, and its error line comes alone
@@ -66,7 +66,7 @@ pub record Keeps (c : Call) : Type 0 where
   -- error line of a file that wasn't read
   pub write : c.result ≡ status.Write → Rises c.puts × LeavesFronts (Answer c.words c.told c.boxes) (IsUnread c) c.was c.now
   -- an allocation that fails leaves nothing, or a part that the command names: in work on records the whole lines of the first ones
-  pub memory : c.result ≡ status.Memory → LeavesPart (Answer c.words c.told c.boxes) (Part c.words c.told c.boxes) c.was c.now
+  pub memory : c.result ≡ status.Memory refused → LeavesPart (Answer c.words c.told c.boxes) (Part c.words c.told c.boxes) c.was c.now
   -- with any status but that of a fault of writing, none was counted
   pub calm : c.result ≢ status.Write → IsCalm c.puts
   -- with any status but those of faults, no fault of reading was counted

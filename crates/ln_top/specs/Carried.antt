@@ -1,6 +1,6 @@
 -- Defines what a part of the program has done of what is required: the one contract of every level.
 use Rattle.std.specs.Prelude.{◌≡◌, ◌≢◌, ◌⊎◌, ℕ, List, [], codes, Option, Result, Ok, Err}
-use Rattle.ln_base.specs.Outside.{Shown}
+use Rattle.ln_base.specs.Outside.{Shown, refused}
 use Rattle.ln_top.specs.declared.status.End.{End}
 use Rattle.ln_top.specs.declared.status.Early.{Early}
 use Rattle.ln_top.specs.declared.status.Early.TheVariants.{Read, Write, Memory}
@@ -37,7 +37,7 @@ pub data CarriesOut (owes : Said → Type 0) (part : List ℕ → List ℕ → T
       → CarriesOut owes part lacks reads puts result was now
   cut : Rises puts → LeavesFronts owes (reads ⊎ lacks) was now → result ≡ Err Write
       → CarriesOut owes part lacks reads puts result was now
-  short : IsCalm puts → LeavesPart owes part was now → result ≡ Err Memory
+  short : IsCalm puts → LeavesPart owes part was now → result ≡ Err (Memory refused)
       → CarriesOut owes part lacks reads puts result was now
 
 -- no part is written when memory runs out
@@ -48,26 +48,26 @@ NoPart out err = ⊥
 pub data Halts {A : Type 0} (step : Outcome A → Type 0) (reads : Type 0) : Stop → Type 0 where
   tells : (why : Why) → step (stops why) → Halts step reads (stop.Tell why)
   unread : reads ⊎ step missing → Halts step reads stop.Read
-  short : Halts step reads stop.Memory
+  short : Halts step reads (stop.Memory refused)
 
 -- the line of a stop was written, or cut off by a fault of writing; out of memory has no line
 abbrev pub stop_line : Stop → List ℕ
 stop_line (stop.Tell why) = line (why_text why)
 stop_line stop.Read = read_line
-stop_line stop.Memory = []
+stop_line (stop.Memory m) = []
 
 -- the result of a stop: the end that its reason has, or the fault of reading or of allocation
 abbrev pub stop_result : Stop → Result End Early
 stop_result (stop.Tell why) = Ok (why_end why)
 stop_result stop.Read = Err Read
-stop_result stop.Memory = Err Memory
+stop_result (stop.Memory m) = Err (Memory m)
 
 -- the line of a stop was written; or a fault of writing cut it short; or an allocation failed, and nothing was written
 pub data Says (s : Stop) (puts : Count) (result : Result End Early) (was now : Option Shown) : Type 0 where
   all : IsCalm puts → result ≡ stop_result s → now ≡ put_both [] (stop_line s) was → Says s puts result was now
-  cut : (front : List ℕ) → Rises puts → s ≢ stop.Memory → IsFront (stop_line s) front → now ≡ put_both [] front was
+  cut : (front : List ℕ) → Rises puts → s ≢ stop.Memory refused → IsFront (stop_line s) front → now ≡ put_both [] front was
       → result ≡ Err Write → Says s puts result was now
-  short : IsCalm puts → s ≢ stop.Read → result ≡ Err Memory → now ≡ was → Says s puts result was now
+  short : IsCalm puts → s ≢ stop.Read → result ≡ Err (Memory refused) → now ≡ was → Says s puts result was now
 
 -- a whole text was written to Out, or cut off
 pub data PutsText (text : List ℕ) (end : End) (puts : Count) (result : Result End Early) (was now : Option Shown) : Type 0 where

@@ -1,6 +1,6 @@
 -- Defines the causes of each status: the ends of the steps in their order, and the faults that may come in their place.
 use Rattle.std.specs.Prelude.{◌≡◌, ◌≢◌, ◌⊎◌, ℕ, List, [], Option, Some, None}
-use Rattle.ln_base.specs.Outside.{Shelf, Shown}
+use Rattle.ln_base.specs.Outside.{Shelf, Shown, refused as out_of_memory}
 use Rattle.ln_tree.specs.Table.{PredOf, TableOf}
 use Rattle.ln_compile.specs.declared.refusal.Refusal.{Refusal}
 use Rattle.ln_top.specs.declared.status.End.{End}
@@ -14,15 +14,15 @@ use Rattle.ln_top.specs.Said.{Said, line, put_both, end_status}
 use Rattle.ln_top.specs.Stop.{why_end, why_text}
 use Rattle.ln_top.specs.Plan.{Plan, plan_of}
 use Rattle.ln_top.specs.Source.{IsRefusedAt}
-use Rattle.ln_top.specs.Suits.{Asks, objection}
 use Rattle.ln_top.specs.Steps.{stops, gives, Given, Prepares, Reads, Compiles, Finds, Each, MayPass, most_source, most_file}
-use Rattle.ln_top.specs.Work.{WorkEnds}
+use Rattle.ln_top.specs.Signature.{Asks, objection}
+use Rattle.ln_top.specs.Works.{WorkEnds}
 
 -- a status that was required: any but those of faults of the outside and of running out of memory
 pub record IsSettled (s : Status) : Type 0 where
   pub read : s ≢ status.Read
   pub write : s ≢ status.Write
-  pub memory : s ≢ status.Memory
+  pub memory : s ≢ status.Memory out_of_memory
 
 -- what is required was written, with its status
 pub record Answered (owes : Said → Type 0) (result : Status) (was now : Option Shown) : Type 0 where
@@ -68,7 +68,7 @@ pub data Ends (words : List (List ℕ)) (told : Option Shelf) (e : End) : Type 0
 
 -- memory ran out, or a count of faults of reading or of writing rose
 abbrev pub Yields : Status → Type 0 → Type 0 → Type 0
-Yields result reads puts = (result ≡ status.Memory) ⊎ ((result ≡ status.Read) × reads) ⊎ ((result ≡ status.Write) × puts)
+Yields result reads puts = (result ≡ status.Memory out_of_memory) ⊎ ((result ≡ status.Read) × reads) ⊎ ((result ≡ status.Write) × puts)
 
 -- a status comes exactly where its cause is, but yields to running out of memory and to a fault of reading or writing, whose count then rose
 pub record ExactlyWhere (s : Status) (cause : Type 0) (result : Status) (reads puts : Type 0) : Type 0 where

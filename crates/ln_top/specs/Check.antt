@@ -6,6 +6,8 @@ use Rattle.ln_top.specs.declared.status.End.{End}
 use Rattle.ln_top.specs.declared.status.End.TheVariants.{Done}
 use Rattle.ln_top.specs.Said.{Said, line, whole}
 use Rattle.ln_top.specs.Steps.{Given}
+use Rattle.ln_top.specs.Carried.{NoPart}
+use Rattle.ln_top.specs.Work.{Work}
 
 -- `NAME sites K stages N`
 abbrev pub count_text : PredOf → ℕ → List ℕ
@@ -24,3 +26,7 @@ pub data CheckSaid (g : Given) : Said → Type 0 where
 -- how it ends, and where
 pub data CheckEnds (g : Given) : End → Type 0 where
   done : CheckEnds g Done
+
+-- the work of `check`
+abbrev pub check_work : Work
+check_work = record { owes = λ boxes. CheckSaid; part = λ boxes g. NoPart; ends = CheckEnds; one = Unit {0} }

@@ -15,12 +15,13 @@ use Rattle.ln_top.specs.declared.status.End.TheVariants.{Done}
 use Rattle.ln_top.specs.declared.stop.Stop.{Stop}
 use Rattle.ln_top.specs.declared.stop.Why.{Why}
 use Rattle.ln_top.specs.declared.stop.Why.TheVariants.{Header, Many, Point}
-use Rattle.ln_top.specs.Carried.{Halts}
 use Rattle.ln_top.specs.Columns.{site_names}
 use Rattle.ln_top.specs.Run.{IsWrongHeader}
 use Rattle.ln_top.specs.Said.{Said, whole}
 use Rattle.ln_top.specs.Steps.{Given, Outcome, stops, gives}
 use Rattle.ln_top.specs.Stop.{said_of, why_end}
+use Rattle.ln_top.specs.Carried.{Halts, NoPart}
+use Rattle.ln_top.specs.Work.{Work}
 
 -- the columns of a points file: the index, named as the type, and for each coordinate the type's name, a dot and the coordinate's name
 abbrev pub point_names : SiteOf → List (List ℕ)
@@ -95,3 +96,7 @@ pub record StopsPoints (g : Given) (s : Stop) : Type 0 where
   pub records : Records
   pub has : HasPoints g pred type records
   pub halts : Halts (ReadsPoints type records) ⊥ s
+
+-- the work of `edges`
+abbrev pub edges_work : Work
+edges_work = record { owes = λ boxes. EdgesSaid; part = λ boxes g. NoPart; ends = EdgesEnds; one = Unit {0} }

@@ -19,6 +19,8 @@ use Rattle.ln_top.specs.declared.status.End.{End}
 use Rattle.ln_top.specs.declared.status.End.TheVariants.{Done}
 use Rattle.ln_top.specs.Said.{Said, whole}
 use Rattle.ln_top.specs.Steps.{Given}
+use Rattle.ln_top.specs.Carried.{NoPart}
+use Rattle.ln_top.specs.Work.{Work}
 
 -- on this row the call of `ln_NAME` returns the sign of the verdict that the row requires, with its calls, and with no wide operation where
 -- the filter decides
@@ -60,3 +62,7 @@ pub data EmitSaid (g : Given) : Said → Type 0 where
 -- how it ends, and where
 pub data EmitEnds (g : Given) : End → Type 0 where
   done : EmitEnds g Done
+
+-- the work of `emit`
+abbrev pub emit_work : Work
+emit_work = record { owes = λ boxes. EmitSaid; part = λ boxes g. NoPart; ends = EmitEnds; one = ⊥ }

@@ -1,9 +1,10 @@
 -- States that the calls of the C that `emit` writes mean the perturbed signs.
-use Rattle.std.specs.Prelude.{◌≡◌, ℕ, List, [], ◌∷◌, map, Option, Some}
+use Rattle.std.specs.Prelude.{◌≡◌, ◌≢◌, ℕ, pos, List, [], ◌∷◌, map, Option, Some}
 use Rattle.ln_base.specs.Outside.{Shelf, Shown}
 use Rattle.ln_base.specs.declared.sign.Sign.{Sign}
 use Rattle.ln_tree.specs.Row.{InRange, Row}
 use Rattle.ln_tree.specs.Table.{PredOf}
+use Rattle.ln_code.specs.declared.verdict.By.{By}
 use Rattle.ln_code.specs.Part.{Part}
 use Rattle.ln_due.specs.Due.{sign_number}
 use Rattle.ln_csyn.specs.Tree.{Fun}
@@ -14,11 +15,12 @@ use Rattle.ln_cemit.specs.Names.{call_name}
 use Rattle.ln_cemit.specs.Whole.{part_name}
 use Rattle.ln_top.specs.declared.words.Command.TheVariants.{Emit}
 use Rattle.ln_top.specs.Said.{put_both}
+use Rattle.ln_top.specs.ByValue.{IsByValue, plain_value}
 use Rattle.ln_top.specs.Perturbed.{FilterDecides, IsSignOn, NotZeroWithoutParams}
 use Rattle.ln_top.specs.Steps.{WhereGiven}
 
 -- on this row the call of `ln_NAME` has a meaning: the perturbed sign of the predicate. Without params it isn't 0. Where the filter
--- decides, no operation is done in `__int128`
+-- decides, no operation is done in `__int128`. Where the value on the row isn't 0, that decides, with so many calls of functions
 pub record CallsPerturbedSign (file : List Fun) (p : PredOf) (row : Row) : Type 0 where
   pub sign : Sign
   pub counts : Counts
@@ -26,6 +28,7 @@ pub record CallsPerturbedSign (file : List Fun) (p : PredOf) (row : Row) : Type 
   pub perturbed : IsSignOn p row sign
   pub never_zero : NotZeroWithoutParams p sign
   pub narrow : FilterDecides p row → counts.wide ≡ 0
+  pub plain : plain_value p row ≢ pos 0 → (by : By) × IsByValue p row sign by counts.calls counts.wide
 
 -- so for each predicate, on each row in its declared ranges
 abbrev pub CallPerturbedSigns : List Fun → List PredOf → Type 0

@@ -10,10 +10,11 @@ use Rattle.ln_trace.specs.Trace.{Subject}
 use Rattle.ln_top.specs.declared.stop.Why.TheVariants.{Header}
 use Rattle.ln_top.specs.Line.{is_row}
 use Rattle.ln_top.specs.Lines.{Lines, all_good}
-use Rattle.ln_top.specs.Run.{HasRecords, IsWrongHeader, end_of}
 use Rattle.ln_top.specs.Said.{Said}
 use Rattle.ln_top.specs.Steps.{Given}
 use Rattle.ln_top.specs.Stop.{said_of}
+use Rattle.ln_top.specs.Run.{HasRecords, IsWrongHeader, RunEnds, end_of}
+use Rattle.ln_top.specs.Work.{Work}
 
 -- what a trace of a predicate is about: its sites, its variables, and its root with its lets in place of their names
 abbrev pub subject_of : PredOf → Subject
@@ -55,3 +56,7 @@ pub record SaysLines (p : PredOf) (number : ℕ) (fields : List (List ℕ)) (rig
   pub explains : Explains (subject_of p) number fields lines
   pub right_is : right ≡ is_row p fields
   pub text_is : new ≡ old ++ text_of_lines lines
+
+-- the work of `explain`
+abbrev pub explain_work : Work
+explain_work = record { owes = λ boxes. ExplainSaid; part = λ boxes. ExplainPart; ends = RunEnds; one = Unit {0} }

@@ -16,6 +16,8 @@ use Rattle.ln_top.specs.Said.{Said, whole}
 use Rattle.ln_top.specs.Steps.{Given}
 use Rattle.ln_top.specs.GenRow.{words, past, row_by}
 use Rattle.ln_top.specs.Lines.{Lines}
+use Rattle.ln_top.specs.Carried.{NoPart}
+use Rattle.ln_top.specs.Work.{Work}
 
 -- the generator of a seed
 abbrev pub seeded : ℕ → Lcg
@@ -56,3 +58,7 @@ pub data GenSaid (seed count : ℕ) (boxes : List State) (g : Given) : Said → 
 -- how it ends, and where
 pub data GenEnds (g : Given) : End → Type 0 where
   done : GenEnds g Done
+
+-- the work of `gen`, with its seed and its count
+abbrev pub gen_work : ℕ → ℕ → Work
+gen_work seed count = record { owes = GenSaid seed count; part = λ boxes g. NoPart; ends = GenEnds; one = Unit {0} }

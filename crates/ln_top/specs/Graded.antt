@@ -6,6 +6,9 @@ use Rattle.ln_poly.specs.Expansion.{IsNormal}
 use Rattle.ln_poly.specs.Sparse.{Sparse}
 use Rattle.ln_stage.specs.Lists.{AreStageListsIn, Passes}
 use Rattle.ln_compile.specs.Accepted.{root_of}
+use Rattle.ln_top.specs.declared.stop.Why.{Why}
+use Rattle.ln_top.specs.declared.stop.Why.TheVariants.{Shape, Stages}
+use Rattle.ln_top.specs.Source.{place_at}
 
 -- it has too many stages by total degree: the stage lists of its normal polynomial in that order of infinitesimals, one for each order
 -- of its sites, have more than 262,144 stages, or more than 131,072 monomials cover their distinct stages
@@ -24,3 +27,8 @@ HasFewGraded p = HasManyGraded p → ⊥
 abbrev pub FirstHasFew : List PredOf → Type 0
 FirstHasFew [] = Unit {0}
 FirstHasFew (p ∷ ps) = HasFewGraded p
+
+-- a predicate with too many stops the command with `stages` at its name's place in the source
+abbrev pub many_stages : List ℕ → List PredOf → Why
+many_stages bytes [] = Shape
+many_stages bytes (p ∷ ps) = Stages (place_at bytes p.at)

@@ -1,29 +1,33 @@
--- The signs that `run` and `graded` print are the perturbed signs, each in its own order of infinitesimals.
-use Rattle.std.specs.Prelude.{◌≡◌, ◌≢◌, ℕ, List, [], ◌∷◌, ◌++◌, Option, Ok}
+-- The lines that `run` and `graded` print are the perturbed signs and what decides them, each in its own order of infinitesimals.
+use Rattle.std.specs.Prelude.{◌≡◌, ◌≢◌, ℕ, pos, List, [], ◌∷◌, ◌++◌, Option, Ok}
 use Rattle.ln_base.specs.Outside.{Shelf, Shown}
-use Rattle.ln_base.specs.declared.sign.Sign.{Sign}
 use Rattle.ln_algebra.specs.Orders.{BySmallest, ByDegree, Rank}
 use Rattle.ln_tree.specs.Row.{InRange, Row}
 use Rattle.ln_tree.specs.Table.{PredOf}
+use Rattle.ln_code.specs.declared.verdict.Verdict.{Verdict}
+use Rattle.ln_compile.specs.Filtered.{IsDueIn}
 use Rattle.ln_rows.specs.Left.{Records}
 use Rattle.ln_watch.specs.Panel.{State}
 use Rattle.ln_rows.specs.Record.{read_row}
 use Rattle.ln_top.specs.declared.words.Command.TheVariants.{Graded, Run}
 use Rattle.ln_top.specs.Said.{line, put_both}
+use Rattle.ln_top.specs.ByValue.{IsVerdictByValue, plain_value}
 use Rattle.ln_top.specs.Perturbed.{IsSignIn, NotZeroWithoutParams}
 use Rattle.ln_top.specs.Steps.{WhereGiven}
-use Rattle.ln_top.specs.Line.{sign_text}
+use Rattle.ln_top.specs.Line.{decider_text, sign_text}
 use Rattle.ln_top.specs.Run.{HasRecords}
 
--- the line begins with the perturbed sign of the predicate on the row, which is in range. A predicate without params has no row with the
--- sign 0
+-- the line is the sign and the decider of the verdict that the row, which is in range, requires in this order of infinitesimals. Its sign is
+-- the perturbed sign of the predicate on the row; where the value on the row isn't 0, that decides. A predicate without params has no row with
+-- the sign 0
 pub record HasPerturbedSign (rank : Rank) (p : PredOf) (row : Row) (text : List ℕ) : Type 0 where
   pub range : InRange p.sites p.vars row
-  pub sign : Sign
-  pub perturbed : IsSignIn rank p row sign
-  pub never_zero : NotZeroWithoutParams p sign
-  pub behind : List ℕ
-  pub text_is : text ≡ line (sign_text sign ++ 32 ∷ behind)
+  pub verdict : Verdict
+  pub due : IsDueIn rank p row verdict
+  pub perturbed : IsSignIn rank p row verdict.sign
+  pub never_zero : NotZeroWithoutParams p verdict.sign
+  pub plain : plain_value p row ≢ pos 0 → IsVerdictByValue p row verdict
+  pub text_is : text ≡ line (sign_text verdict.sign ++ 32 ∷ decider_text verdict.by)
 
 -- no byte of these is a line feed
 abbrev pub NoFeed : List ℕ → Type 0
@@ -36,7 +40,7 @@ pub record IsOneLine (text : List ℕ) : Type 0 where
   pub is : text ≡ line body
   pub none : NoFeed body
 
--- one line after the other, exactly one for each record: that of a row has its perturbed sign
+-- one line after the other, exactly one for each record: that of a row has its perturbed sign and what decides it
 pub data HavePerturbedSigns (rank : Rank) (p : PredOf) : Records → List ℕ → Type 0 where
   none : HavePerturbedSigns rank p [] []
   more : {fields : List (List ℕ)} {rest : Records} (text texts : List ℕ) → IsOneLine text

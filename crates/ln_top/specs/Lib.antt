@@ -1,16 +1,17 @@
 pub mod Said
 pub mod Stop
+pub mod Signature
 pub mod Plan
 pub mod Source
 pub mod Alike
 pub mod Graded
-pub mod Suits
 pub mod Steps
 pub mod Carried
 pub mod Lines
 pub mod Ready
 pub mod Columns
 pub mod Target
+pub mod Work
 pub mod Check
 pub mod Listing
 pub mod Emit
@@ -24,6 +25,7 @@ pub mod Run
 pub mod Factors
 pub mod Product
 pub mod Perturbed
+pub mod ByValue
 pub mod Watching
 pub mod Headline
 pub mod Products
@@ -33,7 +35,7 @@ pub mod Explain
 pub mod Explained
 pub mod Audit
 pub mod Audited
-pub mod Work
+pub mod Works
 pub mod Answer
 pub mod Causes
 pub mod Call

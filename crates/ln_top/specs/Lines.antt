@@ -2,7 +2,7 @@
 -- bytes for Out are gathered, and written in pieces.
 use Rattle.std.specs.Prelude.{◌≡◌, ◌≢◌, ℕ, Bool, true, false, ◌&&◌, List, [], ◌∷◌, ◌++◌}
 use Rattle.std.specs.Prelude.{Option, Result, Ok, Err}
-use Rattle.ln_base.specs.Outside.{Shown}
+use Rattle.ln_base.specs.Outside.{Shown, refused}
 use Rattle.ln_base.specs.declared.outside.Port.{Port}
 use Rattle.ln_base.specs.declared.outside.Port.TheVariants.{Out, Err as ErrPort}
 use Rattle.ln_top.specs.declared.status.End.{End}
@@ -55,7 +55,7 @@ pub data Takes {S R : Type 0} (step : Step S R) (good : R → Bool) (s : S) (r :
       → now ≡ put_both [] e was → Takes step good s r puts result held grown was now z
   tore : (o e : List ℕ) (m : S) → step s r o e m → Rises puts → result ≡ Err Write → PutsFronts [] e was now
       → Takes step good s r puts result held grown was now z
-  left_off : IsCalm puts → result ≡ Err Memory → grown ≡ held → now ≡ was
+  left_off : IsCalm puts → result ≡ Err (Memory refused) → grown ≡ held → now ≡ was
       → Takes step good s r puts result held grown was now z
 
 -- records of which some bytes for Out are still held: all are worked on, or a piece was cut off, or they were given up between two
@@ -66,7 +66,7 @@ pub data Gathers {S R : Type 0} (step : Step S R) (good : R → Bool) (s : S) (r
   torn : (done left : List R) (out err : List ℕ) (m : S) → records ≡ done ++ left → Lines step s done out err m → Rises puts
       → PutsFronts out err was now → result ≡ Err Write → Gathers step good s records puts result held was now z
   given_up : (done left : List R) (sent err : List ℕ) (m : S) → IsCalm puts → records ≡ done ++ left
-      → Lines step s done (sent ++ held) err m → now ≡ put_both sent err was → result ≡ Err Memory
+      → Lines step s done (sent ++ held) err m → now ≡ put_both sent err was → result ≡ Err (Memory refused)
       → Gathers step good s records puts result held was now z
 
 -- what is held stays, or it was written, or cut off by a fault of writing
@@ -89,7 +89,7 @@ pub data Ran {S R : Type 0} (step : Step S R) (good : R → Bool) (s : S) (recor
   cut : (done left : List R) (out err : List ℕ) (m : S) → records ≡ done ++ left → Lines step s done out err m → Rises puts
       → PutsFronts out err was now → result ≡ Err Write → Ran step good s records puts result was now z
   short : (done left : List R) (out err : List ℕ) (m : S) → IsCalm puts → records ≡ done ++ left → Lines step s done out err m
-      → now ≡ put_both out err was → result ≡ Err Memory → Ran step good s records puts result was now z
+      → now ≡ put_both out err was → result ≡ Err (Memory refused) → Ran step good s records puts result was now z
 
 -- one record whose bytes are written at once: all of them, or they were cut off
 pub record PutsOne {S R : Type 0} (step : Step S R) (s : S) (r : R)

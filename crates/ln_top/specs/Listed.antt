@@ -1,5 +1,5 @@
 -- States that the listing that `list` writes has the perturbed signs, and that `verify` finds it valid.
-use Rattle.std.specs.Prelude.{◌≡◌, ℕ, List, [], ◌∷◌, codes, Option}
+use Rattle.std.specs.Prelude.{◌≡◌, ◌≢◌, ℕ, pos, List, [], ◌∷◌, codes, Option}
 use Rattle.ln_base.specs.Outside.{Shelf, Shown}
 use Rattle.ln_tree.specs.declared.shape.Shape.{Shape}
 use Rattle.ln_tree.specs.Names.{name_bytes}
@@ -14,35 +14,49 @@ use Rattle.ln_verify.specs.Line.{Written}
 use Rattle.ln_verify.specs.Verified.{IsValidFor}
 use Rattle.ln_top.specs.declared.status.End.TheVariants.{Done}
 use Rattle.ln_top.specs.declared.words.Command.TheVariants as command
+use Rattle.ln_top.specs.ByValue.{IsVerdictByValue, plain_value}
 use Rattle.ln_top.specs.Perturbed.{FilterDecides, IsSignOn, NotZeroWithoutParams}
 use Rattle.ln_top.specs.Said.{line, put_both, whole}
 use Rattle.ln_top.specs.Steps.{Given, WhereGiven}
 use Rattle.ln_top.specs.Verify.{VerifySaid}
 
 -- on this row the machine of the part has a verdict, so no operation leaves its certified width; whatever verdict it has, its sign is
--- the perturbed sign of the predicate. Without params it isn't 0. Where the filter decides, no operation is done in 128 bits
+-- the perturbed sign of the predicate. Without params it isn't 0
 pub record GivesPerturbedSign (p : PredOf) (part : Part) (row : Row) : Type 0 where
   pub verdict : Verdict
   pub answers : IsVerdict part row verdict
   pub perturbed : (v : Verdict) → IsVerdict part row v → IsSignOn p row v.sign
   pub never_zero : (v : Verdict) → IsVerdict part row v → NotZeroWithoutParams p v.sign
-  pub narrow : FilterDecides p row → (v : Verdict) → IsVerdict part row v → v.wide ≡ 0
 
--- the machine's part over the predicate's sites and variables, of what the listing writes for it, has a verdict with the perturbed sign on each row
--- in its declared ranges
-pub record PartGivesSigns (p : PredOf) (w : Written) : Type 0 where
+-- the same; and where the filter decides, no operation is done in 128 bits; where the value on the row isn't 0, that decides
+pub record GivesFilteredSign (p : PredOf) (part : Part) (row : Row) : Type 0 where
+  pub signed : GivesPerturbedSign p part row
+  pub narrow : FilterDecides p row → (v : Verdict) → IsVerdict part row v → v.wide ≡ 0
+  pub plain : plain_value p row ≢ pos 0 → (v : Verdict) → IsVerdict part row v → IsVerdictByValue p row v
+
+-- what is claimed of a predicate, a part and a row
+abbrev pub Claim : Type 1
+Claim = PredOf → Part → Row → Type 0
+
+-- the claim holds of the machine's part over the predicate's sites and variables, of what the listing writes for it, on each row in its
+-- declared ranges
+pub record PartGives (claim : Claim) (p : PredOf) (w : Written) : Type 0 where
   pub shape : Shape
   pub name : name_bytes shape.name ≡ p.name
   pub sites : shape.sites ≡ p.sites
   pub vars : shape.vars ≡ p.vars
-  pub rows : (row : Row) → InRange p.sites p.vars row → GivesPerturbedSign p (part_of shape w) row
+  pub rows : (row : Row) → InRange p.sites p.vars row → claim p (part_of shape w) row
 
--- so does that of each predicate, in order
+-- so it does of the part of each predicate, in order
+abbrev pub PartsGive : Claim → List PredOf → List Written → Type 0
+PartsGive claim [] [] = Unit {0}
+PartsGive claim [] (w ∷ ws) = ⊥
+PartsGive claim (p ∷ ps) [] = ⊥
+PartsGive claim (p ∷ ps) (w ∷ ws) = PartGives claim p w × PartsGive claim ps ws
+
+-- the parts return the perturbed signs
 abbrev pub PartsGiveSigns : List PredOf → List Written → Type 0
-PartsGiveSigns [] [] = Unit {0}
-PartsGiveSigns [] (w ∷ ws) = ⊥
-PartsGiveSigns (p ∷ ps) [] = ⊥
-PartsGiveSigns (p ∷ ps) (w ∷ ws) = PartGivesSigns p w × PartsGiveSigns ps ws
+PartsGiveSigns ps ws = PartsGive GivesPerturbedSign ps ws
 
 -- what came to Out is the text of a listing that is valid for the source's predicates and whose parts return their signs, and nothing came
 -- to Err; and `verify` of a file that holds this text, over the same table, requires `valid`
@@ -51,7 +65,7 @@ pub record PutListing (g : Given) (was now : Option Shown) : Type 0 where
   pub listing : Listed
   pub text : ListText bytes listing.version (parts_of listing.entries)
   pub valid : IsValidFor g.table.preds listing
-  pub signs : PartsGiveSigns g.table.preds valid.valid.parts
+  pub signs : PartsGive GivesFilteredSign g.table.preds valid.valid.parts
   pub verified : (h : Given) → h.table ≡ g.table → h.texts ≡ bytes ∷ [] → VerifySaid h (whole Done (line (codes "valid")))
   pub shown : now ≡ put_both bytes [] was
 

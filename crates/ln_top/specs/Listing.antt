@@ -20,6 +20,8 @@ use Rattle.ln_top.specs.declared.status.End.{End}
 use Rattle.ln_top.specs.declared.status.End.TheVariants.{Done}
 use Rattle.ln_top.specs.Said.{Said, whole}
 use Rattle.ln_top.specs.Steps.{Given}
+use Rattle.ln_top.specs.Carried.{NoPart}
+use Rattle.ln_top.specs.Work.{Work}
 
 -- ---- what a listing can state
 -- each of these programs can be listed
@@ -79,3 +81,7 @@ pub data ListSaid (g : Given) : Said → Type 0 where
 -- how it ends, and where
 pub data ListEnds (g : Given) : End → Type 0 where
   done : ListEnds g Done
+
+-- the work of `list`
+abbrev pub list_work : Work
+list_work = record { owes = λ boxes. ListSaid; part = λ boxes g. NoPart; ends = ListEnds; one = ⊥ }

@@ -4,9 +4,9 @@ use Rattle.std.specs.Prelude.{bytes_eq, codes, string_bytes}
 use Rattle.std.specs.Prelude.{List, [], ◌∷◌, length, take, drop, map, Option, Some, None, option_map}
 use Rattle.ln_base.specs.Decimal.{is_digits, decimal_value}
 use Rattle.ln_top.specs.declared.words.Command.{Command}
-use Rattle.ln_top.specs.declared.words.Command.TheVariants.{Check, Run, Gen}
-use Rattle.ln_top.specs.declared.words.Command.TheVariants as command
 use Rattle.ln_top.specs.declared.words.Plan as code
+use Rattle.ln_top.specs.declared.words.Command.TheVariants.{Gen}
+use Rattle.ln_top.specs.Signature.{form, plain_commands, signature_of}
 
 -- the name of a source file, those of predicates and of further files, and the command
 pub record Plan : Type 0 where
@@ -15,41 +15,14 @@ pub record Plan : Type 0 where
   pub files : List (List ℕ)
   pub command : Command
 
--- after the source file come the names of predicates, this many at least and at most, and then this many further files
-pub record Form : Type 0 where
-  pub least : ℕ
-  pub most : ℕ
-  pub files : ℕ
-
--- `check FILE`, `list FILE`, `emit FILE`, `verify FILE LISTING`, `run FILE NAME ROWS`, `graded FILE NAME ROWS`, `edges FILE NAME
--- POINTS`, `explain FILE NAME ROWS`, `audit FILE NAME ROWS TRACE`, `gen FILE NAME SEED COUNT`, `product FILE NAME NAME.. ROWS`
-abbrev pub form : Command → Form
-form Check = record { least = 0; most = 0; files = 0 }
-form command.List = record { least = 0; most = 0; files = 0 }
-form command.Emit = record { least = 0; most = 0; files = 0 }
-form command.Verify = record { least = 0; most = 0; files = 1 }
-form Run = record { least = 1; most = 1; files = 1 }
-form command.Graded = record { least = 1; most = 1; files = 1 }
-form command.Product = record { least = 2; most = 8; files = 1 }
-form command.Edges = record { least = 1; most = 1; files = 1 }
-form command.Explain = record { least = 1; most = 1; files = 1 }
-form command.Audit = record { least = 1; most = 1; files = 2 }
-form (Gen seed count) = record { least = 1; most = 1; files = 0 }
+-- the command among these that a first word names
+abbrev pub named_among : List ℕ → List Command → Option Command
+named_among word [] = None
+named_among word (c ∷ cs) = if bytes_eq word (signature_of c).word then Some c else named_among word cs
 
 -- the command that a first word names; that of `gen` has numbers of its own
 abbrev pub named_command : List ℕ → Option Command
-named_command word =
-    if bytes_eq word (codes "check") then Some Check
-    else if bytes_eq word (codes "run") then Some Run
-    else if bytes_eq word (codes "product") then Some command.Product
-    else if bytes_eq word (codes "list") then Some command.List
-    else if bytes_eq word (codes "emit") then Some command.Emit
-    else if bytes_eq word (codes "verify") then Some command.Verify
-    else if bytes_eq word (codes "graded") then Some command.Graded
-    else if bytes_eq word (codes "edges") then Some command.Edges
-    else if bytes_eq word (codes "explain") then Some command.Explain
-    else if bytes_eq word (codes "audit") then Some command.Audit
-    else None
+named_command word = named_among word plain_commands
 
 -- a plan has as many names and files as its command takes
 pub record HasForm (p : Plan) : Type 0 where

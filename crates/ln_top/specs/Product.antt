@@ -18,7 +18,8 @@ use Rattle.ln_top.specs.Steps.{Given}
 use Rattle.ln_top.specs.Factors.{FactorsOf}
 use Rattle.ln_top.specs.Line.{decider_text, is_row, sign_text, stop_text}
 use Rattle.ln_top.specs.Lines.{Lines, all_good}
-use Rattle.ln_top.specs.Run.{HasRecords, IsWrongHeader, end_of}
+use Rattle.ln_top.specs.Run.{HasRecords, IsWrongHeader, RunEnds, end_of}
+use Rattle.ln_top.specs.Work.{Work}
 
 -- each factor has a verdict that the row requires of it
 abbrev pub AreDue : List PredOf → Row → List Verdict → Type 0
@@ -95,3 +96,7 @@ pub data ProductPart (g : Given) (out err : List ℕ) : Type 0 where
   first : (p : PredOf) (names : List (List ℕ)) (done left : Records)
       → HasRecords g p names (names ∷ done ++ left) → Lines (ProductStep p g.preds names) tt done out err tt
       → ProductPart g out err
+
+-- the work of `product`
+abbrev pub product_work : Work
+product_work = record { owes = λ boxes. ProductSaid; part = λ boxes. ProductPart; ends = RunEnds; one = Unit {0} }

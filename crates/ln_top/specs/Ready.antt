@@ -5,10 +5,10 @@ use Rattle.ln_tree.specs.Table.{PredOf, pred_of}
 use Rattle.ln_compile.specs.Accepted.{AreSound}
 use Rattle.ln_top.specs.declared.words.Command.{Command}
 use Rattle.ln_top.specs.declared.prepare.Ready.{Ready}
-use Rattle.ln_top.specs.Plan.{Plan, form}
 use Rattle.ln_top.specs.Source.{view}
-use Rattle.ln_top.specs.Suits.{Asks}
 use Rattle.ln_top.specs.Steps.{Each, Finds, Given, Prepares, gives, most_file}
+use Rattle.ln_top.specs.Plan.{Plan}
+use Rattle.ln_top.specs.Signature.{Asks, form}
 
 -- the predicates with these numbers
 abbrev pub AreNumbered : List PredOf → List ℕ → List PredOf → Type 0

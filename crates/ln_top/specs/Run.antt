@@ -1,13 +1,13 @@
 -- `run FILE NAME ROWS`: a line on Out for each record after the header, and the watchers' lines on Err. `graded FILE NAME ROWS` is the
 -- same in the other order of infinitesimals, without watchers.
 use Rattle.std.specs.Prelude.{◌≡◌, ◌≢◌, ℕ, Bool, true, false, List, [], ◌∷◌, ◌++◌, All, Ok, Err}
-use Rattle.ln_algebra.specs.Orders.{Rank}
 use Rattle.ln_tree.specs.Row.{Row}
 use Rattle.ln_tree.specs.Table.{PredOf}
 use Rattle.ln_rows.specs.Left.{Records, records_in}
 use Rattle.ln_watch.specs.Panel.{State}
 use Rattle.ln_rows.specs.Record.{read_row}
 use Rattle.ln_rows.specs.declared.record.RowStop.{RowStop}
+use Rattle.ln_algebra.specs.Orders.{ByDegree, BySmallest, Rank}
 use Rattle.ln_top.specs.declared.status.End.{End}
 use Rattle.ln_top.specs.declared.status.End.TheVariants.{Done, Rows}
 use Rattle.ln_top.specs.declared.stop.Why.TheVariants.{Header}
@@ -19,6 +19,7 @@ use Rattle.ln_top.specs.Line.{IsLineOf, is_row}
 use Rattle.ln_top.specs.Lines.{Lines, all_good}
 use Rattle.ln_top.specs.Target.{TargetOf, pred_in}
 use Rattle.ln_top.specs.Watching.{Watching, watching, next_lines, next, last_of}
+use Rattle.ln_top.specs.Work.{Work}
 
 -- what is written for a record: its line on Out, and on Err the lines of the watchers that are done after its verdict
 pub record RunStep (rank : Rank) (p : PredOf) (names : List (List ℕ))
@@ -100,3 +101,11 @@ pub data RunEnds (g : Given) : End → Type 0 where
       → HasRecords g p names records → IsWrongHeader names records → RunEnds g Rows
   refused : (p : PredOf) (names : List (List ℕ)) (before after : Records) (fields : List (List ℕ))
       → HasRecords g p names (names ∷ before ++ fields ∷ after) → IsNoRow p fields → RunEnds g Rows
+
+-- the work of `run`
+abbrev pub run_work : Work
+run_work = record { owes = RunSaid BySmallest; part = RunPart BySmallest; ends = RunEnds; one = Unit {0} }
+
+-- the work of `graded`
+abbrev pub graded_work : Work
+graded_work = record { owes = λ boxes. RunSaid ByDegree []; part = λ boxes. RunPart ByDegree []; ends = RunEnds; one = Unit {0} }

@@ -52,7 +52,7 @@ end_status end.Many = status.Many
 abbrev pub early_status : Early → Status
 early_status early.Read = status.Read
 early_status early.Write = status.Write
-early_status early.Memory = status.Memory
+early_status (early.Memory m) = status.Memory m
 
 -- the status of a result, which is an end or an early stop
 abbrev pub status_of : Result End Early → Status
@@ -70,7 +70,7 @@ code_of status.Invalid = 5
 code_of status.Read = 6
 code_of status.Write = 7
 code_of status.TooLong = 8
-code_of status.Memory = 9
+code_of (status.Memory m) = 9
 code_of status.Shape = 10
 code_of status.Many = 11
 

@@ -9,7 +9,7 @@ use Rattle.ln_top.specs.declared.stop.Why.TheVariants.{TooLong, Refused, NoPredi
 use Rattle.ln_top.specs.declared.words.Command.{Command}
 use Rattle.ln_top.specs.Plan.{Plan, plan_of}
 use Rattle.ln_top.specs.Source.{IsAccepted, IsRefusedAt}
-use Rattle.ln_top.specs.Suits.{Asks, objection}
+use Rattle.ln_top.specs.Signature.{Asks, objection}
 
 -- what a step comes to: it stops the command, or a file that it wants isn't there, or it has a value to go on with
 pub data Outcome (A : Type 0) : Type 0 where

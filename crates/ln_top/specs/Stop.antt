@@ -1,5 +1,6 @@
 -- Defines why a command stops before its work: an end that is required with its line, or a fault of reading, or out of memory.
 use Rattle.std.specs.Prelude.{ℕ, List, ◌++◌, codes, decimal, Option, Some, None}
+use Rattle.ln_base.specs.Outside.{refused}
 use Rattle.ln_base.specs.declared.span.Span.{Span}
 use Rattle.ln_compile.specs.declared.refusal.Refusal.{Refusal}
 use Rattle.ln_compile.specs.Refused.{span_of, word_of}
@@ -55,7 +56,7 @@ said_of why = error_line (why_end why) (why_text why)
 
 -- the stop for a refusal: its place is the start of its span; out of memory has none and has no line
 abbrev pub stop_at : List ℕ → Refusal → Option Span → Stop
-stop_at bytes r None = Memory
+stop_at bytes r None = Memory refused
 stop_at bytes r (Some at) = Tell (Refused r (place_at bytes at))
 
 -- the stop for a refusal of a source of these bytes, at the span that the refusal has

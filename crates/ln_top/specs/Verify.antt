@@ -6,6 +6,8 @@ use Rattle.ln_top.specs.declared.status.End.{End}
 use Rattle.ln_top.specs.declared.status.End.TheVariants.{Done, Invalid}
 use Rattle.ln_top.specs.Said.{Said, line, whole}
 use Rattle.ln_top.specs.Steps.{Given}
+use Rattle.ln_top.specs.Carried.{NoPart}
+use Rattle.ln_top.specs.Work.{Work}
 
 -- the further file is the text of this listing
 pub record IsListed (g : Given) (l : Listed) : Type 0 where
@@ -33,3 +35,7 @@ pub data VerifySaid (g : Given) : Said → Type 0 where
 pub data VerifyEnds (g : Given) : End → Type 0 where
   done : HasValid g → VerifyEnds g Done
   faulty : (at : ℕ) → HasFault g at → VerifyEnds g Invalid
+
+-- the work of `verify`
+abbrev pub verify_work : Work
+verify_work = record { owes = λ boxes. VerifySaid; part = λ boxes g. NoPart; ends = VerifyEnds; one = Unit {0} }

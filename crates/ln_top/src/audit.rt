@@ -48,7 +48,7 @@ fn audited(alloc: Global, p: &Pred, rows: &mut Rows<'_>, trace: &[u8]) -> Result
     match trace_lines(alloc, trace) {
         Ok(mut lines) => judged(alloc, p, rows, &mut lines),
         Err(TraceStop::Form(at)) => Ok(Judged::Wrong(at)),
-        Err(TraceStop::NoMemory) => Err(NoMemory),
+        Err(TraceStop::NoMemory(e)) => Err(e),
     }
 }
 
@@ -73,9 +73,7 @@ fn put_judged<C: Console>(
     ensures { PutsOrStops ((word.now ++ decimal n) ++ codes "\n") end
         (count (C.faults con.old) (C.faults con.new)) result (C.shown con.old) (C.shown con.new) }
 {
-    let Ok(text) = numbered(alloc, word, n) else {
-        return Err(Early::Memory);
-    };
+    let text = numbered(alloc, word, n)?;
     put_text(con, &text, end)
 }
 
@@ -96,7 +94,7 @@ fn audit_rows<C: Console>(
     match audited(alloc, p, rows, trace) {
         Ok(Judged::Agreed(n)) => put_judged(alloc, con, b"agreed ", n, End::Done),
         Ok(Judged::Wrong(at)) => put_judged(alloc, con, b"wrong ", at, End::Invalid),
-        Err(_) => Err(Early::Memory),
+        Err(e) => Err(Early::Memory(e)),
     }
 }
 
@@ -126,7 +124,7 @@ fn audit_records<C: Console>(
     match take_header(t, p, rows) {
         Ok(true) => audit_rows(alloc, con, p, rows, trace),
         Ok(false) => say(alloc, con, Stop::Tell(Why::Header)),
-        Err(_) => Err(Early::Memory),
+        Err(e) => Err(Early::Memory(e)),
     }
 }
 

@@ -43,8 +43,6 @@ pub(crate) fn work<C: Console>(alloc: Global, con: &mut C, ready: &Ready) -> Res
     ensures { (g : Given) → StandsFor ready.now g → CarriesOut (CheckSaid g) NoPart ⊥ ⊥
         (count (C.faults con.old) (C.faults con.new)) result (C.shown con.old) (C.shown con.new) }
 {
-    let Ok(text) = counts(alloc, &ready.compiled) else {
-        return Err(Early::Memory);
-    };
+    let text = counts(alloc, &ready.compiled)?;
     put_text(con, &text, End::Done)
 }

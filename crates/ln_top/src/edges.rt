@@ -71,7 +71,7 @@ fn points_after(alloc: Global, site: &Site, rows: &mut Rows<'_>) -> Result<Vec<P
         Ok(Found::Points(points)) => Ok(points),
         Ok(Found::Many) => Err(Stop::Tell(Why::Many)),
         Ok(Found::NoPoint(n)) => Err(Stop::Tell(Why::Point(n))),
-        Err(_) => Err(Stop::Memory),
+        Err(e) => Err(Stop::Memory(e)),
     }
 }
 
@@ -86,7 +86,7 @@ fn points(alloc: Global, ready: &Ready) -> Result<Vec<Point>, Stop>
     match rows.point_header(site) {
         Ok(true) => points_after(alloc, site, &mut rows),
         Ok(false) => Err(Stop::Tell(Why::Header)),
-        Err(_) => Err(Stop::Memory),
+        Err(e) => Err(Stop::Memory(e)),
     }
 }
 
@@ -114,9 +114,7 @@ fn put_edges<C: Console>(
     ensures { (g : Given) → StandsFor ready.now g → CarriesOut (EdgesSaid g) NoPart ⊥ ⊥
         (count (C.faults con.old) (C.faults con.new)) result (C.shown con.old) (C.shown con.new) }
 {
-    let Ok(text) = lines(alloc, ready, points) else {
-        return Err(Early::Memory);
-    };
+    let text = lines(alloc, ready, points)?;
     put_text(con, &text, End::Done)
 }
 

@@ -46,8 +46,6 @@ pub(crate) fn work<C: Console>(alloc: Global, con: &mut C, ready: &Ready) -> Res
     ensures { (g : Given) → StandsFor ready.now g → CarriesOut (EmitSaid g) NoPart ⊥ ⊥
         (count (C.faults con.old) (C.faults con.new)) result (C.shown con.old) (C.shown con.new) }
 {
-    let Ok(text) = emitted(alloc, &ready.compiled) else {
-        return Err(Early::Memory);
-    };
+    let text = emitted(alloc, &ready.compiled)?;
     put_text(con, &text, End::Done)
 }

@@ -1,5 +1,6 @@
 //! The calls that main makes around `lnc`: whether watchers look on, and the exit code.
 ghost use Rattle.std.specs.Prelude.{◌≡◌, map, string_bytes, IfOk, OnErr};
+ghost use Rattle.ln_base.specs.Outside.{refused};
 ghost use Rattle.ln_top.specs.Exit.{is_gen};
 ghost use Rattle.ln_top.specs.Said.{code_of};
 ghost use Rattle.ln_top.specs.declared.status.Status.TheVariants.{Memory};
@@ -21,10 +22,10 @@ pub fn has_watchers(words: &[String]) -> bool
 /// could be called.
 pub fn exit_code(ended: Result<Status, NoMemory>) -> u8
     ensures status { IfOk ended (λ s. result ≡ code_of s) }
-    ensures memory { OnErr ended (result ≡ code_of Memory) }
+    ensures memory { OnErr ended (result ≡ code_of (Memory refused)) }
 {
     match ended {
         Ok(status) => status.code(),
-        Err(_) => Status::Memory.code(),
+        Err(e) => Status::Memory(e).code(),
     }
 }

@@ -79,7 +79,7 @@ fn take_record(
 {
     match add_lines(alloc, target, s, number, read, row, text) {
         Ok(right) => Ok(right),
-        Err(_) => Err(Early::Memory),
+        Err(e) => Err(Early::Memory(e)),
     }
 }
 
@@ -119,7 +119,7 @@ fn put_records<C: Console>(
                 Err(early) => return Err(early),
             },
             Ok(None) => return Ok(good),
-            Err(_) => return Err(Early::Memory),
+            Err(e) => return Err(Early::Memory(e)),
         }
     }
 }
@@ -141,9 +141,7 @@ fn explain_rows<C: Console>(
         → CarriesOut (ExplainRest g) (ExplainRestPart g) ⊥ ⊥
         (count (C.faults con.old) (C.faults con.new)) result (C.shown con.old) (C.shown con.new) }
 {
-    let Ok(mut text) = Vec::with_capacity(alloc, PIECE) else {
-        return Err(Early::Memory);
-    };
+    let mut text = Vec::with_capacity(alloc, PIECE)?;
     let ran = put_records(alloc, con, target, s, rows, &mut text);
     match put_rest(con, &text, ran) {
         Ok(good) => Ok(end_of(good)),
@@ -166,9 +164,7 @@ fn explain_all<C: Console>(
         → CarriesOut (ExplainSaid g) (ExplainPart g) ⊥ ⊥
         (count (C.faults con.old) (C.faults con.new)) result (C.shown con.old) (C.shown con.new) }
 {
-    let Ok(mut scratch) = target.scratch(alloc) else {
-        return Err(Early::Memory);
-    };
+    let mut scratch = target.scratch(alloc)?;
     if !put_out(con, b"trace 1\n") {
         return Err(Early::Write);
     }
@@ -192,7 +188,7 @@ fn explain_records<C: Console>(
     match target.take_header(rows) {
         Ok(true) => explain_all(alloc, con, target, rows),
         Ok(false) => say(alloc, con, Stop::Tell(Why::Header)),
-        Err(_) => Err(Early::Memory),
+        Err(e) => Err(Early::Memory(e)),
     }
 }
 
@@ -220,8 +216,6 @@ pub(crate) fn work<C: Console>(alloc: Global, con: &mut C, ready: &Ready) -> Res
     ensures { (g : Given) → StandsFor ready.now g → CarriesOut (ExplainSaid g) (ExplainPart g) ⊥ ⊥
         (count (C.faults con.old) (C.faults con.new)) result (C.shown con.old) (C.shown con.new) }
 {
-    let Ok(target) = one_target(alloc, ready) else {
-        return Err(Early::Memory);
-    };
+    let target = one_target(alloc, ready)?;
     explain_file(alloc, con, &target, short_text(ready))
 }

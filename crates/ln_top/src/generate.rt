@@ -117,9 +117,7 @@ fn run_made<C: Console>(
         → CarriesOut (GenSaid seed rows (states_of kind_of tally_of watchers.items) g) NoPart ⊥ ⊥
         (count (C.faults con.old) (C.faults con.new)) result (C.shown con.old) (C.shown con.new) }
 {
-    let Ok(mut scratch) = target.scratch(alloc) else {
-        return Err(Early::Memory);
-    };
+    let mut scratch = target.scratch(alloc)?;
     put_made(con, target, &mut scratch, seed, rows, watchers)
 }
 
@@ -138,8 +136,6 @@ pub(crate) fn work<C: Console>(
         → CarriesOut (GenSaid seed rows (states_of kind_of tally_of watchers.items) g) NoPart ⊥ ⊥
         (count (C.faults con.old) (C.faults con.new)) result (C.shown con.old) (C.shown con.new) }
 {
-    let Ok(target) = one_target(alloc, ready) else {
-        return Err(Early::Memory);
-    };
+    let target = one_target(alloc, ready)?;
     run_made(alloc, con, &target, seed, rows, watchers)
 }

@@ -12,7 +12,7 @@ ghost use Rattle.ln_top.specs.Ready.{AreNumbered, IsReadyFor, StandsFor};
 ghost use Rattle.ln_top.specs.Run.{RunPart, RunSaid};
 ghost use Rattle.ln_top.specs.Said.{count};
 ghost use Rattle.ln_top.specs.Steps.{Given};
-ghost use Rattle.ln_top.specs.Suits.{objection};
+ghost use Rattle.ln_top.specs.Signature.{objection};
 ghost use Rattle.ln_watch.specs.Panel.{states_of};
 
 use crate::prepare::{Ready, degree_target, one_text};
@@ -24,7 +24,7 @@ use crate::words::Command;
 use ln_base::{Console, NoMemory};
 use ln_code::Program;
 use ln_compile::Checked;
-use ln_graded::graded;
+use ln_graded::{GradedStop, graded};
 use ln_poly::Poly;
 use ln_stage::{StageStop, graded_stages};
 use ln_tree::{Pred, Shape};
@@ -48,7 +48,7 @@ fn is_within(alloc: Global, f: &Poly, s: &Shape) -> Result<bool, NoMemory>
 {
     let _found = match graded_stages(alloc, f, s, MOST, HEAVY) {
         Ok(found) => found,
-        Err(StageStop::NoMemory) => return Err(NoMemory),
+        Err(StageStop::NoMemory(e)) => return Err(e),
         Err(StageStop::Zero) => return Ok(false),
         Err(StageStop::Stages) => return Ok(false),
     };
@@ -100,15 +100,18 @@ pub fn graded_objection(bytes: &[u8], c: &Checked, numbers: &[usize]) -> Why
     }
 }
 
-// The program by total degree of what a program and a polynomial stand for.
+// The program by total degree of what a program and a polynomial stand for, whose stages in that order are few.
 fn made(alloc: Global, f: &Poly, p: &Program) -> Result<Program, NoMemory>
     requires poly { IsGradable p.now.shape.vars f.now }
     requires begins { Begins p.now.shape f.now p.now }
+    requires few { (lists : List (List (List ℕ))) → AreStageListsIn ByDegree p.now.shape.sites p.now.shape.vars f.now lists
+        → Passes (length p.now.shape.vars) f.now 262144 131072 lists → ⊥ }
     ensures { IfOk result (IsGraded p.now.shape f.now p.now) }
 {
     match graded(alloc, f, p.shape(), p, MOST, HEAVY) {
         Ok(q) => Ok(q),
-        Err(_) => Err(NoMemory),
+        Err(GradedStop::NoMemory(e)) => Err(e),
+        Err(GradedStop::Stages) => unreachable!(),
     }
 }
 
@@ -138,9 +141,7 @@ pub(crate) fn work<C: Console>(alloc: Global, con: &mut C, ready: &Ready) -> Res
         → CarriesOut (RunSaid ByDegree [] g) (RunPart ByDegree [] g) ⊥ ⊥
         (count (C.faults con.old) (C.faults con.new)) result (C.shown con.old) (C.shown con.new) }
 {
-    let Ok(target) = degree_target(alloc, ready) else {
-        return Err(Early::Memory);
-    };
+    let target = degree_target(alloc, ready)?;
     let watchers = no_watchers(alloc);
     run_text(alloc, con, &target, one_text(ready), watchers)
 }

@@ -1,14 +1,15 @@
-//! Laws: words and files whose bytes are known end in one way, and require one output.
+//! Laws: words and files whose bytes are known end in one way, and require one output; and what decides a row whose value isn't 0.
 ghost use Rattle.std.specs.Prelude.{◌≡◌, ℕ, List, Some};
 ghost use Rattle.ln_base.specs.Outside.{Shelf};
 ghost use Rattle.ln_watch.specs.Panel.{State};
 ghost use Rattle.ln_top.specs.declared.status.End.{End};
 ghost use Rattle.ln_top.specs.Said.{Said};
 ghost use Rattle.ln_top.specs.Answer.{Answer};
+ghost use Rattle.ln_top.specs.ByValue.{ValuesDecide};
 ghost use Rattle.ln_top.specs.Causes.{Ends};
 ghost use Rattle.ln_top.specs.Plan.{Plan};
 ghost use Rattle.ln_top.specs.Steps.{Outcome, Given, Prepares};
-ghost use Rattle.ln_top.specs.Work.{AreOneValued};
+ghost use Rattle.ln_top.specs.Works.{AreOneValued};
 
 /// A law: over files whose bytes are known the steps of a plan come to one thing.
 pub fn one_prepared()
@@ -26,4 +27,11 @@ pub fn one_end()
 pub fn one_answer()
     ensures { (words : List (List ℕ)) (shelf : Shelf) (boxes : List State) → AreOneValued words
         → (a b : Said) → Answer words (Some shelf) boxes a → Answer words (Some shelf) boxes b → a ≡ b }
+{}
+
+/// A law: where the value of a predicate on a row in range isn't 0, the required verdict has its sign. Where the filter decides the row
+/// the verdict is the filter's, by one call and nothing in 128 bits; else it is that of block 0, by one call after the filter's, if there
+/// is a filter.
+pub fn values_decide()
+    ensures { ValuesDecide }
 {}

@@ -6,7 +6,7 @@ ghost use Rattle.ln_base.specs.Outside.{Rose};
 ghost use Rattle.ln_tree.specs.Table.{PredOf, pred_of};
 ghost use Rattle.ln_top.specs.Plan.{with_bytes};
 ghost use Rattle.ln_top.specs.Source.{view};
-ghost use Rattle.ln_top.specs.Suits.{Asks, objection};
+ghost use Rattle.ln_top.specs.Signature.{Asks, objection};
 ghost use Rattle.ln_top.specs.Steps.{Each, Finds, Given, Prepares, Reads, Suits, gives, most_file};
 ghost use Rattle.ln_top.specs.Carried.{Halts};
 ghost use Rattle.ln_top.specs.Target.{IsGivenBy};
@@ -55,7 +55,7 @@ fn file<F: Files>(alloc: Global, files: &mut F, name: &str, limit: usize) -> Res
         Ok(bytes) => Ok(bytes),
         Err(ReadStop::Fault) => Err(Stop::Read),
         Err(ReadStop::TooLong) => Err(Stop::Tell(Why::TooLong)),
-        Err(ReadStop::NoMemory) => Err(Stop::Memory),
+        Err(ReadStop::NoMemory(e)) => Err(Stop::Memory(e)),
     }
 }
 
@@ -70,9 +70,7 @@ fn numbers(alloc: Global, c: &Checked, names: &[String]) -> Result<Vec<usize>, S
         let Some(i) = c.find(name.as_str()) else {
             return Err(Stop::Tell(Why::NoPredicate));
         };
-        let Ok(()) = numbers.push(i) else {
-            return Err(Stop::Memory);
-        };
+        numbers.push(i)?;
     }
     Ok(numbers)
 }
@@ -91,9 +89,7 @@ fn texts<F: Files>(alloc: Global, files: &mut F, names: &[String]) -> Result<Vec
     'names: for name in names {
         match file(alloc, files, name.as_str(), FILE_LIMIT) {
             Ok(text) => {
-                let Ok(()) = texts.push(text) else {
-                    return Err(Stop::Memory);
-                };
+                texts.push(text)?;
             }
             Err(stop) => return Err(stop),
         }
@@ -110,17 +106,10 @@ fn suits(alloc: Global, command: Command, c: &Checked, numbers: &[usize]) -> Res
         → Asks command preds → ⊥ }
 {
     match command {
-        Command::Check
-        | Command::Run
-        | Command::List
-        | Command::Emit
-        | Command::Verify
-        | Command::Explain
-        | Command::Audit
-        | Command::Gen(..) => Ok(true),
         Command::Product => Ok(alike(c.table().preds.as_slice(), numbers)),
         Command::Edges => Ok(one_of_three(c.table().preds.as_slice(), numbers)),
         Command::Graded => few_first(alloc, c, numbers),
+        _ => Ok(true),
     }
 }
 
@@ -132,17 +121,8 @@ fn objection(command: Command, bytes: &[u8], c: &Checked, numbers: &[usize]) -> 
         → result ≡ objection command bytes.now preds }
 {
     match command {
-        Command::Check
-        | Command::Run
-        | Command::List
-        | Command::Emit
-        | Command::Verify
-        | Command::Product
-        | Command::Edges
-        | Command::Explain
-        | Command::Audit
-        | Command::Gen(..) => Why::Shape,
         Command::Graded => graded_objection(bytes, c, numbers),
+        _ => Why::Shape,
     }
 }
 
@@ -165,7 +145,7 @@ fn suited(
     match suits(alloc, command, c, numbers) {
         Ok(true) => Ok(()),
         Ok(false) => Err(Stop::Tell(objection(command, bytes, c, numbers))),
-        Err(_) => Err(Stop::Memory),
+        Err(e) => Err(Stop::Memory(e)),
     }
 }
 

@@ -130,7 +130,7 @@ fn take_record(
     let said = sign_of(factors, room, read, row);
     match add_said(alloc, factors, said, room.verdicts(), text) {
         Ok(right) => Ok(right),
-        Err(_) => Err(Early::Memory),
+        Err(e) => Err(Early::Memory(e)),
     }
 }
 
@@ -166,7 +166,7 @@ fn put_records<C: Console>(
                 Err(early) => return Err(early),
             },
             Ok(None) => return Ok(good),
-            Err(_) => return Err(Early::Memory),
+            Err(e) => return Err(Early::Memory(e)),
         }
     }
 }
@@ -183,12 +183,8 @@ fn product_rows<C: Console>(
         → CarriesOut (ProductSaid g) (ProductPart g) ⊥ ⊥
         (count (C.faults con.old) (C.faults con.new)) result (C.shown con.old) (C.shown con.new) }
 {
-    let Ok(mut room) = factors.make_room(alloc) else {
-        return Err(Early::Memory);
-    };
-    let Ok(mut text) = Vec::with_capacity(alloc, PIECE + PRODUCT_ROOM) else {
-        return Err(Early::Memory);
-    };
+    let mut room = factors.make_room(alloc)?;
+    let mut text = Vec::with_capacity(alloc, PIECE + PRODUCT_ROOM)?;
     let ran = put_records(alloc, con, factors, &mut room, rows, &mut text);
     match put_rest(con, &text, ran) {
         Ok(good) => Ok(end_of(good)),
@@ -211,7 +207,7 @@ fn product_records<C: Console>(
     match factors.take_header(rows) {
         Ok(true) => product_rows(alloc, con, factors, rows),
         Ok(false) => say(alloc, con, Stop::Tell(Why::Header)),
-        Err(_) => Err(Early::Memory),
+        Err(e) => Err(Early::Memory(e)),
     }
 }
 
@@ -236,8 +232,6 @@ pub(crate) fn work<C: Console>(alloc: Global, con: &mut C, ready: &Ready) -> Res
     ensures { (g : Given) → StandsFor ready.now g → CarriesOut (ProductSaid g) (ProductPart g) ⊥ ⊥
         (count (C.faults con.old) (C.faults con.new)) result (C.shown con.old) (C.shown con.new) }
 {
-    let Ok(factors) = product_factors(alloc, ready) else {
-        return Err(Early::Memory);
-    };
+    let factors = product_factors(alloc, ready)?;
     product_file(alloc, con, &factors, one_text(ready))
 }

@@ -33,7 +33,7 @@ fn has_failed(ran: Result<bool, Early>) -> bool
     ensures { IsTrue result ↔ (ran ≡ Err Early.Write) }
 {
     match ran {
-        Ok(_) | Err(Early::Read | Early::Memory) => false,
+        Ok(_) | Err(Early::Read | Early::Memory(_)) => false,
         Err(Early::Write) => true,
     }
 }

@@ -109,7 +109,7 @@ fn take_record<C: Console>(
 {
     let said = match add_record(alloc, target, s, read, row, text) {
         Ok(said) => said,
-        Err(_) => return Err(Early::Memory),
+        Err(e) => return Err(Early::Memory(e)),
     };
     if !view(con, viewers, &said) {
         return Err(Early::Write);
@@ -151,7 +151,7 @@ fn put_records<C: Console>(
                 Err(early) => return Err(early),
             },
             Ok(None) => return Ok(good),
-            Err(_) => return Err(Early::Memory),
+            Err(e) => return Err(Early::Memory(e)),
         }
     }
 }
@@ -180,12 +180,8 @@ fn run_rows<C: Console>(
         (RunPart target.now.rank (states_of kind_of tally_of watchers.items) g) ⊥ ⊥
         (count (C.faults con.old) (C.faults con.new)) result (C.shown con.old) (C.shown con.new) }
 {
-    let Ok(mut scratch) = target.scratch(alloc) else {
-        return Err(Early::Memory);
-    };
-    let Ok(mut text) = Vec::with_capacity(alloc, PIECE + LINE_ROOM) else {
-        return Err(Early::Memory);
-    };
+    let mut scratch = target.scratch(alloc)?;
+    let mut text = Vec::with_capacity(alloc, PIECE + LINE_ROOM)?;
     let panel = Panel::new(watchers);
     let mut viewers = Viewers { seen: 0, panel };
     let ran = put_records(
@@ -219,7 +215,7 @@ fn run_records<C: Console>(
     match target.take_header(rows) {
         Ok(true) => run_rows(alloc, con, target, rows, watchers),
         Ok(false) => say(alloc, con, Stop::Tell(Why::Header)),
-        Err(_) => Err(Early::Memory),
+        Err(e) => Err(Early::Memory(e)),
     }
 }
 
@@ -253,8 +249,6 @@ pub(crate) fn work<C: Console>(
         (RunPart BySmallest (states_of kind_of tally_of watchers.items) g) ⊥ ⊥
         (count (C.faults con.old) (C.faults con.new)) result (C.shown con.old) (C.shown con.new) }
 {
-    let Ok(target) = one_target(alloc, ready) else {
-        return Err(Early::Memory);
-    };
+    let target = one_target(alloc, ready)?;
     run_text(alloc, con, &target, one_text(ready), watchers)
 }

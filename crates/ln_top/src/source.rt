@@ -26,7 +26,7 @@ fn stop_for(bytes: &[u8], r: Refusal) -> Stop
 {
     match r.span() {
         Some(at) => Stop::Tell(Why::Refused(r, place_at(bytes, at))),
-        None => Stop::Memory,
+        None => Stop::Memory(r.memory()),
     }
 }
 

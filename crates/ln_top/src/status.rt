@@ -2,6 +2,9 @@
 ghost use Rattle.std.specs.Prelude.{◌≡◌, Ok, Err};
 ghost use Rattle.ln_top.specs.Said.{end_status, early_status, status_of, code_of};
 
+use ln_base::NoMemory;
+use std::alloc::AllocError;
+
 /// An end that the words and the files require.
 #[derive(Clone, Copy)]
 pub enum End {
@@ -33,7 +36,29 @@ pub enum Early {
     /// By a fault of writing.
     Write,
     /// Memory ran out.
-    Memory,
+    Memory(NoMemory),
+}
+
+impl From<NoMemory> for Early {
+    ghost use Rattle.ln_top.specs.declared.status.Early.TheVariants.{Memory};
+    ghost use Rattle.ln_base.specs.Outside.{refused};
+
+    ghost from_gives = { λ _ e. e ≡ Memory refused };
+
+    fn from(e: NoMemory) -> Self {
+        Early::Memory(e)
+    }
+}
+
+impl From<AllocError> for Early {
+    ghost use Rattle.ln_top.specs.declared.status.Early.TheVariants.{Memory};
+    ghost use Rattle.ln_base.specs.Outside.{refused};
+
+    ghost from_gives = { λ _ e. e ≡ Memory refused };
+
+    fn from(e: AllocError) -> Self {
+        Early::Memory(NoMemory::from(e))
+    }
 }
 
 /// How a call of the program ended: by an end that is required or an early one.
@@ -58,7 +83,7 @@ pub enum Status {
     /// 8: a file is over its limit.
     TooLong,
     /// 9: memory ran out.
-    Memory,
+    Memory(NoMemory),
     /// 10: the arguments of the named predicates are not those that the command takes.
     Shape,
     /// 11: there are too many records.
@@ -80,7 +105,7 @@ impl Status {
             Status::Read => 6,
             Status::Write => 7,
             Status::TooLong => 8,
-            Status::Memory => 9,
+            Status::Memory(_) => 9,
             Status::Shape => 10,
             Status::Many => 11,
         }
@@ -114,7 +139,7 @@ impl Early {
         match self {
             Early::Read => Status::Read,
             Early::Write => Status::Write,
-            Early::Memory => Status::Memory,
+            Early::Memory(e) => Status::Memory(e),
         }
     }
 }

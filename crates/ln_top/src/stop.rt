@@ -1,5 +1,6 @@
 //! Why a command stops before its work, and the writing of whole texts.
 ghost use Rattle.std.specs.Prelude.{◌≡◌, ◌≢◌, ◌++◌, IfOk};
+ghost use Rattle.ln_base.specs.Outside.{refused};
 ghost use Rattle.ln_top.specs.Said.{count, line};
 ghost use Rattle.ln_top.specs.Stop.{placed_text, point_text, why_end};
 ghost use Rattle.ln_top.specs.Carried.{PutsText, Says, stop_line, stop_result};
@@ -8,7 +9,7 @@ use crate::put::add_number;
 use crate::status::{Early, End};
 use ln_base::{Console, NoMemory, Port, put_all};
 use ln_compile::Refusal;
-use std::alloc::Global;
+use std::alloc::{AllocFailed, Global};
 
 /// The line and the column of a byte of the source, from 1.
 #[derive(Clone, Copy)]
@@ -48,7 +49,29 @@ pub enum Stop {
     /// A file wasn't read.
     Read,
     /// Memory ran out.
-    Memory,
+    Memory(NoMemory),
+}
+
+impl From<NoMemory> for Stop {
+    ghost use Rattle.ln_top.specs.declared.stop.Stop.TheVariants.{Memory};
+    ghost use Rattle.ln_base.specs.Outside.{refused};
+
+    ghost from_gives = { λ _ e. e ≡ Memory refused };
+
+    fn from(e: NoMemory) -> Self {
+        Stop::Memory(e)
+    }
+}
+
+impl<T: Drop> From<AllocFailed<T>> for Stop {
+    ghost use Rattle.ln_top.specs.declared.stop.Stop.TheVariants.{Memory};
+    ghost use Rattle.ln_base.specs.Outside.{refused};
+
+    ghost from_gives = { λ _ e. e ≡ Memory refused };
+
+    fn from(e: AllocFailed<T>) -> Self {
+        Stop::Memory(NoMemory::from(e))
+    }
 }
 
 impl Why {
@@ -106,14 +129,14 @@ fn stop_result(stop: Stop) -> Result<End, Early>
     match stop {
         Stop::Tell(why) => Ok(why.end()),
         Stop::Read => Err(Early::Read),
-        Stop::Memory => Err(Early::Memory),
+        Stop::Memory(e) => Err(Early::Memory(e)),
     }
 }
 
 // Writes the line of a stop.
 fn put_line<C: Console>(con: &mut C, stop: Stop, text: &[u8]) -> Result<End, Early>
     requires line { text.now ≡ stop_line stop }
-    requires some { stop ≢ Stop.Memory }
+    requires some { stop ≢ Stop.Memory refused }
     ensures { Says stop
         (count (C.faults con.old) (C.faults con.new)) result (C.shown con.old) (C.shown con.new) }
 {
@@ -132,13 +155,13 @@ fn say_placed<C: Console>(
     place: Place,
 ) -> Result<End, Early>
     requires line { stop_line stop ≡ line (placed_text word.now place) }
-    requires some { stop ≢ Stop.Memory }
+    requires some { stop ≢ Stop.Memory refused }
     ensures { Says stop
         (count (C.faults con.old) (C.faults con.new)) result (C.shown con.old) (C.shown con.new) }
 {
     match placed_line(alloc, word, place) {
         Ok(text) => put_line(con, stop, &text),
-        Err(_) => Err(Early::Memory),
+        Err(e) => Err(Early::Memory(e)),
     }
 }
 
@@ -149,7 +172,7 @@ pub fn say<C: Console>(alloc: Global, con: &mut C, stop: Stop) -> Result<End, Ea
 {
     match stop {
         Stop::Read => put_line(con, stop, b"error read\n"),
-        Stop::Memory => Err(Early::Memory),
+        Stop::Memory(e) => Err(Early::Memory(e)),
         Stop::Tell(Why::Usage) => put_line(con, stop, b"error usage\n"),
         Stop::Tell(Why::TooLong) => put_line(con, stop, b"error long\n"),
         Stop::Tell(Why::NoPredicate) => put_line(con, stop, b"error predicate\n"),
@@ -158,7 +181,7 @@ pub fn say<C: Console>(alloc: Global, con: &mut C, stop: Stop) -> Result<End, Ea
         Stop::Tell(Why::Many) => put_line(con, stop, b"error many\n"),
         Stop::Tell(Why::Point(n)) => match point_line(alloc, n) {
             Ok(text) => put_line(con, stop, &text),
-            Err(_) => Err(Early::Memory),
+            Err(e) => Err(Early::Memory(e)),
         },
         Stop::Tell(Why::Refused(r, place)) => say_placed(alloc, con, stop, r.word(), place),
         Stop::Tell(Why::Stages(place)) => say_placed(alloc, con, stop, "stages", place),

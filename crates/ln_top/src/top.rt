@@ -17,7 +17,7 @@ ghost use Rattle.ln_top.specs.Ready.{IsReadyFor, StandsFor};
 ghost use Rattle.ln_top.specs.Said.{count};
 ghost use Rattle.ln_top.specs.Steps.{Given};
 ghost use Rattle.ln_top.specs.Trusted.{ValidTellsSigns};
-ghost use Rattle.ln_top.specs.Work.{WorkOwes, WorkPart};
+ghost use Rattle.ln_top.specs.Works.{WorkOwes, WorkPart};
 ghost use Rattle.ln_watch.specs.Panel.{states_of};
 
 use crate::prepare::{Ready, prepare};
@@ -136,12 +136,12 @@ pub fn lnc<F: Files, C: Console>(
         (count (F.faults files.old) (F.faults files.new)) (count (C.faults con.old) (C.faults con.new)) result
         (C.shown con.old) (C.shown con.new)) }
     // The headline: where records after the right header were worked on to their end, there is one line for each, and that of
-    // each that is a row in range begins with the perturbed sign of the predicate on it: the sign of the first coefficient that
-    // isn't 0, in the order of infinitesimals by the row's own indices, of the predicate at perturbed inputs.
+    // each that is a row in range is the perturbed sign of the predicate on it and what decides it: the sign of the first coefficient
+    // that isn't 0, in the order of infinitesimals by the row's own indices, of the predicate at perturbed inputs.
     ensures headline { IsSettled result → IfSome (F.told files.old) (λ shelf. SignsArePerturbed (map string_bytes words.now) shelf
         (states_of kind_of tally_of watchers.items) (C.shown con.old) (C.shown con.new)) }
-    // And in the other order of infinitesimals: where `graded` came to its end, each line of a row in range begins with the sign of the
-    // first coefficient that isn't 0 by total degree first.
+    // And in the other order of infinitesimals: where `graded` came to its end, each line of a row in range is the sign of the first
+    // coefficient that isn't 0 by total degree first, and what decides it.
     ensures graded { IsSettled result → IfSome (F.told files.old) (λ shelf. GradedSignsArePerturbed (map string_bytes words.now) shelf
         (C.shown con.old) (C.shown con.new)) }
     // The same of products: where `product` worked on records after the right header to their end, there is one line for each, and
@@ -150,12 +150,14 @@ pub fn lnc<F: Files, C: Console>(
     ensures products { IsSettled result → IfSome (F.told files.old) (λ shelf. ProductsArePerturbed (map string_bytes words.now) shelf
         (C.shown con.old) (C.shown con.new)) }
     // And the C: where `emit` came to its end, what is on Out is the text of a C file in which, for each predicate and each row in
-    // its declared ranges, the call of `ln_NAME` has a meaning, by the subset's written meaning: the perturbed sign.
+    // its declared ranges, the call of `ln_NAME` has a meaning, by the subset's written meaning: the perturbed sign. Where the value on
+    // the row isn't 0, it comes by one call and nothing in 128 bits where the filter decides, and else by the call of block 0.
     ensures emitted { IsSettled result → IfSome (F.told files.old) (λ shelf. CallsArePerturbed (map string_bytes words.now) shelf
         (C.shown con.old) (C.shown con.new)) }
     // And the listing: where `list` came to its end, what is on Out is the text of a listing that is valid, and `verify` of it says
     // so; for each predicate and each row in its declared ranges the machine of the listing's part has a verdict, so no operation
-    // leaves its certified width, and its sign is the perturbed sign.
+    // leaves its certified width, and its sign is the perturbed sign. Where the value on the row isn't 0, the filter decides, by one
+    // call and nothing in 128 bits, or block 0 does.
     ensures listed { IsSettled result → IfSome (F.told files.old) (λ shelf. ListingGivesSigns (map string_bytes words.now) shelf
         (C.shown con.old) (C.shown con.new)) }
     // And the edges: where `edges` came to its end, what is on Out is exactly one line for each ordered pair of points that is an edge,
@@ -163,14 +165,15 @@ pub fn lnc<F: Files, C: Console>(
     ensures edged { IsSettled result → IfSome (F.told files.old) (λ shelf. EdgesAreListed (map string_bytes words.now) shelf
         (C.shown con.old) (C.shown con.new)) }
     // And the trace: where `explain` came to its end, what is on Out is the text of a trace whose lines tell for each row in range the
-    // coefficients of its stages in order, up to and with the first that isn't 0, and the perturbed sign.
+    // coefficients of its stages in order, up to and with the first that isn't 0, and the perturbed sign; and `audit` agrees to it.
     ensures explained { IsSettled result → IfSome (F.told files.old) (λ shelf. TracesExplain (map string_bytes words.now) shelf
         (C.shown con.old) (C.shown con.new)) }
     // And any trace: where `audit` came to done, what the trace says of each record is right: no sign of an invalid one,
     // and of a row its perturbed sign.
     ensures audited { IfSome (F.told files.old) (λ shelf. AgreedTracesTellSigns (map string_bytes words.now) shelf result) }
     // And any listing: where `verify` came to done, the listing has a part for each predicate, and on each row in its declared ranges
-    // the machine of the part has a verdict, so no operation leaves its certified width; its sign is the perturbed sign.
+    // the machine of the part has a verdict, so no operation leaves its certified width; its sign is the perturbed sign, and without
+    // params not 0.
     ensures trusted { IfSome (F.told files.old) (λ shelf. ValidTellsSigns (map string_bytes words.now) shelf result) }
 {
     status_of(carry_out(alloc, words, files, con, watchers))

@@ -42,14 +42,10 @@ pub(crate) fn work<C: Console>(alloc: Global, con: &mut C, ready: &Ready) -> Res
     ensures { (g : Given) → StandsFor ready.now g → CarriesOut (VerifySaid g) NoPart ⊥ ⊥
         (count (C.faults con.old) (C.faults con.new)) result (C.shown con.old) (C.shown con.new) }
 {
-    let Ok(fault) = first_fault(alloc, ready) else {
-        return Err(Early::Memory);
-    };
+    let fault = first_fault(alloc, ready)?;
     let Some(at) = fault else {
         return put_text(con, b"valid\n", End::Done);
     };
-    let Ok(text) = fault_text(alloc, at) else {
-        return Err(Early::Memory);
-    };
+    let text = fault_text(alloc, at)?;
     put_text(con, &text, End::Invalid)
 }

@@ -1,7 +1,8 @@
 //! The words, and what a command needs.
-ghost use Rattle.std.specs.Prelude.{◌≡◌, ◌≤◌, ◌+◌, map, option_map, string_bytes, bytes_eq, if◌then◌else◌, IfSome, Some};
-ghost use Rattle.ln_top.specs.Plan.{HasForm, command_of, form, is_count, named_command, number_of, with_bytes};
+ghost use Rattle.std.specs.Prelude.{◌≡◌, ◌≤◌, ◌+◌, map, option_map, string_bytes, IfSome};
+ghost use Rattle.ln_top.specs.Plan.{HasForm, command_of, is_count, named_among, named_command, number_of, with_bytes};
 ghost use Rattle.ln_top.specs.Plan.{gen_plan, gen_with, plan_behind, plan_for, plan_of};
+ghost use Rattle.ln_top.specs.Signature.{form, signature_of};
 
 use ln_base::decimal::{all_digits, unsigned};
 use std::slice::from_ref;
@@ -46,52 +47,72 @@ pub struct Plan<'a> {
     pub command: Command,
 }
 
-// How many names and further files come after the source file.
+// The first word of a command, and how many names and further files come after the source file.
 #[derive(Clone, Copy)]
-struct Counts {
+struct Signature {
+    word: &'static str,
     least: usize,
     most: usize,
     files: usize,
 }
 
-fn form(command: Command) -> Counts
+fn signature_of(command: Command) -> Signature
+    ensures word { result.word.now ≡ (signature_of command).word }
     ensures least { result.least ≡ (form command).least }
     ensures most { result.most ≡ (form command).most }
     ensures files { result.files ≡ (form command).files }
     ensures small { result.most + result.files ≤ 16 }
     ensures ordered { result.least ≤ result.most }
 {
-    let (least, most, files) = match command {
-        Command::Check | Command::List | Command::Emit => (0, 0, 0),
-        Command::Verify => (0, 0, 1),
-        Command::Run | Command::Graded | Command::Edges | Command::Explain => (1, 1, 1),
-        Command::Audit => (1, 1, 2),
-        Command::Gen(..) => (1, 1, 0),
-        Command::Product => (2, 8, 1),
+    let (word, least, most, files) = match command {
+        Command::Check => ("check", 0, 0, 0),
+        Command::Run => ("run", 1, 1, 1),
+        Command::List => ("list", 0, 0, 0),
+        Command::Emit => ("emit", 0, 0, 0),
+        Command::Verify => ("verify", 0, 0, 1),
+        Command::Graded => ("graded", 1, 1, 1),
+        Command::Edges => ("edges", 1, 1, 1),
+        Command::Explain => ("explain", 1, 1, 1),
+        Command::Audit => ("audit", 1, 1, 2),
+        Command::Gen(..) => ("gen", 1, 1, 0),
+        Command::Product => ("product", 2, 8, 1),
     };
-    Counts { least, most, files }
+    Signature {
+        word,
+        least,
+        most,
+        files,
+    }
 }
 
-// This command where the word is its name, else the other.
-fn or_named(word: &str, name: &str, command: Command, other: Option<Command>) -> Option<Command>
-    ensures { result ≡ (if bytes_eq word.now name.now then Some command else other) }
+// The command among these that a word names.
+fn named_among(word: &str, commands: &[Command]) -> Option<Command>
+    ensures { result ≡ named_among word.now commands.now }
 {
-    if word == name { Some(command) } else { other }
+    'commands: for command in commands {
+        if word == signature_of(*command).word {
+            return Some(*command);
+        }
+    }
+    None
 }
 
 fn named_command(word: &str) -> Option<Command>
     ensures { result ≡ named_command word.now }
 {
-    let audit = or_named(word, "audit", Command::Audit, None);
-    let explain = or_named(word, "explain", Command::Explain, audit);
-    let edges = or_named(word, "edges", Command::Edges, explain);
-    let graded = or_named(word, "graded", Command::Graded, edges);
-    let verify = or_named(word, "verify", Command::Verify, graded);
-    let emit = or_named(word, "emit", Command::Emit, verify);
-    let list = or_named(word, "list", Command::List, emit);
-    let product = or_named(word, "product", Command::Product, list);
-    let run = or_named(word, "run", Command::Run, product);
-    or_named(word, "check", Command::Check, run)
+    let commands = [
+        Command::Check,
+        Command::Run,
+        Command::Product,
+        Command::List,
+        Command::Emit,
+        Command::Verify,
+        Command::Graded,
+        Command::Edges,
+        Command::Explain,
+        Command::Audit,
+    ];
+    named_among(word, &commands)
 }
 
 fn plan_for<'a>(command: Option<Command>, source: &'a str, rest: &'a [String]) -> Option<Plan<'a>>
@@ -99,10 +120,10 @@ fn plan_for<'a>(command: Option<Command>, source: &'a str, rest: &'a [String]) -
     ensures form { IfSome result (λ p. HasForm (with_bytes p)) }
 {
     let command = command?;
-    let form = form(command);
+    let signature = signature_of(command);
     let count = rest.len();
-    if form.least + form.files <= count && count <= form.most + form.files {
-        let behind = count - form.files;
+    if signature.least + signature.files <= count && count <= signature.most + signature.files {
+        let behind = count - signature.files;
         Some(Plan {
             source,
             names: &rest[..behind],

@@ -10,6 +10,7 @@ pub mod OneTelling
 pub mod Premises
 pub mod Reading
 pub mod Segmented
+pub mod SmallValues
 pub mod Standing
 pub mod Steps
 pub mod Telling

@@ -2,7 +2,6 @@
 pub mod Args
 pub mod OneLine
 pub mod Walk
-pub mod Fault
+pub mod Sound
 pub mod Whole
-pub mod Left
-pub mod OneFault
+pub mod Gathered

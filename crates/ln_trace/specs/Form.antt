@@ -1,8 +1,9 @@
 -- The form of traces, and the first line of a text at which it stops being a trace.
-use Rattle.std.specs.Prelude.{◌≡◌, ℕ, ℤ, ◌+◌, ◌<◌, ◌≤◌, List, [], ◌∷◌, ◌++◌, length, map, take}
+use Rattle.std.specs.Prelude.{◌≡◌, ℕ, ℤ, ◌≤◌, List, [], ◌∷◌, length, map}
 use Rattle.ln_base.specs.Exponents.{Each}
-use Rattle.ln_base.specs.Lines.{joined, lines}
+use Rattle.ln_base.specs.Lines.{joined}
 use Rattle.ln_base.specs.declared.sign.Sign.{Sign}
+use Rattle.ln_lines.specs.Fault.{IsFaultOf}
 use Rattle.ln_trace.specs.declared.line.TraceLine.{TraceLine}
 use Rattle.ln_trace.specs.declared.line.TraceLine.TheVariants.{Refused, Row, At}
 use Rattle.ln_trace.specs.declared.line.TraceLine.TheVariants as line
@@ -48,16 +49,7 @@ pub record IsWhole (texts : List (List ℕ)) : Type 0 where
   pub trace : IsTrace read
   pub same : texts ≡ texts_of read
 
--- these lines are the first of a trace
-abbrev pub IsFront : List (List ℕ) → Type 0
-IsFront texts = (more : List (List ℕ)) × IsWhole (texts ++ more)
-
 -- line `at`, from 1, is the first at which the lines so far are no prefix of a trace; where all lines are one and the bytes are
 -- no trace, it is one more than there are lines
-pub record IsFormFault (bytes : List ℕ) (at : ℕ) : Type 0 where
-  pub before : ℕ
-  pub number : at ≡ before + 1
-  pub within : before ≤ length (lines bytes)
-  pub front : IsFront (take before (lines bytes))
-  pub refused : before < length (lines bytes) → IsFront (take at (lines bytes)) → ⊥
-  pub unfinished : before ≡ length (lines bytes) → IsWhole (lines bytes) → ⊥
+abbrev pub IsFormFault : List ℕ → ℕ → Type 0
+IsFormFault bytes at = IsFaultOf IsWhole bytes at

@@ -1,6 +1,13 @@
 -- The laws of the text of traces.
-use Rattle.std.specs.Prelude.{◌≡◌, ℕ, ◌^◌, ◌<◌, ◌≤◌, unsigned_abs, List, ◌++◌, length}
+use Rattle.std.specs.Prelude.{◌≡◌, ℕ, ◌^◌, ◌<◌, ◌≤◌, unsigned_abs, true, List, ◌++◌, length}
 use Rattle.ln_base.specs.Exponents.{Each}
+use Rattle.ln_algebra.specs.Terms.{IsNormalOf}
+use Rattle.ln_algebra.specs.Tree.{InputsBelow}
+use Rattle.ln_algebra.specs.Weights.{weighted_sum}
+use Rattle.ln_bound.specs.Light.{most}
+use Rattle.ln_bound.specs.Value.{weights}
+use Rattle.ln_tree.specs.Variables.{is_laid_out}
+use Rattle.ln_poly.specs.Sparse.{Sparse, terms_of}
 use Rattle.ln_rows.specs.Left.{Records}
 use Rattle.ln_trace.specs.declared.line.TraceLine.{TraceLine}
 use Rattle.ln_trace.specs.declared.line.TraceLine.TheVariants as line
@@ -38,3 +45,17 @@ abbrev pub ExplainedIsTrace : Type 0
 ExplainedIsTrace =
     (s : Subject) (records : Records) (lines : List TraceLine) → HaveStages s → length s.vars ≤ 168 → length records < 2 ^ 32 →
     AreExplained s 1 records lines → Each HasSmallValue lines → TraceText (first_line ++ text_of_lines lines) lines
+
+-- the subject isn't too large as a whole: the sum of its normal polynomial, where each variable weighs 1 more than the largest absolute value of
+-- its range, is at most 2^127 - 1
+pub record HasSmallSum (s : Subject) : Type 0 where
+  pub inputs : InputsBelow (length s.vars) s.tree
+  pub poly : Sparse
+  pub normal : IsNormalOf (length s.vars) s.tree (terms_of (length s.vars) poly)
+  pub light : weighted_sum (weights s.vars) (terms_of (length s.vars) poly) ≤ most
+
+-- of such a subject each value that is explained is within the range, as no coefficient on a row in range exceeds that sum
+abbrev pub ExplainedIsSmall : Type 0
+ExplainedIsSmall =
+    (s : Subject) (records : Records) (lines : List TraceLine) → is_laid_out s.sites s.vars ≡ true → HasSmallSum s →
+    AreExplained s 1 records lines → Each HasSmallValue lines

@@ -1,13 +1,15 @@
 -- Defines which line is allowed where, and what its words say: for the reader, which goes line by line.
 -- The lemmas of proofs/Reading/Walk prove that this is the grammar.
-use Rattle.std.specs.Prelude.{◌≡◌, ℕ, Bool, true, false, if◌then◌else◌, List, [], ◌∷◌, Option, Some, None, bytes_eq, codes}
+use Rattle.std.specs.Prelude.{◌≡◌, ℕ, Bool, true, false, if◌then◌else◌, List, ◌∷◌, Option, Some, None, bytes_eq, codes}
+use Rattle.ln_lines.specs.Form.{Rules}
+use Rattle.ln_lines.specs.Form as form
 use Rattle.ln_trace.specs.declared.line.TraceLine.{TraceLine}
 use Rattle.ln_trace.specs.declared.line.TraceLine.TheVariants as line
 use Rattle.ln_trace.specs.declared.state.Kind.{Kind}
 use Rattle.ln_trace.specs.declared.state.Kind.TheVariants as kind
 use Rattle.ln_trace.specs.declared.state.State.{State}
 use Rattle.ln_trace.specs.declared.state.State.TheVariants.{Between, Opened, Within}
-use Rattle.ln_trace.specs.Text.{IsLine, text_of_line, words_of}
+use Rattle.ln_trace.specs.Text.{IsLine, first_line, words_of}
 
 -- ---- kinds
 -- the kind of a line
@@ -51,35 +53,22 @@ after kind.Sign = Between
 abbrev pub next_of : State → TraceLine → Option State
 next_of s l = if may s (kind_of l) then Some (after (kind_of l)) else None
 
--- the lines of a trace may end in this state
-abbrev pub is_end : State → Bool
-is_end Between = true
-is_end s = false
-
--- one line more, if the lines so far lead anywhere
-abbrev pub next_at : Option State → TraceLine → Option State
-next_at None l = None
-next_at (Some s) l = next_of s l
+-- the form of traces, as the reader of lines takes it
+abbrev pub trace_rules : Rules State TraceLine
+trace_rules = record { first = first_line; words_of = words_of; IsLine = IsLine; next_of = next_of; start = Between }
 
 -- where lines lead
 abbrev pub goes : Option State → List TraceLine → Option State
-goes o [] = o
-goes o (l ∷ ls) = goes (next_at o l) ls
+goes o ls = form.goes trace_rules o ls
 
 -- ---- lines
 -- the words are this line, which is allowed in the state and leads to the next
-pub record IsRead (s : State) (ws : List (List ℕ)) (l : TraceLine) (t : State) : Type 0 where
-  pub spelled : ws ≡ words_of l
-  pub range : IsLine l
-  pub goes : next_of s l ≡ Some t
+abbrev pub IsRead : State → List (List ℕ) → TraceLine → State → Type 0
+IsRead s ws l t = form.IsRead trace_rules s ws l t
 
 -- no line of these words is allowed in the state
 abbrev pub Refuses : State → List (List ℕ) → Type 0
-Refuses s ws = (l : TraceLine) (t : State) → IsRead s ws l t → ⊥
-
--- this text is no line that is allowed in the state
-abbrev pub RefusesText : State → List ℕ → Type 0
-RefusesText s t = (l : TraceLine) (u : State) → IsLine l → next_of s l ≡ Some u → t ≡ text_of_line l → ⊥
+Refuses s ws = form.Refuses trace_rules s ws
 
 -- the words follow the first word of this line of a kind
 pub record HasArgs (k : Kind) (ws : List (List ℕ)) (l : TraceLine) : Type 0 where

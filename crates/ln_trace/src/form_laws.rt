@@ -1,5 +1,5 @@
 //! Laws of the text of traces.
-ghost use Rattle.ln_trace.specs.FormLaw.{ExplainedIsTrace, FaultsAreNoTraces, OneFormFault, OneTrace, RecordsAreTraces};
+ghost use Rattle.ln_trace.specs.FormLaw.{ExplainedIsSmall, ExplainedIsTrace, FaultsAreNoTraces, OneFormFault, OneTrace, RecordsAreTraces};
 
 /// No bytes are two traces.
 ///
@@ -20,4 +20,11 @@ pub fn one_form_fault()
 pub fn records_are_traces()
     ensures records { RecordsAreTraces }
     ensures explained { ExplainedIsTrace }
+{}
+
+/// The values in what is explained of a predicate that isn't too large are within 2^127 - 1.
+///
+/// By it the trace of an accepted predicate has the text that the judge reads.
+pub fn explained_values_are_small()
+    ensures { ExplainedIsSmall }
 {}

@@ -1,27 +1,10 @@
 //! First words, by what the lines so far end in.
-ghost use Rattle.std.specs.Prelude.{◌≡◌, Some, None, if◌then◌else◌, bytes_eq};
-ghost use Rattle.ln_trace.specs.Reading.{after, is_end, kind_in};
+ghost use Rattle.std.specs.Prelude.{◌≡◌, ◌↔◌, IsTrue};
+ghost use Rattle.ln_trace.specs.Reading.{after, kind_in};
+ghost use Rattle.ln_trace.specs.declared.state.State.TheVariants.{Between};
 
 use crate::state::{Kind, State};
-
-fn only(w: &[u8], first: &[u8], one: Kind) -> Option<Kind>
-    ensures { result ≡ (if bytes_eq w.now first.now then Some one else None) }
-{
-    if w == first { Some(one) } else { None }
-}
-
-// One of two words.
-fn either(w: &[u8], first: &[u8], one: Kind, second: &[u8], two: Kind) -> Option<Kind>
-    ensures { result ≡ (if bytes_eq w.now first.now then Some one else if bytes_eq w.now second.now then Some two else None) }
-{
-    if w == first {
-        Some(one)
-    } else if w == second {
-        Some(two)
-    } else {
-        None
-    }
-}
+use ln_lines::{either, only};
 
 /// The kind of the line that begins with this word, where the lines so far end in this.
 pub fn kind(state: State, w: &[u8]) -> Option<Kind>
@@ -47,7 +30,7 @@ pub fn after(kind: Kind) -> State
 
 /// Whether the lines may end here.
 pub fn is_end(state: State) -> bool
-    ensures { result ≡ is_end state }
+    ensures { IsTrue result ↔ (state ≡ Between) }
 {
     match state {
         State::Between => true,

@@ -25,7 +25,7 @@ pub mod trace;
 pub mod words;
 
 pub use explain::{blocks_are_explained, explain_row};
-pub use form_laws::{one_form_fault, one_trace, records_are_traces};
+pub use form_laws::{explained_values_are_small, one_form_fault, one_trace, records_are_traces};
 pub use judged::Judged;
 pub use judging::{judge, judge_lines};
 pub use laws::{agreed_traces_give_signs, explained_is_agreed, lines_are_walked};

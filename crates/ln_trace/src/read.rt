@@ -7,21 +7,14 @@ ghost use Rattle.ln_trace.specs.Text.{first_line};
 ghost use Rattle.ln_trace.specs.Unread.{AreLeft, IsOpened};
 
 use crate::line::TraceLine;
-use crate::lines::{TraceLines, opened};
+use crate::lines::{TraceLines, Traces};
 use crate::trace::Trace;
-use ln_base::scan::{between, find};
 use ln_base::{NoMemory, Seq};
-use std::alloc::{AllocFailed, Global};
+use ln_lines::{first_line, opened};
+use std::alloc::Global;
 
 /// Why bytes are no trace.
-#[derive(Clone, Copy)]
-pub enum TraceStop {
-    /// The bytes are no trace: the first line, from 1, at which the lines so far are no prefix of a trace. A last line without a
-    /// line feed is such a line; where the bytes end too early it is the number of lines plus 1.
-    Form(u32),
-    /// Memory ran out.
-    NoMemory,
-}
+pub use ln_lines::TextStop as TraceStop;
 
 fn is_first(first: &[u8]) -> bool
     ensures { IsTrue result ↔ (first.now ≡ first_line) }
@@ -36,18 +29,14 @@ pub fn trace_lines<'a>(alloc: Global, bytes: &'a [u8]) -> Result<TraceLines<'a>,
     ensures ok { IfOk result (λ l. IsOpened bytes.now l) }
     ensures err { IfErr result (λ e. Stops bytes.now e) }
 {
-    if bytes.len() == 0 {
+    let Some((first, behind)) = first_line(bytes) else {
+        return Err(TraceStop::Form(1));
+    };
+    if !is_first(first) {
         return Err(TraceStop::Form(1));
     }
-    let end = find(bytes, 0, b'\n');
-    if end == bytes.len() {
-        return Err(TraceStop::Form(1));
-    }
-    if !is_first(between(bytes, 0, end + 1)) {
-        return Err(TraceStop::Form(1));
-    }
-    let lines = opened(alloc, bytes, end + 1)?;
-    Ok(lines)
+    let rest = opened(alloc, &Traces {}, bytes, behind)?;
+    Ok(TraceLines { rest })
 }
 
 // All lines that remain.
@@ -70,26 +59,4 @@ pub fn read_trace(alloc: Global, bytes: &[u8]) -> Result<Trace, TraceStop>
     let mut lines = trace_lines(alloc, bytes)?;
     let read = all_lines(alloc, &mut lines)?;
     Ok(Trace::of(read))
-}
-
-impl From<NoMemory> for TraceStop {
-    ghost use Rattle.std.specs.Prelude.{◌≡◌};
-    ghost use Rattle.ln_trace.specs.declared.read.TraceStop.TheVariants.{NoMemory as OutOfMemory};
-
-    ghost from_gives = { λ _ e. e ≡ OutOfMemory };
-
-    fn from(_e: NoMemory) -> Self {
-        TraceStop::NoMemory
-    }
-}
-
-impl<T: Drop> From<AllocFailed<T>> for TraceStop {
-    ghost use Rattle.std.specs.Prelude.{◌≡◌};
-    ghost use Rattle.ln_trace.specs.declared.read.TraceStop.TheVariants.{NoMemory as OutOfMemory};
-
-    ghost from_gives = { λ _ e. e ≡ OutOfMemory };
-
-    fn from(_e: AllocFailed<T>) -> Self {
-        TraceStop::NoMemory
-    }
 }

@@ -37,7 +37,7 @@ fn file_of(alloc: Global, text: &[u8]) -> Result<Option<CFile>, NoMemory> {
     match read_c(alloc, text) {
         Ok(file) => Ok(Some(file)),
         Err(CStop::NotSubset) => Ok(None),
-        Err(CStop::NoMemory) => Err(NoMemory),
+        Err(CStop::NoMemory(e)) => Err(e),
     }
 }
 

@@ -3,22 +3,19 @@
 //! Most cases of words and files run on the program itself (examples/checks/said.py). Here are those that need more: `failing` has streams and files that
 //! fail at each of their calls, `commands` streams that are too short and which files are read, `watchers` what watchers that are handed in say of
 //! records, `panel` what they say of verdicts, `listings` what `list` writes, read back, `emitted` what `emit` writes, read back and called, `repeated`
-//! predicates whose equal parts are computed once, `compare` random predicates against the definition of the perturbed sign, `direct` worked values of
-//! the program of that definition, `many` long runs, of which no clause speaks. `verdicts`, `verified` and `traced` call `run_row`, `verify` and
-//! `judge` themselves, `verified` on listings of `changed`. `products`, `graded`, `generated`, `edges` and `traces` have a case or two of each command,
-//! `spheres` a source.
+//! predicates whose equal parts are computed once, `many` long runs, of which no clause speaks. `verdicts`, `by_degree`, `verified` and `traced` call
+//! `run_row`, `graded`, `verify` and `judge` themselves, `verified` on listings of `changed`. `products`, `graded`, `generated`, `edges` and
+//! `traces` have a case or two of each command, `spheres` a source. Random predicates are compared by examples/checks/plain.py.
 //!
 //! One function of `support` calls `lnc`, and the others call that: each caller of `lnc` takes the check long.
 #![tactic(auto)]
 
 #[cfg(test)]
+mod by_degree;
+#[cfg(test)]
 mod changed;
 #[cfg(test)]
 mod commands;
-#[cfg(test)]
-mod compare;
-#[cfg(test)]
-mod direct;
 #[cfg(test)]
 mod edges;
 #[cfg(test)]

@@ -35,7 +35,7 @@ fn read_back(alloc: Global, text: &[u8]) -> Result<Option<(u32, u32, u32)>, NoMe
     }
     match read_listing(alloc, text) {
         Ok(listing) if listing.version() == 2 => Ok(Some(counts(listing.entries()))),
-        Err(ListStop::NoMemory) => Err(NoMemory),
+        Err(ListStop::NoMemory(e)) => Err(e),
         _ => Ok(None),
     }
 }

@@ -59,7 +59,7 @@ fn counted(alloc: Global, text: &[u8]) -> Result<Option<Counts>, NoMemory> {
     }
     match read_listing(alloc, text) {
         Ok(listing) => Ok(Some(Counts::of_first(listing.entries()))),
-        Err(ListStop::NoMemory) => Err(NoMemory),
+        Err(ListStop::NoMemory(e)) => Err(e),
         Err(_) => Ok(None),
     }
 }

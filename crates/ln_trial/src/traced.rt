@@ -84,7 +84,7 @@ fn first_failing(alloc: Global, trace: &Trace) -> Result<Option<u32>, NoMemory> 
     }
     match check(alloc, source) {
         Ok(c) => fault_in(alloc, accepted(&c).preds.as_slice(), trace),
-        Err(Refusal::NoMemory) => Err(NoMemory),
+        Err(Refusal::NoMemory(e)) => Err(e),
         Err(_) => Ok(None),
     }
 }
@@ -97,7 +97,7 @@ fn fails_at(alloc: Global, text: &[u8], line: u32) -> Result<bool, NoMemory> {
     match read_trace(alloc, text) {
         Ok(trace) => Ok(first_failing(alloc, &trace)? == Some(line)),
         Err(TraceStop::Form(at)) => Ok(at == line),
-        Err(TraceStop::NoMemory) => Err(NoMemory),
+        Err(TraceStop::NoMemory(e)) => Err(e),
     }
 }
 

@@ -20,7 +20,7 @@ fn listing_of(alloc: Global, text: &[u8]) -> Result<Option<Listing>, NoMemory> {
     }
     match read_listing(alloc, text) {
         Ok(listing) => Ok(Some(listing)),
-        Err(ListStop::NoMemory) => Err(NoMemory),
+        Err(ListStop::NoMemory(e)) => Err(e),
         Err(ListStop::Form(_)) => Ok(None),
     }
 }
@@ -42,7 +42,7 @@ fn judged(alloc: Global, source: &[u8], listing: &Listing) -> Result<Option<Judg
             let judged = verify(alloc, accepted(&c), listing)?;
             Ok(Some(judged))
         }
-        Err(Refusal::NoMemory) => Err(NoMemory),
+        Err(Refusal::NoMemory(e)) => Err(e),
         Err(_) => Ok(None),
     }
 }

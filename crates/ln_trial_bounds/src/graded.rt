@@ -4,6 +4,7 @@ ghost use Rattle.ln_poly.specs.Sparse.{AreBelow};
 
 use crate::sources::{poly_of, table};
 use crate::spheres::SPHERE;
+use ln_base::NoMemory;
 use ln_poly::Poly;
 use ln_stage::{StageStop, graded_stages};
 use ln_tree::{Pred, Shape};
@@ -57,9 +58,9 @@ fn counts_of(
     match preds {
         [p] => match poly_of(alloc, p) {
             Ok(f) => counts(alloc, &f, &p.shape, most, heavy),
-            Err(_) => Err(StageStop::NoMemory),
+            Err(_) => Err(StageStop::NoMemory(NoMemory::reported())),
         },
-        _ => Err(StageStop::NoMemory),
+        _ => Err(StageStop::NoMemory(NoMemory::reported())),
     }
 }
 
@@ -67,7 +68,7 @@ fn counts_of(
 fn counted(alloc: Global, source: &str, most: u64, heavy: u32) -> Result<(u64, usize), StageStop> {
     match table(alloc, source) {
         Some(t) => counts_of(alloc, t.preds.as_slice(), most, heavy),
-        None => Err(StageStop::NoMemory),
+        None => Err(StageStop::NoMemory(NoMemory::reported())),
     }
 }
 

@@ -222,7 +222,7 @@ fn count(alloc: Global, p: &Pred) -> Result<usize, u32> {
     match poly_of(alloc, p) {
         Ok(f) => Ok(f.terms().len()),
         Err(PolyStop::Terms(at)) => Err(at.start),
-        Err(PolyStop::NoMemory) => Err(0),
+        Err(PolyStop::NoMemory(_)) => Err(0),
     }
 }
 

@@ -2,6 +2,7 @@
 ghost use Rattle.std.specs.Prelude.{IfOk, length};
 ghost use Rattle.ln_poly.specs.Sparse.{AreBelow};
 
+use ln_bound::BoundStop;
 use ln_bound::weigh::weigh;
 use ln_parse::parse;
 use ln_poly::{Poly, PolyStop, normal};
@@ -20,12 +21,20 @@ pub(crate) fn table(alloc: Global, source: &str) -> Option<Table> {
     }
 }
 
-/// The normal polynomial of a predicate, whose ranges and sizes have to fit.
+/// The normal polynomial of a predicate, whose ranges and sizes have to fit; a node that is too large counts as one of too many terms.
 pub(crate) fn poly_of(alloc: Global, p: &Pred) -> Result<Poly, PolyStop>
     ensures { IfOk result (AreBelow (length p.now.shape.vars)) }
 {
     match weigh(alloc, p) {
         Ok(_) => normal(alloc, p),
-        Err(_) => Err(PolyStop::NoMemory),
+        Err(stop) => Err(poly_stop(stop)),
+    }
+}
+
+/// The stop that stands for that of a predicate whose ranges and sizes don't fit.
+fn poly_stop(stop: BoundStop) -> PolyStop {
+    match stop {
+        BoundStop::Bound(at) => PolyStop::Terms(at),
+        BoundStop::NoMemory(e) => PolyStop::NoMemory(e),
     }
 }

@@ -3,6 +3,7 @@
 ghost use Rattle.std.specs.Prelude.{◌≡◌, ◌≤◌, IfOk, length};
 
 use crate::sources::{poly_of, table};
+use ln_base::NoMemory;
 use ln_order::order_of;
 use ln_stage::{StageStop, Stages, stages};
 use ln_tree::Pred;
@@ -24,7 +25,7 @@ fn staged(alloc: Global, p: &Pred, most: u64, heavy: u32) -> Result<Stages, Stag
 {
     match poly_of(alloc, p) {
         Ok(f) => stages(alloc, &f, &p.shape, most, u64::from(heavy)),
-        Err(_) => Err(StageStop::NoMemory),
+        Err(_) => Err(StageStop::NoMemory(NoMemory::reported())),
     }
 }
 
@@ -40,7 +41,7 @@ fn staged_one(
 {
     match preds {
         [p] if p.shape.sites == sites => staged(alloc, p, most, heavy),
-        _ => Err(StageStop::NoMemory),
+        _ => Err(StageStop::NoMemory(NoMemory::reported())),
     }
 }
 
@@ -57,7 +58,7 @@ pub(crate) fn stages_of(
 {
     match table(alloc, source) {
         Some(t) => staged_one(alloc, t.preds.as_slice(), sites, most, heavy),
-        None => Err(StageStop::NoMemory),
+        None => Err(StageStop::NoMemory(NoMemory::reported())),
     }
 }
 

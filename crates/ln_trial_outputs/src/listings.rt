@@ -210,7 +210,7 @@ fn fault(rt: &impl Abort, alloc: Global, text: &[u8]) -> Option<u32> {
     match read_listing(alloc, text) {
         Ok(_) => None,
         Err(ListStop::Form(line)) => Some(line),
-        Err(ListStop::NoMemory) => Some(0),
+        Err(ListStop::NoMemory(_)) => Some(0),
     }
 }
 

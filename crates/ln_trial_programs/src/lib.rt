@@ -7,9 +7,13 @@ mod code;
 #[cfg(test)]
 mod compile;
 #[cfg(test)]
+mod factors;
+#[cfg(test)]
 mod filter;
 #[cfg(test)]
 mod lower;
+#[cfg(test)]
+mod points;
 #[cfg(test)]
 mod refusal;
 #[cfg(test)]

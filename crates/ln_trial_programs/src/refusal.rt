@@ -1,5 +1,5 @@
 //! Tests the texts of refusals, and the places in a source that they name.
-use ln_base::Span;
+use ln_base::{NoMemory, Span};
 use ln_compile::Refusal;
 use ln_names::{LimitWhat, NameWhat};
 use ln_sample::compile_text;
@@ -78,7 +78,6 @@ const OTHERS: &[(Refusal, &str)] = &[
         Refusal::Stages(15, AT),
         "predicate 15, byte 7: more than 65,536 stages, or a stage weight above 131,072",
     ),
-    (Refusal::NoMemory, "out of memory"),
 ];
 
 // Does an error say this?
@@ -100,6 +99,7 @@ fn a_refusal_says_what_is_wrong_and_where(rt: HostRuntime) -> Result<(), Fail> {
     for (refusal, want) in OTHERS {
         assert!(rt; says(*refusal, want));
     }
+    assert!(rt; says(Refusal::NoMemory(NoMemory::reported()), "out of memory"));
     Ok(())
 }
 

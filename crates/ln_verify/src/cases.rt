@@ -30,7 +30,7 @@ fn expanded(alloc: Global, p: &Pred) -> Result<Poly, NoMemory>
     match normal(alloc, p) {
         Ok(f) => Ok(f),
         Err(PolyStop::Terms(_at)) => unreachable!(),
-        Err(PolyStop::NoMemory) => Err(NoMemory),
+        Err(PolyStop::NoMemory(e)) => Err(e),
     }
 }
 
@@ -47,7 +47,7 @@ fn staged(alloc: Global, f: &Poly, s: &Shape) -> Result<Stages, NoMemory>
         Ok(st) => Ok(st),
         Err(StageStop::Zero) => unreachable!(),
         Err(StageStop::Stages) => unreachable!(),
-        Err(StageStop::NoMemory) => Err(NoMemory),
+        Err(StageStop::NoMemory(e)) => Err(e),
     }
 }
 

@@ -91,7 +91,7 @@ pub fn verify_text(alloc: Global, t: &Table, bytes: &[u8]) -> Result<Judged, NoM
     let mut lines = match listing_lines(alloc, bytes) {
         Ok(lines) => lines,
         Err(ListStop::Form(line)) => return Ok(Judged::Invalid(line)),
-        Err(ListStop::NoMemory) => return Err(NoMemory),
+        Err(ListStop::NoMemory(e)) => return Err(e),
     };
     let cases = cases_of(alloc, t.preds.as_slice())?;
     let form = form_of(lines.version());

@@ -6,19 +6,13 @@
 //! the call has no meaning, the line of FILE at which it has none; or `none`, where FILE has no such function. It writes nothing on standard
 //! output unless every line of CALLS is a call.
 //!
-//! Where it stops, it writes one line on standard error and ends with a status that isn't 0, which `stop.rt` lists.
+//! Where it stops, it writes one line on standard error and ends with a status that isn't 0, which `ln_calls::Stop` lists.
 #![tactic(auto)]
 
-mod calls;
-mod carry;
-mod meaning;
-mod stop;
-
-use carry::carry_out;
 use ln_base::Console;
+use ln_calls::{Stop, carry_out, exit_code};
 use ln_disk::{DiskFiles, StdConsole, words_of};
 use std::process::ExitCode;
-use stop::{Stop, exit_code};
 
 // The words and the disk are those of this program.
 fn ended<C: Console>(rt: &HostRuntime, con: &mut C) -> Result<(), Stop> {

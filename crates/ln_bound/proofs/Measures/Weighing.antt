@@ -29,7 +29,7 @@ stop_before xs ys (Bound at) f = record {
   light = f.light;
   heavy = f.heavy;
 }
-stop_before xs ys NoMemory f = tt
+stop_before xs ys (NoMemory m) f = tt
 
 -- it is the first after light ones
 pub stop_behind : (xs ys : Nodes) (s : BoundStop) → AreLight xs → StopsWeighing ys s → StopsWeighing (xs ++ ys) s
@@ -41,11 +41,11 @@ stop_behind xs ys (Bound at) l f = record {
   light = light_both xs f.before l f.light;
   heavy = f.heavy;
 }
-stop_behind xs ys NoMemory l f = tt
+stop_behind xs ys (NoMemory m) l f = tt
 
 -- a node whose weight is too large, after light ones
 pub stop_here : (xs : Nodes) (at : Span) (w : ℕ) (o : Option ℕ) (s : BoundStop) → AreLight xs → (IsHeavy o → most < w)
     → IsHeavyOrNoMemory at o s → StopsWeighing (xs ++ (at, w) ∷ []) s
 stop_here xs at w o (Bound t) l h e =
     record { before = xs; weight = w; after = []; stands = ap (λ (u : Span). xs ++ (u, w) ∷ []) (sym e.0); light = l; heavy = h e.1 }
-stop_here xs at w o NoMemory l h e = tt
+stop_here xs at w o (NoMemory m) l h e = tt

@@ -2,6 +2,7 @@
 use Rattle.std.proofs.Common.{◌≡◌, ℕ, ◌==◌, not, Bool, true, false, List, [], ◌∷◌, Option, Some, None, refl, sym, ap, ◌∙◌, subst}
 use Rattle.std.specs.Prelude.{if◌then◌else◌, bytes_eq, codes, option_map}
 use Rattle.ln_base.proofs.Texts.Lists.{equal_bytes}
+use Rattle.ln_lines.proofs.Picked.{none, pick, some}
 use Rattle.ln_bound.specs.declared.fitted.Width.TheVariants.{W64, W128}
 use Rattle.ln_cert.specs.declared.part.Kind.{Kind}
 use Rattle.ln_cert.specs.declared.part.Kind.TheVariants as kind
@@ -17,18 +18,6 @@ pub record Stands (v : ℕ) (s : State) (w : List ℕ) (k : Kind) : Type 0 where
   pub word : w ≡ word_of k
   pub may : may v s k ≡ true
   pub good : good k ≡ true
-
-some : {A : Type 0} {a b : A} → Some a ≡ Some b → a ≡ b
-some e = cc
-
--- one word out of two
-pick : {A : Type 0} (P : A → Type 0) (t : Bool) (a b : Option A) (k : A) → (t ≡ true → a ≡ Some k → P k) → (b ≡ Some k → P k)
-    → (if t then a else b) ≡ Some k → P k
-pick P true a b k f g e = f refl e
-pick P false a b k f g e = g e
-
-none : {A : Type 0} (P : A → Type 0) (k : A) → None ≡ Some k → P k
-none P k e = absurd (cc)
 
 abbrev AllOf : (Verb → Type 0) → List Verb → Type 0
 AllOf P [] = Unit {0}

@@ -11,18 +11,14 @@ use Rattle.ln_cert.specs.declared.part.Part.{Part}
 use Rattle.ln_cert.specs.declared.part.Part.TheVariants.{Predicate, NoFilter, Filter, FilterOp, Decide, Block, BlockOp, RangeOp, End, Order, Done}
 use Rattle.ln_cert.specs.declared.part.State.{State}
 use Rattle.ln_cert.specs.declared.part.Verb.{Verb}
-use Rattle.ln_base.specs.Lines.{parted, words}
 use Rattle.ln_cert.specs.Text.{IsBound, IsExponent, IsLine, IsNumber, IsOp, IsRange, IsTriple, args_of, certificate, exponent_word, kind_of}
-use Rattle.ln_cert.specs.Text.{number_words, range_words, takes_off, text_of, triple_words, verb_of, word_of, words_of}
+use Rattle.ln_cert.specs.Text.{number_words, range_words, takes_off, triple_words, verb_of, word_of, words_of}
 use Rattle.ln_cert.specs.Reading.{HasArgs, IsRead, NoArgs, Refuses, after, good, kind_in, may, next_of}
 use Rattle.ln_base.proofs.Texts.Halves.{same_exponent}
 use Rattle.ln_cert.proofs.Reading.FirstWords.{complete, one_kind, sound}
 use Rattle.ln_cert.proofs.Texts.Lists.{same_front}
 use Rattle.ln_base.proofs.Texts.Lists.{head, rest, same_map}
-use Rattle.ln_base.proofs.Texts.Lines.{snoc_same}
 use Rattle.ln_base.proofs.Texts.Numbers.{decimal_injective, signed_injective}
-use Rattle.ln_base.proofs.Texts.Words.{parted_words}
-use Rattle.ln_cert.proofs.Texts.Plain.{read_words}
 
 -- ---- operations
 -- operations of the same verb with the same number are the same, and so are the words after the number
@@ -161,19 +157,6 @@ pub same_line : (v : ℕ) (s : State) (x y : Part) (t u : State) → next_of v s
 same_line v s x y t u a b p q e =
     let k = one_kind v s (kind_of x) (kind_of y) (live v s x t a).0 (good_line x p) (live v s y u b).0 (good_line y q) (head e) in
     same_args x y k p q (rest e)
-
--- the bytes before a line feed are this line
-pub line_words : (body : List ℕ) (p : Part) → IsLine p → body ++ (10 ∷ []) ≡ text_of p → words body ≡ words_of p
-line_words body p q e = ap words (snoc_same body (parted (words_of p)) e) ∙ read_words p q
-
--- bytes with the words of a line are its text, up to the line feed
-pub words_line : (body : List ℕ) (p : Part) → words body ≡ words_of p → body ++ (10 ∷ []) ≡ text_of p
-words_line body p e = ap (λ (x : List ℕ). x ++ (10 ∷ [])) (sym (parted_words body) ∙ ap parted e)
-
--- lines that are allowed in one state and have the same text are the same
-pub one_line : (v : ℕ) (s : State) (x y : Part) (t u : State) → next_of v s x ≡ Some t → next_of v s y ≡ Some u → IsLine x → IsLine y
-    → text_of x ≡ text_of y → x ≡ y
-one_line v s x y t u a b p q e = same_line v s x y t u a b p q (sym (read_words x p) ∙ line_words (parted (words_of x)) y q e)
 
 -- ---- what the reader of a line finds
 -- where the first word has a kind in this state and the other words are its arguments, the line is read

@@ -1,5 +1,5 @@
 -- A listing leads from the first line to the end, and what does so is a listing.
-use Rattle.std.proofs.Common.{◌≡◌, ℕ, ℤ, ◌==◌, not, Bool, true, false, List, [], ◌∷◌, ◌++◌, Option, Some, None, ◌⊎◌, inl, inr, refl, sym, ap, ◌∙◌}
+use Rattle.std.proofs.Common.{◌≡◌, ℕ, ℤ, ◌==◌, not, Bool, true, false, List, [], ◌∷◌, Option, Some, None, ◌⊎◌, inl, inr, refl, sym, ap, ◌∙◌}
 use Rattle.std.specs.Prelude.{if◌then◌else◌}
 use Rattle.std.proofs.lemmas.Bool.{eqb-true}
 use Rattle.ln_code.specs.declared.op.Op.{Op}
@@ -9,22 +9,13 @@ use Rattle.ln_cert.specs.declared.part.State.{State}
 use Rattle.ln_cert.specs.declared.part.State.TheVariants.{Top, Opened, InFilter, Planned, InBlock, Blocks, Orders}
 use Rattle.ln_cert.specs.Listing.{FilterOps, BlockOps, AFilter, SomeBlocks, SomeOrders, Predicates}
 use Rattle.ln_cert.specs.Listing as form
-use Rattle.ln_cert.specs.Reading.{next_of}
-pub use Rattle.ln_cert.specs.Reading.{goes, next_at}
+use Rattle.ln_cert.specs.Reading.{list_rules, next_of}
+pub use Rattle.ln_cert.specs.Reading.{goes}
+use Rattle.ln_lines.proofs.Walk.{goes_none}
 
 -- the state in which the lines of a listing start
 abbrev pub start : Option State
 start = Some Top
-
--- appended lines lead where the second list leads from the end of the first
-pub goes_append : (v : ℕ) (o : Option State) (xs ys : List Part) → goes v o (xs ++ ys) ≡ goes v (goes v o xs) ys
-goes_append v o [] ys = refl
-goes_append v o (x ∷ xs) ys = goes_append v (next_at v o x) xs ys
-
--- from no state, lines lead to none
-pub goes_none : (v : ℕ) (ps : List Part) → goes v None ps ≡ None
-goes_none v [] = refl
-goes_none v (p ∷ ps) = goes_none v ps
 
 filter_ops : (v : ℕ) {xs r : List Part} → FilterOps xs r → goes v (Some InFilter) xs ≡ goes v (Some InFilter) r
 filter_ops v form.FilterOps.none = refl
@@ -106,7 +97,7 @@ Wants v Blocks xs = Ends v xs ⊎ Plans v xs
 Wants v Orders xs = Closes v xs
 
 dead : {A : Type 0} (v : ℕ) (xs : List Part) → goes v None xs ≡ Some Top → A
-dead v xs e = let n = goes_none v xs in absurd (cc)
+dead v xs e = let n = goes_none (list_rules v) xs in absurd (cc)
 
 opened : (v : ℕ) {n : List ℕ} {xs : List Part} → Opens v xs → Predicates v (Predicate n ∷ xs)
 opened v o = form.Predicates.more o.filter o.plans.blocks o.plans.ends.orders o.plans.ends.more

@@ -1,96 +1,112 @@
--- Lines of the bytes, one by one.
-use Rattle.std.proofs.Common.{◌≡◌, ℕ, suc, ◌+◌, ◌-◌, ◌<◌, List, [], ◌∷◌, ◌++◌, length, take, drop, map, ◌⊎◌, inl, inr, refl, sym, ap, ◌∙◌, subst, arith}
-use Rattle.std.proofs.lemmas.List.{take_all}
+-- The bytes of a listing, and where they stop being one.
+use Rattle.std.proofs.Common.{◌≡◌, ℕ, ◌+◌, List, [], ◌∷◌, ◌++◌, drop, ◌⊎◌, inl, inr, refl, sym, ap, ◌∙◌, subst, arith}
+use Rattle.std.specs.Prelude.{codes}
+use Rattle.ln_base.specs.Lines.{joined, lines}
+use Rattle.ln_base.proofs.Texts.Lines.{joined_lines}
+use Rattle.ln_base.proofs.Texts.Lists.{head, rest}
+use Rattle.ln_lines.specs.declared.stop.TextStop.{TextStop}
+use Rattle.ln_lines.specs.declared.stop.TextStop.TheVariants.{Form, NoMemory}
+use Rattle.ln_lines.specs.Form as form
+use Rattle.ln_lines.specs.Unread.{IsFirst, NoFirst}
+use Rattle.ln_lines.specs.Unread as left
+use Rattle.ln_lines.proofs.Fault.{one_whole}
+use Rattle.ln_lines.proofs.OneFault.{fault_first, fault_of, no_whole}
+use Rattle.ln_lines.proofs.OneFault as fault
+use Rattle.ln_lines.proofs.Walk.{lines_of_text}
 use Rattle.ln_cert.specs.declared.part.Entry.{Entry}
 use Rattle.ln_cert.specs.declared.part.Part.{Part}
 use Rattle.ln_cert.specs.declared.part.State.{State}
-use Rattle.ln_base.specs.Lines.{joined, lines}
-use Rattle.ln_base.specs.Lines.{parted, span_to, words}
-use Rattle.ln_cert.specs.Text.{Each, IsLine, args_of, kind_of, text_of, word_of, words_of}
-use Rattle.ln_cert.specs.Listing.{AreNumbered, IsFormFault, IsWhole, ListText, first_line, parts_of, texts_of}
+use Rattle.ln_cert.specs.Listing.{IsFormFault, IsWhole, ListText, first_line, texts_of}
+use Rattle.ln_cert.specs.Reading.{list_rules}
 use Rattle.ln_cert.specs.Stop.{Stops}
-use Rattle.ln_cert.specs.declared.read.ListStop.TheVariants.{Form}
-use Rattle.ln_cert.specs.Reading.{Refuses}
-use Rattle.ln_base.proofs.Texts.Lines.{line_at, lines_of_each, nat_split, no_line, take_drop, words_line_end}
-use Rattle.ln_cert.proofs.Texts.Plain.{args_plain, first_plain}
-use Rattle.ln_cert.proofs.Reading.OneLine.{line_words}
-use Rattle.ln_cert.proofs.Reading.Fault.{Known, RefusesText, fault_first, one_list}
+use Rattle.ln_cert.specs.Unread.{IsOpened, IsTaken}
+use Rattle.ln_cert.proofs.Reading.Sound.{list_sound}
+use Rattle.ln_cert.proofs.Reading.Walk.{is_form, whole}
 
--- a text without a line feed is refused as a line
-pub no_feed : (v : ℕ) (s : State) (xs : List ℕ) (n : ℕ) → span_to 10 xs ≡ length xs → span_to 10 xs ≡ n → RefusesText v s (take (suc n) xs)
-no_feed v s xs n e f p u r g q = no_line xs (parted (words_of p)) n e f q
+-- a version that a listing may have
+abbrev Known : ℕ → Type 0
+Known v = (v ≡ 1) ⊎ (v ≡ 2)
 
--- where the words of a line are refused, its text is
-pub refuses : (v : ℕ) (s : State) (body t : List ℕ) → t ≡ body ++ (10 ∷ []) → Refuses v s (words body) → RefusesText v s t
-refuses v s body t e f p u r g q = f p u (record { spelled = line_words body p r (sym e ∙ q); range = r; goes = g })
+version_of : (v w : ℕ) → first_line v ≡ first_line w → v ≡ w
+version_of v w e = let h : 48 + v ≡ 48 + w = head (rest (rest (rest (rest (rest (rest (rest (rest e)))))))) in omega arith
 
--- ---- entries
--- with one entry more at the end, its line is the last one
-pub parts_more : (es : List Entry) (e : Entry) → parts_of (es ++ (e ∷ [])) ≡ parts_of es ++ (e.part ∷ [])
-parts_more [] e = refl
-parts_more (x ∷ es) e = ap (λ w. x.part ∷ w) (parts_more es e)
+-- lines that lead from the start back to it are a listing, and those of a listing do so
+to_whole : (v : ℕ) → Known v → (texts : List (List ℕ)) → form.IsWhole (list_rules v) texts → IsWhole texts
+to_whole v k texts w =
+    record { version = v; parts = w.read; listing = record { known = k; form = is_form v w.read k w.leads; ranges = w.ranges }; same = w.same }
 
--- there are as many lines as entries
-pub many : (es : List Entry) → length (parts_of es) ≡ length es
-many [] = refl
-many (e ∷ es) = let h = many es in omega arith
+of_whole : (v : ℕ) (xs : List (List ℕ)) → IsWhole (first_line v ∷ xs) → form.IsWhole (list_rules v) (first_line v ∷ xs)
+of_whole v xs w = subst (λ n. form.IsWhole (list_rules n) (first_line v ∷ xs)) (sym (version_of v w.version (head w.same)))
+    (record { read = w.parts; ranges = w.listing.ranges; leads = whole w.version w.listing.form; same = w.same })
 
--- entries stay numbered when one more is appended with the next number
-pub numbered_more : (n : ℕ) (es : List Entry) (e : Entry) → AreNumbered n es → e.line ≡ n + length es → AreNumbered n (es ++ (e ∷ []))
-numbered_more n [] e a l = (omega arith, tt)
-numbered_more n (x ∷ es) e a l = (a.0, numbered_more (n + 1) es e a.1 (omega arith))
+first_behind : (v : ℕ) → Known v → (more : List ℕ) → lines (first_line v ++ more) ≡ first_line v ∷ lines more
+first_behind v (inl e) more = subst (λ n. lines (first_line n ++ more) ≡ first_line n ∷ lines more) (sym e) refl
+first_behind v (inr e) more = subst (λ n. lines (first_line n ++ more) ≡ first_line n ∷ lines more) (sym e) refl
 
--- ---- the first line
--- where the first line of the bytes is that of no known version, the form fault is at line 1
-pub no_first : (bs : List ℕ) (end : ℕ) (body : List ℕ) → 0 < length bs → end ≡ 0 + span_to 10 (drop 0 bs)
-    → body ≡ take ((end + 1) - 0) (drop 0 bs) → ((v : ℕ) → Known v → body ≡ first_line v → ⊥) → IsFormFault bs 1
-no_first bs end body h e q f =
-    let n : suc (end - 0) ≡ (end + 1) - 0 = omega arith in
-    let l : take (suc (end - 0)) (drop 0 bs) ≡ body = ap (λ m. take m (drop 0 bs)) n ∙ sym q in
-    fault_first bs (take (suc (end - 0)) (drop 0 bs)) (lines (drop (end + 1) bs)) (line_at bs 0 end h e) (λ v k g. f v k (sym l ∙ g))
-
-first_stops : (v : ℕ) → Known v → span_to 10 (first_line v) < length (first_line v)
-first_stops v (inl e) = subst (λ n. span_to 10 (first_line n) < length (first_line n)) (sym e) (omega arith)
-first_stops v (inr e) = subst (λ n. span_to 10 (first_line n) < length (first_line n)) (sym e) (omega arith)
-
--- bytes without a line feed have their form fault at line 1
-pub no_first_feed : (bs : List ℕ) (end : ℕ) → 0 < length bs → end ≡ 0 + span_to 10 (drop 0 bs) → end ≡ length bs → IsFormFault bs 1
-no_first_feed bs end h e g =
-    let a : take (suc (end - 0)) (drop 0 bs) ≡ bs = take_all (suc (end - 0)) bs (omega arith) in
-    fault_first bs (take (suc (end - 0)) (drop 0 bs)) (lines (drop (end + 1) bs)) (line_at bs 0 end h e)
-    (λ v k q. let b : bs ≡ first_line v = sym a ∙ q in
-    let c : span_to 10 bs < length bs = subst (λ (w : List ℕ). span_to 10 w < length w) (sym b) (first_stops v k) in omega arith)
-
-lines_behind : (ps : List Part) → Each IsLine ps → lines (joined (map text_of ps)) ≡ map text_of ps
-lines_behind ps p =
-    lines_of_each text_of IsLine (λ x rest q. words_line_end (word_of (kind_of x)) (args_of x) rest (first_plain (kind_of x), args_plain x q)) ps p
-
-first_behind : (v : ℕ) (rest : List ℕ) → Known v → lines (first_line v ++ rest) ≡ first_line v ∷ lines rest
-first_behind v rest (inl e) = subst (λ n. lines (first_line n ++ rest) ≡ first_line n ∷ lines rest) (sym e) refl
-first_behind v rest (inr e) = subst (λ n. lines (first_line n ++ rest) ≡ first_line n ∷ lines rest) (sym e) refl
-
--- the text of a listing has its lines
-pub lines_of_text : (v : ℕ) (ps : List Part) → Known v → Each IsLine ps → lines (joined (texts_of v ps)) ≡ texts_of v ps
-lines_of_text v ps k p = first_behind v (joined (map text_of ps)) k ∙ ap (λ w. first_line v ∷ w) (lines_behind ps p)
-
--- the lines of a listing's text are all of a listing
-pub whole_of : (bs : List ℕ) (v : ℕ) (ps : List Part) → ListText bs v ps → IsWhole (lines bs)
-whole_of bs v ps t = record { version = v; parts = ps; listing = t.listing; same = ap lines t.text ∙ lines_of_text v ps t.listing.known t.listing.ranges }
+-- the lines of the text of a listing are all of it
+whole_of : (bs : List ℕ) (v : ℕ) (ps : List Part) → ListText bs v ps → form.IsWhole (list_rules v) (lines bs)
+whole_of bs v ps t = record {
+  read = ps;
+  ranges = t.listing.ranges;
+  leads = whole v t.listing.form;
+  same = ap lines t.text ∙ lines_of_text (list_rules v) (list_sound v) (first_behind v t.listing.known) ps t.listing.ranges;
+}
 
 -- what has a form fault is the text of no listing
 pub no_text : (bs : List ℕ) (at v : ℕ) (ps : List Part) → IsFormFault bs at → ListText bs v ps → ⊥
-no_text bs at v ps f t = by (nat_split f.before (length (lines bs)) f.within)
-  where
-    by : (f.before < length (lines bs)) ⊎ (f.before ≡ length (lines bs)) → ⊥
-    by (inl h) = f.refused h (drop at (lines bs), subst (λ (x : List (List ℕ)). IsWhole x) (sym (take_drop at (lines bs))) (whole_of bs v ps t))
-    by (inr h) = f.unfinished h (whole_of bs v ps t)
-
--- a form fault is why no listing is read of the bytes
-pub stops_at : (bs : List ℕ) (at : ℕ) → IsFormFault bs at → Stops bs (Form at)
-stops_at bs at f = (f, λ v ps t. no_text bs at v ps f t)
+no_text bs at v ps f t = no_whole IsWhole bs at f (to_whole v t.listing.known (lines bs) (whole_of bs v ps t))
 
 -- bytes are the text of one listing at most
 pub one_text : (bs : List ℕ) (v w : ℕ) (xs ys : List Part) → ListText bs v xs → ListText bs w ys → (v ≡ w) × (xs ≡ ys)
+unfolding whole_of
 one_text bs v w xs ys s t =
-    one_list v w xs ys s.listing t.listing (sym (lines_of_text v xs s.listing.known s.listing.ranges) ∙ ap lines (sym s.text ∙ t.text)
-    ∙ lines_of_text w ys t.listing.known t.listing.ranges)
+    let k = version_of v w (head (sym (whole_of bs v xs s).same ∙ (whole_of bs w ys t).same)) in
+    let u : ListText bs v ys = subst (λ n. ListText bs n ys) (sym k) t in
+    (k, one_whole (list_rules v) (list_sound v) (lines bs) (whole_of bs v xs s) (whole_of bs v ys u))
+
+-- bytes have one form fault at most
+pub one_fault : (bytes : List ℕ) (m n : ℕ) → IsFormFault bytes m → IsFormFault bytes n → m ≡ n
+one_fault bytes m n f g = fault.one_fault IsWhole bytes m n f g
+
+-- a form fault is why no listing is read of the bytes
+stops_at : (bs : List ℕ) (at : ℕ) → IsFormFault bs at → Stops bs (Form at)
+stops_at bs at f = (f, λ v ps t. no_text bs at v ps f t)
+
+-- where the reader of lines stops after the first line, no listing is read
+pub stops : (bs : List ℕ) (v behind : ℕ) (e : TextStop) → Known v → lines bs ≡ first_line v ∷ lines (drop behind bs) → left.Stops (list_rules v) bs e
+    → Stops bs e
+stops bs v behind (Form at) k q f =
+    stops_at bs at (fault_of (form.IsWhole (list_rules v)) IsWhole bs (first_line v) (lines (drop behind bs)) at q (to_whole v k) (of_whole v) f)
+stops bs v behind (NoMemory m) k q f = tt
+
+-- where it doesn't, the bytes are a listing
+pub opened : (bs : List ℕ) (v : ℕ) (r : left.Unread State) → Known v → left.IsOpened (list_rules v) bs r
+    → IsOpened bs (record { version = v; state = r.state; line = r.line; text = r.text })
+unfolding to_whole
+opened bs v r k o = record {
+  parts = o.whole.read;
+  listing = record { listing = (to_whole v k (lines bs) o.whole).listing; text = sym (joined_lines bs) ∙ ap joined o.whole.same };
+  left = o.left;
+  second = o.second;
+}
+
+-- a line that it takes is taken with its number
+pub taken : (v : ℕ) (r s : left.Unread State) (e : Entry) → left.IsTaken (list_rules v) r e.part s → e.line ≡ r.line
+    → IsTaken (record { version = v; state = r.state; line = r.line; text = r.text })
+    e (record { version = v; state = s.state; line = s.line; text = s.text })
+taken v r s e t n = record { goes_on = t.goes_on; number = n; next = t.next; version = refl; shorter = t.shorter }
+
+-- ---- the first line
+-- where the bytes begin with no first line of a listing, the form fault is at line 1
+none_first : (bs : List ℕ) → ((v : ℕ) (ts : List (List ℕ)) → Known v → lines bs ≡ first_line v ∷ ts → ⊥) → Stops bs (Form 1)
+none_first bs f = stops_at bs 1 (fault_first IsWhole bs
+    (texts_of 2 [], to_whole 2 (inr refl) (texts_of 2 []) (record { read = []; ranges = tt; leads = refl; same = refl }))
+    (λ w. let e = w.same in absurd (cc)) (λ t ts more e w. f w.version ts w.listing.known (e ∙ ap (λ (x : List ℕ). x ∷ ts) (head w.same))))
+
+-- it is another
+pub other_first : (bs first : List ℕ) (count : ℕ) → IsFirst bs first count → ((v : ℕ) → Known v → first ≡ first_line v → ⊥) → Stops bs (Form 1)
+other_first bs first count h f = none_first bs (λ v ts k e. f v k (head (sym h.same ∙ e)))
+
+-- it has no line feed
+pub open_first : (bs : List ℕ) → NoFirst bs → Stops bs (Form 1)
+open_first bs f = none_first bs (λ v ts k e. f (codes "listing " ++ (48 + v) ∷ []) ts e)

@@ -13,10 +13,12 @@ use Rattle.ln_cert.specs.declared.part.State.{State}
 use Rattle.ln_cert.specs.declared.part.State.TheVariants.{Top, Opened, InFilter, Planned, InBlock, Blocks, Orders}
 use Rattle.ln_cert.specs.Listing.{Predicates}
 use Rattle.ln_cert.specs.Written.{block_lines, blocks_lines, filter_line, filter_lines, order_lines, program_lines, range_line}
-use Rattle.ln_cert.proofs.Reading.Walk.{goes, goes_append, is_form, whole}
+use Rattle.ln_cert.proofs.Reading.Walk.{goes, is_form, whole}
+use Rattle.ln_cert.specs.Reading.{list_rules}
+use Rattle.ln_lines.proofs.Walk.{goes_append}
 
 join : (o p q : Option State) (xs ys : List Part) → goes 2 o xs ≡ p → goes 2 p ys ≡ q → goes 2 o (xs ++ ys) ≡ q
-join o p q xs ys e f = goes_append 2 o xs ys ∙ ap (λ (z : Option State). goes 2 z ys) e ∙ f
+join o p q xs ys e f = goes_append (list_rules 2) o xs ys ∙ ap (λ (z : Option State). goes 2 z ys) e ∙ f
 
 filter_ops : (ls : List (Line Triple)) → goes 2 (Some InFilter) (map filter_line ls) ≡ Some InFilter
 filter_ops [] = refl

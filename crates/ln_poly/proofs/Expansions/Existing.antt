@@ -19,6 +19,7 @@ use Rattle.ln_tree.specs.Exps.{IsAbove, Pairs, exponents_from, vector}
 use Rattle.ln_tree.specs.Fits.{is_fit, lets_fit}
 use Rattle.ln_tree.specs.Formula.{Formula, tree}
 use Rattle.ln_poly.specs.Expansion.{HasNormal, closed_lets, closed_root}
+use Rattle.ln_poly.specs.Packed.{pairs_from}
 use Rattle.ln_poly.specs.Ready.{IsLight}
 use Rattle.ln_poly.specs.Sparse.{AreBelow, IsPoly, Sparse, coefficient_at, part_at, size_of}
 use Rattle.ln_poly.proofs.Expansions.Lets.{degree-weight, root-light}
@@ -29,7 +30,7 @@ use Rattle.ln_poly.proofs.Loads.Weighing.{pow-some}
 use Rattle.ln_poly.proofs.Sorting.Added.{HasSum, sum-exists}
 use Rattle.ln_poly.proofs.TermLists.Coefficients.{coefficient_at-cons, coefficient_at-nil, size-cons, size-nil}
 use Rattle.ln_poly.proofs.TermLists.Leaves.{no-terms, one-term}
-use Rattle.ln_poly.proofs.TermLists.Vectors.{pairs-above, pairs-rising, pairs-vector, pairs_from}
+use Rattle.ln_poly.proofs.TermLists.Vectors.{pairs-above, pairs-rising, pairs-vector}
 
 -- ---- one term
 -- the polynomial of one term over n variables

@@ -38,7 +38,7 @@ stop-before n xs ys (Terms at) f = record {
   few = f.few;
   many = f.many;
 }
-stop-before n xs ys NoMemory f = tt
+stop-before n xs ys (NoMemory m) f = tt
 
 -- it is the first after those that have few
 pub stop-behind : (n : ℕ) (xs ys : Nodes) (s : PolyStop) → HaveFewTerms n xs → StopsExpanding n ys s → StopsExpanding n (xs ++ ys) s
@@ -50,7 +50,7 @@ stop-behind n xs ys (Terms at) l f = record {
   few = few-both n xs f.before l f.few;
   many = f.many;
 }
-stop-behind n xs ys NoMemory l f = tt
+stop-behind n xs ys (NoMemory m) l f = tt
 
 -- ---- nodes
 -- after one operand
@@ -75,7 +75,7 @@ powers-more n at e k p h a b = record {
 -- the stop at a product that is the next power
 stop-power : (n : ℕ) (at : Span) (e : Tree) (k : ℕ) (s : PolyStop) → StopsExpanding n ((at, Mul (Pow e k) e) ∷ []) s
     → StopsExpanding n ((at, Pow e (suc k)) ∷ []) s
-stop-power n at e k NoMemory f = tt
+stop-power n at e k (NoMemory m) f = tt
 stop-power n at e k (Terms t) f = by_before f.before f.stands f.few where
   by_before : (before : Nodes) → (at, Mul (Pow e k) e) ∷ [] ≡ before ++ (t, f.node) ∷ f.after → HaveFewTerms n before
       → IsTermsFault n ((at, Pow e (suc k)) ∷ []) t

@@ -127,7 +127,8 @@ takes-more terms acc f g f' g' i k r q t u v l = subst (λ z. TakesMore z g' k) 
     (subst (λ z. TakesMore f z k) v (λ n bf bg. more-terms n acc f g i k r q (omega (arith, l, ap length t)) (r.below n bf bg)))
 
 -- ---- a part of the rows after the other
-take-take : (i k j : ℕ) (f : Sparse) → j ≡ i + k → take i f ++ take k (drop i f) ≡ take j f
+-- the first members and the next ones
+pub take-take : {A : Type 0} (i k j : ℕ) (f : List A) → j ≡ i + k → take i f ++ take k (drop i f) ≡ take j f
 take-take zero k j f e = let z : k ≡ j = omega arith in ap (λ y. take y f) z
 take-take (suc i) k j [] e = take_all k [] (omega arith) ∙ sym (take_all j [] (omega arith))
 take-take (suc i) k j (t ∷ f) e =

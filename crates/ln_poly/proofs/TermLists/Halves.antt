@@ -38,10 +38,12 @@ halves-joined low high out f f' f'' g k r s e q l p c z o b = parts-step low hig
 part-length : (i j : ℕ) (f f' : Sparse) → f' ≡ take (j - i) (drop i f) → i ≤ j → j ≤ length f → length f' ≡ j - i
 part-length i j f f' e h l = ap length e ∙ length-take-le (j - i) (drop i f) (omega (arith, length-drop i f, l))
 
-half-below : (n : ℕ) → 0 < n → (n ≡ 1 → ⊥) → n / 2 < n
+-- half of two or more is less than all
+pub half-below : (n : ℕ) → 0 < n → (n ≡ 1 → ⊥) → n / 2 < n
 half-below n s o = omega arith
 
-half-some : (n : ℕ) → 0 < n → (n ≡ 1 → ⊥) → 0 < n / 2
+-- and some
+pub half-some : (n : ℕ) → 0 < n → (n ≡ 1 → ⊥) → 0 < n / 2
 half-some n s o = omega arith
 
 -- each half is shorter

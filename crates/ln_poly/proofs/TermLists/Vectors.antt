@@ -3,15 +3,10 @@ use Rattle.std.proofs.Common.{◌≡◌, ℕ, ◌+◌, ◌<◌, ◌≤◌, zero,
 use Rattle.std.proofs.lemmas.Bool.Decides.{nat_tests}
 use Rattle.ln_algebra.specs.Vector.{total_degree}
 use Rattle.ln_tree.specs.Exps.{AllAbove, IsAbove, IsRising, Pairs, exponent, exponents_from}
-
--- the pairs of these exponents, from variable number v on
-abbrev pub pairs_from : ℕ → List ℕ → Pairs
-pairs_from v [] = []
-pairs_from v (zero ∷ m) = pairs_from (suc v) m
-pairs_from v (suc k ∷ m) = (v, suc k) ∷ pairs_from (suc v) m
+use Rattle.ln_poly.specs.Packed.{pairs_from}
 
 -- all variables are above those before
-pairs-all-above : (u v : ℕ) (m : List ℕ) → u < v → AllAbove u (pairs_from v m)
+pub pairs-all-above : (u v : ℕ) (m : List ℕ) → u < v → AllAbove u (pairs_from v m)
 pairs-all-above u v [] h = tt
 pairs-all-above u v (zero ∷ m) h = pairs-all-above u (suc v) m (omega arith)
 pairs-all-above u v (suc k ∷ m) h = (h, pairs-all-above u (suc v) m (omega arith))

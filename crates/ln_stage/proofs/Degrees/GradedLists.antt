@@ -144,7 +144,7 @@ module _ (k : ℕ) (vars : List VarInfo) (f : Sparse) (few : k ≤ 5) (laid : is
       n,
       (map (graded_list vars f) (orders_of k), found-lists, by_lists.past-passes k vars f (graded_list vars f) (graded_at k vars f) by-orders most heavy s),
     )
-    graded-stops NoMemory n s = tt
+    graded-stops (NoMemory m) n s = tt
 
 -- ---- what is listed from the start
 graded-is : (vars : List VarInfo) (f : Sparse) (o vs kept p : List ℕ) → vs ≡ ranking_of vars o → kept ≡ range_with_len 0 (length f)

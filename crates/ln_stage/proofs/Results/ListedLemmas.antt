@@ -86,14 +86,14 @@ module _ (L : List ℕ → List (List ℕ)) (n : ℕ) (f : Sparse) where
     over-goes T B Zero h s = s
     over-goes T B Stages h s =
         inl (subst IsOver (sym (unfolding-tally t p rest) ∙ ap (tallied_by L n f t) (sym e) ∙ h) (over-by L n f (next_list (see_all n f t (L p))) rest s))
-    over-goes T B NoMemory h s = tt
+    over-goes T B (NoMemory m) h s = tt
 
   -- a stop because the count so far exceeds the limit is one because the count of all lists does
   pub count-passes : (k S c m most : ℕ) (A : Type 0) (x : StageStop) (rest : List (List ℕ)) → m + shared_count k L rest ≡ S
       → IsStoppedBy x (most < m) → IsStoppedBy x (A ⊎ (most < S))
   count-passes k S c m most A Zero rest h s = s
   count-passes k S c m most A Stages rest h s = inr (omega (arith, h, s))
-  count-passes k S c m most A NoMemory rest h s = tt
+  count-passes k S c m most A (NoMemory _) rest h s = tt
 
   -- at the end
   module _ (all : List Front) (i : ℕ) (past : length all ≤ i) where

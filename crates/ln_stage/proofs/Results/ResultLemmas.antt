@@ -121,7 +121,7 @@ module _ (k : ℕ) (vars : List VarInfo) (f : Sparse) (few : k ≤ 5) (laid : is
         ⊎ (most < shared_count k (segment_at vars f) (prefixes_of k))) → StopsListing k vars f most heavy x
     stops Zero n s = absurd s
     stops Stages n s = (n, (found, found-lists, by_lists.past-passes k vars f (list_of vars f) (segment_at vars f) by-prefixes most heavy s))
-    stops NoMemory n s = tt
+    stops (NoMemory m) n s = tt
 
     -- what is kept at the end makes the polynomial's stages
     pub result-stages : AreStagesOf k vars f (by_lists.result k vars f (list_of vars f) (segment_at vars f) by-prefixes most heavy)

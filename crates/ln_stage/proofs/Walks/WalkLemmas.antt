@@ -18,7 +18,7 @@ use Rattle.ln_stage.proofs.Walks.StepLemmas.{over-more, rows-high, see_all-appen
 pub stopped-more : (e : StageStop) {P Q : Type 0} → (P → Q) → IsStoppedBy e P → IsStoppedBy e Q
 stopped-more Zero f h = h
 stopped-more Stages f h = f h
-stopped-more NoMemory f h = tt
+stopped-more (NoMemory m) f h = tt
 
 -- ---- the first variable
 split : (vs : List ℕ) → 0 < length vs → vs ≡ get_or vs 0 0 ∷ drop 1 vs

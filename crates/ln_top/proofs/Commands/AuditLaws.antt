@@ -20,8 +20,7 @@ use Rattle.ln_trace.specs.Here as traced
 use Rattle.ln_trace.specs.Judge.{IsAnswer, IsFirstFault}
 use Rattle.ln_trace.specs.Judged.{fault_of}
 use Rattle.ln_trace.specs.Unread.{AreLeft, IsOpened, Unread}
-use Rattle.ln_trace.proofs.Reading.OneFault.{one_fault}
-use Rattle.ln_trace.proofs.Reading.Whole.{no_text, one_text}
+use Rattle.ln_trace.proofs.Reading.Whole.{no_text, one_fault, one_text}
 use Rattle.ln_trace.proofs.Walking.{not-both, one-fault}
 use Rattle.ln_watch.specs.Panel.{State}
 use Rattle.ln_top.specs.declared.status.End.{End}
@@ -31,7 +30,7 @@ use Rattle.ln_top.specs.declared.status.Early.{Early}
 use Rattle.ln_top.specs.declared.stop.Stop.TheVariants as stop
 use Rattle.ln_top.specs.declared.stop.Why.TheVariants.{Header}
 use Rattle.ln_top.specs.Audit as audit
-use Rattle.ln_top.specs.Audit.{AreJudged, AuditEnds, AuditSaid, HasTrace, IsAuditOf, IsRightTrace, IsWrongAt, PutsOrStops}
+use Rattle.ln_top.specs.Audit.{AreJudged, AuditEnds, AuditSaid, HasTrace, IsAuditOf, IsRightTrace, IsWrongAt, PutsOrStops, audit_work}
 use Rattle.ln_top.specs.Audit.{agreed_text, form, puts_it, rule, stops_before, wrong_text}
 use Rattle.ln_top.specs.Carried as carried
 use Rattle.ln_top.specs.Carried.{CarriesOut, NoPart, PutsText}
@@ -41,13 +40,15 @@ use Rattle.ln_top.specs.Explain.{subject_of}
 use Rattle.ln_top.specs.Run.{IsWrongHeader}
 use Rattle.ln_top.specs.Said.{Count, Said, whole}
 use Rattle.ln_top.specs.Steps.{Given}
-use Rattle.ln_top.specs.Work.{IsLawful, IsWorkEnd}
 use Rattle.ln_top.specs.Work as kind_of
+use Rattle.ln_top.specs.Work.{IsWorkEnd}
 use Rattle.ln_top.proofs.Gathering.Loops.{Streams, faults_in}
 use Rattle.ln_top.proofs.Commands.RunLaws.{tail_same}
 use Rattle.ln_top.proofs.Steps.Carry.{text_carried, told_carried}
 use Rattle.ln_top.proofs.Steps.Likeness.{columns_like}
 use Rattle.ln_top.proofs.Steps.Prepared.{one_numbered}
+use Rattle.ln_top.proofs.Steps.Laws.{IsLawful, shape_objects}
+use Rattle.ln_top.specs.Signature.{asks_nothing}
 
 -- ---- two ways to see what is given are one
 module _ (g : Given) (p q : PredOf) (names others : List (List ℕ)) (rs ss : Records) (t u : List ℕ)
@@ -180,8 +181,14 @@ kind g e (audit.agreed p names rs t h x) = kind_of.done
 kind g e (audit.wrong p names rs t m h x) = kind_of.invalid
 
 -- the laws of a work hold for `audit`
-pub lawful : IsLawful (λ boxes. AuditSaid) AuditEnds
-lawful = record { tells = tells; one = one; kind = kind }
+pub lawful : IsLawful asks_nothing audit_work
+lawful = record {
+  tells = tells;
+  single = one;
+  kind = kind;
+  objects = shape_objects;
+  said = λ v boxes g i q. one_said g;
+}
 
 -- ---- from the code
 -- the header is wrong

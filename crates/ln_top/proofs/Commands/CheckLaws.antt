@@ -6,20 +6,24 @@ use Rattle.std.proofs.lemmas.List.{append-nil, map-append, take_more}
 use Rattle.std.proofs.lemmas.Option.{slice_get-map, slice_get_read}
 use Rattle.ln_base.specs.Outside.{Shown}
 use Rattle.ln_tree.specs.declared.pred.Pred.{Pred}
-use Rattle.ln_tree.specs.Table.{PredOf, pred_of}
+use Rattle.ln_tree.specs.Table.{PredOf, pred_of, TableOf}
 use Rattle.ln_compile.specs.Compiled.{IsStageCount, IsStageCountAt}
 use Rattle.ln_top.specs.declared.status.End.{End}
 use Rattle.ln_top.specs.declared.status.End.TheVariants.{Done}
 use Rattle.ln_top.specs.declared.status.Early.{Early}
 use Rattle.ln_top.specs.declared.prepare.Ready.{Ready}
-use Rattle.ln_top.specs.Said.{Said, Count, line}
+use Rattle.ln_top.specs.Said.{Said, Count, line, whole}
 use Rattle.ln_top.specs.Steps.{Given}
-use Rattle.ln_top.specs.Work.{IsLawful, IsWorkEnd}
 use Rattle.ln_top.specs.Work as kind_of
+use Rattle.ln_top.specs.Work.{IsWorkEnd}
 use Rattle.ln_top.specs.Carried.{CarriesOut, NoPart, PutsText}
 use Rattle.ln_top.specs.Ready.{StandsFor}
-use Rattle.ln_top.specs.Check.{AreCounts, none, more, count_text, CheckSaid, counted, CheckEnds, done}
+use Rattle.ln_top.specs.Check.{AreCounts, none, more, count_text, CheckSaid, counted, CheckEnds, done, check_work}
 use Rattle.ln_top.proofs.Steps.Carry.{text_carried}
+use Rattle.ln_top.proofs.Steps.Laws.{IsLawful, shape_objects}
+use Rattle.ln_top.proofs.Steps.Grounded.{IsGrounded}
+use Rattle.ln_top.specs.Signature.{asks_nothing}
+use Rattle.ln_top.proofs.Gathering.OneLine.{one_counts}
 
 count_behind : (ps : List PredOf) (p : PredOf) (n : ℕ) {texts : List ℕ} → AreCounts ps texts → IsStageCount p n
     → AreCounts (ps ++ p ∷ []) (texts ++ line (count_text p n))
@@ -64,6 +68,18 @@ one g a b done done = refl
 kind : (g : Given) (e : End) → CheckEnds g e → IsWorkEnd e
 kind g e done = kind_of.done
 
+-- `check` requires one output
+check_one : (g : Given) → IsGrounded g → (a b : Said) → CheckSaid g a → CheckSaid g b → a ≡ b
+check_one g h a b (counted x c) (counted y d) =
+    let preds : g.table.preds ≡ map pred_of h.table.preds = sym (ap (λ (t : TableOf). t.preds) h.is) in
+    ap (whole Done) (one_counts h.table.preds (subst (λ ps. AreCounts ps x) preds c) (subst (λ ps. AreCounts ps y) preds d))
+
 -- the laws of a work hold for `check`
-pub lawful : IsLawful (λ boxes. CheckSaid) CheckEnds
-lawful = record { tells = λ boxes. tells; one = one; kind = kind }
+pub lawful : IsLawful asks_nothing check_work
+lawful = record {
+  tells = λ boxes. tells;
+  single = one;
+  kind = kind;
+  objects = shape_objects;
+  said = λ v boxes g i q a b x y. check_one g i a b x y;
+}

@@ -7,7 +7,7 @@ use Rattle.std.proofs.lemmas.Bool.{and_parts}
 use Rattle.std.proofs.lemmas.Bool.Decides.{nat_tests}
 use Rattle.std.proofs.lemmas.List.{length-map}
 use Rattle.std.proofs.lemmas.Option.{none-some, same_Some, slice_get-map}
-use Rattle.ln_base.specs.Outside.{Shown}
+use Rattle.ln_base.specs.Outside.{Shown, refused}
 use Rattle.ln_algebra.specs.Orders.{BySmallest}
 use Rattle.ln_tree.specs.declared.items.Arg.{Arg}
 use Rattle.ln_tree.specs.declared.items.Site.{Site}
@@ -45,10 +45,10 @@ use Rattle.ln_top.specs.declared.stop.Stop.TheVariants as stop
 use Rattle.ln_top.specs.declared.stop.Why.{Why}
 use Rattle.ln_top.specs.declared.stop.Why.TheVariants.{Header, Many, Point}
 use Rattle.ln_top.specs.declared.words.Command.TheVariants as command
-use Rattle.ln_top.specs.Alike.{is_three, one_type, type_of}
+use Rattle.ln_top.specs.Alike.{is_one_of_three, is_three, one_type, type_of}
 use Rattle.ln_top.specs.Carried.{CarriesOut, Halts, NoPart, PutsText, Says, short, tells}
 use Rattle.ln_top.specs.Edges as edges
-use Rattle.ln_top.specs.Edges.{AreEdgesOf, AreOfType, EdgesEnds, EdgesSaid, HasPoints, HasType, HoldsPoints, IsTypeOf, ReadsPoints}
+use Rattle.ln_top.specs.Edges.{AreEdgesOf, AreOfType, EdgesEnds, EdgesSaid, HasPoints, HasType, HoldsPoints, IsTypeOf, ReadsPoints, edges_work}
 use Rattle.ln_top.specs.Edges.{StopsPoints, point_names}
 use Rattle.ln_top.specs.Ready.{AreNumbered, IsFit, StandsFor}
 use Rattle.ln_top.specs.Run.{IsWrongHeader}
@@ -56,14 +56,15 @@ use Rattle.ln_top.specs.Said.{Said, Count, whole}
 use Rattle.ln_top.specs.Source.{view}
 use Rattle.ln_top.specs.Steps.{Given, Outcome, stops, missing, gives}
 use Rattle.ln_top.specs.Stop.{said_of, why_end}
-use Rattle.ln_top.specs.Suits.{Asks}
 use Rattle.ln_top.specs.Target.{Belongs, IsGivenBy, TargetOf, pred_in}
-use Rattle.ln_top.specs.Work.{IsLawful, IsWorkEnd}
 use Rattle.ln_top.specs.Work as kind_of
+use Rattle.ln_top.specs.Work.{IsWorkEnd}
 use Rattle.ln_top.proofs.Steps.Carry.{says_carried, text_carried}
 use Rattle.ln_top.proofs.Steps.Chain.{IsGiven, IsStop, some_same, value_or, why_or}
 use Rattle.ln_top.proofs.Steps.Likeness.{site_like}
 use Rattle.ln_top.proofs.Steps.Prepared as prepared
+use Rattle.ln_top.proofs.Steps.Laws.{IsLawful, shape_objects}
+use Rattle.ln_top.specs.Signature.{Asks, asks_shape}
 
 -- ---- what is given is one
 head_pred : (p q : PredOf) (xs ys : List PredOf) → p ∷ xs ≡ q ∷ ys → p ≡ q
@@ -203,8 +204,14 @@ kind g e (edges.stopped p s rs why h x f) = subst IsWorkEnd (sym f) (kind_stoppe
 kind g e (edges.done p s rs ps h x f) = subst IsWorkEnd (sym f) kind_of.done
 
 -- the laws of a work hold for `edges`
-pub lawful : IsLawful (λ boxes. EdgesSaid) EdgesEnds
-lawful = record { tells = λ boxes. ends_so; one = one; kind = kind }
+pub lawful : IsLawful (asks_shape (λ preds. is_one_of_three preds ≡ true)) edges_work
+lawful = record {
+  tells = λ boxes. ends_so;
+  single = one;
+  kind = kind;
+  objects = shape_objects;
+  said = λ v boxes g i q. one_said g;
+}
 
 -- ---- from the code
 -- a points file isn't missing: it was read before the work
@@ -492,5 +499,5 @@ module _ (r : Ready) (s : Site) (bytes : List ℕ) (old : Records) (type : (g : 
       (header_stops s old (header_wrong (site_columns s.name (Some s)) old w))
 
   -- where memory runs out the command stops, whatever the points file is
-  pub return_short : (g : Given) → StandsFor r g → StopsPoints g stop.Memory
-  return_short g k = points_stop g s (type g k) bytes old stop.Memory (texts g k) are short
+  pub return_short : (g : Given) → StandsFor r g → StopsPoints g (stop.Memory refused)
+  return_short g k = points_stop g s (type g k) bytes old (stop.Memory refused) (texts g k) are short

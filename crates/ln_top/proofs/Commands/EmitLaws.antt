@@ -29,30 +29,32 @@ use Rattle.ln_top.specs.declared.status.Early.{Early}
 use Rattle.ln_top.specs.declared.prepare.Ready.{Ready}
 use Rattle.ln_top.specs.Said.{Said, Count}
 use Rattle.ln_top.specs.Steps.{Given}
-use Rattle.ln_top.specs.Work.{IsLawful, IsWorkEnd}
 use Rattle.ln_top.specs.Work as kind_of
+use Rattle.ln_top.specs.Work.{IsWorkEnd}
 use Rattle.ln_top.specs.Carried.{CarriesOut, NoPart, PutsText}
 use Rattle.ln_top.specs.Ready.{StandsFor}
-use Rattle.ln_top.specs.Emit.{AllAreDue, BeginsCOfFirst, CallIsDue, IsCOf, EmitSaid, emitted, EmitEnds, done}
+use Rattle.ln_top.specs.Emit.{AllAreDue, BeginsCOfFirst, CallIsDue, IsCOf, EmitSaid, emitted, EmitEnds, done, emit_work}
 use Rattle.ln_top.proofs.Steps.Carry.{text_carried}
+use Rattle.ln_top.proofs.Steps.Laws.{IsLawful, shape_objects}
+use Rattle.ln_top.specs.Signature.{asks_nothing}
 
 -- the shape of each predicate has the predicate's name
 abbrev pub AreNamed : List PredOf → Type 0
 AreNamed [] = Unit {0}
 AreNamed (p ∷ ps) = (p.shape_name ≡ p.name) × AreNamed ps
 
--- so it is in a table
 named : (sites : List SiteOf) (params : List CoordOf) (ps : List PredOf) → Every (PredParts sites params) ps → AreNamed ps
 named sites params [] e = tt
 named sites params (p ∷ ps) e = (e.0.shape_name, named sites params ps e.1)
 
-names_there : (t : Table) → AreNamed (map pred_of t.preds)
+-- so it is in a table
+pub names_there : (t : Table) → AreNamed (map pred_of t.preds)
 names_there t =
     let u : TableOf = table_of t.sites t.params t.preds in
     named u.sites u.params u.preds (table_parts u t.whole).preds
 
 -- a sign is one number
-same_number : (s : Sign) → number_of s ≡ sign_number s
+pub same_number : (s : Sign) → number_of s ≡ sign_number s
 same_number Minus = refl
 same_number Zero = refl
 same_number Plus = refl
@@ -87,7 +89,7 @@ all_due file (p ∷ ps) (c ∷ cs) a n k s =
     (λ row range. call_due file p c row k.0 a.0 n.0 range (s.0 row (row_there p c row a.0 range)), all_due file ps cs a.1 n.1 k.1 s.1)
 
 -- programs have the names of their predicates
-names_of : (ps : List PredOf) (parts : List Part) → AreProgramsOf ps parts → AreNamed ps
+pub names_of : (ps : List PredOf) (parts : List Part) → AreProgramsOf ps parts → AreNamed ps
     → map part_name parts ≡ map (λ (p : PredOf). p.name) ps
 names_of [] [] a n = refl
 names_of [] (c ∷ cs) a n = absurd a
@@ -111,7 +113,8 @@ c_of ps parts text a n k e = record {
 }
 
 -- ---- the C, program by program
-small_more : (cs : List Part) (c : Part) → All (λ (p : Part). length p.blocks ≤ 65536) cs → length c.blocks ≤ 65536
+-- none has more blocks than fit
+pub small_more : (cs : List Part) (c : Part) → All (λ (p : Part). length p.blocks ≤ 65536) cs → length c.blocks ≤ 65536
     → All (λ (p : Part). length p.blocks ≤ 65536) (cs ++ c ∷ [])
 small_more [] c a h = All-cons (λ (p : Part). length p.blocks ≤ 65536) c [] h a
 small_more (d ∷ cs) c a h = All-cons (λ (p : Part). length p.blocks ≤ 65536) d (cs ++ c ∷ []) (a 0 d (omega arith))
@@ -160,5 +163,11 @@ kind : (g : Given) (e : End) → EmitEnds g e → IsWorkEnd e
 kind g e done = kind_of.done
 
 -- the laws of a work hold for `emit`
-pub lawful : IsLawful (λ boxes. EmitSaid) EmitEnds
-lawful = record { tells = λ boxes. tells; one = one; kind = kind }
+pub lawful : IsLawful asks_nothing emit_work
+lawful = record {
+  tells = λ boxes. tells;
+  single = one;
+  kind = kind;
+  objects = shape_objects;
+  said = λ v boxes g i q a b. absurd v;
+}

@@ -2,7 +2,7 @@
 use Rattle.std.proofs.Common.{◌≡◌, ◌<◌, ℕ, ◌+◌, Bool, List, [], ◌∷◌, ◌++◌, length, refl, ap, sym}
 use Rattle.std.proofs.Common.{◌∙◌, subst, arith, Option, Ok, Err, Result}
 use Rattle.std.proofs.lemmas.List.{append-nil}
-use Rattle.ln_base.specs.Outside.{Shown}
+use Rattle.ln_base.specs.Outside.{Shown, refused}
 use Rattle.ln_tree.specs.Row.{Row}
 use Rattle.ln_order.proofs.Signs.RowSigns.{rows-differ}
 use Rattle.ln_tree.specs.declared.pred.Pred.{Pred}
@@ -15,6 +15,7 @@ use Rattle.ln_trace.specs.declared.line.TraceLine.{TraceLine}
 use Rattle.ln_trace.specs.declared.line.TraceLine.TheVariants as traced
 use Rattle.ln_trace.specs.Signs.{Explains, RowsDiffer, no_row}
 use Rattle.ln_trace.specs.Text.{first_line, text_of_lines}
+use Rattle.ln_trace.proofs.OneTelling.{explains-one}
 use Rattle.ln_watch.specs.Panel.{State}
 use Rattle.ln_top.specs.declared.status.End.{End}
 use Rattle.ln_top.specs.declared.status.Early.{Early}
@@ -28,18 +29,21 @@ use Rattle.ln_top.specs.Lines as l
 use Rattle.ln_top.specs.Lines.{Lines, Takes, all_good, took, left_off}
 use Rattle.ln_top.specs.Carried as carried
 use Rattle.ln_top.specs.Carried.{CarriesOut}
-use Rattle.ln_top.specs.Work.{IsLawful}
 use Rattle.ln_top.specs.Run as run
 use Rattle.ln_top.specs.Run.{HasRecords, IsWrongHeader, RunEnds, end_of}
 use Rattle.ln_top.specs.Target.{IsGivenBy, TargetOf, pred_in}
 use Rattle.ln_top.specs.Explain as explain
-use Rattle.ln_top.specs.Explain.{ExplainPart, ExplainRest, ExplainRestPart, ExplainSaid, ExplainStep, SaysLines, subject_of}
+use Rattle.ln_top.specs.Explain.{ExplainPart, ExplainRest, ExplainRestPart, ExplainSaid, ExplainStep, SaysLines, subject_of, explain_work}
 use Rattle.ln_top.proofs.Steps.Carry.{told_carried}
+use Rattle.ln_top.proofs.Steps.Laws.{IsLawful, shape_objects}
+use Rattle.ln_top.proofs.Steps.Grounded.{IsGrounded, in_memory}
 use Rattle.ln_top.proofs.Gathering.HeadCarry.{IsHeaded}
-use Rattle.ln_top.proofs.Gathering.LinesLaws.{both_nothing, lines_have, no_last, wrote_nothing}
-use Rattle.ln_top.proofs.Gathering.Loops.{Streams}
+use Rattle.ln_top.proofs.Gathering.LinesLaws.{both_nothing, lines_have, no_last, wrote_nothing, one_lines, SameLines}
+use Rattle.ln_top.proofs.Gathering.Loops.{Streams, Written, StepTo}
 use Rattle.ln_top.proofs.Gathering.LinesCarry.{Task, IsByLines, HasRun, IsCarriedOut, early_carried, end_carried}
 use Rattle.ln_top.proofs.Commands.RunLaws as run_laws
+use Rattle.ln_top.proofs.Commands.RunLaws.{same_records, tail_same, wrong_right, same_pred}
+use Rattle.ln_top.specs.Signature.{asks_nothing}
 
 -- the records of the predicate that is run
 pub records_for : (g : Given) (t : TargetOf) (rows : List ℕ) (records : Records) → IsGivenBy g t → g.texts ≡ rows ∷ []
@@ -76,7 +80,7 @@ takes_all p seen number fields right held grown n was e s =
 
 -- an allocation failed, and the record's lines were given up
 pub takes_none : (p : PredOf) (seen : ℕ) (fields : List (List ℕ)) (held grown : List ℕ) (n : ℕ) (was : Option Shown) → grown ≡ held
-    → Takes (ExplainStep p) (is_row p) seen fields (count n n) (Err Memory) held grown was was (seen + 1)
+    → Takes (ExplainStep p) (is_row p) seen fields (count n n) (Err (Memory refused)) held grown was was (seen + 1)
 takes_none p seen fields held grown n was e = left_off refl refl e refl
 
 -- nothing comes to Err
@@ -183,9 +187,44 @@ tells : (boxes : List State) (g : Given) (a : Said) → ExplainSaid g a → RunE
 tells boxes g a (explain.header p names records h x) = run.wrong p names records h x
 tells boxes g a (explain.ran p names records out seen h x) = run_laws.ends_by p names records g h
 
+-- `explain` requires one output
+explain_step : (q : Pred) (s : ℕ) (fields : List (List ℕ)) (a b : Written ℕ) → StepTo (ExplainStep (pred_of q)) s fields a
+    → StepTo (ExplainStep (pred_of q)) s fields b → SameLines a b
+explain_step q s fields a b x y = record {
+  outs = x.text_is ∙ ap text_of_lines (explains-one (subject_of (pred_of q)) (s + 1) fields (rows_differ q) x.lines y.lines x.explains y.explains)
+      ∙ sym y.text_is;
+  errs = x.none ∙ sym y.none;
+  lefts = x.counted ∙ sym y.counted;
+}
+
+explain_one : (g : Given) → IsGrounded g → (a b : Said) → ExplainSaid g a → ExplainSaid g b → a ≡ b
+explain_one g i a b (explain.header p names rs h x) (explain.header q others ss k y) = refl
+explain_one g i a b (explain.header p names rs h x) (explain.ran q others ss out n k y) = wrong_right g p q names others rs ss h x k
+explain_one g i a b (explain.ran p names rs out n h x) (explain.header q others ss k y) = wrong_right g q p others names ss rs k y h
+explain_one g i a b (explain.ran p names rs o m h x) (explain.ran r others ss out n k y) =
+    let q = in_memory g r k.others i k.pred in
+    let l : rs ≡ ss = tail_same (same_records g p r names others (names ∷ rs) (others ∷ ss) h k) in
+    let f : p ≡ pred_of q.0 = same_pred g p r names others (names ∷ rs) (others ∷ ss) h k ∙ sym q.1 in
+    let x1 = subst (λ (t : PredOf). Lines (ExplainStep t) 0 rs o [] m) f x in
+    let x2 = subst (λ (zs : Records). Lines (ExplainStep (pred_of q.0)) 0 zs o [] m) l x1 in
+    let y1 = subst (λ (t : PredOf). Lines (ExplainStep t) 0 ss out [] n) (sym q.1) y in
+    let same = one_lines (ExplainStep (pred_of q.0)) (explain_step q.0) 0 ss (record { out = o; err = []; left = m })
+    (record { out = out; err = []; left = n }) x2 y1 in
+    let ends : end_of (all_good (is_row p) rs) ≡ end_of (all_good (is_row r) ss) =
+    ap (λ (zs : Records). end_of (all_good (is_row p) zs)) l
+    ∙ ap (λ (t : PredOf). end_of (all_good (is_row t) ss)) (same_pred g p r names others (names ∷ rs) (others ∷ ss) h k) in
+    ap (λ (t : End). record { end = t; out = first_line ++ o; err = [] }) ends
+    ∙ ap (λ (t : List ℕ). record { end = end_of (all_good (is_row r) ss); out = first_line ++ t; err = [] }) same.outs
+
 -- the laws of a work hold for `explain`
-pub lawful : IsLawful (λ boxes. ExplainSaid) RunEnds
-lawful = record { tells = tells; one = run_laws.lawful.one; kind = run_laws.lawful.kind }
+pub lawful : IsLawful asks_nothing explain_work
+lawful = record {
+  tells = tells;
+  single = run_laws.lawful.single;
+  kind = run_laws.lawful.kind;
+  objects = shape_objects;
+  said = λ v boxes g i q. explain_one g i;
+}
 
 -- fewer records remain after the first
 pub fewer : (first : List (List ℕ)) (records rest : Records) → records ≡ first ∷ rest → length records < 4294967296

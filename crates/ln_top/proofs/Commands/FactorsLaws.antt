@@ -14,6 +14,7 @@ use Rattle.ln_tree.specs.declared.table.Table.{Table}
 use Rattle.ln_tree.specs.Names.{name_bytes}
 use Rattle.ln_tree.specs.Table.{ArgOf, SiteArg, ParamArg, CoordOf, PredOf, SiteOf, TableOf, pred_of, table_of}
 use Rattle.ln_tree.specs.Whole.{is_site_said, vars_behind}
+use Rattle.ln_tree.specs.Row.{InRange, Row}
 use Rattle.ln_parse.specs.ReadsBack.{Every}
 use Rattle.ln_parse.proofs.ReadBack.NamePlaces.{Differ, NoneIs, same_bytes}
 use Rattle.ln_parse.proofs.Wholes.WholeParts.{PredParts, differing, every, table_parts}
@@ -334,3 +335,8 @@ one_more_made programs which ss s n i x h w p m = record {
         let place : i ≡ f.place = some_same i f.place (sym here ∙ f.named) in
         let same : x ≡ q = some_same x q (sym p ∙ subst (λ (j : ℕ). slice_get programs j ≡ Some q) (sym place) f.there) in
         subst (λ (u : Scratch). MadeFor q u) e.1 (subst (λ (y : Part). MadeFor y s) same m)
+
+-- a row in range, by equal sites and variables
+pub range_as : (s t : ℕ) (v w : List VarInfo) (row : Row) → s ≡ t → v ≡ w → InRange s v row → InRange t w row
+range_as s t v w row e f h =
+    subst (λ (n : ℕ). InRange n w row) e (subst (λ (us : List VarInfo). InRange s us row) f h)

@@ -3,7 +3,7 @@ use Rattle.std.proofs.Common.{◌≡◌, ◌≢◌, ℕ, suc, ◌+◌, ◌-◌, 
 use Rattle.std.proofs.Common.{◌∷◌, ◌++◌, length, refl, ap, sym, ◌∙◌, subst, arith, Option, Ok, Err}
 use Rattle.std.specs.Prelude.{Result}
 use Rattle.rand_pcg.specs.Lcg.{Lcg}
-use Rattle.ln_base.specs.Outside.{Shown}
+use Rattle.ln_base.specs.Outside.{Shown, refused}
 use Rattle.ln_tree.specs.declared.pred.Pred.{Pred}
 use Rattle.ln_tree.specs.declared.shape.VarInfo.{VarInfo}
 use Rattle.ln_tree.specs.Row.{InRange, Row}
@@ -25,18 +25,21 @@ use Rattle.ln_top.specs.Steps.{Given}
 use Rattle.ln_top.specs.Carried as c
 use Rattle.ln_top.specs.Carried.{CarriesOut, NoPart}
 use Rattle.ln_top.specs.GenRow.{words, past}
-use Rattle.ln_top.specs.Gen.{Draw, draw, drawn, draws, seeded, GenStep, GenSaid, made, GenEnds, done}
+use Rattle.ln_top.specs.Gen.{Draw, draw, drawn, draws, seeded, GenStep, GenSaid, made, GenEnds, done, gen_work}
 use Rattle.ln_top.specs.Lines as l
 use Rattle.ln_top.specs.Lines.{Lines, PutsOne, Wrote}
 use Rattle.ln_top.specs.Target.{Belongs, TargetOf, pred_in}
-use Rattle.ln_top.specs.Work.{IsLawful, IsWorkEnd}
 use Rattle.ln_top.specs.Work as kind_of
+use Rattle.ln_top.specs.Work.{IsWorkEnd}
 use Rattle.ln_top.proofs.Commands.TargetLaws.{owed_there}
-use Rattle.ln_top.proofs.Gathering.Loops.{Written, StepTo, Streams, faults_in, each_good}
-use Rattle.ln_top.proofs.Gathering.LinesLaws.{Writing, running_none, no_last, SameLines, ok_err, memory_write}
+use Rattle.ln_top.proofs.Gathering.Loops.{Written, StepTo, Streams, faults_in, each_good, LinesTo}
+use Rattle.ln_top.proofs.Gathering.LinesLaws.{Writing, running_none, no_last, SameLines, ok_err, memory_write, one_lines}
 use Rattle.ln_top.proofs.Gathering.LinesCarry.{Task, IsByLines, HasRun, EndsWith, early_carried, end_carried, close_carried}
 use Rattle.ln_top.proofs.Gathering.MadeRangeLemmas.{words_in_range, words_length}
 use Rattle.ln_top.proofs.Gathering.WatchingLaws.{lines_alike, left_alike}
+use Rattle.ln_top.proofs.Steps.Laws.{IsLawful, shape_objects}
+use Rattle.ln_top.proofs.Steps.Grounded.{IsGrounded, in_memory}
+use Rattle.ln_top.specs.Signature.{asks_nothing}
 
 -- the remaining rows: the next one, and those after it
 pub draws_more : (k n m : ℕ) (vars : List VarInfo) (g : Lcg) → n < k → m ≡ n + 1
@@ -97,7 +100,7 @@ silent_lines p s z (d ∷ ds) out err (l.more {out = o2} {err = e2} _ o e m t k)
 abbrev pub AnyPart : List ℕ → List ℕ → Type 0
 AnyPart out err = Unit {0}
 
-no_part : (owes : Said → Type 0) (puts : Count) (result : Result End Early) (was now : Option Shown) → result ≢ Err Memory
+no_part : (owes : Said → Type 0) (puts : Count) (result : Result End Early) (was now : Option Shown) → result ≢ Err (Memory refused)
     → CarriesOut owes AnyPart ⊥ ⊥ puts result was now → CarriesOut owes NoPart ⊥ ⊥ puts result was now
 no_part owes puts result was now n (c.ended s q o r e) = c.ended s q o r e
 no_part owes puts result was now n (c.unread q u r e) = c.unread q u r e
@@ -183,6 +186,30 @@ one g a b done done = refl
 kind : (g : Given) (e : End) → GenEnds g e → IsWorkEnd e
 kind g e done = kind_of.done
 
+-- `gen` requires one output
+gen_same : (seed count : ℕ) (boxes : List State) (q : Pred) (p r : PredOf) (a b : Written (List State)) → pred_of q ≡ r → p ≡ r
+    → LinesTo (GenStep p) boxes (draws count 0 p.vars (seeded seed)) a
+    → LinesTo (GenStep r) boxes (draws count 0 r.vars (seeded seed)) b
+    → whole Done (a.out ++ last_lines a.left) ≡ whole Done (b.out ++ last_lines b.left)
+gen_same seed count boxes q p r a b i f x k =
+    let x1 = subst (λ (t : PredOf). LinesTo (GenStep t) boxes (draws count 0 t.vars (seeded seed)) a) (f ∙ sym i) x in
+    let k1 = subst (λ (t : PredOf). LinesTo (GenStep t) boxes (draws count 0 t.vars (seeded seed)) b) (sym i) k in
+    let same = one_lines (GenStep (pred_of q)) (one_step q) boxes (draws count 0 q.shape.vars (seeded seed)) a b x1 k1 in
+    ap (λ t. whole Done (t ++ last_lines a.left)) same.outs ∙ ap (λ t. whole Done (b.out ++ last_lines t)) same.lefts
+
+gen_one : (seed count : ℕ) (boxes : List State) (g : Given) → IsGrounded g → (a b : Said) → GenSaid seed count boxes g a
+    → GenSaid seed count boxes g b → a ≡ b
+gen_one seed count boxes g i a b (made p o y e x) (made r out z f k) =
+    let q = in_memory g r [] i f in
+    gen_same seed count boxes q.0 p r (record { out = o; err = []; left = y }) (record { out = out; err = []; left = z }) q.1
+    (ap (λ (xs : List PredOf). elim xs [ [] ↦ p | t ∷ rest ↦ t ]) (sym e ∙ f)) x k
+
 -- the laws of a work hold for `gen`
-pub lawful : (seed count : ℕ) → IsLawful (GenSaid seed count) GenEnds
-lawful seed count = record { tells = tells seed count; one = one; kind = kind }
+pub lawful : (seed count : ℕ) → IsLawful asks_nothing (gen_work seed count)
+lawful seed count = record {
+  tells = tells seed count;
+  single = one;
+  kind = kind;
+  objects = shape_objects;
+  said = λ v boxes g i q. gen_one seed count boxes g i;
+}

@@ -28,8 +28,8 @@ use Rattle.ln_top.specs.declared.words.Command.TheVariants.{Graded}
 use Rattle.ln_top.specs.Graded.{FirstHasFew, HasFewGraded}
 use Rattle.ln_top.specs.Ready.{AreNumbered}
 use Rattle.ln_top.specs.Source.{place_at}
-use Rattle.ln_top.specs.Suits.{objection}
 use Rattle.ln_top.proofs.Steps.FindLaws.{same_at, there_at}
+use Rattle.ln_top.specs.Signature.{objection}
 
 -- ---- few stages
 -- lists within both limits pass none, and there are no others
@@ -149,6 +149,18 @@ module _ (p : PredOf) (f : Sparse) (part : Part) (poly : IsPolynomialOf p f) (o 
     short = o.begins.short;
   }
 
+  -- where the predicate has few stages, its lists by total degree pass no limit, over the program's shape as well
+  pub no_passes : HasFewGraded p → (lists : List (List (List ℕ))) → AreStageListsIn ByDegree part.shape.sites part.shape.vars f lists
+      → Passes (length part.shape.vars) f 262144 131072 lists → ⊥
+  no_passes h lists l z = h (record {
+    poly = f;
+    normal = poly.normal;
+    lists = lists;
+    are_lists = subst (λ (vs : List VarInfo). AreStageListsIn ByDegree p.sites vs f lists) o.vars
+        (subst (λ k. AreStageListsIn ByDegree k part.shape.vars f lists) o.sites l);
+    passes = subst (λ (vs : List VarInfo). Passes (length vs) f 262144 131072 lists) o.vars z;
+  })
+
   -- a program by total degree that is made from the predicate's program implements the predicate in that order of infinitesimals
   pub answers : (q : Part) → IsGraded part.shape f part q → AnswersFor ByDegree p q
   answers q g = record {
@@ -170,6 +182,12 @@ module _ (preds : List Pred) (i : ℕ) (l : i < length preds) (f : Sparse) (part
   -- the polynomial of the predicate with this number is one that a program by total degree can be made of
   pub gradable_at : IsGradable part.shape.vars f
   gradable_at = gradable some_pred.0 f part (poly some_pred.0 some_pred.1) (o some_pred.0 some_pred.1)
+
+  -- where the predicate with this number has few stages, its lists by total degree pass no limit
+  pub passes_none : ((p : PredOf) → slice_get (map pred_of preds) i ≡ Some p → HasFewGraded p)
+      → (lists : List (List (List ℕ))) → AreStageListsIn ByDegree part.shape.sites part.shape.vars f lists
+      → Passes (length part.shape.vars) f 262144 131072 lists → ⊥
+  passes_none h = no_passes some_pred.0 f part (poly some_pred.0 some_pred.1) (o some_pred.0 some_pred.1) (h some_pred.0 some_pred.1)
 
   -- block 0 of the program of the predicate with this number has no exponents and computes the polynomial
   pub begins_at : Begins part.shape f part

@@ -18,13 +18,15 @@ use Rattle.ln_top.specs.declared.status.Early.{Early}
 use Rattle.ln_top.specs.declared.prepare.Ready.{Ready}
 use Rattle.ln_top.specs.Said.{Said, Count}
 use Rattle.ln_top.specs.Steps.{Given}
-use Rattle.ln_top.specs.Work.{IsLawful, IsWorkEnd}
 use Rattle.ln_top.specs.Work as kind_of
+use Rattle.ln_top.specs.Work.{IsWorkEnd}
 use Rattle.ln_top.specs.Carried.{CarriesOut, NoPart, PutsText}
 use Rattle.ln_top.specs.Ready.{StandsFor}
-use Rattle.ln_top.specs.Listing.{AreListable, IsListingOf, IsListingOfFirst, ListSaid, listed, ListEnds, done}
+use Rattle.ln_top.specs.Listing.{AreListable, IsListingOf, IsListingOfFirst, ListSaid, listed, ListEnds, done, list_work}
 use Rattle.ln_top.proofs.Steps.Carry.{text_carried}
+use Rattle.ln_top.proofs.Steps.Laws.{IsLawful, shape_objects}
 use Rattle.ln_top.proofs.Theorem.GoodLines.{listing_is}
+use Rattle.ln_top.specs.Signature.{asks_nothing}
 
 listable_more : (cs : List Part) (c : Part) → AreListable cs → IsListable c → AreListable (cs ++ c ∷ [])
 listable_more [] c l h = (h, tt)
@@ -81,5 +83,11 @@ kind : (g : Given) (e : End) → ListEnds g e → IsWorkEnd e
 kind g e done = kind_of.done
 
 -- the laws of a work hold for `list`
-pub lawful : IsLawful (λ boxes. ListSaid) ListEnds
-lawful = record { tells = λ boxes. tells; one = one; kind = kind }
+pub lawful : IsLawful asks_nothing list_work
+lawful = record {
+  tells = λ boxes. tells;
+  single = one;
+  kind = kind;
+  objects = shape_objects;
+  said = λ v boxes g i q a b. absurd v;
+}

@@ -1,16 +1,17 @@
 -- `product`: what it requires is carried out by lines, and where it ends.
-use Rattle.std.proofs.Common.{◌≡◌, ℕ, zero, suc, ◌<◌, Bool, List, [], ◌∷◌, ◌++◌, length, take, refl, ap, sym, ◌∙◌}
+use Rattle.std.proofs.Common.{◌≡◌, ℕ, zero, suc, ◌<◌, Bool, List, [], ◌∷◌, ◌++◌, length, take, refl, ap, sym, ◌∙◌, true}
 use Rattle.std.proofs.Common.{subst, arith, Some, Result, Ok, Err, Option, All}
 use Rattle.std.specs.Prelude.{slice_get, ◌*ℤ◌}
 use Rattle.std.proofs.lemmas.List.{append-nil}
 use Rattle.std.proofs.lemmas.List.Elements.{All-head, All-tail}
-use Rattle.ln_base.specs.Outside.{Shown}
+use Rattle.ln_base.specs.Outside.{Shown, refused}
 use Rattle.ln_base.specs.declared.sign.Sign.{Sign}
 use Rattle.ln_base.specs.declared.sign.Sign.TheVariants.{Minus, Zero, Plus}
 use Rattle.ln_algebra.specs.Product.{multiplied_numbers}
 use Rattle.ln_tree.specs.declared.shape.VarInfo.{VarInfo}
 use Rattle.ln_tree.specs.Row.{InRange, Row}
-use Rattle.ln_tree.specs.Table.{PredOf, pred_of}
+use Rattle.ln_tree.specs.Table.{PredOf, pred_of, TableOf}
+use Rattle.ln_tree.specs.declared.pred.Pred.{Pred}
 use Rattle.ln_code.specs.declared.row.Row as code
 use Rattle.ln_code.specs.declared.verdict.Verdict.{Verdict}
 use Rattle.ln_code.specs.Kept.{IsProgram}
@@ -27,6 +28,8 @@ use Rattle.ln_rows.specs.Record.{read_row}
 use Rattle.ln_rows.specs.declared.record.RowStop.{RowStop}
 use Rattle.ln_rows.proofs.Fields.RangeLemmas.{row_in_range}
 use Rattle.ln_watch.specs.Panel.{State}
+use Rattle.ln_parse.specs.ReadsBack.{Every}
+use Rattle.ln_parse.proofs.Wholes.WholeParts.{PredParts, table_parts}
 use Rattle.ln_top.specs.declared.status.End.{End}
 use Rattle.ln_top.specs.declared.status.Early.{Early}
 use Rattle.ln_top.specs.declared.status.Early.TheVariants.{Memory}
@@ -39,26 +42,28 @@ use Rattle.ln_top.specs.Lines as l
 use Rattle.ln_top.specs.Lines.{Lines, Takes, all_good, took, left_off}
 use Rattle.ln_top.specs.Carried as carried
 use Rattle.ln_top.specs.Carried.{CarriesOut}
-use Rattle.ln_top.specs.Work.{IsLawful}
 use Rattle.ln_top.specs.Run as run
 use Rattle.ln_top.specs.Run.{HasRecords, IsWrongHeader, RunEnds, end_of}
 use Rattle.ln_top.specs.Factors.{AreFactors, AreGivenBy, AreProgramsAt, FactorsOf, IsInRangeOf}
 use Rattle.ln_top.specs.Product as product
-use Rattle.ln_top.specs.Product.{AreDue, Multiplied, ProductPart, ProductSaid, ProductStep, SaysProduct, StepOf, due, refused_}
+use Rattle.ln_top.specs.Product.{AreDue, Multiplied, ProductPart, ProductSaid, ProductStep, SaysProduct, StepOf, due, refused_, product_work}
 use Rattle.ln_top.specs.Product.{product_text, with_verdicts}
 use Rattle.ln_top.proofs.Steps.Carry.{told_carried}
 use Rattle.ln_top.proofs.Steps.FindLaws.{there_at}
-use Rattle.ln_top.proofs.Gathering.LinesLaws.{no_last, both_nothing, wrote_nothing}
-use Rattle.ln_top.proofs.Gathering.Loops.{Streams}
+use Rattle.ln_top.proofs.Steps.Laws.{IsLawful, shape_objects}
+use Rattle.ln_top.proofs.Steps.Grounded.{IsGrounded, each_found, in_memory}
+use Rattle.ln_top.proofs.Gathering.LinesLaws.{no_last, both_nothing, wrote_nothing, one_lines, SameLines}
+use Rattle.ln_top.proofs.Gathering.Loops.{Streams, Written, StepTo}
 use Rattle.ln_top.proofs.Gathering.LinesCarry.{Task, IsByLines, HasRun, IsCarriedOut, early_carried, end_carried}
+use Rattle.ln_top.proofs.Gathering.OneProduct.{one_product}
 use Rattle.ln_top.proofs.Commands.RunLaws as run_laws
+use Rattle.ln_top.proofs.Commands.FactorsLaws.{range_as, IsOver, alike_over}
+use Rattle.ln_top.proofs.Commands.RunLaws.{Sheet, sheet, same_sheet, wrong_right}
+use Rattle.ln_top.specs.Signature.{asks_shape}
+use Rattle.ln_top.specs.Alike.{are_alike}
+use Rattle.ln_top.specs.Source.{view}
 
 -- ---- verdicts
--- a row in range, by equal sites and variables
-pub range_as : (s t : ℕ) (v w : List VarInfo) (row : Row) → s ≡ t → v ≡ w → InRange s v row → InRange t w row
-range_as s t v w row e f h =
-    subst (λ (n : ℕ). InRange n w row) e (subst (λ (us : List VarInfo). InRange s us row) f h)
-
 module _ (sites : ℕ) (vars : List VarInfo) (programs : List Part)
     (kept : (i : ℕ) (part : Part) → slice_get programs i ≡ Some part → IsProgram part) where
   later : (k : ℕ) (ks : List ℕ) (j : ℕ) (part : Part) → IsFactor programs ks j part → IsFactor programs (k ∷ ks) (suc j) part
@@ -179,7 +184,7 @@ takes_all t ps fields vs said right held grown at s g r =
 
 -- an allocation failed, and the record's line was given up
 pub takes_none : (t : FactorsOf) (ps : List PredOf) (fields : List (List ℕ)) (held grown : List ℕ) (n : ℕ) (was : Option Shown)
-    → grown ≡ held → Takes (StepOf t ps) (is_row (pred_of t.pred)) tt fields (count n n) (Err Memory) held grown was was tt
+    → grown ≡ held → Takes (StepOf t ps) (is_row (pred_of t.pred)) tt fields (count n n) (Err (Memory refused)) held grown was was tt
 takes_none t ps fields held grown n was e = left_off refl refl e refl
 
 -- nothing comes to Err
@@ -262,6 +267,58 @@ tells : (boxes : List State) (g : Given) (a : Said) → ProductSaid g a → RunE
 tells boxes g a (product.header p names records h x) = run.wrong p names records h x
 tells boxes g a (product.ran p names records out h x) = run_laws.ends_by p names records g h
 
+-- predicates with the same arguments are over the variables of the first
+pub all_over : (g : Given) → IsGrounded g → are_alike g.preds ≡ true → (p : PredOf) (others : List PredOf) → g.preds ≡ p ∷ others
+    → Every (IsOver p.sites p.vars) (p ∷ others)
+all_over g i a p others e =
+    let t : TableOf = view i.table in
+    let whole : Every (PredParts t.sites t.params) t.preds = (table_parts t i.table.whole).preds in
+    let here : Every (PredParts t.sites t.params) g.table.preds =
+    subst (λ (u : TableOf). Every (PredParts t.sites t.params) u.preds) i.is whole in
+    let found : Every (PredParts t.sites t.params) g.preds = each_found (PredParts t.sites t.params) g.table.preds g.preds here i.found in
+    alike_over t.sites t.params p others (subst (λ (ps : List PredOf). Every (PredParts t.sites t.params) ps) e found)
+    (subst (λ (ps : List PredOf). are_alike ps ≡ true) e a)
+
+-- `product` requires one output
+product_step : (q : Pred) (ps : List PredOf) → Every (IsOver q.shape.sites q.shape.vars) ps → (names : List (List ℕ)) (w : Unit {0})
+    (fields : List (List ℕ)) (a b : Written (Unit {0})) → StepTo (ProductStep (pred_of q) ps names) w fields a
+    → StepTo (ProductStep (pred_of q) ps names) w fields b → SameLines a b
+product_step q ps over names w fields a b s t =
+    let same = one_product q ps over names fields a.out b.out a.err b.err w w a.left b.left s t in
+    record { outs = same.0; errs = same.1; lefts = refl }
+
+abbrev product_said : Sheet → List ℕ → Said
+product_said x out = record { end = end_of (all_good (is_row x.pred) x.records); out = out; err = [] }
+
+product_same : (q : Pred) (ps : List PredOf) (x y : Sheet) (o out : List ℕ) → Every (IsOver y.pred.sites y.pred.vars) ps
+    → pred_of q ≡ y.pred → x ≡ y → Lines (ProductStep x.pred ps x.names) tt x.records o [] tt
+    → Lines (ProductStep y.pred ps y.names) tt y.records out [] tt → product_said x o ≡ product_said y out
+product_same q ps x y o out over i e l k =
+    let over1 = subst (λ (t : PredOf). Every (IsOver t.sites t.vars) ps) (sym i) over in
+    let l1 = subst (λ (t : Sheet). Lines (ProductStep t.pred ps t.names) tt t.records o [] tt) e l in
+    let l2 = subst (λ (t : PredOf). Lines (ProductStep t ps y.names) tt y.records o [] tt) (sym i) l1 in
+    let k2 = subst (λ (t : PredOf). Lines (ProductStep t ps y.names) tt y.records out [] tt) (sym i) k in
+    let same = one_lines (ProductStep (pred_of q) ps y.names) (product_step q ps over1 y.names) tt y.records
+    (record { out = o; err = []; left = tt }) (record { out = out; err = []; left = tt }) l2 k2 in
+    ap (λ (t : Sheet). product_said t o) e ∙ ap (product_said y) same.outs
+
+product_one : (g : Given) → IsGrounded g → are_alike g.preds ≡ true → (a b : Said) → ProductSaid g a → ProductSaid g b → a ≡ b
+product_one g i v a b (product.header p names rs h x) (product.header q others ss k y) = refl
+product_one g i v a b (product.header p names rs h x) (product.ran q others ss out k y) = wrong_right g p q names others rs ss h x k
+product_one g i v a b (product.ran p names rs out h x) (product.header q others ss k y) = wrong_right g q p others names ss rs k y h
+product_one g i v a b (product.ran p names rs o h x) (product.ran r others ss out k y) =
+    let q = in_memory g r k.others i k.pred in
+    let s = sheet p names rs in
+    let t = sheet r others ss in
+    product_same q.0 g.preds s t o out (subst (Every (IsOver r.sites r.vars)) (sym k.pred) (all_over g i v r k.others k.pred)) q.1
+    (same_sheet g s t h k) x y
+
 -- the laws of a work hold for `product`
-pub lawful : IsLawful (λ boxes. ProductSaid) RunEnds
-lawful = record { tells = tells; one = run_laws.lawful.one; kind = run_laws.lawful.kind }
+pub lawful : IsLawful (asks_shape (λ preds. are_alike preds ≡ true)) product_work
+lawful = record {
+  tells = tells;
+  single = run_laws.lawful.single;
+  kind = run_laws.lawful.kind;
+  objects = shape_objects;
+  said = λ v boxes. product_one;
+}

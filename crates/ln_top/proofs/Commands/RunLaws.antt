@@ -3,10 +3,11 @@ use Rattle.std.proofs.Common.{◌≡◌, ℕ, ◌&&◌, Bool, true, false, true�
 use Rattle.std.proofs.Common.{sym, ◌∙◌, subst, Option, Result, Ok, Err, All}
 use Rattle.std.proofs.lemmas.List.{append-nil}
 use Rattle.std.proofs.lemmas.List.Elements.{All-nil, All-cons, All-head, All-tail}
-use Rattle.ln_base.specs.Outside.{Shown}
+use Rattle.ln_base.specs.Outside.{Shown, refused}
 use Rattle.ln_algebra.specs.Orders.{BySmallest, ByDegree, Rank}
 use Rattle.ln_tree.specs.Row.{Row}
-use Rattle.ln_tree.specs.Table.{PredOf}
+use Rattle.ln_tree.specs.Table.{PredOf, pred_of}
+use Rattle.ln_tree.specs.declared.pred.Pred.{Pred}
 use Rattle.ln_code.specs.declared.verdict.Verdict.{Verdict}
 use Rattle.ln_rows.specs.Left.{Records, records_in}
 use Rattle.ln_watch.specs.Panel.{State}
@@ -14,6 +15,7 @@ use Rattle.ln_rows.specs.Record.{read_row}
 use Rattle.ln_rows.specs.declared.record.RowStop.{RowStop}
 use Rattle.ln_rows.proofs.Fields.RangeLemmas.{row_in_range}
 use Rattle.ln_top.specs.declared.status.End.{End}
+use Rattle.ln_top.specs.declared.status.End.TheVariants as end
 use Rattle.ln_top.specs.declared.status.Early.{Early}
 use Rattle.ln_top.specs.declared.status.Early.TheVariants.{Write, Memory}
 use Rattle.ln_top.specs.declared.stop.Stop.TheVariants as stop
@@ -26,18 +28,24 @@ use Rattle.ln_top.specs.Line.{IsLineOf, due, refused_, is_read, is_row, is_said,
 use Rattle.ln_top.specs.Lines.{all_good, Takes, took, tore, left_off, Wrote}
 use Rattle.ln_top.specs.Carried as carried
 use Rattle.ln_top.specs.Carried.{CarriesOut}
-use Rattle.ln_top.specs.Work.{IsLawful, IsWorkEnd}
 use Rattle.ln_top.specs.Work as kind_of
+use Rattle.ln_top.specs.Work.{IsWorkEnd}
 use Rattle.ln_top.specs.Run as run
-use Rattle.ln_top.specs.Run.{RunStep, StepOf, RunSaid, RunPart, RunEnds, HasRecords, HeaderIs, IsWrongHeader, IsRow, IsNoRow, end_of}
+use Rattle.ln_top.specs.Run.{RunStep, StepOf, RunSaid, RunPart, RunEnds, HasRecords, HeaderIs, IsWrongHeader, IsRow, IsNoRow, end_of, graded_work, run_work}
 use Rattle.ln_top.specs.Target.{Belongs, IsGivenBy, TargetOf, pred_in}
 use Rattle.ln_top.proofs.Steps.Carry.{told_carried}
+use Rattle.ln_top.proofs.Steps.Laws.{IsLawful, shape_objects, usage_other}
+use Rattle.ln_top.proofs.Steps.Grounded.{IsGrounded, in_memory}
 use Rattle.ln_top.proofs.Commands.TargetLaws.{owed_there}
 use Rattle.ln_top.specs.Watching.{Watching, watching, next_lines, next, last_of}
-use Rattle.ln_top.proofs.Gathering.LinesLaws.{no_last, wrote_all, broke_off}
+use Rattle.ln_top.proofs.Gathering.LinesLaws.{no_last, wrote_all, broke_off, one_lines, SameLines}
 use Rattle.ln_top.proofs.Commands.SaysLaws.{said_row}
-use Rattle.ln_top.proofs.Gathering.Loops.{Work, Streams, Point, faults_in, TakesTo}
+use Rattle.ln_top.proofs.Gathering.Loops.{Work, Streams, Point, faults_in, TakesTo, Written, StepTo, LinesTo}
 use Rattle.ln_top.proofs.Gathering.LinesCarry.{IsByLines, Task}
+use Rattle.ln_top.proofs.Gathering.OneLine.{one_line, says_alike}
+use Rattle.ln_top.specs.Graded.{FirstHasFew, many_stages}
+use Rattle.ln_top.specs.Signature.{asks_nothing}
+use Rattle.ln_top.specs.Stop.{why_end}
 
 -- what stands ready for this has these records
 pub has_records : (g : Given) (t : TargetOf) (rows : List ℕ) (records : Records) → IsGivenBy g t → g.texts ≡ rows ∷ []
@@ -106,8 +114,8 @@ module _ (t : TargetOf) (belongs : Belongs t.rank t.pred t.program) where
   }
 
 -- the work of one predicate on records
-abbrev run_work : Rank → PredOf → List (List ℕ) → Work Watching (List (List ℕ))
-run_work rank p names = record { step = RunStep rank p names; good = is_row p }
+abbrev record_work : Rank → PredOf → List (List ℕ) → Work Watching (List (List ℕ))
+record_work rank p names = record { step = RunStep rank p names; good = is_row p }
 
 -- what is said of a record is right, and its line was added to the held bytes
 pub record AddsLine (rank : Rank) (p : PredOf) (names fields : List (List ℕ)) (said : Result Verdict RowStop) (held grown : List ℕ) : Type 0 where
@@ -122,7 +130,7 @@ ShowsTo said done from to =
 -- a record was taken
 pub takes_all : (rank : Rank) (p : PredOf) (names : List (List ℕ)) {fields : List (List ℕ)} {said : Result Verdict RowStop}
     {right : Bool} {from to : Point Watching} → AddsLine rank p names fields said from.held to.held → ShowsTo said true from to
-    → to.state ≡ next said from.state → right ≡ is_said said → TakesTo (run_work rank p names) fields (Ok right) from to
+    → to.state ≡ next said from.state → right ≡ is_said said → TakesTo (record_work rank p names) fields (Ok right) from to
 takes_all rank p names {fields = fields} {said = said} {right = right} {from = from} {to = to} a h l r =
     let e = wrote_all [] (next_lines said from.state) (faults_in from.streams to.streams) from.streams.shown to.streams.shown h in
     took (line (said_text names said)) (next_lines said from.state) e.0
@@ -132,7 +140,7 @@ takes_all rank p names {fields = fields} {said = said} {right = right} {from = f
 -- the write of the watchers' lines for a record was cut off
 pub takes_cut : (rank : Rank) (p : PredOf) (names : List (List ℕ)) {fields : List (List ℕ)} {said : Result Verdict RowStop}
     {from to : Point Watching} → AddsLine rank p names fields said from.held to.held → ShowsTo said false from to
-    → TakesTo (run_work rank p names) fields (Err Write) from to
+    → TakesTo (record_work rank p names) fields (Err Write) from to
 takes_cut rank p names {said = said} {from = from} {to = to} a h =
     let e = broke_off [] (next_lines said from.state) (faults_in from.streams to.streams) from.streams.shown to.streams.shown h in
     tore (line (said_text names said)) (next_lines said from.state) (next said from.state)
@@ -141,7 +149,7 @@ takes_cut rank p names {said = said} {from = from} {to = to} a h =
 -- an allocation failed, and the record's line was given up
 pub takes_none : (rank : Rank) (p : PredOf) (names fields : List (List ℕ)) (w z : Watching) (held grown : List ℕ) (a : ℕ)
     (was : Option Shown) → grown ≡ held
-    → Takes (RunStep rank p names) (is_row p) w fields (count a a) (Err Memory) held grown was was z
+    → Takes (RunStep rank p names) (is_row p) w fields (count a a) (Err (Memory refused)) held grown was was z
 takes_none rank p names fields w z held grown a was e = left_off refl refl e refl
 
 -- a record that is a row in range, and one that isn't
@@ -316,13 +324,67 @@ kind g e (run.done p names rs h x) = kind_of.done
 kind g e (run.wrong p names rs h x) = kind_of.rows
 kind g e (run.refused p names bs as' fields h x) = kind_of.rows
 
+-- `run` and `graded` require one output
+one_step : (rank : Rank) (q : Pred) (names : List (List ℕ)) (w : Watching) (fields : List (List ℕ)) (a b : Written Watching)
+    → StepTo (RunStep rank (pred_of q) names) w fields a → StepTo (RunStep rank (pred_of q) names) w fields b → SameLines a b
+one_step rank q names w fields a b s t =
+    let same = says_alike rank q fields s.line.says t.line.says w in
+    record {
+      outs = one_line rank q names fields a.out b.out s.line t.line;
+      errs = s.told ∙ same.0 ∙ sym t.told;
+      lefts = s.left ∙ same.1 ∙ sym t.left;
+    }
+
+-- what is said of records that come to this
+abbrev ran_said : Sheet → Written Watching → Said
+ran_said x a = record { end = end_of (all_good (is_row x.pred) x.records); out = a.out; err = a.err ++ last_of a.left }
+
+run_same : (rank : Rank) (boxes : List State) (q : Pred) (x y : Sheet) (a b : Written Watching) → pred_of q ≡ y.pred → x ≡ y
+    → LinesTo (RunStep rank x.pred x.names) (watching 0 boxes) x.records a
+    → LinesTo (RunStep rank y.pred y.names) (watching 0 boxes) y.records b → ran_said x a ≡ ran_said y b
+run_same rank boxes q x y a b i e l k =
+    let l1 = subst (λ (t : Sheet). LinesTo (RunStep rank t.pred t.names) (watching 0 boxes) t.records a) e l in
+    let l2 = subst (λ (t : PredOf). LinesTo (RunStep rank t y.names) (watching 0 boxes) y.records a) (sym i) l1 in
+    let k2 = subst (λ (t : PredOf). LinesTo (RunStep rank t y.names) (watching 0 boxes) y.records b) (sym i) k in
+    let same = one_lines (RunStep rank (pred_of q) y.names) (one_step rank q y.names) (watching 0 boxes) y.records a b l2 k2 in
+    ap (λ (t : Sheet). ran_said t a) e ∙ ap (λ (t : List ℕ). ran_said y (record { out = t; err = a.err; left = a.left })) same.outs
+    ∙ ap (λ (t : List ℕ). ran_said y (record { out = b.out; err = t; left = a.left })) same.errs
+    ∙ ap (λ (t : Watching). ran_said y (record { out = b.out; err = b.err; left = t })) same.lefts
+
+run_one : (rank : Rank) (boxes : List State) (g : Given) → IsGrounded g → (a b : Said) → RunSaid rank boxes g a → RunSaid rank boxes g b → a ≡ b
+run_one rank boxes g i a b (run.header p names rs h x) (run.header q others ss k y) = refl
+run_one rank boxes g i a b (run.header p names rs h x) (run.ran q others ss out err z k y) = wrong_right g p q names others rs ss h x k
+run_one rank boxes g i a b (run.ran p names rs out err z h x) (run.header q others ss k y) = wrong_right g q p others names ss rs k y h
+run_one rank boxes g i a b (run.ran p names rs o e m h x) (run.ran r others ss out err z k y) =
+    let q = in_memory g r k.others i k.pred in
+    let s = sheet p names rs in
+    let t = sheet r others ss in
+    run_same rank boxes q.0 s t (record { out = o; err = e; left = m }) (record { out = out; err = err; left = z }) q.1 (same_sheet g s t h k)
+    x y
+
+many_objects : (bytes : List ℕ) (preds : List PredOf) → why_end (many_stages bytes preds) ≡ end.Usage → ⊥
+many_objects bytes [] i = usage_other i tt
+many_objects bytes (p ∷ ps) i = usage_other i tt
+
 -- the laws of a work hold for `run`
-pub lawful : IsLawful (RunSaid BySmallest) RunEnds
-lawful = record { tells = tells BySmallest; one = one; kind = kind }
+pub lawful : IsLawful asks_nothing run_work
+lawful = record {
+  tells = tells BySmallest;
+  single = one;
+  kind = kind;
+  objects = shape_objects;
+  said = λ v boxes g i q. run_one BySmallest boxes g i;
+}
 
 -- the laws of a work hold for `graded`
-pub lawful_graded : IsLawful (λ boxes. RunSaid ByDegree []) RunEnds
-lawful_graded = record { tells = λ boxes g a o. tells ByDegree [] g a o; one = one; kind = kind }
+pub lawful_graded : IsLawful (record { asks = FirstHasFew; objection = many_stages }) graded_work
+lawful_graded = record {
+  tells = λ boxes. tells ByDegree [];
+  single = one;
+  kind = kind;
+  objects = many_objects;
+  said = λ v boxes g i q. run_one ByDegree [] g i;
+}
 
 -- what is carried out for no watchers
 pub no_boxes : (rank : Rank) (boxes : List State) (g : Given) (puts : Count) (result : Result End Early) (was now : Option Shown) → boxes ≡ []

@@ -5,8 +5,7 @@ use Rattle.ln_base.specs.Outside.{Shown}
 use Rattle.ln_tree.specs.Table.{PredOf}
 use Rattle.ln_cert.specs.declared.part.Part.{Part}
 use Rattle.ln_cert.specs.Listing.{IsFormFault, ListText, Listed, parts_of}
-use Rattle.ln_cert.proofs.Reading.OneFault.{one_fault}
-use Rattle.ln_cert.proofs.Reading.Whole.{no_text, one_text}
+use Rattle.ln_cert.proofs.Reading.Whole.{no_text, one_fault, one_text}
 use Rattle.ln_verify.specs.Judge.{IsFirstFault}
 use Rattle.ln_verify.specs.Line.{Subject}
 use Rattle.ln_verify.specs.Verified.{IsFaultFor, IsTextFaultFor, IsValidFor, IsValidTextFor, rules_of}
@@ -19,10 +18,12 @@ use Rattle.ln_top.specs.declared.status.Early.{Early}
 use Rattle.ln_top.specs.Said.{Said, Count, line, whole}
 use Rattle.ln_top.specs.Carried.{CarriesOut, NoPart, PutsText}
 use Rattle.ln_top.specs.Steps.{Given}
-use Rattle.ln_top.specs.Work.{IsLawful, IsWorkEnd}
 use Rattle.ln_top.specs.Work as kind_of
+use Rattle.ln_top.specs.Work.{IsWorkEnd}
 use Rattle.ln_top.proofs.Steps.Carry.{text_carried}
-use Rattle.ln_top.specs.Verify.{IsListed, HasValid, HasFault, form, rule, VerifySaid, valid, invalid, VerifyEnds, done, faulty}
+use Rattle.ln_top.proofs.Steps.Laws.{IsLawful, shape_objects}
+use Rattle.ln_top.specs.Verify.{IsListed, HasValid, HasFault, form, rule, VerifySaid, valid, invalid, VerifyEnds, done, faulty, verify_work}
+use Rattle.ln_top.specs.Signature.{asks_nothing}
 
 head_of : (a b : List ℕ) (xs ys : List (List ℕ)) → a ∷ xs ≡ b ∷ ys → a ≡ b
 head_of a b xs ys e = ap (λ (t : List (List ℕ)). elim t [ [] ↦ a | z ∷ zs ↦ z ]) e
@@ -99,8 +100,14 @@ kind g e (done h) = kind_of.done
 kind g e (faulty n h) = kind_of.invalid
 
 -- the laws of a work hold for `verify`
-pub lawful : IsLawful (λ boxes. VerifySaid) VerifyEnds
-lawful = record { tells = λ boxes. tells; one = one; kind = kind }
+pub lawful : IsLawful asks_nothing verify_work
+lawful = record {
+  tells = λ boxes. tells;
+  single = one;
+  kind = kind;
+  objects = shape_objects;
+  said = λ v boxes g i q. one_said g;
+}
 
 -- ---- from the code
 -- what was judged are the bytes of the file

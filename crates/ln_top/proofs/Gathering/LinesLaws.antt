@@ -3,7 +3,7 @@ use Rattle.std.proofs.Common.{◌≡◌, ℕ, ◌≤◌, length, take, Bool, tru
 use Rattle.std.proofs.Common.{◌++◌, refl, ap, sym, ◌∙◌, subst, Option, Some, None, Ok, Err, append_assoc}
 use Rattle.std.specs.Prelude.{IfSome, Result}
 use Rattle.std.proofs.lemmas.List.{append-nil}
-use Rattle.ln_base.specs.Outside.{Shown, appended}
+use Rattle.ln_base.specs.Outside.{Shown, appended, refused}
 use Rattle.ln_base.specs.declared.outside.Port.TheVariants.{Out, Err as ErrPort}
 use Rattle.ln_base.proofs.Kept.{appended-nothing}
 use Rattle.ln_top.specs.declared.status.Early.{Early}
@@ -126,12 +126,12 @@ broke_behind sent err held was mid now f w =
 
 abbrev IsMemory : {T : Type 0} → Result T Early → Type 0
 IsMemory (Ok x) = ⊥
-IsMemory (Err early.Memory) = Unit {0}
+IsMemory (Err (early.Memory m)) = Unit {0}
 IsMemory (Err early.Write) = ⊥
 IsMemory (Err early.Read) = ⊥
 
 -- a failed allocation isn't a failed write
-pub memory_write : {T : Type 0} {P : Type 0} → (let r : Result T Early = Err early.Memory in r ≡ Err early.Write) → P
+pub memory_write : {T : Type 0} {P : Type 0} → (let r : Result T Early = Err (early.Memory refused) in r ≡ Err early.Write) → P
 memory_write e = absurd (subst IsMemory e tt)
 
 -- the lines of the first records are written, or the last of them are held, and the rest remains: what was written and what is held
@@ -251,7 +251,7 @@ running_breaks {from = from} {now = now} {end = end} k (stuck x p f) =
 
 -- they were given up
 pub running_gives_up : {S R : Type 0} {w : Work S R} {from : Stand S R} {now : Loop S R} (z : S) → Running w from now
-    → GathersTo w from (Err Memory) (record { state = z; held = now.at.held; streams = now.at.streams })
+    → GathersTo w from (Err (Memory refused)) (record { state = z; held = now.at.held; streams = now.at.streams })
 running_gives_up {now = now} z k = given_up k.done now.left k.sent k.err now.at.state k.calm k.parts k.lines k.shown refl
 
 -- the records of a loop that has none left are all done

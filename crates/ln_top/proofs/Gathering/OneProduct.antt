@@ -19,8 +19,7 @@ use Rattle.ln_rows.proofs.Fields.RangeLemmas.{row_in_range}
 use Rattle.ln_top.specs.Line.{decider_text, sign_text}
 use Rattle.ln_top.specs.Said.{line}
 use Rattle.ln_top.specs.Product.{AreDue, Multiplied, ProductStep, SaysProduct, due, refused_, deciders_after, product_text}
-use Rattle.ln_top.proofs.Commands.FactorsLaws.{IsOver}
-use Rattle.ln_top.proofs.Commands.ProductLaws.{range_as}
+use Rattle.ln_top.proofs.Commands.FactorsLaws.{IsOver, range_as}
 
 -- signs with one number are one
 pub sign_same : (s t : Sign) → sign_number s ≡ sign_number t → s ≡ t

@@ -3,7 +3,7 @@ use Rattle.std.proofs.lemmas.List.{take-append-drop}
 use Rattle.std.proofs.Common.{◌≡◌, ◌≢◌, ◌≤◌, ℕ, List, [], take, drop, length, refl, ap, sym, ◌∙◌, subst}
 use Rattle.std.proofs.Common.{Option, Err, inl, inr, ◌⊎◌}
 use Rattle.std.specs.Prelude.{Result}
-use Rattle.ln_base.specs.Outside.{Shown, appended}
+use Rattle.ln_base.specs.Outside.{Shown, appended, refused}
 use Rattle.ln_base.specs.declared.outside.Port.TheVariants.{Out, Err as ErrPort}
 use Rattle.ln_base.proofs.Kept.{appended-nothing}
 use Rattle.ln_top.specs.declared.status.End.{End}
@@ -107,7 +107,7 @@ pub text_cut : (text : List ℕ) (end : End) (puts : Count) (was now : Option Sh
 text_cut text end puts was now h p = c.cut (take h.0 text) p (front_of h.0 text) (h.2 ∙ out_alone (take h.0 text) was) refl
 
 -- the write of a stop's line failed
-pub line_cut : (s : Stop) (text : List ℕ) (puts : Count) (was now : Option Shown) → text ≡ stop_line s → s ≢ stop.Memory
+pub line_cut : (s : Stop) (text : List ℕ) (puts : Count) (was now : Option Shown) → text ≡ stop_line s → s ≢ stop.Memory refused
     → ((n : ℕ) × (n ≤ length text) × (now ≡ appended ErrPort (take n text) was)) → Rises puts
     → Says s puts (Err Write) was now
 line_cut s text puts was now e m h p =

@@ -1,10 +1,11 @@
 -- The steps of a plan, taken one after the other.
 use Rattle.std.proofs.Common.{◌≡◌, ◌⊎◌, inl, inr, ℕ, ◌+◌, ◌≤◌, ◌<◌, List, [], ◌∷◌, ◌++◌}
 use Rattle.std.proofs.Common.{length, map, drop, refl, ap, sym, ◌∙◌, subst, arith, Option, Some, None, get_or}
-use Rattle.std.specs.Prelude.{All, slice_get, slice_index_or, IfSome}
+use Rattle.std.specs.Prelude.{All, slice_get, slice_index_or, IfErr, IfSome, Result, Ok, Err}
+use Rattle.std.specs.Result.{IsErrAnd}
 use Rattle.std.proofs.lemmas.List.Elements.{All-nil, All-cons}
 use Rattle.std.proofs.lemmas.List.{drop_more, drop_all}
-use Rattle.ln_base.specs.Outside.{Shelf, bytes_of, IsAbsent, Rose}
+use Rattle.ln_base.specs.Outside.{Shelf, bytes_of, IsAbsent, Rose, refused}
 use Rattle.ln_tree.specs.declared.pred.Pred.{Pred}
 use Rattle.ln_tree.specs.Table.{PredOf, TableOf, pred_of}
 use Rattle.ln_compile.specs.Compiled.{number_of}
@@ -15,13 +16,13 @@ use Rattle.ln_top.specs.declared.prepare.Ready.{Ready}
 use Rattle.ln_top.specs.declared.words.Command.{Command}
 use Rattle.ln_top.specs.Plan.{Plan}
 use Rattle.ln_top.specs.Source.{view}
-use Rattle.ln_top.specs.Suits.{Asks, objection}
 use Rattle.ln_top.specs.Steps.{Outcome, stops, missing, gives, Then, stopped, lacks, goes, Each, Reads, there, long, absent, Finds}
 use Rattle.ln_top.specs.Steps.{found, none, Compiles, Suits, suited, unsuited, Prepares, most_source, most_file}
 use Rattle.ln_top.specs.Carried.{Halts, tells, unread, short}
 use Rattle.ln_top.specs.Ready.{AreNumbered, HasNumbers, IsReady}
 use Rattle.ln_top.proofs.Steps.Chain.{Behind, behind_at, behind_more, behind_all}
 use Rattle.ln_top.proofs.Steps.FindLaws.{found_at, none_at, within_at, same_at}
+use Rattle.ln_top.specs.Signature.{Asks, objection}
 
 -- what stops the first step stops the chain
 pub halts_first : {A B : Type 0} (first : Outcome A → Type 0) (next : A → Outcome B → Type 0) (r q : Type 0) (s : Stop)
@@ -46,6 +47,12 @@ halts_behind step all rest done a r s b (tells why h) = tells why (b (stops why)
 halts_behind step all rest done a r s b (unread (inl u)) = unread (inl u)
 halts_behind step all rest done a r s b (unread (inr u)) = unread (inr (b missing (lacks u)))
 halts_behind step all rest done a r s b short = short
+
+-- where room for one more is refused, the steps stop out of memory
+pub refused_halts : {A T : Type 0} (step : Outcome A → Type 0) (reads : Type 0) (r : Result T Stop) → IsErrAnd r (λ e. e ≡ stop.Memory refused)
+    → IfErr r (Halts step reads)
+refused_halts step reads (Ok x) h = tt
+refused_halts step reads (Err e) h = subst (Halts step reads) (sym h) short
 
 -- the same, where a fault of reading in this step is one in all of them
 pub halts_wider : {A : Type 0} (step : Outcome A → Type 0) (r q : Type 0) (s : Stop) → Halts step r s → (r → q) → Halts step q s

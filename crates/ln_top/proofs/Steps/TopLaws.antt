@@ -3,7 +3,7 @@ use Rattle.std.proofs.Common.{arith, ◌≡◌, ◌≢◌, ◌⊎◌, inl, inr, 
 use Rattle.std.proofs.Common.{subst, Option, Some, None, Ok, Err}
 use Rattle.std.specs.Prelude.{Result, IfSome}
 use Rattle.std.proofs.lemmas.Option.{none-some}
-use Rattle.ln_base.specs.Outside.{Shelf, Shown, Rose}
+use Rattle.ln_base.specs.Outside.{Shelf, Shown, Rose, refused}
 use Rattle.ln_watch.specs.Panel.{State}
 use Rattle.ln_tree.specs.Table.{PredOf}
 use Rattle.ln_top.specs.declared.status.End.{End}
@@ -21,19 +21,19 @@ use Rattle.ln_top.specs.declared.words.Command.TheVariants as command
 use Rattle.ln_top.specs.Said.{Said, Count, Rises, IsCalm, put_both, end_status, status_of}
 use Rattle.ln_top.specs.Stop.{why_end}
 use Rattle.ln_top.specs.Plan.{Plan, plan_of}
-use Rattle.ln_top.specs.Suits.{objection}
 use Rattle.ln_top.specs.Steps as step
 use Rattle.ln_top.specs.Steps.{Outcome, stops, missing, gives, Given, Prepares, Each, Finds, Reads, most_file}
 use Rattle.ln_top.specs.Carried as c
 use Rattle.ln_top.specs.Carried.{CarriesOut, Halts, Says, LeavesFronts, LeavesPart, read_line}
-use Rattle.ln_top.specs.Work.{WorkOwes, WorkPart, WorkEnds, IsLawful, IsWorkEnd}
 use Rattle.ln_top.specs.Work as kind_of
+use Rattle.ln_top.specs.Work.{IsWorkEnd}
 use Rattle.ln_top.specs.Answer.{PlanOwes, stopped, worked, PlanPart, PlanLacks, Answer, usage, planned, Part, IsMissing}
 use Rattle.ln_top.specs.Call.{HasRisen, Keeps, call}
 use Rattle.ln_top.specs.Causes as cause
 use Rattle.ln_top.specs.Causes.{SaysLine, IsSettled, Answered, Ends, Yields, ExactlyWhere, EndsExactly}
 use Rattle.ln_top.proofs.Steps.Carry.{Duty, lift, says_carried, told_carried}
 use Rattle.ln_top.proofs.Steps.Chain.{one_prepares}
+use Rattle.ln_top.proofs.Steps.Laws.{IsLawful, usage_other}
 use Rattle.ln_top.proofs.Gathering.LinesLaws.{ok_err, ok_same}
 use Rattle.ln_top.proofs.Commands.CheckLaws as check_laws
 use Rattle.ln_top.proofs.Commands.ListLaws as list_laws
@@ -45,6 +45,8 @@ use Rattle.ln_top.proofs.Commands.EdgesLaws as edges_laws
 use Rattle.ln_top.proofs.Commands.ExplainLaws as explain_laws
 use Rattle.ln_top.proofs.Commands.AuditLaws as audit_laws
 use Rattle.ln_top.proofs.Commands.GenLaws as gen_laws
+use Rattle.ln_top.specs.Signature.{objection, signature_of}
+use Rattle.ln_top.specs.Works.{WorkOwes, WorkPart, WorkEnds, work_of}
 
 -- what a plan owes
 abbrev plan_duty : Plan → Option Shelf → List State → Type 0 → Duty
@@ -95,7 +97,7 @@ usage_carried words told boxes reads puts result was now f s =
     (usage f) s
 
 -- the laws of each work: a line a command
-pub lawful : (k : Command) → IsLawful (WorkOwes k) (WorkEnds k)
+pub lawful : (k : Command) → IsLawful (signature_of k).suits (work_of k)
 lawful command.Check = check_laws.lawful
 lawful command.List = list_laws.lawful
 lawful command.Emit = emit_laws.lawful
@@ -223,7 +225,7 @@ one_by words shelf a b (worked_by p g c e x m) (worked_by q k f h y n) =
     let same = some_plan (sym e ∙ h) in
     let x2 = subst (λ r. Prepares r (Some shelf) (gives g)) same x in
     let m2 = subst (λ r. WorkEnds r.command g c) same m in
-    (lawful q.command).one k c f (subst (λ i. WorkEnds q.command i c) (same_given (one_prepares q shelf _ _ x2 y)) m2) n
+    (lawful q.command).single k c f (subst (λ i. WorkEnds q.command i c) (same_given (one_prepares q shelf _ _ x2 y)) m2) n
 
 -- words and files whose bytes are known have one end
 pub one_end : (words : List (List ℕ)) (shelf : Shelf) (a b : End) → Ends words (Some shelf) a → Ends words (Some shelf) b → a ≡ b
@@ -253,7 +255,7 @@ back status.Shape = Ok end.Shape
 back status.Many = Ok end.Many
 back status.Read = Err early.Read
 back status.Write = Err early.Write
-back status.Memory = Err early.Memory
+back (status.Memory m) = Err (early.Memory m)
 
 back_and_forth : (r : Result End Early) → back (status_of r) ≡ r
 back_and_forth (Ok end.Done) = refl
@@ -267,7 +269,7 @@ back_and_forth (Ok end.Shape) = refl
 back_and_forth (Ok end.Many) = refl
 back_and_forth (Err early.Read) = refl
 back_and_forth (Err early.Write) = refl
-back_and_forth (Err early.Memory) = refl
+back_and_forth (Err (early.Memory m)) = refl
 
 -- results with the same status are equal
 pub one_status : (r q : Result End Early) → status_of r ≡ status_of q → r ≡ q
@@ -286,7 +288,7 @@ Carried words told boxes reads puts r was now =
 settled : {r : Result End Early} {e : Early} {P : Type 0} → r ≡ Err e → IsSettled (status_of r) → P
 settled {r = r} {e = early.Read} x s = absurd (s.read (ap status_of x))
 settled {r = r} {e = early.Write} x s = absurd (s.write (ap status_of x))
-settled {r = r} {e = early.Memory} x s = absurd (s.memory (ap status_of x))
+settled {r = r} {e = early.Memory m} x s = absurd (s.memory (ap status_of x))
 
 -- what is required was written to the byte
 pub exact : (words : List (List ℕ)) (told : Option Shelf) (boxes : List State) (reads : Type 0) (puts : Count)
@@ -339,12 +341,12 @@ early_same {a = a} e = ap (λ q. elim q [ Ok x ↦ a | Err y ↦ y ]) e
 abbrev is_read : Early → Type 0
 is_read early.Read = Unit {0}
 is_read early.Write = ⊥
-is_read early.Memory = ⊥
+is_read (early.Memory m) = ⊥
 
 abbrev is_write : Early → Type 0
 is_write early.Write = Unit {0}
 is_write early.Read = ⊥
-is_write early.Memory = ⊥
+is_write (early.Memory m) = ⊥
 
 clash : {r : Result End Early} {a b : Early} {P : Type 0} (F : Early → Type 0) → F a → (F b → ⊥) → r ≡ Err a
     → r ≡ Err b → P
@@ -381,11 +383,11 @@ write_cause words told boxes reads puts r result was now e h x = go h (one_statu
 -- with the status of a failed allocation nothing was written, or a part that may be left
 pub memory_leaves : (words : List (List ℕ)) (told : Option Shelf) (boxes : List State) (reads : Type 0) (puts : Count)
     (r : Result End Early) (result : Status) (was now : Option Shown) → result ≡ status_of r
-    → Carried words told boxes reads puts r was now → result ≡ status.Memory
+    → Carried words told boxes reads puts r was now → result ≡ status.Memory refused
     → LeavesPart (Answer words told boxes) (Part words told boxes) was now
-memory_leaves words told boxes reads puts r result was now e h x = go h (one_status r (Err early.Memory) (sym e ∙ x))
+memory_leaves words told boxes reads puts r result was now e h x = go h (one_status r (Err (early.Memory refused)) (sym e ∙ x))
   where
-    go : Carried words told boxes reads puts r was now → r ≡ Err early.Memory
+    go : Carried words told boxes reads puts r was now → r ≡ Err (early.Memory refused)
         → LeavesPart (Answer words told boxes) (Part words told boxes) was now
     go (c.ended a q o x s) y = ok_err (sym x ∙ y)
     go (c.unread q u x s) y = clash is_read tt (λ z. z) x y
@@ -405,7 +407,7 @@ calm words told boxes reads puts r result was now e (c.short q l x) n = q
 pub complete : (words : List (List ℕ)) (told : Option Shelf) (result : Status) (reads puts : Type 0)
     → IfSome told (λ shelf. EndsExactly words shelf result reads puts)
     → IfSome told (λ shelf. Ends words (Some shelf) end.Done → (reads → ⊥) → (puts → ⊥)
-    → (result ≡ status.Done) ⊎ (result ≡ status.Memory))
+    → (result ≡ status.Done) ⊎ (result ≡ status.Memory refused))
 complete words None result reads puts h = tt
 complete words (Some shelf) result reads puts h =
     λ c n m. elim ((h end.Done).comes c) [
@@ -460,20 +462,6 @@ says_read s puts result was now e n m (c.short q k r i) = k e
 pub err_same : {T E : Type 0} {a b : E} → (let q : Result T E = Err a in q ≡ Err b) → a ≡ b
 err_same {a = a} e = ap (λ q. elim q [ Ok x ↦ a | Err y ↦ y ]) e
 
-abbrev IsOther : End → Type 0
-IsOther end.Usage = ⊥
-IsOther end.Done = Unit {0}
-IsOther end.Refused = Unit {0}
-IsOther end.Rows = Unit {0}
-IsOther end.NoPredicate = Unit {0}
-IsOther end.Invalid = Unit {0}
-IsOther end.TooLong = Unit {0}
-IsOther end.Shape = Unit {0}
-IsOther end.Many = Unit {0}
-
-usage_other : {e : End} → e ≡ end.Usage → IsOther e → ⊥
-usage_other i h = subst IsOther i h
-
 -- words that are no command, and no others, come to the usage; also where files tell nothing
 not_work : (P : Type 0) → IsWorkEnd end.Usage → P
 not_work P h = absurd (no_usage h refl)
@@ -484,27 +472,12 @@ not_work P h = absurd (no_usage h refl)
     no_usage kind_of.invalid i = usage_other i tt
     no_usage kind_of.many i = usage_other i tt
 
--- no command objects with the usage
-no_objection : (c : Command) (bytes : List ℕ) (preds : List PredOf) → why_end (objection c bytes preds) ≡ end.Usage → ⊥
-no_objection command.Check bytes preds i = usage_other i tt
-no_objection command.List bytes preds i = usage_other i tt
-no_objection command.Emit bytes preds i = usage_other i tt
-no_objection command.Verify bytes preds i = usage_other i tt
-no_objection command.Run bytes preds i = usage_other i tt
-no_objection command.Product bytes preds i = usage_other i tt
-no_objection command.Graded bytes [] i = usage_other i tt
-no_objection command.Graded bytes (p ∷ ps) i = usage_other i tt
-no_objection command.Edges bytes preds i = usage_other i tt
-no_objection command.Explain bytes preds i = usage_other i tt
-no_objection command.Audit bytes preds i = usage_other i tt
-no_objection (command.Gen seed count) bytes preds i = usage_other i tt
-
 usage_cause : (words : List (List ℕ)) (told : Option Shelf) (e : End) → e ≡ end.Usage → Ends words told e → plan_of words ≡ None
 usage_cause words told e i (cause.usage f j) = f
 usage_cause words told e i (cause.long_source p f h j) = absurd (usage_other (sym j ∙ i) tt)
 usage_cause words told e i (cause.refused p bytes r place f a h j) = absurd (usage_other (sym j ∙ i) tt)
 usage_cause words told e i (cause.no_predicate p table h n j) = absurd (usage_other (sym j ∙ i) tt)
-usage_cause words told e i (cause.unsuited p table preds h n o j) = absurd (no_objection p.command h.bytes preds (sym j ∙ i))
+usage_cause words told e i (cause.unsuited p table preds h n o j) = absurd ((lawful p.command).objects h.bytes preds (sym j ∙ i))
 usage_cause words told e i (cause.long_file p table preds h n y l j) = absurd (usage_other (sym j ∙ i) tt)
 usage_cause words told e i (cause.worked p g f x h) = not_work (plan_of words ≡ None) (subst IsWorkEnd i ((lawful p.command).kind g e h))
 

@@ -5,8 +5,9 @@ use Rattle.std.proofs.Math.Seq.{take-length}
 use Rattle.std.proofs.lemmas.Bool.{le-leb}
 use Rattle.std.proofs.lemmas.List.{length-map, take-map, drop-map}
 use Rattle.ln_top.specs.declared.words.Command.{Command}
+use Rattle.ln_top.specs.Plan.{Plan, plan_for, plan_of, number_of}
+use Rattle.ln_top.specs.Signature.{Form, form}
 use Rattle.ln_base.specs.Decimal.{is_digits, decimal_value}
-use Rattle.ln_top.specs.Plan.{Plan, Form, form, plan_for, plan_of, number_of}
 use Rattle.ln_base.proofs.DecimalLemmas.{value_within}
 
 -- the further files are the remaining words

@@ -20,14 +20,14 @@ use Rattle.ln_top.specs.Causes.{Answered, IsSettled}
 use Rattle.ln_top.specs.Explain.{subject_of}
 use Rattle.ln_top.specs.Said.{Said, end_status}
 use Rattle.ln_top.specs.Steps.{Given}
-use Rattle.ln_top.specs.Work.{WorkOwes}
 use Rattle.ln_top.proofs.Commands.AuditLaws.{moved_right}
 use Rattle.ln_top.proofs.Commands.ExplainLaws.{rows_differ}
-use Rattle.ln_top.proofs.Steps.OneAnswer.{grounded, in_memory}
 use Rattle.ln_top.proofs.Steps.TopLaws.{work_of_words}
+use Rattle.ln_top.proofs.Steps.Grounded.{grounded, in_memory}
 use Rattle.ln_top.proofs.Theorem.HeadlineLaws.{head_sound}
 use Rattle.ln_top.proofs.Theorem.Lightness.{light_of}
 use Rattle.ln_top.proofs.Theorem.TrustedLaws.{settled_done}
+use Rattle.ln_top.specs.Works.{WorkOwes}
 
 -- where it ends well, the trace is agreed
 agreed_there : (g : Given) (p : PredOf) (names : List (List ℕ)) (records : Records) (trace : List ℕ) (a : Said)

@@ -14,9 +14,9 @@ use Rattle.ln_top.specs.Edges as edges
 use Rattle.ln_top.specs.Edges.{AreEdgesOf, EdgesSaid, HasPoints, ReadsPoints}
 use Rattle.ln_top.specs.Said.{Said, put_both}
 use Rattle.ln_top.specs.Steps.{Given, gives}
-use Rattle.ln_top.specs.Work.{WorkOwes}
 use Rattle.ln_top.proofs.Commands.EdgesLaws.{never_both, one_read, same_pred}
 use Rattle.ln_top.proofs.Steps.TopLaws.{work_of_words}
+use Rattle.ln_top.specs.Works.{WorkOwes}
 
 -- what is required for a points file that is points
 put_edges : (g : Given) (p : PredOf) (type : SiteOf) (records : Records) (ps : List PointOf) (a : Said) (was now : Option Shown)

@@ -1,5 +1,5 @@
 -- The calls of the C that was written mean the perturbed signs, under the names of the source's predicates.
-use Rattle.std.proofs.Common.{◌≡◌, ℕ, List, [], ◌∷◌, ◌++◌, map, Option, Some, None, ap, sym, ◌∙◌, subst}
+use Rattle.std.proofs.Common.{◌≡◌, ℕ, List, [], ◌∷◌, ◌++◌, map, Option, Some, None, ap, refl, sym, ◌∙◌, subst}
 use Rattle.std.specs.Prelude.{IfSome}
 use Rattle.ln_base.specs.Outside.{Shelf, Shown}
 use Rattle.ln_algebra.specs.Orders.{BySmallest}
@@ -11,6 +11,7 @@ use Rattle.ln_tree.specs.Row.{InRange, Row}
 use Rattle.ln_tree.specs.Table.{PredOf, TableOf, pred_of}
 use Rattle.ln_parse.specs.Says.{PredsSay}
 use Rattle.ln_code.specs.declared.verdict.Verdict.{Verdict}
+use Rattle.ln_code.specs.declared.verdict.By.{By}
 use Rattle.ln_code.specs.declared.verdict.By.TheVariants.{Filter}
 use Rattle.ln_due.specs.Due.{Filtering, NoFilter, Decided, Undecided, Due}
 use Rattle.ln_due.proofs.Verdicts.UniqueLemmas.{due-sign}
@@ -22,18 +23,20 @@ use Rattle.ln_top.specs.Said.{Said, put_both}
 use Rattle.ln_top.specs.Plan.{Plan}
 use Rattle.ln_top.specs.Steps as step
 use Rattle.ln_top.specs.Steps.{gives, Given, Prepares}
-use Rattle.ln_top.specs.Work.{WorkOwes}
 use Rattle.ln_top.specs.Answer.{Answer}
 use Rattle.ln_top.specs.Causes.{Answered}
 use Rattle.ln_top.specs.Emit as e
 use Rattle.ln_top.specs.Emit.{AllAreDue, CallIsDue, EmitSaid}
 use Rattle.ln_top.specs.Emitted.{CallsPerturbedSign, CallPerturbedSigns, PutC, CallsArePerturbed}
+use Rattle.ln_top.specs.ByValue.{IsByValue, IsVerdictByValue, Takes}
 use Rattle.ln_top.specs.Perturbed.{FilterDecides}
 use Rattle.ln_top.proofs.Commands.EmitLaws.{AreNamed}
 use Rattle.ln_top.proofs.Steps.Chain.{value_or}
+use Rattle.ln_top.proofs.Theorem.ByValueLaws.{by_value}
 use Rattle.ln_top.proofs.Theorem.HeadlineLaws.{never_zero}
-use Rattle.ln_top.proofs.Steps.OneAnswer.{IsGrounded, accepted_of, grounded}
 use Rattle.ln_top.proofs.Steps.TopLaws.{work_of_words}
+use Rattle.ln_top.proofs.Steps.Grounded.{IsGrounded, accepted_of, grounded}
+use Rattle.ln_top.specs.Works.{WorkOwes}
 
 said_named : (bytes : List ℕ) (ts : List Token) (before : List Item) (t : TableOf) (is : List Item) (ps : List PredOf)
     → PredsSay bytes ts before t is ps → AreNamed ps
@@ -59,6 +62,25 @@ by_filter p row NoFilter v d o h = absurd (d h.has)
 by_filter p row Decided v d o h = o.by
 by_filter p row Undecided v d o h = absurd (d.1 h)
 
+-- where the value decides the verdict, the call takes the same work
+called_takes : (f : Filtering) (by : By) (calls wide calls' wide' : ℕ) → calls' ≡ calls → (by ≡ Filter → wide' ≡ 0) → Takes f by calls wide
+    → Takes f by calls' wide'
+called_takes NoFilter by calls wide calls' wide' e n t = (t.0, e ∙ t.1)
+called_takes Decided by calls wide calls' wide' e n t = (t.0, e ∙ t.1, n t.0)
+called_takes Undecided by calls wide calls' wide' e n t = (t.0, e ∙ t.1)
+
+called_by_value : (file : List Fun) (p : PredOf) (row : Row) (d : CallIsDue file p row) → IsVerdictByValue p row d.verdict
+    → (by : By) × IsByValue p row d.verdict.sign by d.counts.calls d.counts.wide
+called_by_value file p row d z = (
+  d.verdict.by,
+  record {
+    sign_is = z.sign_is;
+    filtering = z.filtering;
+    does = z.does;
+    takes = called_takes z.filtering d.verdict.by d.verdict.calls d.verdict.wide d.counts.calls d.counts.wide d.calls d.narrow z.takes;
+  },
+)
+
 -- the call on a row means the perturbed sign
 call_signed : (file : List Fun) (p : Pred) (row : Row) → IsSound (pred_of p) → InRange p.shape.sites p.shape.vars row
     → CallIsDue file (pred_of p) row → CallsPerturbedSign file (pred_of p) row
@@ -71,6 +93,7 @@ call_signed file p row sound range d =
       perturbed = sign;
       never_zero = λ all. never_zero p row range sound all d.verdict.sign sign;
       narrow = λ h. d.narrow (by_filter (pred_of p) row d.due.filtering d.verdict d.due.does d.due.due h);
+      plain = λ z. called_by_value file (pred_of p) row d (by_value BySmallest p.shape (pred_of p) row d.verdict refl refl range z d.due);
     }
 
 all_signed : (file : List Fun) (ps : List Pred) → AreSound (map pred_of ps) → AllAreDue file (map pred_of ps)

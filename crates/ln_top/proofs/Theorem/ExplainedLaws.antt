@@ -1,6 +1,7 @@
--- The trace that was written explains the records, and a judge agrees to it.
-use Rattle.std.proofs.Common.{◌≡◌, ◌⊎◌, inl, inr, List, [], ◌∷◌, ◌++◌, ℕ, ◌+◌, length, Option, Some, None}
-use Rattle.std.proofs.Common.{refl, ap, sym, ◌∙◌, subst, append_assoc}
+-- The trace that was written explains the records, and a judge and `audit` agree to it.
+use Rattle.std.proofs.Common.{◌≡◌, ◌⊎◌, inl, inr, List, [], ◌∷◌, ◌++◌, ℕ, ◌+◌, ◌^◌, ◌<◌, ◌≤◌, length, Option, Some, None}
+use Rattle.std.proofs.Common.{refl, ap, sym, ◌∙◌, subst, append_assoc, arith}
+use Rattle.std.proofs.lemmas.Bool.{cases_lt}
 use Rattle.std.proofs.Math.IntN.{pos}
 use Rattle.std.specs.Prelude.{IfSome}
 use Rattle.ln_base.specs.Outside.{Shelf, Shown}
@@ -12,20 +13,33 @@ use Rattle.ln_algebra.specs.Orders.{BySmallest}
 use Rattle.ln_algebra.specs.Stage.{IsStage}
 use Rattle.ln_algebra.specs.Tree.{InputsBelow}
 use Rattle.ln_algebra.specs.Vector.{zeros}
+use Rattle.ln_algebra.specs.Weights.{weighted_sum}
+use Rattle.ln_base.specs.Exponents.{Each}
+use Rattle.ln_bound.specs.Light.{most}
+use Rattle.ln_bound.specs.Value.{weights}
 use Rattle.ln_compile.specs.Accepted.{IsSound, root_of}
 use Rattle.ln_order.specs.Sites.{row_sites}
 use Rattle.ln_stage.proofs.Sights.Members.{none-before, zeros-at}
+use Rattle.ln_poly.proofs.Expansions.Existing.{tree-normal}
+use Rattle.ln_poly.specs.Expansion.{IsNormal}
+use Rattle.ln_poly.specs.Sparse.{Sparse, terms_of}
 use Rattle.ln_tree.specs.declared.pred.Pred.{Pred}
 use Rattle.ln_tree.specs.Table.{PredOf, pred_of}
+use Rattle.ln_tree.proofs.KeptLemmas.{few_vars}
 use Rattle.ln_rows.specs.Left.{Records}
 use Rattle.ln_trace.specs.declared.line.TraceLine.{TraceLine}
 use Rattle.ln_trace.specs.Judge.{IsAgreed}
 use Rattle.ln_trace.specs.Signs.{AreExplained, HaveStages, RowsDiffer}
 use Rattle.ln_trace.proofs.Agreeing.{agreed-right, explained-agreed}
+use Rattle.ln_trace.proofs.Explaining.{explained-trace}
+use Rattle.ln_trace.proofs.SmallValues.{explained-small}
+use Rattle.ln_trace.specs.Form.{TraceText}
+use Rattle.ln_trace.specs.FormLaw.{HasSmallSum, HasSmallValue}
 use Rattle.ln_trace.specs.Text.{first_line, text_of_line, text_of_lines}
 use Rattle.ln_watch.specs.Panel.{State}
 use Rattle.ln_top.specs.declared.status.Status.{Status}
 use Rattle.ln_top.specs.Answer.{Answer}
+use Rattle.ln_top.specs.Audit as audit
 use Rattle.ln_top.specs.Causes.{Answered}
 use Rattle.ln_top.specs.Explain as explain
 use Rattle.ln_top.specs.Explain.{ExplainSaid, ExplainStep, subject_of}
@@ -35,13 +49,16 @@ use Rattle.ln_top.specs.Lines.{Lines}
 use Rattle.ln_top.specs.Run.{HasRecords}
 use Rattle.ln_top.specs.Said.{Said, put_both}
 use Rattle.ln_top.specs.Steps.{Given}
-use Rattle.ln_top.specs.Work.{WorkOwes}
+use Rattle.ln_top.specs.Works.{WorkOwes}
 use Rattle.ln_top.proofs.Commands.ExplainLaws.{rows_differ}
 use Rattle.ln_top.proofs.Commands.RunLaws.{same_pred, same_records, tail_same, wrong_right}
-use Rattle.ln_top.proofs.Steps.OneAnswer.{IsGrounded, grounded, in_memory}
+use Rattle.ln_top.proofs.Gathering.FewRecords.{few_in}
+use Rattle.ln_top.proofs.Steps.Grounded.{IsGrounded, grounded, in_memory}
 use Rattle.ln_top.proofs.Steps.TopLaws.{work_of_words}
 use Rattle.ln_top.proofs.Theorem.HeadlineLaws.{head_sound}
 use Rattle.ln_top.proofs.Theorem.Lightness.{light_of}
+use Rattle.ln_top.proofs.Theorem.Standing.{fine, one_short}
+use Rattle.ln_top.specs.Ready.{AreShort}
 
 -- the texts of lines, one after the other
 pub texts_join : (xs ys : List TraceLine) → text_of_lines (xs ++ ys) ≡ text_of_lines xs ++ text_of_lines ys
@@ -85,35 +102,74 @@ have_stages q sound row list h e = sound.nonzero (λ m l k. none m l (zero_cases
     none m l (inl z) = z
     none m l (inr z) = absurd (rw e at (h.all (zeros (length q.shape.vars)) (stage m l z)))
 
+-- where it isn't too large as a whole, the weighted sum of its normal polynomial is within the limit
+whole-small : (p : PredOf) → IsSound p → (f : Sparse) → IsNormal (length p.vars) (root_of p) f
+    → weighted_sum (weights p.vars) (terms_of (length p.vars) f) ≤ most
+whole-small p sound f n = by_case (cases_lt most (weighted_sum (weights p.vars) (terms_of (length p.vars) f)))
+  where
+    by_case : (most < weighted_sum (weights p.vars) (terms_of (length p.vars) f)) ⊎ (weighted_sum (weights p.vars) (terms_of (length p.vars) f) ≤ most)
+        → weighted_sum (weights p.vars) (terms_of (length p.vars) f) ≤ most
+    by_case (inl l) = absurd (sound.whole (record { poly = f; normal = n; heavy = l }))
+    by_case (inr l) = l
+
+-- so no coefficient on a row is too large
+small_sum : (q : Pred) → IsSound (pred_of q) → HasSmallSum (subject_of (pred_of q))
+small_sum q sound =
+    let light = light_of q sound in
+    let f = tree-normal (length q.shape.vars) (root_of (pred_of q)) light in
+    record { inputs = light.inputs; poly = f.0; normal = f.1.normal; light = whole-small (pred_of q) sound f.0 f.1 }
+
+-- what is explained of fewer than 2^32 records is the text of a trace
+trace_text : (q : Pred) → IsSound (pred_of q) → (records : Records) (lines : List TraceLine) → length records < 2 ^ 32
+    → AreExplained (subject_of (pred_of q)) 1 records lines → TraceText (first_line ++ text_of_lines lines) lines
+trace_text q sound records lines few e =
+    let small : Each HasSmallValue lines = explained-small (subject_of (pred_of q)) records lines q.shape.kept (small_sum q sound) e in
+    explained-trace (subject_of (pred_of q)) records lines (have_stages q sound) (few_vars q.shape.sites q.shape.vars q.shape.kept) few e small
+
 -- what is written for records
 trace_of : (q : Pred) (p : PredOf) (records : Records) (out : List ℕ) (seen : ℕ) (was now : Option Shown) → pred_of q ≡ p → IsSound p
-    → Lines (ExplainStep p) 0 records out [] seen → now ≡ put_both (first_line ++ out) [] was → PutTrace p records was now
-trace_of q p records out seen was now i s x e =
+    → length records < 2 ^ 32 → Lines (ExplainStep p) 0 records out [] seen → now ≡ put_both (first_line ++ out) [] was
+    → PutTrace p records was now
+trace_of q p records out seen was now i s few x e =
     let t = all_told p 0 seen records out [] x in
+    let sound : IsSound (pred_of q) = subst IsSound (sym i) s in
     let differ : RowsDiffer (subject_of p) = subst (λ (r : PredOf). RowsDiffer (subject_of r)) i (rows_differ q) in
-    let some : HaveStages (subject_of p) = subst (λ (r : PredOf). HaveStages (subject_of r)) i (have_stages q (subst IsSound (sym i) s)) in
+    let some : HaveStages (subject_of p) = subst (λ (r : PredOf). HaveStages (subject_of r)) i (have_stages q sound) in
     let below : InputsBelow (length p.vars) (root_of p) =
-    subst (λ (r : PredOf). InputsBelow (length r.vars) (root_of r)) i (light_of q (subst IsSound (sym i) s)).inputs in
+    subst (λ (r : PredOf). InputsBelow (length r.vars) (root_of r)) i (light_of q sound).inputs in
     let agreed : IsAgreed (subject_of p) records t.lines = explained-agreed (subject_of p) differ some records t.lines t.are in
+    let text : TraceText (first_line ++ text_of_lines t.lines) t.lines =
+    trace_text q sound records t.lines few (subst (λ (r : PredOf). AreExplained (subject_of r) 1 records t.lines) (sym i) t.are) in
     record {
       lines = t.lines;
       explained = t.are;
+      text = text;
       agreed = agreed;
       right = agreed-right (subject_of p) records t.lines below differ agreed;
+      audited =
+          λ h names k. audit.agreed p names records (first_line ++ text_of_lines t.lines) k
+          (record { lines = t.lines; text = text; agreed = agreed });
       shown = e ∙ ap (λ (z : List ℕ). put_both (first_line ++ z) [] was) t.text;
     }
 
+-- records that were read from files within their limit are fewer than 2^32
+few_records_in : (g : Given) (p : PredOf) (names : List (List ℕ)) (records : Records) → AreShort g.texts
+    → HasRecords g p names (names ∷ records) → length records < 2 ^ 32
+few_records_in g p names records short k =
+    let few : length (names ∷ records) < 4294967296 = few_in k.rows (names ∷ records) (sym k.are) (one_short g.texts k.rows k.text short) in
+    omega (arith, few)
+
 -- what is required for records after the right header
 put_trace : (g : Given) (p : PredOf) (names : List (List ℕ)) (records : Records) (a : Said) (was now : Option Shown) → IsGrounded g
-    → ExplainSaid g a → HasRecords g p names (names ∷ records) → now ≡ put_both a.out a.err was → PutTrace p records was now
-put_trace g p names records a was now i (explain.header q others ss h x) k e = wrong_right g q p others names ss records h x k
-put_trace g p names records a was now i (explain.ran r others ss out seen h x) k e =
+    → AreShort g.texts → ExplainSaid g a → HasRecords g p names (names ∷ records) → now ≡ put_both a.out a.err was → PutTrace p records was now
+put_trace g p names records a was now i short (explain.header q others ss h x) k e = wrong_right g q p others names ss records h x k
+put_trace g p names records a was now i short (explain.ran r others ss out seen h x) k e =
     let q = in_memory g p k.others i k.pred in
     let x1 = subst (λ (t : PredOf). Lines (ExplainStep t) 0 ss out [] seen)
     (same_pred g r p others names (others ∷ ss) (names ∷ records) h k) x in
     let x2 = subst (λ (zs : Records). Lines (ExplainStep p) 0 zs out [] seen)
     (tail_same (same_records g r p others names (others ∷ ss) (names ∷ records) h k)) x1 in
-    trace_of q.0 p records out seen was now q.1 (head_sound g p k.others i k.pred) x2 e
+    trace_of q.0 p records out seen was now q.1 (head_sound g p k.others i k.pred) (few_records_in g p names records short k) x2 e
 
 -- what is required explains the records
 pub explained : (words : List (List ℕ)) (told : Option Shelf) (boxes : List State) (result : Status) (was now : Option Shown)
@@ -122,4 +178,4 @@ explained words None boxes result was now h = tt
 explained words (Some shelf) boxes result was now h = λ plan g f r x p names records k.
     let owed : ExplainSaid g h.said = subst (λ c. WorkOwes c boxes g h.said) r
     (work_of_words words shelf boxes plan g h.said f x h.owed) in
-    put_trace g p names records h.said was now (grounded plan shelf g x) owed k h.shown
+    put_trace g p names records h.said was now (grounded plan shelf g x) (fine plan (Some shelf) g x).short owed k h.shown

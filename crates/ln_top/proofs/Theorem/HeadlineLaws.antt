@@ -1,4 +1,4 @@
--- The lines that were written begin with the perturbed signs of their rows, and each is one line.
+-- The lines that were written are the perturbed signs of their rows with what decides them, and each is one line.
 use Rattle.std.proofs.Common.{◌≡◌, ◌≢◌, ◌⊎◌, inl, inr, ℕ, zero, suc, ◌<◌, Bool, true, false, cond, List, []}
 use Rattle.std.proofs.Common.{◌∷◌, ◌++◌, find, length, is_some, Option, Some, None, Result, Ok, Err, refl, ap, sym}
 use Rattle.std.proofs.Common.{◌∙◌, subst, arith, bytes_eq}
@@ -39,23 +39,24 @@ use Rattle.ln_due.proofs.Verdicts.UniqueLemmas.{due-sign}
 use Rattle.ln_top.specs.declared.status.Status.{Status}
 use Rattle.ln_top.specs.Said.{Said, line, put_both}
 use Rattle.ln_top.specs.Steps.{Given, named}
-use Rattle.ln_top.specs.Line.{decider_text, said_text, Says, due, refused_}
+use Rattle.ln_top.specs.Line.{said_text, Says, due, refused_}
 use Rattle.ln_top.specs.Lines as l
 use Rattle.ln_top.specs.Lines.{Lines}
 use Rattle.ln_top.specs.Run as run
 use Rattle.ln_top.specs.Run.{RunStep, RunSaid, HasRecords}
 use Rattle.ln_top.specs.Watching.{Watching, watching, last_of}
-use Rattle.ln_top.specs.Work.{WorkOwes}
 use Rattle.ln_top.specs.Answer.{Answer}
 use Rattle.ln_top.specs.Causes.{Answered}
 use Rattle.ln_top.specs.Headline.{GradedSignsArePerturbed, HasPerturbedSign, HavePerturbedSigns, none, more, PutSigns, SignsArePerturbed}
 use Rattle.ln_top.specs.Perturbed.{IsSignOn}
 use Rattle.ln_top.proofs.Gathering.Feeds.{HaveNoFeed, said_no_feed, columns_no_feed}
-use Rattle.ln_top.proofs.Steps.OneAnswer.{AreFound, IsGrounded, grounded, in_memory}
 use Rattle.ln_top.proofs.Commands.RunLaws.{same_pred, same_names, same_records, tail_same, wrong_right}
 use Rattle.ln_top.proofs.Steps.TopLaws.{work_of_words}
+use Rattle.ln_top.proofs.Steps.Grounded.{AreFound, IsGrounded, grounded, in_memory}
+use Rattle.ln_top.proofs.Theorem.ByValueLaws.{by_value}
 use Rattle.ln_top.proofs.Theorem.Lightness.{light_of}
 use Rattle.ln_top.proofs.Gathering.WatchingLaws.{none_told, none_left}
+use Rattle.ln_top.specs.Works.{WorkOwes}
 
 -- ---- without params no row has the sign 0
 some_site : (o : Option ℕ) → o ≢ None → is_some o ≡ true
@@ -123,10 +124,11 @@ module _ (rank : Rank) (p : Pred) (sound : IsSound (pred_of p)) (names : List (L
       let sign = due-sign rank p.shape.vars (root_of (pred_of p)) row d.filtering v d.due in
       record {
         range = range;
-        sign = v.sign;
+        verdict = v;
+        due = d;
         perturbed = sign;
         never_zero = λ all. never_zero_in rank p row range sound all v.sign sign;
-        behind = decider_text v.by;
+        plain = λ z. by_value rank p.shape (pred_of p) row v refl refl range z d;
         text_is = t;
       }
 

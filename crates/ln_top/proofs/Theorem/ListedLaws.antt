@@ -1,5 +1,5 @@
 -- The listing that was written has the perturbed signs, and is valid.
-use Rattle.std.proofs.Common.{◌≡◌, ℕ, List, [], ◌∷◌, length, map, Option, Some, None, ap, sym, ◌∙◌, subst}
+use Rattle.std.proofs.Common.{◌≡◌, ℕ, List, [], ◌∷◌, length, map, Option, Some, None, ap, refl, sym, ◌∙◌, subst}
 use Rattle.std.specs.Prelude.{IfSome, codes}
 use Rattle.ln_base.specs.Outside.{Shelf, Shown}
 use Rattle.ln_algebra.specs.Orders.{BySmallest}
@@ -22,28 +22,33 @@ use Rattle.ln_top.specs.declared.status.Status.{Status}
 use Rattle.ln_top.specs.declared.status.End.TheVariants.{Done}
 use Rattle.ln_top.specs.Said.{Said, line, put_both, whole}
 use Rattle.ln_top.specs.Steps.{Given}
-use Rattle.ln_top.specs.Work.{WorkOwes}
 use Rattle.ln_top.specs.Answer.{Answer}
 use Rattle.ln_top.specs.Causes.{Answered}
 use Rattle.ln_top.specs.Listing as l
 use Rattle.ln_top.specs.Listing.{AnswersDue, IsListingOf, ListSaid, PartIsDue, PartsAreDue}
-use Rattle.ln_top.specs.Listed.{GivesPerturbedSign, ListingGivesSigns, PartGivesSigns, PartsGiveSigns, PutListing}
+use Rattle.ln_top.specs.Listed.{GivesFilteredSign, ListingGivesSigns, PartGives, PartsGive, PutListing}
 use Rattle.ln_top.specs.Verify as v
 use Rattle.ln_top.proofs.Commands.EmitLaws.{AreNamed}
+use Rattle.ln_top.proofs.Theorem.ByValueLaws.{by_value}
 use Rattle.ln_top.proofs.Theorem.EmittedLaws.{by_filter, names_given}
 use Rattle.ln_top.proofs.Theorem.HeadlineLaws.{never_zero}
-use Rattle.ln_top.proofs.Steps.OneAnswer.{IsGrounded, grounded}
 use Rattle.ln_top.proofs.Steps.TopLaws.{work_of_words}
+use Rattle.ln_top.proofs.Steps.Grounded.{IsGrounded, grounded}
+use Rattle.ln_top.specs.Works.{WorkOwes}
 
 -- the machine of a part on a row returns the perturbed sign
 row_signed : (p : Pred) (part : Part) (row : Row) → IsSound (pred_of p) → InRange p.shape.sites p.shape.vars row
-    → AnswersDue (pred_of p) part row → GivesPerturbedSign (pred_of p) part row
+    → AnswersDue (pred_of p) part row → GivesFilteredSign (pred_of p) part row
 row_signed p part row sound range d = record {
-  verdict = d.verdict;
-  answers = d.answers;
-  perturbed = sign;
-  never_zero = λ x m all. never_zero p row range sound all x.sign (sign x m);
+  signed =
+      record {
+        verdict = d.verdict;
+        answers = d.answers;
+        perturbed = sign;
+        never_zero = λ x m all. never_zero p row range sound all x.sign (sign x m);
+      };
   narrow = λ h x m. let o = d.due x m in d.narrow x m (by_filter (pred_of p) row o.filtering x o.does o.due h);
+  plain = λ z x m. by_value BySmallest p.shape (pred_of p) row x refl refl range z (d.due x m);
 }
   where
     sign : (x : Verdict) → IsVerdict part row x
@@ -52,7 +57,7 @@ row_signed p part row sound range d = record {
     sign x m = let o = d.due x m in due-sign BySmallest p.shape.vars (root_of (pred_of p)) row o.filtering x o.due
 
 part_signed : (p : Pred) (w : Written) → IsSound (pred_of p) → (let q : PredOf = pred_of p in q.shape_name ≡ q.name)
-    → PartIsDue (pred_of p) w → PartGivesSigns (pred_of p) w
+    → PartIsDue (pred_of p) w → PartGives GivesFilteredSign (pred_of p) w
 part_signed p w sound named d = record {
   shape = d.shape;
   name = d.name ∙ named;
@@ -62,7 +67,7 @@ part_signed p w sound named d = record {
 }
 
 all_signed : (ps : List Pred) (ws : List Written) → AreSound (map pred_of ps) → AreNamed (map pred_of ps)
-    → PartsAreDue (map pred_of ps) ws → PartsGiveSigns (map pred_of ps) ws
+    → PartsAreDue (map pred_of ps) ws → PartsGive GivesFilteredSign (map pred_of ps) ws
 all_signed [] [] s n d = tt
 all_signed [] (w ∷ ws) s n d = absurd d
 all_signed (p ∷ ps) [] s n d = absurd d
@@ -88,7 +93,7 @@ put_listing g a was now i n (l.listed text c) q =
       listing = c.listing;
       text = c.text;
       valid = c.valid;
-      signs = subst (λ (ps : List PredOf). PartsGiveSigns ps c.valid.valid.parts) preds
+      signs = subst (λ (ps : List PredOf). PartsGive GivesFilteredSign ps c.valid.valid.parts) preds
           (all_signed i.table.preds c.valid.valid.parts (subst AreSound (sym preds) i.sound) (subst AreNamed (sym preds) n)
           (subst (λ (ps : List PredOf). PartsAreDue ps c.valid.valid.parts) (sym preds) c.due));
       verified = verified g text c;

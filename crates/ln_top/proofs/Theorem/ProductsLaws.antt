@@ -48,16 +48,17 @@ use Rattle.ln_top.specs.Product.{deciders_after, product_text}
 use Rattle.ln_top.specs.Products.{HasProductSign, HasSummedFirsts, HaveProductSigns, OneIsZeroOn, ProductsArePerturbed, PutProducts}
 use Rattle.ln_top.specs.Products.{none, more, product_of}
 use Rattle.ln_top.specs.Run.{HasRecords}
-use Rattle.ln_top.specs.Suits.{Asks}
-use Rattle.ln_top.specs.Work.{WorkOwes}
 use Rattle.ln_top.specs.Answer.{Answer}
 use Rattle.ln_top.specs.Causes.{Answered}
 use Rattle.ln_top.proofs.Commands.FactorsLaws.{IsOver}
 use Rattle.ln_top.proofs.Commands.RunLaws.{same_pred, same_names, same_records, tail_same, wrong_right}
+use Rattle.ln_top.proofs.Commands.ProductLaws.{all_over}
 use Rattle.ln_top.proofs.Gathering.Feeds.{HaveNoFeed, behind, columns_no_feed, decider_feed, other, sign_feed, stop_feed}
 use Rattle.ln_top.proofs.Gathering.OneProduct.{sign_same}
-use Rattle.ln_top.proofs.Steps.OneAnswer.{IsGrounded, all_over, asked, grounded, in_memory}
 use Rattle.ln_top.proofs.Steps.TopLaws.{work_of_words}
+use Rattle.ln_top.proofs.Steps.Grounded.{IsGrounded, asked, grounded, in_memory}
+use Rattle.ln_top.specs.Signature.{Asks}
+use Rattle.ln_top.specs.Works.{WorkOwes}
 
 -- ---- signs
 module _ (sites : ℕ) (vars : List VarInfo) (row : Row) where

@@ -4,12 +4,13 @@ use Rattle.ln_base.specs.Outside.{Shelf}
 use Rattle.ln_tree.specs.Table.{TableOf}
 use Rattle.ln_compile.specs.Accepted.{AreSound}
 use Rattle.ln_top.specs.declared.prepare.Ready.{Ready}
-use Rattle.ln_top.specs.Plan.{HasForm, Plan, form}
+use Rattle.ln_top.specs.Plan.{HasForm, Plan}
+use Rattle.ln_top.specs.Signature.{form}
 use Rattle.ln_top.specs.Steps as step
 use Rattle.ln_top.specs.Steps.{gives, Given, Prepares, Each, Reads, most_file}
 use Rattle.ln_top.specs.Ready.{AreShort, HasStanding, IsReady, IsReadyFor}
 use Rattle.ln_top.proofs.Steps.Chain.{value_or}
-use Rattle.ln_top.proofs.Steps.OneAnswer.{accepted_of, asked}
+use Rattle.ln_top.proofs.Steps.Grounded.{accepted_of, asked}
 
 -- the further files that were read are within their limit
 short_read : (told : Option Shelf) (name bytes : List ℕ) → Reads told most_file name (gives bytes) → length bytes ≤ most_file
@@ -25,7 +26,8 @@ pub record IsFine (g : Given) : Type 0 where
   pub sound : AreSound g.table.preds
   pub short : AreShort g.texts
 
-fine : (plan : Plan) (told : Option Shelf) (g : Given) → Prepares plan told (gives g) → IsFine g
+-- so it is wherever they give one
+pub fine : (plan : Plan) (told : Option Shelf) (g : Given) → Prepares plan told (gives g) → IsFine g
 fine plan told g (step.goes bytes r (step.goes table c (step.goes preds n (step.goes _ y (step.goes texts t h))))) =
     subst IsFine (sym (ap (value_or g) h)) (record {
       sound = (accepted_of bytes table c).accepted.sound;

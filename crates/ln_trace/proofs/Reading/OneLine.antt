@@ -1,5 +1,5 @@
 -- First words, lines that have one reading, and what is read of a line.
-use Rattle.std.proofs.Common.{◌≡◌, ℕ, ◌<◌, ◌^◌, Bool, true, false, List, [], ◌∷◌, ◌++◌, map, Option, Some, None, refl, sym, ap, ◌∙◌, subst, arith, append-nil}
+use Rattle.std.proofs.Common.{◌≡◌, ℕ, ◌<◌, ◌^◌, Bool, true, false, List, [], ◌∷◌, ◌++◌, map, Some, None, refl, sym, ap, ◌∙◌, subst, arith}
 use Rattle.std.specs.Prelude.{if◌then◌else◌, bytes_eq, codes, decimal}
 use Rattle.std.specs.Fmt.{signed_decimal}
 use Rattle.ln_base.specs.Exponents.{Each, IsExponent, exponent_word}
@@ -7,11 +7,12 @@ use Rattle.ln_base.specs.Lines.{is_plain, parted, words}
 use Rattle.ln_base.specs.declared.sign.Sign.{Sign}
 use Rattle.ln_base.specs.declared.sign.Sign.TheVariants.{Minus, Zero, Plus}
 use Rattle.ln_base.proofs.Texts.Halves.{same_exponent}
-use Rattle.ln_base.proofs.Texts.Lines.{snoc_same}
 use Rattle.ln_base.proofs.Texts.Lists.{equal_bytes, head, rest}
 use Rattle.ln_base.proofs.Texts.Numbers.{decimal_injective, no_byte, signed_injective}
 use Rattle.ln_base.proofs.Texts.Plain.{decimal_plain, exponent_plain, plain_append, plain_map, signed_plain}
-use Rattle.ln_base.proofs.Texts.Words.{ArePlain, parted_words, words_parted}
+use Rattle.ln_base.proofs.Texts.Words.{ArePlain, words_parted}
+use Rattle.ln_lines.proofs.Colon.{same_before}
+use Rattle.ln_lines.proofs.Picked.{none, pick, some}
 use Rattle.ln_trace.specs.declared.line.TraceLine.{TraceLine}
 use Rattle.ln_trace.specs.declared.line.TraceLine.TheVariants as line
 use Rattle.ln_trace.specs.declared.state.Kind.{Kind}
@@ -19,25 +20,13 @@ use Rattle.ln_trace.specs.declared.state.Kind.TheVariants as kind
 use Rattle.ln_trace.specs.declared.state.State.{State}
 use Rattle.ln_trace.specs.declared.state.State.TheVariants.{Between, Opened, Within}
 use Rattle.ln_trace.specs.Reading.{HasArgs, IsRead, NoArgs, Refuses, after, kind_in, kind_of, may, next_of, word_of}
-use Rattle.ln_trace.specs.Text.{IsLine, sign_word, text_of_line, words_of}
+use Rattle.ln_trace.specs.Text.{IsLine, sign_word, words_of}
 
 -- ---- first words
 -- the word w is that of the kind k, and the state allows a line of this kind
 pub record Stands (s : State) (w : List ℕ) (k : Kind) : Type 0 where
   pub word : w ≡ word_of k
   pub may : may s k ≡ true
-
-some : {A : Type 0} {a b : A} → Some a ≡ Some b → a ≡ b
-some e = cc
-
--- one word out of two
-pick : {A : Type 0} (P : A → Type 0) (t : Bool) (a b : Option A) (k : A) → (t ≡ true → a ≡ Some k → P k) → (b ≡ Some k → P k)
-    → (if t then a else b) ≡ Some k → P k
-pick P true a b k f g e = f refl e
-pick P false a b k f g e = g e
-
-none : {A : Type 0} (P : A → Type 0) (k : A) → None ≡ Some k → P k
-none P k e = absurd (cc)
 
 is_word : (s : State) (w : List ℕ) (j k : Kind) → may s j ≡ true → bytes_eq w (word_of j) ≡ true → Some j ≡ Some k → Stands s w k
 is_word s w j k m t e = subst (λ x. Stands s w x) (some e) (record { word = equal_bytes w (word_of j) t; may = m })
@@ -77,7 +66,7 @@ hat_after [] y e = absurd (differ 94 58 y [] (λ q. omega arith) e)
 hat_after (b ∷ ds) y e = let h : b ≡ 58 = head e in (ds, ap (λ x. x ∷ ds) h)
 
 -- a number and a hat are no colon
-no_colon : (p : ℕ × ℕ) → IsExponent p → exponent_word p ≡ codes ":" → ⊥
+pub no_colon : (p : ℕ × ℕ) → IsExponent p → exponent_word p ≡ codes ":" → ⊥
 no_colon p q e =
     let r = hat_after (decimal p.0) (decimal p.1) e in
     omega (arith, (no_byte p.0 58 r.0 (omega (arith, q.0)) r.1).1)
@@ -85,41 +74,7 @@ no_colon p q e =
 -- the exponents before a colon, and what follows it, are known
 pub same_exponents : (ps qs : List (ℕ × ℕ)) (r s : List (List ℕ)) → Each IsExponent ps → Each IsExponent qs
     → map exponent_word ps ++ codes ":" ∷ r ≡ map exponent_word qs ++ codes ":" ∷ s → (ps ≡ qs) × (r ≡ s)
-same_exponents [] [] r s p q e = (refl, rest e)
-same_exponents [] (y ∷ ys) r s p q e = absurd (no_colon y q.0 (sym (head e)))
-same_exponents (x ∷ xs) [] r s p q e = absurd (no_colon x p.0 (head e))
-same_exponents (x ∷ xs) (y ∷ ys) r s p q e =
-    let h = same_exponent x y p.0 q.0 (head e) in
-    let t = same_exponents xs ys r s p.1 q.1 (rest e) in
-    ((λ i. h i ∷ t.0 i), t.1)
-
--- after some exponents there is a word that is neither an exponent nor a colon
-no_exponent : (done : List (ℕ × ℕ)) (w : List ℕ) (next : List (List ℕ)) (ps : List (ℕ × ℕ)) (r : List (List ℕ)) → Each IsExponent done
-    → Each IsExponent ps → map exponent_word done ++ w ∷ next ≡ map exponent_word ps ++ codes ":" ∷ r → (w ≡ codes ":" → ⊥)
-    → ((p : ℕ × ℕ) → IsExponent p → w ≡ exponent_word p → ⊥) → ⊥
-no_exponent [] w next [] r d p e f g = f (head e)
-no_exponent [] w next (x ∷ xs) r d p e f g = g x p.0 (head e)
-no_exponent (y ∷ ys) w next [] r d p e f g = no_colon y d.0 (head e)
-no_exponent (y ∷ ys) w next (x ∷ xs) r d p e f g = no_exponent ys w next xs r d.1 p.1 (rest e) f g
-
--- exponents alone have no colon
-no_end : (done : List (ℕ × ℕ)) (ps : List (ℕ × ℕ)) (r : List (List ℕ)) → Each IsExponent done
-    → map exponent_word done ≡ map exponent_word ps ++ codes ":" ∷ r → ⊥
-no_end [] [] r d e = absurd (cc)
-no_end [] (x ∷ xs) r d e = absurd (cc)
-no_end (y ∷ ys) [] r d e = no_colon y d.0 (head e)
-no_end (y ∷ ys) (x ∷ xs) r d e = no_end ys xs r d.1 (rest e)
-
--- what the loop over exponents has read
-pub no_exponent_here : (all : List (List ℕ)) (done : List (ℕ × ℕ)) (w : List ℕ) (here next : List (List ℕ)) → all ≡ map exponent_word done ++ here
-    → here ≡ w ∷ next → Each IsExponent done → (w ≡ codes ":" → ⊥) → ((p : ℕ × ℕ) → IsExponent p → w ≡ exponent_word p → ⊥)
-    → (ps : List (ℕ × ℕ)) (r : List (List ℕ)) → Each IsExponent ps → all ≡ map exponent_word ps ++ codes ":" ∷ r → ⊥
-no_exponent_here all done w here next e g d f k ps r p q = no_exponent done w next ps r d p (sym (e ∙ ap (λ z. map exponent_word done ++ z) g) ∙ q) f k
-
--- where the loop over exponents has read all words, there is no colon
-pub no_colon_left : (all : List (List ℕ)) (done : List (ℕ × ℕ)) (here : List (List ℕ)) → all ≡ map exponent_word done ++ here → here ≡ []
-    → Each IsExponent done → (ps : List (ℕ × ℕ)) (r : List (List ℕ)) → Each IsExponent ps → all ≡ map exponent_word ps ++ codes ":" ∷ r → ⊥
-no_colon_left all done here e g d ps r p q = no_end done ps r d (sym (e ∙ ap (λ z. map exponent_word done ++ z) g ∙ append-nil (map exponent_word done)) ∙ q)
+same_exponents ps qs r s p q e = same_before exponent_word IsExponent no_colon same_exponent ps qs r s p q e
 
 -- ---- one reading
 number : (m n : ℕ) → m < 2 ^ 32 → n < 2 ^ 32 → decimal m ≡ decimal n → m ≡ n
@@ -194,24 +149,13 @@ live s l t e = by (may s (kind_of l)) e
 first_of : (l : TraceLine) (w : List ℕ) (ws : List (List ℕ)) → w ∷ ws ≡ words_of l → w ≡ word_of (kind_of l)
 first_of l w ws e = head (e ∙ (words_split l).1)
 
-same_line : (s : State) (x y : TraceLine) (t u : State) → next_of s x ≡ Some t → next_of s y ≡ Some u → IsLine x → IsLine y → words_of x ≡ words_of y → x ≡ y
+-- two lines that are allowed in one state and have the same words are one
+pub same_line : (s : State) (x y : TraceLine) (t u : State) → next_of s x ≡ Some t → next_of s y ≡ Some u → IsLine x → IsLine y
+    → words_of x ≡ words_of y → x ≡ y
 same_line s x y t u a b p q e =
     let k = one_kind s (kind_of x) (kind_of y) (live s x t a).0 (live s y u b).0
     (first_of y (word_of (kind_of x)) (words_split x).0 (sym (words_split x).1 ∙ e)) in
     same_words x y k p q e
-
--- the bytes before a line feed are this line
-pub line_words : (body : List ℕ) (l : TraceLine) → IsLine l → body ++ (10 ∷ []) ≡ text_of_line l → words body ≡ words_of l
-line_words body l q e = ap words (snoc_same body (parted (words_of l)) e) ∙ read_words l q
-
--- and a body with the words of a line is, with a line feed, the text of the line
-pub words_line : (body : List ℕ) (l : TraceLine) → words body ≡ words_of l → body ++ (10 ∷ []) ≡ text_of_line l
-words_line body l e = ap (λ (x : List ℕ). x ++ (10 ∷ [])) (sym (parted_words body) ∙ ap parted e)
-
--- two lines that are allowed in one state and have one text are one
-pub one_line : (s : State) (x y : TraceLine) (t u : State) → next_of s x ≡ Some t → next_of s y ≡ Some u → IsLine x → IsLine y
-    → text_of_line x ≡ text_of_line y → x ≡ y
-one_line s x y t u a b p q e = same_line s x y t u a b p q (sym (read_words x p) ∙ line_words (parted (words_of x)) y q e)
 
 -- ---- what the reader of a line finds
 -- a first word of an allowed kind and then the words of a line of that kind: that line is read

@@ -1,27 +1,18 @@
 -- A trace leads from the first line to the end of a record, and what does so is a trace.
-use Rattle.std.proofs.Common.{◌≡◌, ℕ, ℤ, List, [], ◌∷◌, ◌++◌, Option, Some, None, refl, ◌∙◌}
+use Rattle.std.proofs.Common.{◌≡◌, ℕ, ℤ, List, [], ◌∷◌, Option, Some, None, refl, ◌∙◌}
 use Rattle.ln_base.specs.declared.sign.Sign.{Sign as AnySign}
+use Rattle.ln_lines.proofs.Walk.{goes_none}
 use Rattle.ln_trace.specs.declared.line.TraceLine.{TraceLine}
 use Rattle.ln_trace.specs.declared.line.TraceLine.TheVariants.{Refused, Row, At, Sign}
 use Rattle.ln_trace.specs.declared.state.State.{State}
 use Rattle.ln_trace.specs.declared.state.State.TheVariants.{Between, Opened, Within}
 use Rattle.ln_trace.specs.Form.{SomeAts, WholeRecords}
 use Rattle.ln_trace.specs.Form as form
-pub use Rattle.ln_trace.specs.Reading.{goes, next_at, next_of}
+use Rattle.ln_trace.specs.Reading.{goes, trace_rules}
 
 -- where the lines of a trace begin: between records
 abbrev pub start : Option State
 start = Some Between
-
--- lines and more lines lead where the second lead from where the first do
-pub goes_append : (o : Option State) (xs ys : List TraceLine) → goes o (xs ++ ys) ≡ goes (goes o xs) ys
-goes_append o [] ys = refl
-goes_append o (x ∷ xs) ys = goes_append (next_at o x) xs ys
-
--- from nowhere, lines lead nowhere
-pub goes_none : (ls : List TraceLine) → goes None ls ≡ None
-goes_none [] = refl
-goes_none (l ∷ ls) = goes_none ls
 
 ats : {xs r : List TraceLine} → SomeAts xs r → (goes (Some Opened) xs ≡ goes (Some Within) r) × (goes (Some Within) xs ≡ goes (Some Within) r)
 ats form.SomeAts.last = (refl, refl)
@@ -52,7 +43,7 @@ Wants Opened xs = Ends xs
 Wants Within xs = Goes xs
 
 dead : {A : Type 0} (xs : List TraceLine) → goes None xs ≡ start → A
-dead xs e = let n = goes_none xs in absurd (cc)
+dead xs e = let n = goes_none trace_rules xs in absurd (cc)
 
 row : {n : ℕ} {xs : List TraceLine} → Ends xs → WholeRecords (Row n ∷ xs)
 row w = form.WholeRecords.row w.ats w.more

@@ -6,12 +6,11 @@ use Rattle.ln_tree.specs.Table.{PredOf}
 use Rattle.ln_cert.specs.declared.part.Entry.{Entry}
 use Rattle.ln_cert.specs.declared.part.Part.{Part}
 use Rattle.ln_cert.specs.Listing.{IsFormFault, ListText, Listed, parts_of}
-use Rattle.ln_cert.specs.declared.read.ListStop.{ListStop}
-use Rattle.ln_cert.specs.declared.read.ListStop.TheVariants.{Form}
+use Rattle.ln_lines.specs.declared.stop.TextStop.{TextStop as ListStop}
+use Rattle.ln_lines.specs.declared.stop.TextStop.TheVariants.{Form}
 use Rattle.ln_cert.specs.Stop.{Stops}
 use Rattle.ln_cert.specs.Unread.{AreLeft, IsOpened, IsTaken, Takes, Unread}
-use Rattle.ln_cert.proofs.Reading.OneFault.{one_fault}
-use Rattle.ln_cert.proofs.Reading.Whole.{no_text, one_text}
+use Rattle.ln_cert.proofs.Reading.Whole.{no_text, one_fault, one_text}
 use Rattle.ln_verify.specs.BlockRules.{Version}
 use Rattle.ln_verify.specs.Here.{Gone, IsAnswer, IsHere, subjects_of}
 use Rattle.ln_verify.specs.Judge.{IsFirstFault, IsValid}

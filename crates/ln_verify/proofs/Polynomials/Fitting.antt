@@ -1,16 +1,19 @@
 -- Whether exponents fit, and what follows of a product.
-use Rattle.std.proofs.Common.{◌≡◌, ◌⊎◌, inl, inr, Bool, ◌↔◌, ℕ, ◌+◌, ◌<◌, ◌≤◌, zero, suc, List, [], ◌∷◌, length, get_or, drop, refl, sym}
+use Rattle.std.proofs.Common.{◌≡◌, ◌⊎◌, inl, inr, Bool, ◌↔◌, ℕ, ◌+◌, ◌-◌, ◌<◌, ◌≤◌, zero, suc, List, [], ◌∷◌, length, get_or, drop, refl, sym}
 use Rattle.std.proofs.Common.{arith, subst, eqb, true, false}
 use Rattle.std.specs.Prelude.{All}
 use Rattle.std.proofs.Math.IntN.{ℤ, pos}
+use Rattle.std.proofs.Math.Nat.{max-le}
 use Rattle.std.proofs.lemmas.Bool.{cases_eq, cases_lt}
 use Rattle.std.proofs.lemmas.Bool.Decides.{nat_tests}
 use Rattle.std.proofs.lemmas.List.Elements.{All-head, All-tail, All-cons, All-nil}
 use Rattle.ln_algebra.specs.Tree.{Mul, Tree}
 use Rattle.ln_tree.specs.Exps.{AllAbove, IsAbove, IsRising, Pairs, exponent}
 use Rattle.ln_poly.specs.Expansion.{IsNormal}
+use Rattle.ln_poly.specs.Lean.{largest}
 use Rattle.ln_poly.specs.Rows.{PowersFit}
-use Rattle.ln_poly.specs.Sparse.{AreRising, Sparse}
+use Rattle.ln_poly.specs.Sparse.{AreBelow, AreRising, Sparse}
+use Rattle.ln_poly.proofs.Packing.Terms.{largest-at}
 use Rattle.ln_due.specs.Small.{IsSmall}
 use Rattle.ln_verify.specs.Products.{AllFit, EachOf, PairsFit, RowFits}
 use Rattle.ln_verify.proofs.Polynomials.Small.{too-high}
@@ -119,6 +122,53 @@ misfit-large n d e f g p q none s = by_case (all-fit-or n f g p.below)
     by_case (inl h) = none h
     by_case (inr x) = too-high n d e f g p q x.at x.high.at x.high.high.var ([], pos 0) x.within x.high.within x.high.high.below x.high.high.high s
 
+-- ---- by the largest exponents
+largest-most : (f : Sparse) (v m : ℕ) → ((i : ℕ) (d : Pairs × ℤ) → i < length f → exponent v (get_or f i d).0 ≤ m) → largest f v ≤ m
+largest-most [] v m h = omega arith
+largest-most (t ∷ f) v m h = max-le (h 0 t (omega arith)) (largest-most f v m (λ i d l. h (suc i) d (omega (arith, l))))
+
+module _ (f g : Sparse) (a b : List ℕ) (p : (v : ℕ) → v < 256 → get_or a v 0 ≡ largest f v)
+    (q : (v : ℕ) → v < 256 → get_or b v 0 ≡ largest g v) where
+  -- where the largest exponents of each variable fit, all do
+  pub largest-fit : AreBelow 256 f → ((v : ℕ) → v < 256 → get_or a v 0 + get_or b v 0 < 128) → AllFit f g
+  largest-fit u h = by_case (all-fit-or 256 f g u)
+    where
+      by_case : AllFit f g ⊎ AllHigh 256 f g → AllFit f g
+      by_case (inl x) = x
+      by_case (inr x) =
+          let v : ℕ = x.high.high.var in
+          absurd (omega (
+            arith,
+            h v x.high.high.below,
+            p v x.high.high.below,
+            q v x.high.high.below,
+            x.high.high.high,
+            largest-at f x.at v ([], pos 0) x.within,
+            largest-at g x.high.at v ([], pos 0) x.high.within,
+          ))
+
+  -- where all fit, the largest of each variable do
+  pub fit-largest : AreRising f → AreRising g → AllFit f g → (v : ℕ) → v < 256 → get_or a v 0 + get_or b v 0 < 128
+  fit-largest r s h v l =
+      let w = all-powers f g r s h in
+      let low : largest g v ≤ 127 = largest-most g v 127 (λ j e k. omega (arith, small (get_or g j e).0 v (s j e k))) in
+      let each : (i : ℕ) (d : Pairs × ℤ) → i < length f → exponent v (get_or f i d).0 ≤ 127 - largest g v =
+      λ i d k. omega (
+        arith,
+        largest-most g v (127 - exponent v (get_or f i d).0) (λ j e m. omega (arith, w i d k j e m v)),
+        small (get_or f i d).0 v (r i d k),
+      ) in
+      omega (arith, p v l, q v l, low, largest-most f v (127 - largest g v) each)
+
+-- one variable more fits
+pub fit-next : (a b : List ℕ) (v : ℕ) → ((u : ℕ) → u < v → get_or a u 0 + get_or b u 0 < 128) → get_or a v 0 + get_or b v 0 < 128
+    → (u : ℕ) → u < v + 1 → get_or a u 0 + get_or b u 0 < 128
+fit-next a b v h l u k = by_case (cases_eq u v)
+  where
+    by_case : (u ≡ v) ⊎ (u ≡ v → ⊥) → get_or a u 0 + get_or b u 0 < 128
+    by_case (inl e) = rw e l
+    by_case (inr d) = h u (omega (arith, k, d))
+
 -- ---- loops over each of several
 module _ {A : Type 0} (H : A → Type 0) where
   each-turn : (xs : List A) (i : ℕ) (d : A) → i < length xs → EachOf H (drop i xs) ↔ H (get_or xs i d) × EachOf H (drop (suc i) xs)
@@ -151,14 +201,7 @@ module _ {A : Type 0} (H : A → Type 0) where
   pub each-end : (xs : List A) (i : ℕ) → length xs ≤ i → EachDecides xs i → EachOf H xs
   each-end xs i l t = t.0 (past xs i l)
 
--- the tests of the loops, at the members of the lists
-pub pairs-at : (r : Bool) (x y a b : Pairs) → (r ≡ true) ↔ PairsFit x y → x ≡ a → y ≡ b → (r ≡ true) ↔ PairsFit a b
-pairs-at r x y a b t p q = (
-  λ e. subst (λ (z : Pairs). PairsFit z b) p (subst (PairsFit x) q (t.0 e)),
-  λ h. t.1 (subst (λ (z : Pairs). PairsFit z y) (sym p) (subst (PairsFit a) (sym q) h)),
-)
-
--- and at the polynomials
+-- the test, at the polynomials
 pub fits-at : (r : Bool) (x y f g : Sparse) → (r ≡ true) ↔ AllFit x y → x ≡ f → y ≡ g → (r ≡ true) ↔ AllFit f g
 fits-at r x y f g t p q =
     (λ e. subst (λ (z : Sparse). AllFit z g) p (subst (AllFit x) q (t.0 e)), λ h. t.1 (subst (λ (z : Sparse). AllFit z y) (sym p) (subst (AllFit f) (sym q) h)))

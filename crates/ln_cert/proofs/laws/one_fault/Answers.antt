@@ -1,6 +1,5 @@
 -- Answers to the goals of `one_fault` in src/laws.rt.
-use Rattle.ln_cert.proofs.Reading.Whole.{no_text}
-use Rattle.ln_cert.proofs.Reading.OneFault.{one_fault}
+use Rattle.ln_cert.proofs.Reading.Whole.{no_text, one_fault}
 use Rattle.ln_cert.proofs.laws.one_fault.Goals as goal
 
 pub returns-clause-none : goal.returns-clause-none

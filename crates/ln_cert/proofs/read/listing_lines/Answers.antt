@@ -1,22 +1,27 @@
 -- Answers to the goals of `listing_lines` in src/read.rt.
-use Rattle.std.proofs.Common.{◌≡◌, arith, List, ℕ, [], ◌∷◌, length}
-use Rattle.ln_cert.specs.declared.read.ListStop.TheVariants.{Form}
+use Rattle.std.proofs.Common.{◌∷◌, ap, drop, rules, ◌∙◌}
+use Rattle.ln_base.specs.Lines.{lines}
 use Rattle.ln_cert.specs.Stop.{Stops}
-use Rattle.ln_cert.proofs.Reading.Fault.{fault_empty}
-use Rattle.ln_cert.proofs.Reading.Whole.{no_first, no_first_feed, stops_at}
+use Rattle.ln_cert.proofs.Reading.Sound.{list_sound}
+use Rattle.ln_cert.proofs.Reading.Whole.{open_first, opened, other_first, stops}
 use Rattle.ln_cert.proofs.read.listing_lines.Goals as goal
 
-no_bytes : (bs : List ℕ) → length bs ≡ 0 → Stops bs (Form 1)
-no_bytes [] e = stops_at [] 1 fault_empty
-no_bytes (b ∷ bs) e = absurd (omega arith)
-
-pub returns-then-bytes-eq0-clause-err : goal.returns-then-bytes-eq0-clause-err
-returns-then-bytes-eq0-clause-err c = no_bytes c.args.bytes.now c.if-bytes-eq0.true
-
-pub returns-then-end-bytes-clause-err : goal.returns-then-end-bytes-clause-err
-returns-then-end-bytes-clause-err c =
-    stops_at c.args.bytes.now 1 (no_first_feed c.args.bytes.now c.find-end.result (omega arith) c.find-end.ensures.place c.if-end-bytes.true)
-
 pub returns-in_default-clause-err : goal.returns-in_default-clause-err
-returns-in_default-clause-err c = stops_at c.args.bytes.now 1 (no_first c.args.bytes.now c.find-end.result c.between.result.now
-    (omega arith) c.find-end.ensures.place c.between.ensures (rw c.in_default.is at c.version.ensures))
+returns-in_default-clause-err c = open_first c.args.bytes.now (rw c.in_default.is at c.first_line.ensures)
+
+pub returns-in_default-version-clause-err : goal.returns-in_default-version-clause-err
+returns-in_default-version-clause-err c = other_first c.args.bytes.now c.in-Some.first.now c.in-Some.behind
+    (rw c.in-Some.is at c.first_line.ensures) (rw c.in_default-version.is at c.version.ensures)
+
+pub opened-requires-clause-sound : goal.opened-requires-clause-sound
+opened-requires-clause-sound c = list_sound c.in-Some-version.version
+
+pub returns-in_err-rest-clause-err : goal.returns-in_err-rest-clause-err
+returns-in_err-rest-clause-err c =
+    let s : Stops c.args.bytes.now c.in_err-rest.field-0.0 =
+    stops c.args.bytes.now c.in-Some-version.version c.in-Some.behind c.in_err-rest.field-0.0 c.in-Some-version.ensures.0
+    (c.in-Some.ensures.same ∙ ap (λ x. x ∷ lines (drop c.in-Some.behind c.args.bytes.now)) c.in-Some-version.ensures.1) c.in_err-rest.ensures.err in
+    search rules
+
+pub returns-clause-ok : goal.returns-clause-ok
+returns-clause-ok c = opened c.args.bytes.now c.in-Some-version.version c.in_ok-rest.rest c.in-Some-version.ensures.0 c.in_ok-rest.ensures.ok

@@ -1,15 +1,14 @@
 use Rattle.std.proofs.Common.{◌≡◌, length, arith}
 use Rattle.std.proofs.lemmas.Result.{on_ok_weaker}
 use Rattle.ln_cmean.specs.Answered.{tally}
-use Rattle.ln_cmean.specs.Room.{slots_in, letters_in}
+use Rattle.ln_cmean.specs.Room.{slots_in}
 use Rattle.ln_cmean.specs.Scene.{scene_of}
 use Rattle.ln_cmean.specs.Slots.{seen}
-use Rattle.ln_cmean.proofs.Runs.{no_smaller_then, front_then, going_on, left_on, left_same, same_front, went_all}
+use Rattle.ln_cmean.proofs.Runs.{front_then, going_on, left_on, left_same, same_front, went_all}
 use Rattle.ln_cmean.proofs.body.+run.Goals as goal
 
 pub run-stmts-preserved : goal.run-stmts-preserved
 run-stmts-preserved g t c =
-    let old = c.args.s.now in
     let at = c.stmts.s in
     let new = c.step.new.s in
     let ss = c.args.stmts.now in
@@ -19,40 +18,25 @@ run-stmts-preserved g t c =
       going = going_on (scene_of (g.C.Calls.given c.args.calls.now) c.args.inputs.now) ss i item _ (seen at) (seen new)
           (tally c.stmts.counts) (tally c.step.new.counts) c.step.result c.in-Ok-Went.field-0 c.stmts-test.true c.stmt-item.is
           c.stmts.invariant.going c.step.ensures.meaning c.in-Ok-Went.is c.in-Ok-Went.field-0-is;
-      capacity = no_smaller_then old at new c.stmts.invariant.capacity c.step.ensures.capacity;
-      front = front_then old at new c.stmts.invariant.front c.in-Ok-Went.ensures.front;
+      capacity = omega (arith, c.stmts.invariant.capacity, c.step.ensures.capacity);
+      front = front_then c.args.s.now at new c.stmts.invariant.front c.in-Ok-Went.ensures.front;
       slots_left = left_on slots_in ss i item (length at.slots.items) (length new.slots.items) _ c.stmts-test.true c.stmt-item.is
-          c.stmts.invariant.slots_left (λ rest. (c.in-Ok-Went.ensures.room rest).0);
-      letters_left = left_on letters_in ss i item (length at.names.items) (length new.names.items) _ c.stmts-test.true c.stmt-item.is
-          c.stmts.invariant.letters_left (λ rest. (c.in-Ok-Went.ensures.room rest).1);
+          c.stmts.invariant.slots_left (λ rest. c.in-Ok-Went.ensures.room rest);
     }
-
-pub run-returns-clause-capacity : goal.run-returns-clause-capacity
-run-returns-clause-capacity g t c = no_smaller_then c.args.s.now c.stmts.s c.leave-2.new.s c.stmts.invariant.capacity c.leave-2.ensures.capacity
 
 pub run-returns-clause-same : goal.run-returns-clause-same
 run-returns-clause-same g t c =
     let n : c.len-slots.result ≡ length c.args.s.now.slots.items = omega (arith, c.len-slots.ensures, c.args.s.now.slots.ok.0) in
-    let m : c.len-letters.result ≡ length c.args.s.now.names.items = omega (arith, c.len-letters.ensures, c.args.s.now.names.ok.0) in
-    left_same c.args.s.now c.stmts.s c.leave-2.new.s _ _ n m c.stmts.invariant.front c.leave-2.ensures.base c.leave-2.ensures.slots c.leave-2.ensures.names
+    left_same c.args.s.now c.stmts.s c.leave-2.new.s _ n c.stmts.invariant.front c.leave-2.ensures.base c.leave-2.ensures.slots
 
 pub step-returns-in-Group-clause-front : goal.step-returns-in-Group-clause-front
 step-returns-in-Group-clause-front g t c = on_ok_weaker c.run.result (same_front c.args.s.now c.run.new.s) c.run.ensures.same
 
-pub run-returns-in-Ok-Said-clause-capacity : goal.run-returns-in-Ok-Said-clause-capacity
-run-returns-in-Ok-Said-clause-capacity g t c =
-    no_smaller_then c.args.s.now c.stmts.s c.leave.new.s c.stmts.invariant.capacity
-    (no_smaller_then c.stmts.s c.step.new.s c.leave.new.s c.step.ensures.capacity c.leave.ensures.capacity)
-
 pub run-returns-in-Ok-Said-clause-same : goal.run-returns-in-Ok-Said-clause-same
 run-returns-in-Ok-Said-clause-same g t c =
     let n : c.len-slots.result ≡ length c.args.s.now.slots.items = omega (arith, c.len-slots.ensures, c.args.s.now.slots.ok.0) in
-    let m : c.len-letters.result ≡ length c.args.s.now.names.items = omega (arith, c.len-letters.ensures, c.args.s.now.names.ok.0) in
     let f = front_then c.args.s.now c.stmts.s c.step.new.s c.stmts.invariant.front c.in-Ok-Said.ensures.front in
-    left_same c.args.s.now c.step.new.s c.leave.new.s _ _ n m f c.leave.ensures.base c.leave.ensures.slots c.leave.ensures.names
-
-pub run-returns-in-Err-clause-capacity : goal.run-returns-in-Err-clause-capacity
-run-returns-in-Err-clause-capacity g t c = no_smaller_then c.args.s.now c.stmts.s c.step.new.s c.stmts.invariant.capacity c.step.ensures.capacity
+    left_same c.args.s.now c.step.new.s c.leave.new.s _ n f c.leave.ensures.base c.leave.ensures.slots
 
 pub run-returns-clause-meaning : goal.run-returns-clause-meaning
 run-returns-clause-meaning g t c =

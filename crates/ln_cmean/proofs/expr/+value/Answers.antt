@@ -1,9 +1,5 @@
-use Rattle.ln_cmean.proofs.Runs.{on_ok, no_smaller_then, same_then}
+use Rattle.ln_cmean.proofs.Runs.{on_ok, same_then}
 use Rattle.ln_cmean.proofs.expr.+value.Goals as goal
-
-pub value-returns-else-not-same_kind-clause-capacity : goal.value-returns-else-not-same_kind-clause-capacity
-value-returns-else-not-same_kind-clause-capacity g t c =
-    no_smaller_then c.args.s.now c.value.new.s c.value-in-Two.new.s c.value.ensures.capacity c.value-in-Two.ensures.capacity
 
 pub value-returns-else-not-same_kind-clause-same : goal.value-returns-else-not-same_kind-clause-same
 value-returns-else-not-same_kind-clause-same g t c =

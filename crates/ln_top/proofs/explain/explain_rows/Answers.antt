@@ -3,9 +3,9 @@ use Rattle.ln_top.proofs.Commands.ExplainLaws.{ends_carried, stops_carried}
 use Rattle.ln_top.proofs.Commands.ExplainedRows.{are_told}
 use Rattle.ln_top.proofs.explain.explain_rows.Goals as goal
 
-pub returns-in-Ok-put_rest : goal.returns-in-Ok-put_rest
-returns-in-Ok-put_rest g c = λ given b h.
-    let sends = rw c.deref.ensures.value at c.in-Ok-put_rest.ensures in
+pub returns-in-Ok : goal.returns-in-Ok
+returns-in-Ok g c = λ given b h.
+    let sends = rw c.deref.ensures.value at c.in-Ok.ensures in
     rw c.end_of.ensures
     (ends_carried c.args.target.now given b (are_told c.args.target.now.pred c.args.target.now.program c.requires.sound c.requires.belongs)
     h (sends_ran c.put_records-ran.ensures.1 sends))

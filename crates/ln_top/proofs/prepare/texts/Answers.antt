@@ -1,12 +1,8 @@
 use Rattle.std.proofs.Common.{string_bytes, rules}
 use Rattle.ln_top.specs.Steps.{Reads, most_file}
-use Rattle.ln_top.specs.Carried.{short}
 use Rattle.ln_top.proofs.Steps.Chain.{behind_at, behind_more, behind_all}
-use Rattle.ln_top.proofs.Steps.Prepared.{halts_behind, halts_wider, left_more, left_none, rose_same, map_behind}
+use Rattle.ln_top.proofs.Steps.Prepared.{halts_behind, halts_wider, left_more, left_none, map_behind, refused_halts, rose_same}
 use Rattle.ln_top.proofs.prepare.texts.Goals as goal
-
-pub returns-in_default-clause-err : goal.returns-in_default-clause-err
-returns-in_default-clause-err g c = short
 
 pub returns-in-Err-clause-err : goal.returns-in-Err-clause-err
 returns-in-Err-clause-err g c =
@@ -16,6 +12,9 @@ returns-in-Err-clause-err g c =
     halts_behind (Reads (g.F.Files.told c.args.files.now) most_file) _ _ _ _ _ _
     (behind_at (Reads (g.F.Files.told c.args.files.now) most_file) _ _ _ _ _ c.names.invariant.2 l)
     (halts_wider _ _ _ _ stops (rose_same _ _ _ c.names.invariant.1))
+
+pub returns-in_err-push-in-Ok-clause-err : goal.returns-in_err-push-in-Ok-clause-err
+returns-in_err-push-in-Ok-clause-err g c = refused_halts _ _ c.from_residual.result c.from_residual.ensures.1
 
 pub names-preserved : goal.names-preserved
 names-preserved g c =

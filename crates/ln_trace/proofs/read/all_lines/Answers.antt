@@ -1,6 +1,6 @@
 -- Answers to the goals of `all_lines` in src/read.rt.
 use Rattle.std.proofs.Common.{rules}
-use Rattle.ln_trace.proofs.Reading.Left.{gathered_more}
+use Rattle.ln_trace.proofs.Reading.Gathered.{gathered_more}
 use Rattle.ln_trace.proofs.read.all_lines.Goals as goal
 
 pub lines-preserved : goal.lines-preserved

@@ -1,6 +1,6 @@
 -- The loop over lines of `all_lines` in src/read.rt.
 use Rattle.std.proofs.Common.{length}
-use Rattle.ln_trace.proofs.Reading.Left.{Gathered}
+use Rattle.ln_trace.proofs.Reading.Gathered.{Gathered}
 use Rattle.ln_trace.proofs.read.all_lines.Given as goal
 
 abbrev pub invariant-lines : goal.invariant-lines

@@ -3,14 +3,18 @@ use Rattle.std.proofs.Common.{arith}
 use Rattle.ln_base.specs.Lines.{words_from}
 use Rattle.ln_base.proofs.Texts.Lists.{differs}
 use Rattle.ln_base.proofs.Texts.Words.{past_words}
-use Rattle.ln_trace.proofs.Reading.OneLine.{no_colon_left, no_exponent_here}
+use Rattle.ln_base.specs.Exponents.{IsExponent, exponent_word}
+use Rattle.ln_lines.proofs.Colon.{no_colon_left, no_item_here}
+use Rattle.ln_trace.proofs.Reading.OneLine.{no_colon}
 use Rattle.ln_trace.proofs.words.exponents.Goals as goal
 
 pub returns-in_default : goal.returns-in_default
-returns-in_default c = no_exponent_here (words_from c.args.at c.args.bytes.now) c.words.exps.items c.word-next.result.0.now
+returns-in_default c = no_item_here exponent_word IsExponent no_colon (words_from c.args.at c.args.bytes.now) c.words.exps.items c.word-next.result.0.now
     (words_from c.words.here c.args.bytes.now) (words_from c.word-next.result.1 c.args.bytes.now) c.words.invariant.same c.word-next.ensures.word
     c.words.invariant.ranges (differs c.word-next.result.0.now c.as_slice.result.now c.if-eq.ensures c.as_slice.ensures) c.in_default.ensures.none
 
 pub returns : goal.returns
-returns c = no_colon_left (words_from c.args.at c.args.bytes.now) c.words.exps.items (words_from c.words.here c.args.bytes.now)
+returns c =
+    no_colon_left exponent_word IsExponent no_colon (words_from c.args.at c.args.bytes.now) c.words.exps.items
+    (words_from c.words.here c.args.bytes.now)
     c.words.invariant.same (past_words c.args.bytes.now c.words.here (omega arith)) c.words.invariant.ranges

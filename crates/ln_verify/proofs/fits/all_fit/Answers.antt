@@ -1,28 +1,32 @@
 -- Answers to the goals of `all_fit` in src/fits.rt.
-use Rattle.std.proofs.Common.{arith, refl, sym, ◌∙◌, subst}
-use Rattle.std.proofs.Math.IntN.{ℤ}
-use Rattle.ln_tree.specs.Exps.{Pairs}
-use Rattle.ln_verify.specs.Products.{RowFits}
-use Rattle.ln_verify.proofs.Polynomials.Fitting.{each-end, each-next, each-stop}
+use Rattle.std.proofs.Common.{arith, refl}
+use Rattle.ln_verify.proofs.Polynomials.Fitting.{fit-largest, fit-next, largest-fit}
 use Rattle.ln_verify.proofs.Values.Ranges.{not-true}
 use Rattle.ln_verify.proofs.fits.all_fit.Goals as goal
 
-pub rows-init : goal.rows-init
-rows-init c = (λ h. h, λ h. h)
+pub vars-init : goal.vars-init
+vars-init c u h = absurd (omega (arith, h))
 
-pub returns-then-not-row_fits : goal.returns-then-not-row_fits
-returns-then-not-row_fits c = (
+pub returns-then-from-gt127 : goal.returns-then-from-gt127
+returns-then-from-gt127 c = (
   λ e. not-true _ e,
-  λ h. absurd (each-stop (λ (s : Pairs × ℤ). RowFits s.0 c.args.g.now) c.args.f.now c.rows.s-index c.s-item.result
-      (omega (arith, c.rows-test.true)) c.rows.invariant
-      (λ y. not-true _ (sym c.if-not-row_fits.true ∙ c.row_fits.ensures.1 (subst (λ (z : Pairs × ℤ). RowFits z.0 c.args.g.now) (sym c.s-item.is) y))) h),
+  λ h. absurd (omega (
+    arith,
+    fit-largest c.args.f.now c.args.g.now c.largest-a.result c.largest-b.result c.largest-a.ensures.value c.largest-b.ensures.value
+        c.largest-a.ensures.rising c.largest-b.ensures.rising h c.vars.v c.vars-test.true,
+    c.if-from-gt127.true,
+    c.from.ensures,
+    c.from-in-vars.ensures,
+  )),
 )
 
-pub rows-preserved : goal.rows-preserved
-rows-preserved c =
-    each-next (λ (s : Pairs × ℤ). RowFits s.0 c.args.g.now) c.args.f.now c.rows.s-index c.s-item.result (omega (arith, c.rows-test.true)) c.rows.invariant
-    (subst (λ (z : Pairs × ℤ). RowFits z.0 c.args.g.now) c.s-item.is (c.row_fits.ensures.0 c.if-not-row_fits.false))
+pub vars-preserved : goal.vars-preserved
+vars-preserved c = fit-next c.largest-a.result c.largest-b.result c.vars.v c.vars.invariant
+    (omega (arith, c.if-from-gt127.false, c.from.ensures, c.from-in-vars.ensures))
 
 pub returns : goal.returns
-returns c =
-    (λ e. each-end (λ (s : Pairs × ℤ). RowFits s.0 c.args.g.now) c.args.f.now c.rows.s-index (omega (arith, c.rows-test.false)) c.rows.invariant, λ h. refl)
+returns c = (
+  λ e. largest-fit c.args.f.now c.args.g.now c.largest-a.result c.largest-b.result c.largest-a.ensures.value c.largest-b.ensures.value
+      c.largest-a.ensures.below (λ u h. c.vars.invariant u (omega (arith, h, c.vars-test.false))),
+  λ h. refl,
+)

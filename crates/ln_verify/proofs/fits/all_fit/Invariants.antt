@@ -1,7 +1,6 @@
--- States the invariant of the loop of `all_fit`: whether all monomials fit those of the other list is decided by the remaining ones.
-use Rattle.ln_verify.specs.Products.{RowFits}
-use Rattle.ln_verify.proofs.Polynomials.Fitting.{EachDecides}
+-- States the invariant of the loop of `all_fit`: the largest exponents of the variables so far fit.
+use Rattle.std.proofs.Common.{ℕ, ◌+◌, ◌<◌, get_or}
 use Rattle.ln_verify.proofs.fits.all_fit.Given as goal
 
-abbrev pub invariant-rows : goal.invariant-rows
-invariant-rows l = EachDecides (λ s. RowFits s.0 l.g) l.f l.s-index
+abbrev pub invariant-vars : goal.invariant-vars
+invariant-vars l = (u : ℕ) → u < l.v → get_or l.a u 0 + get_or l.b u 0 < 128

@@ -1,0 +1,7 @@
+-- The lemma files of this folder.
+pub mod Walk
+pub mod OneFault
+pub mod Fault
+pub mod Left
+pub mod Colon
+pub mod Picked

@@ -1,0 +1,17 @@
+-- Defines the first line at which a text stops being of a form, where the form is told by all texts that are the lines of one.
+use Rattle.std.specs.Prelude.{◌≡◌, ℕ, ◌+◌, ◌<◌, ◌≤◌, List, ◌++◌, length, take}
+use Rattle.ln_base.specs.Lines.{lines}
+
+-- these lines are the first of a text of the form
+abbrev pub IsFrontOf : (List (List ℕ) → Type 0) → List (List ℕ) → Type 0
+IsFrontOf IsWhole texts = (more : List (List ℕ)) × IsWhole (texts ++ more)
+
+-- line `at`, from 1, is the first at which the lines so far are no prefix of a text of the form; where all lines are one and the bytes are
+-- no such text, it is one more than there are lines
+pub record IsFaultOf (IsWhole : List (List ℕ) → Type 0) (bytes : List ℕ) (at : ℕ) : Type 0 where
+  pub before : ℕ
+  pub number : at ≡ before + 1
+  pub within : before ≤ length (lines bytes)
+  pub front : IsFrontOf IsWhole (take before (lines bytes))
+  pub refused : before < length (lines bytes) → IsFrontOf IsWhole (take at (lines bytes)) → ⊥
+  pub unfinished : before ≡ length (lines bytes) → IsWhole (lines bytes) → ⊥

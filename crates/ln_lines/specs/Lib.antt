@@ -1,0 +1,4 @@
+-- The files of this folder.
+pub mod Form
+pub mod Fault
+pub mod Unread

@@ -1,0 +1,10 @@
+-- Monomials as numbers.
+pub mod Numbers
+pub mod Merges
+pub mod Rows
+pub mod Loops
+pub mod Opened
+pub mod Terms
+pub mod Back
+pub mod Fields
+pub mod Whole

@@ -1,0 +1,218 @@
+-- The steps of the loops over terms whose monomials are numbers.
+use Rattle.std.proofs.Common.{◌≡◌, ℕ, ◌+◌, ◌*◌, ◌<◌, ◌≤◌, ◌^◌, zero, suc, [], ◌∷◌, ◌++◌, append_assoc, append-nil, length, get_or, set, ◌-◌, ◌/◌, refl, sym}
+use Rattle.std.proofs.Common.{◌∙◌, ap, arith, subst, take, drop, unsigned_abs}
+use Rattle.std.proofs.Math.IntN.{ℤ, pos, ◌+ℤ◌, ◌*ℤ◌}
+use Rattle.std.proofs.Math.Nat.{mul-le-mul_left}
+use Rattle.std.proofs.lemmas.Int.{unsigned_abs-mul}
+use Rattle.std.proofs.lemmas.List.{drop_more, length-drop, length-set, length-take-le, take-append-drop, take_all, take_more_set}
+use Rattle.ln_poly.specs.Keyed.{AreAllProducts, AreAscending, HaveFactors, IsMerge, Keyed, both, first, left_over, neither, right_over, row, second, weight_of}
+use Rattle.ln_poly.proofs.TermLists.Halves.{half-below, half-some}
+use Rattle.ln_poly.proofs.Packing.Rows.{distributed, one-row, rows-joined, weight-append}
+
+-- what is done begins the merge of f and g, whose terms from i and j on remain
+abbrev pub IsMerging : Keyed → Keyed → Keyed → ℕ → ℕ → Type 0
+IsMerging done f g i j = (h : Keyed) → IsMerge (drop i f) (drop j g) h → IsMerge f g (done ++ h)
+
+next-is : (done done' h : Keyed) (x : ℕ × ℤ) → done' ≡ done ++ (x ∷ []) → done ++ (x ∷ h) ≡ done' ++ h
+next-is done done' h x e = sym (append_assoc done (x ∷ []) h) ∙ ap (λ z. z ++ h) (sym e)
+
+-- the terms so far, the places and the room
+abbrev pub AreMerging : Keyed → Keyed → Keyed → Keyed → ℕ → ℕ → ℕ → Type 0
+AreMerging old out f g i j k = IsMerging (take k out) f g i j × (length out ≡ length old) × (k ≤ i + j) × (i ≤ length f) × (j ≤ length g)
+
+-- each step, where both lists have terms
+module _ (old out f g : Keyed) (i j k : ℕ) (d : ℕ × ℤ) (m : AreMerging old out f g i j k) (l : i < length f) (r : j < length g)
+    (room : length f + length g ≤ length old) where
+  -- the next term of f
+  abbrev pub s : ℕ × ℤ
+  s = get_or f i d
+
+  -- and of g
+  abbrev pub t : ℕ × ℤ
+  t = get_or g j d
+
+  from-f : drop i f ≡ s ∷ drop (i + 1) f
+  from-f = drop_more f i d l
+
+  from-g : drop j g ≡ t ∷ drop (j + 1) g
+  from-g = drop_more g j d r
+
+  -- what the first terms merge to
+  rebuilt : (h h' : Keyed) → IsMerge (s ∷ drop (i + 1) f) (t ∷ drop (j + 1) g) h' → IsMerge f g (take k out ++ h')
+  rebuilt h h' n = m.0 h' (subst (λ z. IsMerge z (drop j g) h') (sym from-f) (subst (λ z. IsMerge (s ∷ drop (i + 1) f) z h') (sym from-g) n))
+
+  put : (x : ℕ × ℤ) → take (k + 1) (set out k x) ≡ take k out ++ (x ∷ [])
+  put x = take_more_set out k x (omega (arith, m.1, m.2, l, r, room))
+
+  -- the next term is that of f
+  pub merging-first : s.0 < t.0 → AreMerging old (set out k s) f g (i + 1) j (k + 1)
+  merging-first c = (
+    λ h n. subst (IsMerge f g) (next-is (take k out) (take (k + 1) (set out k s)) h s (put s)) (rebuilt h (s ∷ h)
+        (first s t (drop (i + 1) f) (drop (j + 1) g) h c (subst (λ z. IsMerge (drop (i + 1) f) z h) from-g n))),
+    length-set out k s ∙ m.1,
+    omega (arith, m.2),
+    omega (arith, l),
+    m.4,
+  )
+
+  -- the next term is that of g
+  pub merging-second : t.0 < s.0 → AreMerging old (set out k t) f g i (j + 1) (k + 1)
+  merging-second c = (
+    λ h n. subst (IsMerge f g) (next-is (take k out) (take (k + 1) (set out k t)) h t (put t)) (rebuilt h (t ∷ h)
+        (second s t (drop (i + 1) f) (drop (j + 1) g) h c (subst (λ z. IsMerge z (drop (j + 1) g) h) from-f n))),
+    length-set out k t ∙ m.1,
+    omega (arith, m.2),
+    m.3,
+    omega (arith, r),
+  )
+
+  -- it has the sum of both factors
+  pub merging-both : (c : ℤ) → t.0 ≤ s.0 → s.0 ≤ t.0 → c ≡ s.1 +ℤ t.1 → (c ≡ pos 0 → ⊥)
+      → AreMerging old (set out k (s.0, c)) f g (i + 1) (j + 1) (k + 1)
+  merging-both c a b e n = (
+    λ h q. subst (IsMerge f g) (next-is (take k out) (take (k + 1) (set out k (s.0, c))) h (s.0, s.1 +ℤ t.1)
+        (put (s.0, c) ∙ ap (λ z. take k out ++ ((s.0, z) ∷ [])) e)) (rebuilt h ((s.0, s.1 +ℤ t.1) ∷ h)
+        (both s t (drop (i + 1) f) (drop (j + 1) g) h (omega (arith, a, b)) (λ z. n (e ∙ z)) q)),
+    length-set out k (s.0, c) ∙ m.1,
+    omega (arith, m.2),
+    omega (arith, l),
+    omega (arith, r),
+  )
+
+  -- both go
+  pub merging-neither : (c : ℤ) → t.0 ≤ s.0 → s.0 ≤ t.0 → c ≡ s.1 +ℤ t.1 → c ≡ pos 0 → AreMerging old out f g (i + 1) (j + 1) k
+  merging-neither c a b e n = (
+    λ h q. rebuilt h h (neither s t (drop (i + 1) f) (drop (j + 1) g) h (omega (arith, a, b)) (sym e ∙ n) q),
+    m.1,
+    omega (arith, m.2),
+    omega (arith, l),
+    omega (arith, r),
+  )
+
+-- the terms of f and g that remain, where one list has come to its end, complete the merge
+pub merging-end : (out done f g : Keyed) (i j : ℕ) → IsMerging done f g i j → (i < length f → j < length g → ⊥) → i ≤ length f → j ≤ length g
+    → out ≡ (done ++ drop i f) ++ drop j g → IsMerge f g out
+merging-end out done f g i j m n l k e = by_case (drop i f) (drop j g) refl refl where
+  by_case : (x y : Keyed) → drop i f ≡ x → drop j g ≡ y → IsMerge f g out
+  by_case [] y p q =
+      let z : out ≡ done ++ y = e ∙ rw (p, q) (ap (λ w. w ++ y) (append-nil done)) in
+      subst (IsMerge f g) (sym z) (m y (rw (p, q) (right_over y)))
+  by_case x [] p q =
+      let z : out ≡ done ++ x = e ∙ rw (p, q) (append-nil (done ++ x)) in
+      subst (IsMerge f g) (sym z) (m x (rw (p, q) (left_over x)))
+  by_case (s ∷ x) (t ∷ y) p q = absurd (n (some f i s x l p) (some g j t y k q)) where
+    some : (f : Keyed) (i : ℕ) (s : ℕ × ℤ) (x : Keyed) → i ≤ length f → drop i f ≡ s ∷ x → i < length f
+    some [] zero s x l p = cc
+    some [] (suc i) s x l p = absurd (omega (arith, l))
+    some (a ∷ f) zero s x l p = omega arith
+    some (a ∷ f) (suc i) s x l p = omega (arith, some f i s x (omega (arith, l)) p)
+
+-- the second part is all that comes after the first
+pub rest-is : (f : Keyed) (k : ℕ) → take (length f - k) (drop k f) ≡ drop k f
+rest-is f k = take_all (length f - k) (drop k f) (omega (arith, length-drop k f))
+
+-- what remains of both lists is written
+pub merged-end : (old out out1 out2 f g x y : Keyed) (i j k : ℕ) → AreMerging old out f g i j k → (i < length f → j < length g → ⊥)
+    → x ≡ drop i f → y ≡ drop j g → take (k + length x) out1 ≡ take k out ++ x
+    → take ((k + (length f - i)) + length y) out2 ≡ take (k + (length f - i)) out1 ++ y
+    → IsMerge f g (take ((k + (length f - i)) + (length g - j)) out2)
+merged-end old out out1 out2 f g x y i j k m n e d p q = merging-end (take ((k + (length f - i)) + (length g - j)) out2) (take k out) f g i j m.0 n m.3 m.4
+    (ap (λ z. take ((k + (length f - i)) + z) out2) (sym (ap length d ∙ length-drop j g)) ∙ q ∙ ap (λ z. take (k + (length f - i)) out1 ++ z) d
+    ∙ ap (λ z. z ++ drop j g) (ap (λ z. take (k + z) out1) (sym (ap length e ∙ length-drop i f)) ∙ p ∙ ap (λ z. take k out ++ z) e))
+
+-- ---- sizes
+-- the factor of a term is at most the size
+pub factor-low : (f : Keyed) (i : ℕ) (d : ℕ × ℤ) → i < length f → unsigned_abs (get_or f i d).1 ≤ weight_of f
+factor-low [] i d l = absurd (omega arith)
+factor-low (t ∷ f) zero d l = omega arith
+factor-low (t ∷ f) (suc i) d l = omega (arith, factor-low f i d (omega arith))
+
+-- the sum of the factors of two terms has room
+pub factors-room : (f g : Keyed) (i j : ℕ) (d : ℕ × ℤ) → i < length f → j < length g → weight_of f + weight_of g < 2 ^ 127
+    → unsigned_abs (get_or f i d).1 + unsigned_abs (get_or g j d).1 < 2 ^ 127
+factors-room f g i j d l k room = omega (arith, factor-low f i d l, factor-low g j d k, room)
+
+-- ---- a row
+-- the products so far
+abbrev pub IsRowPut : Keyed → Keyed → ℕ × ℤ → Keyed → ℕ → Type 0
+IsRowPut old out s g i = (take i out ≡ row s (take i g)) × (length out ≡ length old)
+
+-- the product of two factors has room
+pub product-room : (g : Keyed) (i : ℕ) (s d : ℕ × ℤ) → i < length g → unsigned_abs s.1 * weight_of g < 2 ^ 127
+    → unsigned_abs (s.1 *ℤ (get_or g i d).1) < 2 ^ 127
+product-room g i s d l room = omega (arith, unsigned_abs-mul s.1 (get_or g i d).1, mul-le-mul_left (unsigned_abs s.1) (factor-low g i d l), room)
+
+-- ---- halves
+-- the products of both halves, merged
+pub halves-joined : (a b h f f' f'' g : Keyed) (k : ℕ) → AreAllProducts a f' g → AreAllProducts b f'' g → IsMerge a b h → f' ≡ take k f → f'' ≡ drop k f
+    → AreAllProducts h f g
+halves-joined a b h f f' f'' g k p q m e d =
+    subst (λ z. AreAllProducts h z g) (ap (λ z. z ++ f'') e ∙ ap (λ z. take k f ++ z) d ∙ take-append-drop k f) (rows-joined a b h f' f'' g p q m)
+
+whole-weight : (f f' f'' g : Keyed) (k : ℕ) → f' ≡ take k f → f'' ≡ drop k f
+    → weight_of f * weight_of g ≡ weight_of f' * weight_of g + weight_of f'' * weight_of g
+whole-weight f f' f'' g k e d =
+    let w : weight_of f ≡ weight_of f' + weight_of f'' =
+    ap weight_of (sym (take-append-drop k f)) ∙ weight-append (take k f) (drop k f) ∙ omega (arith, ap weight_of e, ap weight_of d) in
+    ap (λ z. z * weight_of g) w ∙ distributed (weight_of f') (weight_of f'') (weight_of g)
+
+-- there is room for each half
+pub first-room : (f f' f'' g : Keyed) (k : ℕ) → f' ≡ take k f → f'' ≡ drop k f → weight_of f * weight_of g < 2 ^ 127 → weight_of f' * weight_of g < 2 ^ 127
+first-room f f' f'' g k e d room = omega (arith, whole-weight f f' f'' g k e d, room)
+
+-- and for the other
+pub second-room : (f f' f'' g : Keyed) (k : ℕ) → f' ≡ take k f → f'' ≡ drop k f → weight_of f * weight_of g < 2 ^ 127 → weight_of f'' * weight_of g < 2 ^ 127
+second-room f f' f'' g k e d room = omega (arith, whole-weight f f' f'' g k e d, room)
+
+-- and for their sum
+pub sum-room : (a b f f' f'' g : Keyed) (k : ℕ) → AreAllProducts a f' g → AreAllProducts b f'' g → f' ≡ take k f → f'' ≡ drop k f
+    → weight_of f * weight_of g < 2 ^ 127 → weight_of a + weight_of b < 2 ^ 127
+sum-room a b f f' f'' g k p q e d room = omega (arith, p.size, q.size, whole-weight f f' f'' g k e d, room)
+
+-- no factor of a half is 0
+pub factors-take : (k : ℕ) (f : Keyed) → HaveFactors f → HaveFactors (take k f)
+factors-take zero f h = tt
+factors-take (suc k) [] h = tt
+factors-take (suc k) (t ∷ f) h = (h.0, factors-take k f h.1)
+
+-- nor of the other
+pub factors-drop : (k : ℕ) (f : Keyed) → HaveFactors f → HaveFactors (drop k f)
+factors-drop zero f h = h
+factors-drop (suc k) [] h = tt
+factors-drop (suc k) (t ∷ f) h = factors-drop k f h.1
+
+-- ---- the two halves
+-- one term
+pub one-product : (out f g : Keyed) (d : ℕ × ℤ) → length f ≡ 1 → HaveFactors f → AreAscending g → HaveFactors g → out ≡ row (get_or f 0 d) g
+    → AreAllProducts out f g
+one-product out [] g d l h a k e = absurd (omega (arith, l))
+one-product out (s ∷ []) g d l h a k e = subst (λ z. AreAllProducts z (s ∷ []) g) (sym e) (one-row s g h.0 a k)
+one-product out (s ∷ t ∷ f) g d l h a k e = absurd (omega (arith, l))
+
+-- each half is shorter
+pub first-shorter : (f : Keyed) (n : ℕ) → 0 < length f → (length f ≡ 1 → ⊥) → length f ≡ n → length (take (length f / 2) f) < n
+first-shorter f n s o e =
+    let b : length f / 2 < length f = half-below (length f) (omega (arith, s)) o in
+    omega (arith, b, e, length-take-le (length f / 2) f (omega (arith, b)))
+
+-- the second half is shorter, too
+pub second-shorter : (f : Keyed) (n : ℕ) → 0 < length f → (length f ≡ 1 → ⊥) → length f ≡ n
+    → length (take (length f - length f / 2) (drop (length f / 2) f)) < n
+second-shorter f n s o e =
+    let b : 0 < length f / 2 = half-some (length f) (omega (arith, s)) o in
+    omega (arith, b, e, s, ap length (rest-is f (length f / 2)), length-drop (length f / 2) f)
+
+-- there is memory for the first half
+pub first-long : (f g : Keyed) (l : ℕ) → l ≡ (length f / 2) * length g → length (take (length f / 2) f) * length g ≤ l
+first-long f g l e =
+    let k : length f / 2 ≤ length f = omega arith in
+    omega (arith, e, ap (λ z. z * length g) (length-take-le (length f / 2) f k))
+
+-- and for the second
+pub second-long : (f g : Keyed) (l whole : ℕ) → l + (length f / 2) * length g ≡ whole → length f * length g ≤ whole
+    → length (take (length f - length f / 2) (drop (length f / 2) f)) * length g ≤ l
+second-long f g l whole e h =
+    let k : (length f - length f / 2) + length f / 2 ≡ length f = omega arith in
+    let p : (length f - length f / 2) * length g + (length f / 2) * length g ≡ length f * length g =
+    sym (distributed (length f - length f / 2) (length f / 2) (length g)) ∙ ap (λ z. z * length g) k in
+    omega (arith, e, h, p, ap (λ z. z * length g) (ap length (rest-is f (length f / 2)) ∙ length-drop (length f / 2) f))

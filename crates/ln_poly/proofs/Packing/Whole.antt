@@ -1,0 +1,189 @@
+-- The product of two polynomials by their numbers.
+use Rattle.std.proofs.Common.{◌≡◌, inl, inr, ℕ, ◌+◌, ◌-◌, ◌*◌, ◌<◌, ◌≤◌, ◌^◌, zero, suc, List, [], ◌∷◌, ◌++◌, length, get_or, take, drop, refl, sym, ◌∙◌, ap}
+use Rattle.std.proofs.Common.{arith, subst, All, min, Bool, true, false, ◌↔◌}
+use Rattle.std.proofs.Math.Nat.{min-le_right, mul-le-mul_right}
+use Rattle.std.proofs.lemmas.List.{take-append-le, take-map, take_all}
+use Rattle.std.proofs.lemmas.List.Elements.{All-cons, All-nil}
+use Rattle.ln_poly.specs.Keyed.{AreAllProducts, AreAscending, Has, HaveFactors, IsGivenUp, IsMerge, Keyed, weight_of}
+use Rattle.ln_poly.specs.Lean.{largest}
+use Rattle.ln_poly.specs.Packed.{AreFields, ArePackable, AreSmall, keyed, taken, top_of, unkeyed, weights}
+use Rattle.ln_poly.specs.Rows.{IsRows, PowersFit}
+use Rattle.ln_poly.specs.Sparse.{AreBelow, IsPoly, Sparse, size_of}
+use Rattle.ln_poly.specs.Within.{TakesMore}
+use Rattle.ln_poly.proofs.Packing.Back.{rows-numbers, rows-poly, rows-unkeyed, weight-keyed}
+use Rattle.ln_poly.proofs.Packing.Fields.{fields-same, weights-length}
+use Rattle.ln_poly.proofs.Packing.Loops.{factors-drop, factors-take}
+use Rattle.ln_poly.proofs.Packing.Rows.{distributed, no-row, rows-joined, weight-append}
+use Rattle.ln_poly.proofs.Packing.Terms.{keyed-ascending, keyed-low, left-up-to, right-up-to}
+use Rattle.ln_poly.proofs.TermLists.Bounded.{take-take, takes-more}
+
+-- ---- what there is to pack
+-- fields for the largest exponents of f and g are for their products
+pub packable : (f g : Sparse) (a b ss : List ℕ) → ((v : ℕ) → v < 256 → get_or a v 0 ≡ largest f v) → ((v : ℕ) → v < 256 → get_or b v 0 ≡ largest g v)
+    → AreBelow 256 f → AreBelow 256 g → All (λ s. PowersFit s g) f → length ss ≡ 256
+    → AreFields (λ v. get_or a v 0 + get_or b v 0) (2 ^ 127) 0 (weights ss) → ArePackable (weights ss) (2 ^ 127) f g
+packable f g a b ss p q x y h l w = record {
+  fields = fields-same (λ v. get_or a v 0 + get_or b v 0) (top_of f g) (2 ^ 127) 0 (weights ss)
+      (λ u _ k. let n : u < 256 = omega (arith, k, weights-length ss, l) in omega (arith, p u n, q u n)) w;
+  left_below = subst (λ n. AreBelow n f) (sym (weights-length ss ∙ l)) x;
+  right_below = subst (λ n. AreBelow n g) (sym (weights-length ss ∙ l)) y;
+  powers = h;
+}
+
+-- the same, where the largest exponents are those of lists that are f and g
+pub packable-at : (f' g' f g : Sparse) (a b ss : List ℕ) → f' ≡ f → g' ≡ g → ((v : ℕ) → v < 256 → get_or a v 0 ≡ largest f' v)
+    → ((v : ℕ) → v < 256 → get_or b v 0 ≡ largest g' v) → AreBelow 256 f' → AreBelow 256 g' → All (λ s. PowersFit s g) f → length ss ≡ 256
+    → AreFields (λ v. get_or a v 0 + get_or b v 0) (2 ^ 127) 0 (weights ss) → ArePackable (weights ss) (2 ^ 127) f g
+packable-at f' g' f g a b ss e d p q x y h l w = packable f g a b ss (λ v k. p v k ∙ ap (λ z. largest z v) e) (λ v k. q v k ∙ ap (λ z. largest z v) d)
+    (subst (AreBelow 256) e x) (subst (AreBelow 256) d y) h l w
+
+module _ (ws : List ℕ) (f g : Sparse) (p : ArePackable ws (2 ^ 127) f g) where
+  -- the numbers of f are below 2^127
+  pub left-low : All (λ t. t.0 < 2 ^ 127) (keyed ws f)
+  left-low = keyed-low (top_of f g) (2 ^ 127) ws f p.fields (omega arith) (left-up-to f g)
+
+  -- so are those of g
+  pub right-low : All (λ t. t.0 < 2 ^ 127) (keyed ws g)
+  right-low = keyed-low (top_of f g) (2 ^ 127) ws g p.fields (omega arith) (right-up-to f g)
+
+  -- they rise
+  pub right-ascending : IsPoly g → AreAscending (keyed ws g)
+  right-ascending h = keyed-ascending (top_of f g) (2 ^ 127) ws g p.fields h.rising p.right_below (right-up-to f g) h.sorted
+
+  -- there is room for the products
+  pub keyed-room : size_of f * size_of g < 2 ^ 127 → weight_of (keyed ws f) * weight_of (keyed ws g) < 2 ^ 127
+  keyed-room room =
+      omega (arith, room, ap (λ z. z * weight_of (keyed ws g)) (weight-keyed ws f), ap (λ z. size_of f * z) (weight-keyed ws g))
+
+  all-rows : (h : Keyed) → AreAllProducts h (keyed ws f) (keyed ws g) → AreAllProducts h (keyed ws (take (length f) f)) (keyed ws g)
+  all-rows h a = subst (λ z. AreAllProducts h (keyed ws z) (keyed ws g)) (sym (take_all (length f) f (omega arith))) a
+
+  -- the numbers of a product are those of monomials
+  pub product-small : (h : Keyed) → AreAllProducts h (keyed ws f) (keyed ws g) → All (λ t. AreSmall (taken ws t.0)) h
+  product-small h a = each h (λ k i. (rows-numbers ws (2 ^ 127) h f g (length f) p (all-rows h a) k i).small) where
+    each : (ks : Keyed) → ((k : ℕ) → Has ks k → AreSmall (taken ws k)) → All (λ t. AreSmall (taken ws t.0)) ks
+    each [] n = All-nil (λ t. AreSmall (taken ws t.0))
+    each (t ∷ ks) n = All-cons (λ z. AreSmall (taken ws z.0)) t ks (n t.0 (inl refl)) (each ks (λ k i. n k (inr i)))
+
+  -- the terms of a product
+  pub product-rows : (h : Keyed) → AreAllProducts h (keyed ws f) (keyed ws g) → IsRows (unkeyed ws h) f g (length f)
+  product-rows h a = rows-unkeyed ws (2 ^ 127) h f g (length f) p (all-rows h a)
+
+  -- they are a polynomial
+  pub product-poly : (h : Keyed) → AreAllProducts h (keyed ws f) (keyed ws g) → size_of f * size_of g < 2 ^ 127 → IsPoly (unkeyed ws h)
+  product-poly h a room = rows-poly ws (2 ^ 127) h f g (length f) p (all-rows h a) room
+
+  -- there are as many numbers as terms
+  pub keyed-length : (e : Sparse) → length (keyed ws e) ≡ length e
+  keyed-length [] = refl
+  keyed-length (t ∷ e) = ap suc (keyed-length e)
+
+  -- and as many terms as numbers
+  pub unkeyed-length : (ks : Keyed) → length (unkeyed ws ks) ≡ length ks
+  unkeyed-length [] = refl
+  unkeyed-length (t ∷ ks) = ap suc (unkeyed-length ks)
+
+  -- a product that is given up has more terms
+  pub given-up : (most : ℕ) → size_of f * size_of g < 2 ^ 127 → IsGivenUp (keyed ws f) (keyed ws g) most → TakesMore f g most
+  given-up most room u =
+      let a : AreAllProducts u.done (keyed ws (take u.rows f)) (keyed ws g) =
+      subst (λ z. AreAllProducts u.done z (keyed ws g)) (take-map _ u.rows f) u.products in
+      let many : most + (length f - u.rows) * length g < length (unkeyed ws u.done) = omega (
+        arith,
+        u.many,
+        unkeyed-length u.done,
+        ap (λ z. (z - u.rows) * length (keyed ws g)) (keyed-length f),
+        ap (λ z. (length f - u.rows) * z) (keyed-length g),
+      ) in
+      takes-more (unkeyed ws u.done) (unkeyed ws u.done) f g f g u.rows most (rows-unkeyed ws (2 ^ 127) u.done f g u.rows p a)
+      (rows-poly ws (2 ^ 127) u.done f g u.rows p a room) refl refl refl many
+
+-- ---- parts of the rows
+weight-take : (i : ℕ) (f : Keyed) → weight_of (take i f) ≤ weight_of f
+weight-take zero f = omega arith
+weight-take (suc i) [] = omega arith
+weight-take (suc i) (t ∷ f) = omega (arith, weight-take i f)
+
+-- what there is of the first rows
+pub record ArePartsDone (out aside f g done : Keyed) (i most : ℕ) : Type 0 where
+  pub products : AreAllProducts done (take i f) g
+  pub within : i ≤ length f
+  pub few : length done ≤ most + (length f - i) * length g
+  pub long : min (length f) 64 * length g ≤ length out
+  pub long_aside : min (length f) 64 * length g ≤ length aside
+
+-- no row yet
+pub parts-begin : (out aside f g done : Keyed) (most n : ℕ) → done ≡ [] → n ≡ min (length f) 64 → n * length g ≤ length out
+    → n * length g ≤ length aside → ArePartsDone out aside f g done 0 most
+parts-begin out aside f g done most n e q l k = record {
+  products = subst (λ z. AreAllProducts z [] g) (sym e) (no-row g);
+  within = omega arith;
+  few = omega (arith, ap length e);
+  long = subst (λ z. z * length g ≤ length out) q l;
+  long_aside = subst (λ z. z * length g ≤ length aside) q k;
+}
+
+-- and room for their factors
+pub next-room : (done f f' g : Keyed) (i j : ℕ) → AreAllProducts done (take i f) g → f' ≡ take (j - i) (drop i f) → i ≤ j
+    → weight_of f * weight_of g < 2 ^ 127 → weight_of done + weight_of f' * weight_of g < 2 ^ 127
+next-room done f f' g i j p e l room =
+    let w : weight_of (take i f) + weight_of f' ≡ weight_of (take j f) =
+    sym (weight-append (take i f) f') ∙ ap weight_of (ap (λ z. take i f ++ z) e ∙ take-take i (j - i) j f (omega (arith, l))) in
+    let m : (weight_of (take i f) + weight_of f') * weight_of g ≤ weight_of f * weight_of g =
+    mul-le-mul_right (weight_of g) (omega (arith, w, weight-take j f)) in
+    omega (arith, p.size, m, room, distributed (weight_of (take i f)) (weight_of f') (weight_of g))
+
+-- no factor of the next rows is 0
+pub next-factors : (f f' : Keyed) (i j : ℕ) → f' ≡ take (j - i) (drop i f) → HaveFactors f → HaveFactors f'
+next-factors f f' i j e a = subst HaveFactors (sym e) (factors-take (j - i) (drop i f) (factors-drop i f a))
+
+-- the rows up to j
+pub next-products : (next f f' g : Keyed) (i j : ℕ) → AreAllProducts next (take i f ++ f') g → f' ≡ take (j - i) (drop i f) → i ≤ j
+    → AreAllProducts next (take j f) g
+next-products next f f' g i j p e l =
+    subst (λ z. AreAllProducts next z g) (ap (λ z. take i f ++ z) e ∙ take-take i (j - i) j f (omega (arith, l))) p
+
+-- the next rows are done
+pub parts-next : (out aside out' aside' f f' g done next : Keyed) (i j most n : ℕ) → ArePartsDone out aside f g done i most
+    → ((e : Keyed) → AreAllProducts done e g → AreAllProducts next (e ++ f') g) → f' ≡ take (j - i) (drop i f) → i < j → j ≤ length f
+    → length out' ≡ length out → length aside' ≡ length aside → n ≡ length next → (most + (length f - j) * length g < n → ⊥)
+    → ArePartsDone out' aside' f g next j most
+parts-next out aside out' aside' f f' g done next i j most n r p e l k a b q h = record {
+  products = next-products next f f' g i j (p (take i f) r.products) e (omega (arith, l));
+  within = k;
+  few = omega (arith, q, h);
+  long = omega (arith, a, r.long);
+  long_aside = omega (arith, b, r.long_aside);
+}
+
+-- all rows
+pub parts-end : (out aside f g done : Keyed) (i most : ℕ) → ArePartsDone out aside f g done i most → length f ≤ i → AreAllProducts done f g
+parts-end out aside f g done i most r l = subst (λ z. AreAllProducts done z g) (take_all i f l) r.products
+
+-- the rows up to j have more terms than are wanted
+pub given-up-at : (f f' g done next : Keyed) (i j most n : ℕ) → AreAllProducts done (take i f) g
+    → ((e : Keyed) → AreAllProducts done e g → AreAllProducts next (e ++ f') g) → f' ≡ take (j - i) (drop i f) → i < j
+    → n ≡ length next → most + (length f - j) * length g < n → IsGivenUp f g most
+given-up-at f f' g done next i j most n p q e l d h =
+    record { done = next; rows = j; products = next-products next f f' g i j (q (take i f) p) e (omega (arith, l)); many = omega (arith, d, h) }
+
+-- the size of the memory fits
+pub size-small : (f g : Keyed) (n : ℕ) → n ≡ min (length f) 64 → length g * 32 < 2 ^ 63 → n * length g < 2 ^ 64
+size-small f g n e h =
+    let l : n ≤ 64 = omega (arith, e, min-le_right (length f) 64) in
+    omega (arith, h, mul-le-mul_right (length g) l)
+
+-- a test that fails
+pub no-more : (b : Bool) (P : Type 0) → (b ≡ true) ↔ P → b ≡ false → P → ⊥
+no-more b P t e p = let q : true ≡ false = sym (t.1 p) ∙ e in cc
+
+-- a list of which all is written
+written : (n : ℕ) (xs zs : Keyed) → length xs ≡ n → take n (xs ++ zs) ≡ xs
+written n xs zs e = take-append-le n xs zs (omega (arith, e)) ∙ take_all n xs (omega (arith, e))
+
+-- the products so far and the next ones, merged in memory that is cut off after them
+pub with-next : (done f g e d p m t x y : Keyed) (n k a b : ℕ) → AreAllProducts done e g → AreAllProducts (take n p) f g
+    → IsMerge done (take n d) (take k m) → d ≡ take a (p ++ x) → length p ≡ a → t ≡ take k (take b (m ++ y)) → length m ≡ b → AreAllProducts t (e ++ f) g
+with-next done f g e d p m t x y n k a b u v w q l r h =
+    let i : IsMerge done (take n p) (take k m) = subst (λ z. IsMerge done (take n z) (take k m)) (q ∙ written a p x l) w in
+    subst (λ z. AreAllProducts z (e ++ f) g) (sym (r ∙ ap (take k) (written b m y h))) (rows-joined done (take n p) (take k m) e f g u v i)

@@ -1,0 +1,59 @@
+//! Tests the limits within which a polynomial has a program by total degree.
+ghost use Rattle.std.specs.Prelude.{◌<◌, length};
+ghost use Rattle.ln_graded.specs.Graded.{Begins, IsGradable};
+
+use ln_code::Program;
+use ln_compile::{Checked, check};
+use ln_graded::{GradedStop, graded};
+use ln_poly::Poly;
+use ln_sample::ORIENT;
+use std::alloc::Global;
+use std::test::Fail;
+
+// The program by total degree of what a program and a polynomial stand for, with at most this many stages in all lists.
+fn made(alloc: Global, f: &Poly, p: &Program, most: u64) -> Result<Program, GradedStop>
+    requires poly { IsGradable p.now.shape.vars f.now }
+    requires begins { Begins p.now.shape f.now p.now }
+{
+    graded(alloc, f, p.shape(), p, most, 24)
+}
+
+// The same of the predicate with this number, from 0.
+fn made_of(alloc: Global, c: &Checked, i: usize, most: u64) -> Result<Program, GradedStop>
+    requires { i < length c.now.table.preds }
+{
+    let f = c.polynomial(alloc, i)?;
+    let p = c.program(alloc, i)?;
+    made(alloc, &f, &p, most)
+}
+
+// How many blocks the program by total degree of the one predicate of a source has; why there is none; or none where the source is refused.
+fn blocks_within(alloc: Global, source: &str, most: u64) -> Option<Result<usize, GradedStop>> {
+    let bytes = source.as_bytes();
+    if bytes.len() > 1_048_576 {
+        return None;
+    }
+    let Ok(c) = check(alloc, bytes) else {
+        return None;
+    };
+    if c.table().preds.len() != 1 {
+        return None;
+    }
+    match made_of(alloc, &c, 0, most) {
+        Ok(p) => Some(Ok(p.blocks().len())),
+        Err(stop) => Some(Err(stop)),
+    }
+}
+
+#[test]
+fn the_orientation_has_48_stages_by_degree_in_13_blocks(rt: HostRuntime) -> Result<(), Fail> {
+    let alloc = rt.alloc();
+    assert!(rt; matches!(blocks_within(alloc, ORIENT, 48), Some(Ok(13))));
+    assert!(rt;
+        matches!(
+            blocks_within(alloc, ORIENT, 47),
+            Some(Err(GradedStop::Stages))
+        )
+    );
+    Ok(())
+}

@@ -1,0 +1,38 @@
+-- C without filters: what is promised of its bytes.
+use Rattle.std.specs.Prelude.{◌≡◌, ℕ, All, List, [], ◌∷◌, map, None, Some}
+use Rattle.ln_base.specs.declared.sign.Sign.{Sign}
+use Rattle.ln_tree.specs.Row.{InRange, Row}
+use Rattle.ln_tree.specs.Table.{PredOf}
+use Rattle.ln_code.specs.Part.{Part}
+use Rattle.ln_due.specs.Due.{sign_number}
+use Rattle.ln_csyn.specs.Tree.{Fun}
+use Rattle.ln_csyn.specs.Text.{CText}
+use Rattle.ln_csyn.specs.Meaning.{CCall, Counts, Signed}
+use Rattle.ln_cemit.specs.Heads.{head, heads_of}
+use Rattle.ln_cemit.specs.Names.{call_name}
+use Rattle.ln_cemit.specs.Whole.{part_name}
+use Rattle.ln_top.specs.Perturbed.{IsSignOn, NotZeroWithoutParams}
+
+-- on this row the call of `ln_NAME` has a meaning: the perturbed sign of the predicate, which without params isn't 0
+pub record CallsSign (file : List Fun) (p : PredOf) (row : Row) : Type 0 where
+  pub sign : Sign
+  pub counts : Counts
+  pub called : CCall file (call_name p.name) row.index row.values ≡ Some (Signed (sign_number sign) counts)
+  pub perturbed : IsSignOn p row sign
+  pub never_zero : NotZeroWithoutParams p sign
+
+-- so for each predicate, on each row in its declared ranges
+abbrev pub CallSigns : List Fun → List PredOf → Type 0
+CallSigns file [] = Unit {0}
+CallSigns file (p ∷ ps) = ((row : Row) → InRange p.sites p.vars row → CallsSign file p row) × CallSigns file ps
+
+-- the bytes are a file of the C subset whose calls mean the perturbed signs. Its functions are those of programs without filters, one for
+-- each predicate in order, and no other: of each the blocks', and `ln_NAME`, the one that isn't static
+pub record IsExactC (preds : List PredOf) (bytes : List ℕ) : Type 0 where
+  pub file : List Fun
+  pub text : CText bytes file
+  pub signs : CallSigns file preds
+  pub programs : List Part
+  pub bare : All (λ (q : Part). q.filter ≡ None) programs
+  pub names : map part_name programs ≡ map (λ (p : PredOf). p.name) preds
+  pub heads : map head file ≡ heads_of programs

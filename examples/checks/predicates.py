@@ -1,0 +1,142 @@
+"""The installed library of predicates/ beside `lnc run` and beside exact integers. Usage, at the top of the repository:
+
+predicates.py signs LNC PREFIX FAMILY COUNT    COUNT rows for the family's predicates together, of which every second is near 0: the library's signs,
+                                               from Python by whole batches, are those that the program LNC prints, and its plain signs are those of
+                                               the source's expression over Python's integers
+predicates.py meanings PREFIX                  what + means: signs of a table by hand
+predicates.py rust                             the Rust crate has the predicates, arguments and ranges of the sources"""
+import random
+import re
+import subprocess
+import sys
+import tempfile
+from pathlib import Path
+
+sys.dont_write_bytecode = True
+sys.path.insert(0, "predicates")
+import header  # noqa: E402
+
+FAMILIES = ["plane", "space", "weighted_plane", "weighted_space", "segments"]
+
+# a predicate, its sites without indices, and the sign at the points themselves
+MEANINGS = [
+    ("orient2", "0,0 1,0 0,1", 1),
+    ("incircle", "0,0 4,0 0,4 1,1", 1),
+    ("incircle", "0,0 4,0 0,4 4,4", 0),
+    ("incircle", "0,0 0,4 4,0 1,1", -1),
+    ("diametral2", "0,0 4,0 1,1", 1),
+    ("diametral2", "0,0 4,0 1,5", -1),
+    ("compare_x2", "1,0 0,9", 1),
+    ("compare_y2", "1,0 0,9", -1),
+    ("lexicographic2", "1,-9 0,9", 1),
+    ("lexicographic2", "1,0 1,9", -1),
+    ("orient3", "0,0,0 0,1,0 1,0,0 0,0,1", 1),
+    ("insphere", "0,0,0 0,4,0 4,0,0 0,0,4 1,1,1", 1),
+    ("insphere", "0,0,0 0,4,0 4,0,0 0,0,4 4,4,4", 0),
+    ("insphere", "0,0,0 0,4,0 4,0,0 0,0,4 5,4,4", -1),
+    ("diametral3", "0,0,0 4,0,0 1,1,1", 1),
+    ("compare_z3", "0,0,1 0,0,0", 1),
+    ("lexicographic3", "1,-8388608,0 0,8388608,0", 1),
+    ("lexicographic3", "1,1,0 1,1,1", -1),
+    ("worient2", "0,0,5 1,0,0 0,1,7", 1),
+    ("power2", "0,0,0 4,0,0 0,4,0 1,1,0", 1),
+    ("power2", "0,0,0 4,0,0 0,4,0 4,4,0", 0),
+    ("power2", "0,0,0 4,0,0 0,4,0 4,4,1", 1),
+    ("power2", "0,0,0 4,0,9 0,4,0 4,4,1", -1),
+    ("wcompare_w2", "0,0,2 0,0,1", 1),
+    ("worient3", "0,0,0,9 0,1,0,0 1,0,0,0 0,0,1,0", 1),
+    ("power3", "0,0,0,0 0,4,0,0 4,0,0,0 0,0,4,0 1,1,1,0", 1),
+    ("power3", "0,0,0,0 0,4,0,0 4,0,0,0 0,0,4,0 4,4,4,0", 0),
+    ("power3", "0,0,0,0 0,4,0,0 4,0,0,0 0,0,4,0 4,4,4,1", 1),
+    ("side_a2", "0,0,4,0 1,1,1,-1", 1),
+    ("side_b2", "0,0,4,0 1,1,1,-1", -1),
+    ("turn2", "0,0,4,0 1,-1,1,1", 1),
+    ("crossings2", "0,0,9,0 3,-1,3,1 2,-1,2,1", 1),
+    ("crossings2", "0,0,9,0 3,1,3,-1 2,-1,2,1", -1),
+]
+
+
+def library(prefix):
+    sys.path.insert(0, prefix + "/share/lnc_predicates")
+    import lnc_predicates
+    return lnc_predicates.load()
+
+
+def expression(text, name):
+    """The source's expression as a function of a row's values: an integer of Python."""
+    body = re.search(rf"\bpredicate {name}\([^)]*\)\s*\{{(.*?)\}}", header.COMMENT.sub("", text), flags=re.S)[1]
+    lets = re.findall(r"let (\w+) = ([^;]*);", body)
+    sign = re.search(r"\bsign ([^;]*);", body)[1]
+    python = "\n".join(f"{left} = {right}" for left, right in [*lets, ("result", " ".join(sign.split()))])
+    code = compile(re.sub(r"\b([a-z])\.(\w+)", r"\1_\2", python.replace("^", "**")), name, "exec")
+    names = [f"{argument}_{c}" for argument, c in header.Source(text).values(name)]
+
+    def value(row):
+        scope = dict(zip(names, row))
+        exec(code, {"__builtins__": {}}, scope)
+        return scope["result"]
+    return value
+
+
+def row(source, name, near):
+    """Indices and values of a row: near 0, or of the whole range with its ends."""
+    least = random.choice((0, 2**63 - 9))
+    x = [least + number for number in random.sample(range(9), len(source.indices(name)))]
+    ends = [(low, high) for _, kind in source.predicates[name] for _, low, high in source.sites[kind]]
+    if near:
+        return x, [random.randint(max(low, -2), min(high, 2)) for low, high in ends]
+    return x, [random.choice((low, high)) if random.random() < 0.1 else random.randint(low, high) for low, high in ends]
+
+
+def signs(lnc, prefix, family, count):
+    path, calls = Path("predicates", family + ".ln"), library(prefix)
+    text = path.read_text()
+    source, total, wrong = header.Source(text), 0, 0
+    random.seed(family)
+    names = list(source.predicates)
+    for i, name in enumerate(names):
+        rows = [row(source, name, k % 2) for k in range(int(count) * (i + 1) // len(names) - int(count) * i // len(names))]
+        width = len(source.values(name)) // len(source.indices(name))
+        with tempfile.NamedTemporaryFile("w", suffix=".csv") as file:
+            file.write(",".join(a + "".join(f",{a}.{c}" for b, c in source.values(name) if b == a) for a in source.indices(name)) + "\n")
+            for x, v in rows:
+                file.write(",".join(f"{index},{','.join(map(str, v[width * k:width * (k + 1)]))}" for k, index in enumerate(x)) + "\n")
+            file.flush()
+            run = subprocess.run([lnc, "run", path, name, file.name], capture_output=True, text=True, check=True).stdout.split("\n")[:-1]
+        call = getattr(calls, name)
+        got = call.rows([x for x, _ in rows], [v for _, v in rows])
+        value = expression(text, name)
+        for (x, v), line, sign in zip(rows, run, got, strict=True):
+            exact = value(v)
+            plain = call.plain(*((index, *v[width * k:width * (k + 1)]) for k, index in enumerate(x)))
+            total += 1
+            wrong += "-0+".index(line[0]) - 1 != sign or plain != (exact > 0) - (exact < 0) or sign == 0 or (plain and plain != sign)
+    print(f"{total} rows, {wrong} wrong")
+
+
+def meanings(prefix):
+    calls, wrong = library(prefix), 0
+    for name, sites, sign in MEANINGS:
+        got = getattr(calls, name).plain(*((k, *map(int, site.split(","))) for k, site in enumerate(sites.split())))
+        if got != sign:
+            print(f"{name} {sites}: {got}")
+            wrong += 1
+    unnamed = set(calls.names) - {name for name, _, _ in MEANINGS}
+    print(f"{len(MEANINGS)} signs, {wrong} wrong, not in the table: {' '.join(sorted(unnamed))}")
+
+
+def rust():
+    text = Path("predicates/rust/src/lib.rs").read_text()
+    for family in FAMILIES:
+        source = header.Source(Path("predicates", family + ".ln").read_text())
+        ranges, names = re.search(rf'"{family}" {family}: \w+ \d+ (\[.*\]);\n(.*)\n\}}', text).groups()
+        calls = {name: words.split() for name, words in re.findall(r"(\w+)\(([^)]*)\)", names)}
+        (coordinates,) = source.sites.values()
+        one, _, times = ranges[1:-1].partition("; ")
+        ends = eval(f"[{one}]{' * ' + times if times else ''}", {})
+        taken = {name: [a for a, _ in arguments] for name, arguments in source.predicates.items()}
+        same = calls == taken and ends == [(low, high) for _, low, high in coordinates]
+        print(f"{family}: {'the same' if same else 'NOT the same'}")
+
+
+{"signs": signs, "meanings": meanings, "rust": rust}[sys.argv[1]](*sys.argv[2:])

@@ -1,0 +1,83 @@
+//! Exact, robust geometric predicates, in families over one type of sites each. A function of sites returns the sign at the moved sites, 1 or -1; the
+//! one of the same name in `plain` returns the sign at the sites themselves, 0 where they are degenerate. What + means is in the headers
+//! `lnc_FAMILY.h`. The indices of a call have to differ: with one index twice the sign is that of some order of the sites.
+
+macro_rules! family {
+    ($feature:literal $family:ident: $site:ident $count:literal $ranges:expr; $($name:ident($($p:ident)*))*) => {
+        #[cfg(feature = $feature)]
+        pub mod $family {
+            /// A site: its index, from 0 on, and its coordinates, each in its range.
+            #[derive(Clone, Copy, Debug, PartialEq, Eq)]
+            pub struct $site {
+                index: i64,
+                coordinates: [i64; $count],
+            }
+
+            impl $site {
+                /// The low and the high end of each coordinate.
+                pub const RANGES: [(i64, i64); $count] = $ranges;
+
+                /// Returns the site, or `None` where the index is negative or a coordinate is out of range.
+                pub fn new(index: i64, coordinates: [i64; $count]) -> Option<Self> {
+                    let fits = coordinates.iter().zip(Self::RANGES).all(|(c, (low, high))| (low..=high).contains(c));
+                    (index >= 0 && fits).then_some($site { index, coordinates })
+                }
+
+                pub fn index(&self) -> i64 {
+                    self.index
+                }
+
+                pub fn coordinates(&self) -> [i64; $count] {
+                    self.coordinates
+                }
+            }
+
+            $(
+                pub fn $name($($p: &$site),*) -> i32 {
+                    extern "C" {
+                        #[link_name = concat!("ln_", stringify!($name))]
+                        fn call(x: *const i64, v: *const i64) -> i32;
+                    }
+                    // the call reads an index and $count values of each site, which are in range, and writes nothing
+                    unsafe { call([$($p.index),*].as_ptr(), [$($p.coordinates),*].as_ptr().cast()) }
+                }
+            )*
+
+            /// The signs at the sites themselves.
+            pub mod plain {
+                use super::$site;
+                $(
+                    pub fn $name($($p: &$site),*) -> i32 {
+                        extern "C" {
+                            #[link_name = concat!("ln_", stringify!($name), "_plain")]
+                            fn call(v: *const i64) -> i32;
+                        }
+                        // as above
+                        unsafe { call([$($p.coordinates),*].as_ptr().cast()) }
+                    }
+                )*
+            }
+        }
+    };
+}
+
+family! {
+    "plane" plane: Point2 2 [(-(1 << 29), 1 << 29); 2];
+    orient2(p q r) incircle(a b c d) diametral2(p q r) compare_x2(p q) compare_y2(p q) lexicographic2(p q)
+}
+family! {
+    "space" space: Point3 3 [(-(1 << 23), 1 << 23); 3];
+    orient3(a b c d) insphere(a b c d e) diametral3(p q r) compare_x3(p q) compare_y3(p q) compare_z3(p q) lexicographic3(p q)
+}
+family! {
+    "weighted_plane" weighted_plane: Weighted2 3 [(-(1 << 29), 1 << 29), (-(1 << 29), 1 << 29), (0, 1 << 58)];
+    worient2(p q r) power2(a b c d) wdiametral2(p q r) wcompare_x2(p q) wcompare_y2(p q) wcompare_w2(p q) wlexicographic2(p q)
+}
+family! {
+    "weighted_space" weighted_space: Weighted3 4 [(-(1 << 23), 1 << 23), (-(1 << 23), 1 << 23), (-(1 << 23), 1 << 23), (0, 1 << 46)];
+    worient3(a b c d) power3(a b c d e) wdiametral3(p q r) wcompare_x3(p q) wcompare_y3(p q) wcompare_z3(p q) wcompare_w3(p q) wlexicographic3(p q)
+}
+family! {
+    "segments" segments: Segment2 4 [(-(1 << 29), 1 << 29); 4];
+    side_a2(s t) side_b2(s t) turn2(s t) crossings2(s t u)
+}
