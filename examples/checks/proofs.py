@@ -1,8 +1,11 @@
-"""What is said of lemmas and definitions: each public one has a line of its own above it, and each lemma is named somewhere outside of
-itself. Prints those that aren't so. Usage, at the top of the repository: proofs.py"""
+"""What is said of lemmas and definitions: each public one has a line of its own above it, and each is named somewhere outside of itself: in its
+file, by a file that imports it from there, or, if it is of specs/, in a document. Prints those that aren't so. Usage, at the top of the
+repository: proofs.py"""
 import re
-from collections import defaultdict
+from collections import Counter, defaultdict
 from pathlib import Path
+
+from sources import imports
 
 NAME = r"[A-Za-zℕℤ_][\wℕℤ'²]*(?:[-+][\wℕℤ'²+]+)*"
 HEAD = re.compile(rf"^( *)(?:(?:abbrev|unfoldable|opaque) )?(pub )?(?:(?:abbrev|unfoldable|opaque|data|record) )?({NAME}) (?=:|[({{])")
@@ -32,11 +35,43 @@ def end(lines, at, name):
 
 
 TEXTS = {file: file.read_text().split("\n") for kind in ("rt", "antt") for file in Path("crates").rglob(f"*.{kind}") if "out" not in file.parts}
-USES = defaultdict(set)
-for file, lines in TEXTS.items():
-    for word in re.findall(NAME, code(lines)):
-        USES[word].add(file)
+DOCUMENTS = {word for file in [*Path(".").glob("*.md"), *Path("docs").glob("*.md")] for word in re.findall(NAME, file.read_text())}
 
+
+def module(file):
+    return ".".join(("Rattle", *file.parts[1:])).removesuffix(file.suffix)
+
+
+# the names that files take from a module, by the module's path; and a module's names behind which others stand in a file
+IMPORTED, BEHIND = defaultdict(set), defaultdict(set)
+for file, lines in TEXTS.items():
+    text = "\n".join(lines)
+    for lemma in re.findall(r"[\w:]+", " ".join(re.findall(r"using\(([^)]*)\)", text))):
+        path, _, name = re.sub(r"^crate\b", file.parts[1], lemma).replace("::", ".").rpartition(".")
+        IMPORTED["Rattle." + path].add(name)
+    for local, (path, name) in imports(text).items():
+        path = path if path.startswith("Rattle.") else f"{module(file)}.{path}"
+        if name:
+            IMPORTED[path].add(name)
+        else:
+            BEHIND[path] |= set(re.findall(rf"(?<![\w'+-]){re.escape(local)}\.({NAME})", code(lines)))
+
+
+def words(lines):
+    return Counter(re.findall(NAME, code(line for line in lines if not re.match(r"(?:pub )?use ", line))))
+
+
+def is_named(file, lines, at, name):
+    """Does something name this lemma or definition, or a constructor of it, outside of itself?"""
+    own = lines[at:end(lines, at, name)]
+    names = [name]
+    if re.match(r" *(?:pub )?data ", own[0]):
+        names += [word for line in own[1:] for word in re.findall(NAME, line.partition(" :")[0])]
+    inside, known = words(own), IMPORTED[module(file)] | BEHIND[module(file)] | (DOCUMENTS if "specs" in file.parts else set())
+    return any(word in known or WORDS[file][word] > inside[word] for word in names)
+
+
+WORDS = {file: words(lines) for file, lines in TEXTS.items() if file.suffix == ".antt"}
 for file, lines in sorted(TEXTS.items()):
     if file.suffix != ".antt" or file.name in ANSWERS or not {"proofs", "specs"} & set(file.parts):
         continue
@@ -50,7 +85,5 @@ for file, lines in sorted(TEXTS.items()):
         above = lines[at - 1].lstrip() if at else ""
         if head[2] and (not above.startswith("--") or above.startswith("-- ----")):
             print(f"{file}: line {at + 1}: {name} has no line of its own")
-        if "proofs" in file.parts and " : " in line and USES[name] <= {file}:
-            others = code(lines[:at] + lines[end(lines, at, name):])
-            if not re.search(rf"(?<![\w'+-]){re.escape(name)}(?![\w'+-])", others):
-                print(f"{file}: line {at + 1}: nothing names {name}")
+        if not is_named(file, lines, at, name):
+            print(f"{file}: line {at + 1}: nothing names {name}")

@@ -282,10 +282,6 @@ pub record AreCalls (text : List ℕ) (n : ℕ) (rest : List ℕ) : Type 0 where
   pub calls : (k : ℕ) → k < n → IsSomeCall (first (after_lines k text))
   pub room : n + length rest ≤ length text
 
--- before the loop of `meanings`: no line was read
-pub no_calls : (text : List ℕ) → AreCalls text 0 text
-no_calls text = record { rest_is = refl; calls = λ k h. absurd (omega arith); room = omega arith }
-
 -- the step of `meanings`: one more line was a call
 pub one_call : (fs : List Fun) (text rest after old new : List ℕ) (n : ℕ) → AreCalls text n rest → IsTaken fs rest after old new →
     AreCalls text (n + 1) after

@@ -1,5 +1,5 @@
 //! What a call does with the declarations: it looks a name up, and makes declarations visible and invisible.
-ghost use Rattle.std.specs.Prelude.{◌≡◌, ℕ, List, ◌∷◌, ◌+◌, ◌-◌, ◌≤◌, ◌<◌, length, take, vec_len, vec_capacity, None, slice_get, Some};
+ghost use Rattle.std.specs.Prelude.{◌≡◌, ℕ, List, ◌∷◌, ◌+◌, ◌-◌, ◌≤◌, ◌<◌, length, take, vec_len, None, slice_get, Some};
 ghost use Rattle.ln_csyn.specs.Meaning.{find, number_in, Seen};
 ghost use Rattle.ln_csyn.specs.Meaning as m;
 ghost use Rattle.ln_cmean.specs.Room.{HasRoom, IsNoSmaller, IsFront};

@@ -1,5 +1,5 @@
 -- Proves what known bytes do over several writes and reads.
-use Rattle.std.proofs.Common.{◌≡◌, ℕ, ◌+◌, ◌-◌, ◌≤◌, List, [], ◌++◌, length, take, drop, refl, ap, sym, subst, ◌∙◌, arith, Some, None}
+use Rattle.std.proofs.Common.{◌≡◌, ℕ, ◌+◌, ◌-◌, List, ◌++◌, length, take, drop, refl, ap, sym, subst, ◌∙◌, Some, None}
 use Rattle.std.proofs.Common.{Option, length-drop}
 use Rattle.std.proofs.Math.Seq.{take-add, take-length, drop-append_seam}
 use Rattle.std.proofs.lemmas.List.{drop-drop}
@@ -17,11 +17,6 @@ writes_more a b c bytes done n f w =
     let all : take (length bytes - done) (drop done bytes) ≡ drop done bytes = rw (← length-drop done bytes) (take-length (drop done bytes)) in
     let v : Appends b c (take n (drop done bytes)) = subst (λ (r : List ℕ). Appends b c (take n r)) all w in
     subst (λ (r : List ℕ). Appends a c r) (take_part bytes done n) (Appends-trans a b c (take done bytes) (take n (drop done bytes)) f v)
-
-short : (xs : List ℕ) (i : ℕ) → drop i xs ≡ [] → length xs ≤ i
-short xs i e =
-    let l : length xs - i ≡ 0 = sym (length-drop i xs) ∙ ap length e in
-    omega (arith, l)
 
 -- one more read after the bytes that are passed over
 pub passes_more : (a b c : Option (List ℕ)) (bs : List ℕ) (done n : ℕ) → length bs ≡ n → Passes a b done → Consumes b c bs → Passes a c (done + n)

@@ -1,5 +1,5 @@
 -- The verdict that a row requires, found along its list.
-pub mod AloudLemmas
+pub mod StepLemmas
 pub mod AlongLemmas
 pub mod Composition
 pub mod DueLemmas

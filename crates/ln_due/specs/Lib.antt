@@ -1,5 +1,5 @@
 -- The files of this folder.
-pub mod Aloud
+pub mod Steps
 pub mod Derivative
 pub mod Due
 pub mod DueLaw

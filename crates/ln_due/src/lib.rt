@@ -10,13 +10,13 @@
 //! the first under names of their own. Nothing runs.
 #![tactic(auto)]
 
-pub mod aloud;
 pub mod due;
 pub mod run;
+pub mod steps;
 
-pub use aloud::verdicts_are_told;
 pub use due::{
     blocks_run, due_is_unique, plain_values_decide, signs_multiply, stages_are_coefficients,
     verdicts_are_due, without_params_never_zero,
 };
 pub use run::run_is_due;
+pub use steps::verdicts_are_told;

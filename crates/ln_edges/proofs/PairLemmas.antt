@@ -4,7 +4,7 @@ use Rattle.std.proofs.Common.{subst, arith}
 use Rattle.std.specs.Prelude.{AllPairs, Contains, flat_map}
 use Rattle.std.proofs.lemmas.Bool.{cases_lt}
 use Rattle.std.proofs.lemmas.List.{flat_map_more}
-use Rattle.std.proofs.lemmas.List.Elements.{All-nil, All-push, All-weaker, All-contains, Contains-push}
+use Rattle.std.proofs.lemmas.List.Elements.{All-push, All-weaker, All-contains, Contains-push}
 use Rattle.std.proofs.lemmas.List.Elements.{Contains-append_left}
 use Rattle.std.proofs.lemmas.List.Quantifiers.{all_pairs_push}
 use Rattle.ln_edges.specs.Pairs.{Pair, pair, Precedes, ArePairs, ArePairsBefore, SoFar, AreLines}
@@ -42,19 +42,7 @@ within k l i n b (inl h) = elim (cases_lt k i) [
 ]
 within k l i n b (inr h) = absurd (omega (arith, h.1))
 
-nothing : (k l : ℕ) → Precedes (pair k l) (pair 0 0) → ⊥
-nothing k l (inl h) = absurd (omega (arith, h))
-nothing k l (inr h) = absurd (omega (arith, h.1))
-
 -- ---- one place after the other
--- no pair precedes the pair of places 0 and 0, so the list of those before it is empty
-pub before_none : (claim : ℕ → ℕ → Type 0) → ArePairsBefore claim 0 0 []
-before_none claim = record {
-  each = All-nil (λ e. claim e.from e.to × Precedes e (pair 0 0));
-  all = λ k l h p. absurd (nothing k l p);
-  rising = λ i j d h k. absurd (omega (arith, k));
-}
-
 -- a pair of which the claim holds is appended to those that precede it
 pub before_more : (claim : ℕ → ℕ → Type 0) (i j : ℕ) (xs : List Pair) → claim i j → ArePairsBefore claim i j xs
     → ArePairsBefore claim i (j + 1) (xs ++ pair i j ∷ [])

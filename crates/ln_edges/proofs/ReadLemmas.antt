@@ -325,13 +325,6 @@ reading_more cs all old new ps qs r o p n e ne f w = record {
   stands = f w.done (ap (λ (m : ℕ). m + 1) w.count) w.stands;
 }
 
--- the end of the loop in `read_points`: what was found of the records read is found of all
-pub reading_all : (cs : List CoordOf) (all left : Records) (ps : List PointOf) (o : Option ℕ) (n : ℕ) → left ≡ []
-    → Reading cs all left ps o n → Stands cs all ps o
-reading_all cs all left ps o n e w =
-    subst (λ (x : Records). Stands cs x ps o) (sym (w.parts ∙ ap (λ (x : Records). w.done ++ x) e ∙ append-nil w.done))
-    w.stands
-
 -- what the first fields of a record say is what it says
 pub next_cut : (cs : List CoordOf) (ps : List PointOf) (all kept : List (List ℕ)) (p : PointOf)
     → kept ≡ take (length cs + 2) all → IsNextPoint cs ps kept p → IsNextPoint cs ps all p

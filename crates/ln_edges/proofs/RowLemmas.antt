@@ -7,8 +7,7 @@ use Rattle.std.specs.Prelude.{flat_map, ◌≤ℤ◌, ◌^◌, ◌-◌}
 use Rattle.std.proofs.Math.Nat.{mul-div_cancel_left, mul-le-mul_right}
 use Rattle.std.proofs.Math.Arith.{lt_of_le-ne}
 use Rattle.std.proofs.Math.Seq.{take-append_seam}
-use Rattle.std.proofs.lemmas.List.{append-nil, map-append, length-map, length-take-le, take_more_set, take-set}
-use Rattle.std.proofs.lemmas.List.{take-append-le, take-take}
+use Rattle.std.proofs.lemmas.List.{append-nil, map-append, length-map, length-take-le, take_more_set}
 use Rattle.std.proofs.lemmas.List.Concat.{flat_map-append}
 use Rattle.std.proofs.lemmas.List.Elements.{All-nil, All-cons, All-get_or}
 use Rattle.std.proofs.lemmas.Bool.{cases_lt}
@@ -71,31 +70,6 @@ pub holds_more : (n place : ℕ) (before : List PointOf) (p : Point) (old new : 
 holds_more n place before p old new zs e h i l w a b = record {
   index = rw a (index_more before (point_of n p) old.index place e i h.index);
   values = rw b (values_more before (point_of n p) old.values zs place n e w l h.values);
-}
-
--- and still those before it
-index_kept : (before : List PointOf) (xs : List ℤ) (place : ℕ) (z : ℤ) → length before ≡ place
-    → take (length before) xs ≡ map (λ p. p.index) before
-    → take (length before) (set xs place z) ≡ map (λ p. p.index) before
-index_kept before xs place z e k = rw e (take-set xs place z) ∙ rw e at k
-
-values_kept : (before : List PointOf) (xs zs : List ℤ) (place n : ℕ) → length before ≡ place → place * n ≤ length xs
-    → take (length before * n) xs ≡ flat_map (λ p. p.coords) before
-    → take (length before * n) (take (place * n) xs ++ zs) ≡ flat_map (λ p. p.coords) before
-values_kept before xs zs place n e l k =
-    let size : length (take (place * n) xs) ≡ place * n = length-take-le (place * n) xs l in
-    let seam : take (place * n) (take (place * n) xs ++ zs)
-    ≡ take (place * n) xs = take-append-le (place * n) (take (place * n) xs) zs (omega (arith, size))
-    ∙ take-take (place * n) (place * n) xs (omega arith) in
-    rw e (seam ∙ rw e at k)
-
--- a point written after those that a row holds leaves them in the row
-pub holds_kept : (n place : ℕ) (before : List PointOf) (z : ℤ) (old new : code.Row) (zs : List ℤ)
-    → length before ≡ place → Holds n before old → place * n ≤ length old.values → new.index ≡ set old.index place z
-    → new.values ≡ take (place * n) old.values ++ zs → Holds n before new
-holds_kept n place before z old new zs e h l a b = record {
-  index = rw a (index_kept before old.index place z e h.index);
-  values = rw b (values_kept before old.values zs place n e l h.values);
 }
 
 -- ---- three sites of one type

@@ -13,10 +13,6 @@ use Rattle.ln_interval.proofs.Magnitudes.{product_magnitude, power_magnitude, pr
 pub corner : (a b m n : ℕ) → a ≤ m → b ≤ n → m * n ≤ most → a * b ≤ most
 corner a b m n h g l = let k : a * b ≤ m * n = mul-le _ _ _ _ h g in omega (arith, k, l)
 
--- a product within the limit fits 128 bits
-pub product_fits : (a b : ℤ) → unsigned_abs a * unsigned_abs b ≤ most → FitsSigned w128 (a *ℤ b)
-product_fits a b h = fits_signed_from_abs w128 (a *ℤ b) (let e = unsigned_abs-mul a b in omega (arith, e, h))
-
 -- the ends of a product whose magnitude is within the limit
 pub product_ends : (p q : Range) → magnitude p * magnitude q ≤ most → (l u : ℤ) → l ≡ (product p q).low → u ≡ (product p q).high
     → (l ≤ℤ u) × (unsigned_abs l ≤ most) × (unsigned_abs u ≤ most)

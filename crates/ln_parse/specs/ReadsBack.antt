@@ -15,11 +15,7 @@ use Rattle.ln_tree.specs.Formula.{Formula}
 use Rattle.ln_tree.specs.Table.{CoordOf, SiteOf, ArgOf, SiteArg, ParamArg, PredOf, TableOf}
 use Rattle.ln_parse.specs.Says.{sites_said, params_said}
 use Rattle.ln_parse.specs.Written.{Written, Naming, naming, written, range_name, site_name, spelling, IsNamed}
-
--- each element of a list is so
-abbrev pub Every : {A : Type 0} → (A → Type 0) → List A → Type 0
-Every P [] = Unit {0}
-Every P (x ∷ xs) = P x × Every P xs
+pub use Rattle.ln_base.specs.Exponents.{Each as Every}
 
 -- a coordinate or a param with a NAME, whose ends have at most 64 digits
 pub record CoordNamed (c : CoordOf) : Type 0 where

@@ -19,7 +19,7 @@ use Rattle.ln_names.specs.Rules.{Scope, scope, is_site_arg, is_param_arg, has_si
 use Rattle.ln_names.specs.Visits.{nodes_before, value_nodes}
 use Rattle.ln_names.specs.Limits.{Each, RangeWithin, IsKnown}
 use Rattle.ln_tree.specs.Formula.{node_count}
-use Rattle.ln_tree.specs.Table.{CoordOf, SiteOf, ArgOf, SiteArg, ParamArg}
+use Rattle.ln_tree.specs.Table.{CoordOf, SiteOf}
 use Rattle.ln_parse.specs.Says.{resolved, site_names, param_names, sites_said, params_said}
 
 -- a name of the language, of at most 32 bytes
@@ -67,11 +67,6 @@ is_ranged c = not (int_lt c.hi c.lo) && int_lt (neg_ℤ (pos (2 ^ 63))) c.lo
 -- a site type has 1 to 32 coordinates, each with its range
 abbrev pub is_good_site : SiteOf → Bool
 is_good_site s = nat_lt 0 (length s.coords) && nat_le (length s.coords) 32 && list_all is_ranged s.coords
-
--- one of this many site types, or of this many params
-abbrev pub is_known : ℕ → ℕ → ArgOf → Bool
-is_known sites params (SiteArg n t) = nat_lt t sites
-is_known sites params (ParamArg p) = nat_lt p params
 
 -- the site types and params of a table begin with those that items declare
 pub record Declares (bytes : List ℕ) (is : List Item) (sites : List SiteOf) (params : List CoordOf) : Type 0 where

@@ -3,8 +3,6 @@
 use Rattle.std.specs.Prelude.{◌≡◌, ℕ, ◌+◌, ◌-◌, ◌*◌, ◌≤◌, List, [], ◌∷◌, ◌++◌, length, map}
 use Rattle.ln_tree.specs.declared.shape.VarInfo.{VarInfo}
 use Rattle.ln_order.specs.Orders.{orders_of}
-use Rattle.ln_poly.specs.Sparse.{Sparse}
-use Rattle.ln_stage.specs.Kept.{all_rows, list_of}
 use Rattle.ln_stage.specs.Lists.{first_seen, stage_count}
 use Rattle.ln_order.specs.Prefixes.{prefixes_of}
 use Rattle.ln_stage.specs.SiteWalk.{front_walk, site_walk}
@@ -36,13 +34,6 @@ FirstSightByPrefixes =
     (k : ℕ) (segment : List ℕ → List (List ℕ)) →
     (first_seen (map (list_along segment) (orders_of k)) ≡ first_seen (map segment (prefixes_of k)))
     × (stage_count (map (list_along segment) (orders_of k)) ≡ shared_count k segment (prefixes_of k))
-
--- so have the stages of a polynomial
-abbrev pub StagesByPrefixes : Type 0
-StagesByPrefixes =
-    (k : ℕ) (vars : List VarInfo) (f : Sparse) →
-    (first_seen (map (list_of vars f) (orders_of k)) ≡ first_seen (map (prefix_walk 127 vars (all_rows (length vars) f)) (prefixes_of k)))
-    × (stage_count (map (list_of vars f) (orders_of k)) ≡ shared_count k (prefix_walk 127 vars (all_rows (length vars) f)) (prefixes_of k))
 
 -- the stages at the prefixes, each counted once, are at most those in all lists: where their count exceeds a limit, so does the stage count
 abbrev pub SegmentsAreFewer : Type 0

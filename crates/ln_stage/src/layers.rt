@@ -85,7 +85,11 @@ pub(crate) fn walk_at(
     }
     let v = vs[0];
     let rest = &vs[1..];
-    'exponents: for e in 0..128u8 {
+    // Where v has the exponent 0, all of these terms remain and p is as it was.
+    if walk_at(alloc, f, rest, kept, p, d, tally)? {
+        return Ok(true);
+    }
+    'exponents: for e in 1..128u8 {
         if u64::from(e) > d {
             return Ok(false);
         }

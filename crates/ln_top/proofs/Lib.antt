@@ -1,4 +1,2 @@
 pub mod Steps
-pub mod Commands
-pub mod Gathering
 pub mod Theorem

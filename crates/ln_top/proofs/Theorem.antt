@@ -1,9 +1,4 @@
 -- The clauses that the theorem is made of.
-pub mod Room
-pub mod GoodParts
-pub mod ListedParts
-pub mod GoodLines
-pub mod Lightness
 pub mod ByValueLaws
 pub mod HeadlineLaws
 pub mod EmittedLaws
@@ -14,3 +9,4 @@ pub mod EdgedLaws
 pub mod ExplainedLaws
 pub mod AuditedLaws
 pub mod ProductsLaws
+pub mod Feeds

@@ -1,21 +1,16 @@
 -- The steps before the work, as a chain: the first that stops decides.
-use Rattle.std.specs.Prelude.{◌≡◌, ℕ, ◌≤◌, ◌<◌, List, [], ◌∷◌, length, find, bytes_eq, Option, Some, None}
+use Rattle.std.specs.Prelude.{◌≡◌, ℕ, ◌≤◌, ◌<◌, List, [], ◌∷◌, length, Option, Some, None}
 use Rattle.ln_base.specs.Outside.{Shelf, bytes_of, IsAbsent}
 use Rattle.ln_tree.specs.Table.{TableOf, PredOf}
 use Rattle.ln_compile.specs.declared.refusal.Refusal.{Refusal}
-use Rattle.ln_top.specs.declared.stop.Place.{Place}
-use Rattle.ln_top.specs.declared.stop.Why.{Why}
-use Rattle.ln_top.specs.declared.stop.Why.TheVariants.{TooLong, Refused, NoPredicate}
+use Rattle.ln_frame.specs.declared.stop.Place.{Place}
+use Rattle.ln_frame.specs.declared.stop.Why.{Why}
+use Rattle.ln_frame.specs.declared.stop.Why.TheVariants.{TooLong, Refused, NoPredicate}
 use Rattle.ln_top.specs.declared.words.Command.{Command}
 use Rattle.ln_top.specs.Plan.{Plan, plan_of}
-use Rattle.ln_top.specs.Source.{IsAccepted, IsRefusedAt}
+use Rattle.ln_frame.specs.Source.{IsAccepted, IsRefusedAt}
 use Rattle.ln_top.specs.Signature.{Asks, objection}
-
--- what a step comes to: it stops the command, or a file that it wants isn't there, or it has a value to go on with
-pub data Outcome (A : Type 0) : Type 0 where
-  stops : Why → Outcome A
-  missing : Outcome A
-  gives : A → Outcome A
+use Rattle.ln_frame.specs.Given.{Outcome, stops, missing, gives, named, most_file, Given}
 
 -- one step, and where it has a value the next one
 pub data Then {A B : Type 0} (first : Outcome A → Type 0) (next : A → Outcome B → Type 0) : Outcome B → Type 0 where
@@ -53,10 +48,6 @@ pub data Compiles (bytes : List ℕ) : Outcome TableOf → Type 0 where
   accepted : (t : TableOf) → IsAccepted bytes t → Compiles bytes (gives t)
   refused : (r : Refusal) (place : Place) → IsRefusedAt bytes r place → Compiles bytes (stops (Refused r place))
 
--- the first predicate of a name
-abbrev pub named : List ℕ → List PredOf → Option PredOf
-named name preds = find (λ p. bytes_eq p.name name) preds
-
 -- a predicate is looked for
 pub data Finds (preds : List PredOf) (name : List ℕ) : Outcome PredOf → Type 0 where
   found : (p : PredOf) → named name preds ≡ Some p → Finds preds name (gives p)
@@ -70,16 +61,6 @@ pub data Suits (c : Command) (bytes : List ℕ) (preds : List PredOf) : Outcome 
 -- a source file has at most 1,048,576 bytes
 abbrev pub most_source : ℕ
 most_source = 1048576
-
--- any other file has at most 67,108,864
-abbrev pub most_file : ℕ
-most_file = 67108864
-
--- what the work is done on: the source's table, the named predicates, the texts of the further files
-pub record Given : Type 0 where
-  pub table : TableOf
-  pub preds : List PredOf
-  pub texts : List (List ℕ)
 
 -- the source is read and compiled, the names are looked for, their predicates suit the command, the further files are read
 abbrev pub Prepares : Plan → Option Shelf → Outcome Given → Type 0

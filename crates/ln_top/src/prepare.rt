@@ -1,29 +1,26 @@
 //! The steps before the work: the source is read and compiled, the names are looked for, their predicates suit the command,
 //! the further files are read.
-ghost use Rattle.std.specs.Prelude.{◌≡◌, ◌≢◌, ◌≤◌, ◌<◌, All, Err, List, [], ◌∷◌, map, length, IfOk, IfErr, OnOk, Ok, string_bytes, true, false};
-ghost use Rattle.ln_algebra.specs.Orders.{ByDegree, BySmallest};
+ghost use Rattle.std.specs.Prelude.{◌≡◌, ◌≢◌, ◌≤◌, ◌<◌, All, Err, List, map, length, IfOk, IfErr, OnOk, Ok, string_bytes};
+ghost use Rattle.std.specs.Prelude.{true, false};
 ghost use Rattle.ln_base.specs.Outside.{Rose};
 ghost use Rattle.ln_tree.specs.Table.{PredOf, pred_of};
 ghost use Rattle.ln_top.specs.Plan.{with_bytes};
-ghost use Rattle.ln_top.specs.Source.{view};
 ghost use Rattle.ln_top.specs.Signature.{Asks, objection};
-ghost use Rattle.ln_top.specs.Steps.{Each, Finds, Given, Prepares, Reads, Suits, gives, most_file};
-ghost use Rattle.ln_top.specs.Carried.{Halts};
-ghost use Rattle.ln_top.specs.Target.{IsGivenBy};
-ghost use Rattle.ln_stage.specs.Sound.{AreSound};
-ghost use Rattle.ln_top.specs.Factors.{AreGivenBy};
-ghost use Rattle.ln_top.specs.Ready.{AreNumbered, HasNumbers, HasStanding, IsReady, IsReadyFor, StandsFor};
+ghost use Rattle.ln_top.specs.Steps.{Each, Finds, Prepares, Reads, Suits};
+ghost use Rattle.ln_frame.specs.Given.{gives, most_file};
+ghost use Rattle.ln_frame.specs.Carried.{Halts};
+ghost use Rattle.ln_frame.specs.Ready.{AreNumbered};
+ghost use Rattle.ln_top.specs.Ready.{HasNumbers, IsReady};
 
-use crate::factors::Factors;
-use crate::graded::{few_first, graded_objection};
 use crate::source::compiled;
-use crate::stop::{Stop, Why};
-use crate::suits::{alike, one_of_three};
-use crate::target::Target;
 use crate::words::{Command, Plan};
 use ln_base::{Files, NoMemory, ReadStop, read_whole};
 use ln_compile::Checked;
-use ln_tree::Table;
+use ln_frame::ready::Ready;
+use ln_frame::stop::{Stop, Why};
+use ln_judges::three::one_of_three;
+use ln_signs::alike::alike;
+use ln_signs::graded::{few_first, graded_objection};
 use std::alloc::Global;
 
 /// The most bytes of a source file.
@@ -31,17 +28,6 @@ pub const SOURCE_LIMIT: usize = 1_048_576;
 
 /// The most bytes of a further file.
 pub const FILE_LIMIT: usize = 67_108_864;
-
-/// The input of the work.
-#[derive(Drop)]
-pub struct Ready {
-    /// The source, which is accepted. Its programs are made by the work that wants them.
-    pub compiled: Checked,
-    /// The numbers of the named predicates, in order.
-    pub numbers: Vec<usize>,
-    /// The further files, in order.
-    pub texts: Vec<Vec<u8>>,
-}
 
 // The bytes of a file within its limit.
 fn file<F: Files>(alloc: Global, files: &mut F, name: &str, limit: usize) -> Result<Vec<u8>, Stop>
@@ -182,70 +168,4 @@ pub fn prepare<F: Files>(alloc: Global, files: &mut F, plan: Plan<'_>) -> Result
         }),
         Err(stop) => Err(stop),
     }
-}
-
-/// The one named predicate, with its program.
-pub fn one_target(alloc: Global, ready: &Ready) -> Result<Target<'_>, NoMemory>
-    requires stands { HasStanding ready.now }
-    requires one { length ready.now.numbers.items ≡ 1 }
-    ensures given { IfOk result (λ t. (g : Given) → StandsFor ready.now g → IsGivenBy g t) }
-    ensures rank { IfOk result (λ t. t.rank ≡ BySmallest) }
-{
-    let target = Target::new(alloc, &ready.compiled, ready.numbers.as_slice()[0])?;
-    Ok(target)
-}
-
-/// The one named predicate, with its program by total degree.
-pub fn degree_target(alloc: Global, ready: &Ready) -> Result<Target<'_>, NoMemory>
-    requires { IsReadyFor Command.Graded ready.now }
-    ensures given { IfOk result (λ t. (g : Given) → StandsFor ready.now g → IsGivenBy g t) }
-    ensures rank { IfOk result (λ t. t.rank ≡ ByDegree) }
-{
-    let target = Target::graded(alloc, &ready.compiled, ready.numbers.as_slice()[0])?;
-    Ok(target)
-}
-
-/// Returns the named predicates of a product, with their programs.
-pub fn product_factors(alloc: Global, ready: &Ready) -> Result<Factors<'_>, NoMemory>
-    requires { IsReadyFor Command.Product ready.now }
-    ensures { IfOk result (λ t. (g : Given) → StandsFor ready.now g → AreGivenBy g t) }
-{
-    let factors = Factors::new(alloc, &ready.compiled, ready.numbers.as_slice())?;
-    Ok(factors)
-}
-
-/// The one further file.
-pub fn one_text(ready: &Ready) -> &[u8]
-    requires one { length ready.now.texts.items ≡ 1 }
-    ensures { (g : Given) → StandsFor ready.now g → g.texts ≡ result.now ∷ [] }
-{
-    ready.texts.as_slice()[0].as_slice()
-}
-
-/// Returns the bytes of the two further files, in order.
-pub fn two_texts(ready: &Ready) -> (&[u8], &[u8])
-    requires two { length ready.now.texts.items ≡ 2 }
-    ensures { (g : Given) → StandsFor ready.now g → g.texts ≡ result.0.now ∷ result.1.now ∷ [] }
-{
-    let texts = ready.texts.as_slice();
-    (texts[0].as_slice(), texts[1].as_slice())
-}
-
-/// The one further file, which is within its limit.
-pub fn short_text(ready: &Ready) -> &[u8]
-    requires stands { HasStanding ready.now }
-    requires one { length ready.now.texts.items ≡ 1 }
-    ensures is { (g : Given) → StandsFor ready.now g → g.texts ≡ result.now ∷ [] }
-    ensures short { length result.now ≤ most_file }
-{
-    one_text(ready)
-}
-
-/// The source's table, no predicate of which has a fault.
-pub fn sound_table(ready: &Ready) -> &Table
-    requires { HasStanding ready.now }
-    ensures is { (g : Given) → StandsFor ready.now g → g.table ≡ view result.now }
-    ensures sound { AreSound (map pred_of result.now.preds) }
-{
-    ready.compiled.table()
 }

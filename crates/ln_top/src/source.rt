@@ -1,23 +1,15 @@
 //! Compiles the bytes of a source, or tells for what reason and at which place it is refused.
 ghost use Rattle.std.specs.Prelude.{◌≡◌, ◌≤◌, length, IfOk, IfErr};
-ghost use Rattle.ln_top.specs.Source.{view, place_at};
-ghost use Rattle.ln_top.specs.Steps.{Compiles, gives};
-ghost use Rattle.ln_top.specs.Carried.{Halts};
-ghost use Rattle.ln_top.specs.Stop.{stop_of};
+ghost use Rattle.ln_frame.specs.Source.{view, place_at};
+ghost use Rattle.ln_top.specs.Steps.{Compiles};
+ghost use Rattle.ln_frame.specs.Given.{gives};
+ghost use Rattle.ln_frame.specs.Carried.{Halts};
+ghost use Rattle.ln_frame.specs.Stop.{stop_of};
 
-use crate::stop::{Place, Stop, Why};
-use ln_base::{Span, line_col};
 use ln_compile::{Checked, Refusal, check};
+use ln_frame::place::place_at;
+use ln_frame::stop::{Stop, Why};
 use std::alloc::Global;
-
-/// Returns the place of the start of a span, both from 1. Allocates nothing.
-pub fn place_at(bytes: &[u8], at: Span) -> Place
-    requires { length bytes.now ≤ 1048576 }
-    ensures { result ≡ place_at bytes.now at }
-{
-    let (line, col) = line_col(bytes, at.start.min(bytes.len() as u32));
-    Place { line, col }
-}
 
 // The stop for what `compile` refuses.
 fn stop_for(bytes: &[u8], r: Refusal) -> Stop

@@ -4,7 +4,7 @@ ghost use Rattle.ln_base.specs.Outside.{Rose};
 ghost use Rattle.ln_top.specs.Answer.{Answer, IsMissing, Part, PlanOwes, PlanPart, PlanLacks};
 ghost use Rattle.ln_top.specs.Audited.{AgreedTracesTellSigns};
 ghost use Rattle.ln_top.specs.Call.{Keeps, call};
-ghost use Rattle.ln_top.specs.Carried.{CarriesOut};
+ghost use Rattle.ln_frame.specs.Carried.{CarriesOut};
 ghost use Rattle.ln_top.specs.Causes.{IsSettled};
 ghost use Rattle.ln_top.specs.Edged.{EdgesAreListed};
 ghost use Rattle.ln_top.specs.Emitted.{CallsArePerturbed};
@@ -13,19 +13,23 @@ ghost use Rattle.ln_top.specs.Headline.{GradedSignsArePerturbed, SignsArePerturb
 ghost use Rattle.ln_top.specs.Listed.{ListingGivesSigns};
 ghost use Rattle.ln_top.specs.Plan.{HasForm, with_bytes};
 ghost use Rattle.ln_top.specs.Products.{ProductsArePerturbed};
-ghost use Rattle.ln_top.specs.Ready.{IsReadyFor, StandsFor};
-ghost use Rattle.ln_top.specs.Said.{count};
-ghost use Rattle.ln_top.specs.Steps.{Given};
+ghost use Rattle.ln_frame.specs.Ready.{IsReadyFor, StandsFor};
+ghost use Rattle.ln_frame.specs.Said.{count};
+ghost use Rattle.ln_top.specs.Signature.{signature_of};
+ghost use Rattle.ln_frame.specs.Given.{Given};
 ghost use Rattle.ln_top.specs.Trusted.{ValidTellsSigns};
 ghost use Rattle.ln_top.specs.Works.{WorkOwes, WorkPart};
 ghost use Rattle.ln_watch.specs.Panel.{states_of};
 
-use crate::prepare::{Ready, prepare};
-use crate::status::{Early, End, Status, status_of};
-use crate::stop::{Stop, Why, say};
+use crate::prepare::prepare;
 use crate::words::{Command, Plan, plan_of};
-use crate::{audit, check, edges, emit, explain, generate, graded, list, product, run, verify};
 use ln_base::{Console, Files};
+use ln_frame::ready::Ready;
+use ln_frame::status::{Early, End, Status, status_of};
+use ln_frame::stop::{Stop, Why, say};
+use ln_judges::{audit, edges, verify};
+use ln_signs::{explain, generate, graded, product, run};
+use ln_texts::{check, emit, list};
 use ln_watch::Watch;
 use std::alloc::Global;
 
@@ -37,7 +41,7 @@ fn work<C: Console>(
     ready: &Ready,
     watchers: Vec<Box<dyn Watch>>,
 ) -> Result<End, Early>
-    requires { IsReadyFor command ready.now }
+    requires { IsReadyFor (signature_of command) ready.now }
     ensures { (g : Given) → StandsFor ready.now g
         → CarriesOut (WorkOwes command (states_of kind_of tally_of watchers.items) g)
         (WorkPart command (states_of kind_of tally_of watchers.items) g) ⊥ ⊥

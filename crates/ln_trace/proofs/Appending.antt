@@ -4,10 +4,9 @@ use Rattle.std.specs.Prelude.{codes}
 use Rattle.std.specs.Fmt.{signed_decimal}
 use Rattle.ln_base.specs.Exponents.{exponent_word}
 use Rattle.ln_base.specs.Lines.{Puts}
-use Rattle.ln_base.specs.declared.sign.Sign.{Sign}
 use Rattle.ln_base.proofs.Texts.Putting.{line_is, signed_put, then_puts}
 use Rattle.ln_trace.specs.declared.line.TraceLine.TheVariants as line
-use Rattle.ln_trace.specs.Text.{sign_word, text_of_line}
+use Rattle.ln_trace.specs.Text.{text_of_line}
 
 -- the word `at`, the exponents, a colon, the value and a line feed are the text of an `at` line
 pub at_is : (old a b c d new t u : List ℕ) (exps : List (ℕ × ℕ)) (z x : ℤ) → a ≡ old ++ t → t ≡ codes "at"
@@ -18,9 +17,3 @@ at_is old a b c d new t u exps z x e f p q g s h n =
     line_is old a d new (codes "at") (λ r. map exponent_word exps ++ (codes ":" ∷ (signed_decimal z ∷ r))) (e ∙ ap (λ w. old ++ w) f)
     (then_puts a b d (λ r. map exponent_word exps ++ r) (λ r. codes ":" ∷ (signed_decimal z ∷ r)) p
     (then_puts b c d (λ r. codes ":" ∷ r) (λ r. signed_decimal z ∷ r) k (signed_put c d x z s h))) n
-
--- the word `sign`, the sign and a line feed are the text of a `sign` line
-pub sign_is : (old a b new t u : List ℕ) (s : Sign) → a ≡ old ++ t → t ≡ codes "sign" → Puts a b (λ r. u ∷ r) → u ≡ sign_word s
-    → new ≡ b ++ (10 ∷ []) → new ≡ old ++ text_of_line (line.Sign s)
-sign_is old a b new t u s e f p g n =
-    line_is old a b new (codes "sign") (λ r. sign_word s ∷ r) (e ∙ ap (λ w. old ++ w) f) (subst (λ w. Puts a b (λ r. w ∷ r)) g p) n

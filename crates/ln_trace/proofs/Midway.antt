@@ -8,11 +8,11 @@ use Rattle.ln_poly.specs.Sparse.{Sparse}
 use Rattle.ln_stage.specs.Staged.{Staged}
 use Rattle.ln_rows.specs.Left.{Records}
 use Rattle.ln_rows.proofs.Fields.RangeLemmas.{row_in_range}
-use Rattle.ln_trace.specs.declared.desk.Desk.{Desk}
+use Rattle.ln_trace.specs.declared.progress.Progress.{Progress}
 use Rattle.ln_trace.specs.declared.judged.Judged.{Judged}
 use Rattle.ln_trace.specs.declared.judged.Judged.TheVariants.{Agreed, Wrong}
 use Rattle.ln_trace.specs.declared.line.TraceLine.{TraceLine}
-use Rattle.ln_trace.specs.Here.{HasPoly, IsHere, Led, subject_of}
+use Rattle.ln_trace.specs.Here.{HasPoly, IsHere, Step, subject_of}
 use Rattle.ln_trace.specs.Judge.{FailsAt, Go, IsAnswer, IsFirstFault}
 use Rattle.ln_trace.specs.Judged.{IsJudged, fault_of}
 use Rattle.ln_trace.specs.Signs.{AreRight, signs_in}
@@ -39,8 +39,8 @@ none-left (x ∷ xs) zero e l = absurd (cc)
 none-left (x ∷ xs) (suc i) e l = omega (arith, none-left xs i e (omega (arith, l)))
 
 -- ---- the loop
--- the first lines lead to a place that the desk stands for
-pub record Stands (s : Shape) (e : Tree) (st : Staged) (records : Records) (ls : List TraceLine) (rows : Records) (d : Desk) (at : ℕ) : Type 0 where
+-- the first lines lead to a place that the state of the judge stands for
+pub record Stands (s : Shape) (e : Tree) (st : Staged) (records : Records) (ls : List TraceLine) (rows : Records) (d : Progress) (at : ℕ) : Type 0 where
   pub here : Place
   pub come : Go (subject_of s e) (Between 0 records) (take at ls) here
   pub is : IsHere s e st rows d here
@@ -48,15 +48,15 @@ pub record Stands (s : Shape) (e : Tree) (st : Staged) (records : Records) (ls :
 bool-apart : (x : Bool) → x ≡ true → x ≡ false → ⊥
 bool-apart x y z = cc
 
-module _ (s : Shape) (e : Tree) (f : Sparse) (st : Staged) (records : Records) (ls : List TraceLine) (d : Desk) where
+module _ (s : Shape) (e : Tree) (f : Sparse) (st : Staged) (records : Records) (ls : List TraceLine) (d : Progress) where
   -- with no row open and no record seen, what is held is for the place before the first line
   pub stands-first : d.inside ≡ false → d.seen ≡ 0 → Stands s e st records ls records d 0
   stands-first a b = record { here = Between 0 records; come = refl; is = (a, b, refl) }
 
   module _ (rows : Records) (p : HasPoly s e f) (at : ℕ) (m : Stands s e st records ls rows d at) where
     -- the line at hand leads on
-    pub stands-more : (l : TraceLine) (left : Records) (new : Desk) → at < length ls → l ≡ get_or ls at l
-        → Led s f st rows d l true left new → Stands s e st records ls left new (at + 1)
+    pub stands-more : (l : TraceLine) (left : Records) (new : Progress) → at < length ls → l ≡ get_or ls at l
+        → Step s f st rows d l true left new → Stands s e st records ls left new (at + 1)
     stands-more l left new less is h =
         let k : suc at ≡ at + 1 = omega arith in
         let r = h.gone e m.here p m.is in
@@ -69,8 +69,8 @@ module _ (s : Shape) (e : Tree) (f : Sparse) (st : Staged) (records : Records) (
         }
 
     -- or it fails: it is the first that does
-    pub stands-stops : (l : TraceLine) (left : Records) (new : Desk) (n : ℕ) → at < length ls → l ≡ get_or ls at l
-        → Led s f st rows d l false left new → n ≡ at + 2 → IsFirstFault (subject_of s e) records ls n
+    pub stands-stops : (l : TraceLine) (left : Records) (new : Progress) (n : ℕ) → at < length ls → l ≡ get_or ls at l
+        → Step s f st rows d l false left new → n ≡ at + 2 → IsFirstFault (subject_of s e) records ls n
     stands-stops l left new n less is h q =
         subst (IsFirstFault (subject_of s e) records ls) (sym q)
         (stops (subject_of s e) records ls at l m.here less m.come
@@ -101,22 +101,22 @@ module _ (s : Shape) (e : Tree) (f : Sparse) (st : Staged) (records : Records) (
           (ends (subject_of s e) records ls seen k, i.1 ∙ counts (subject_of s e) records ls seen k)
 
 -- ---- lines that are judged as they are read
--- this many of them lead to a place that the desk stands for, and the others remain
-pub record Midway (s : Shape) (e : Tree) (st : Staged) (records : Records) (ls : List TraceLine) (rows : Records) (d : Desk) (u : Unread) : Type 0 where
+-- this many of them lead to a place that the state of the judge stands for, and the others remain
+pub record Midway (s : Shape) (e : Tree) (st : Staged) (records : Records) (ls : List TraceLine) (rows : Records) (d : Progress) (u : Unread) : Type 0 where
   pub at : ℕ
   pub number : u.line ≡ at + 2
   pub within : at ≤ length ls
   pub left : AreLeft u (drop at ls)
   pub stands : Stands s e st records ls rows d at
 
-module _ (s : Shape) (e : Tree) (f : Sparse) (st : Staged) (records : Records) (ls : List TraceLine) (d : Desk) where
+module _ (s : Shape) (e : Tree) (f : Sparse) (st : Staged) (records : Records) (ls : List TraceLine) (d : Progress) where
   -- at the start no row is open, no record was seen, and all lines from line 2 of the file on remain
   pub midway-first : (u : Unread) → u.line ≡ 2 → d.inside ≡ false → d.seen ≡ 0 → AreLeft u ls → Midway s e st records ls records d u
   midway-first u n a b h = record { at = 0; number = n; within = omega arith; left = h; stands = stands-first s e f st records ls d a b }
 
   module _ (rows : Records) (u : Unread) (p : HasPoly s e f) (m : Midway s e st records ls rows d u) where
     -- after a line that keeps its rule, what is held is for the place it leads to, and the other lines remain
-    pub midway-more : (l : TraceLine) (w : Unread) (left : Records) (new : Desk) → IsTaken u l w → Led s f st rows d l true left new
+    pub midway-more : (l : TraceLine) (w : Unread) (left : Records) (new : Progress) → IsTaken u l w → Step s f st rows d l true left new
         → Midway s e st records ls left new w
     midway-more l w left new t h =
         let g = t.goes_on (drop m.at ls) m.left in
@@ -131,8 +131,8 @@ module _ (s : Shape) (e : Tree) (f : Sparse) (st : Staged) (records : Records) (
         }
 
     -- a line that is taken and fails its rule is the first that does
-    pub midway-stops : (l : TraceLine) (w : Unread) (left : Records) (new : Desk) (n : ℕ) → IsTaken u l w
-        → Led s f st rows d l false left new → n + 1 ≡ w.line → IsFirstFault (subject_of s e) records ls n
+    pub midway-stops : (l : TraceLine) (w : Unread) (left : Records) (new : Progress) (n : ℕ) → IsTaken u l w
+        → Step s f st rows d l false left new → n + 1 ≡ w.line → IsFirstFault (subject_of s e) records ls n
     midway-stops l w left new n t h q =
         let g = t.goes_on (drop m.at ls) m.left in
         let y = front ls m.at l g.behind g.first in

@@ -1,7 +1,6 @@
 -- The lines that explain a record are one.
 use Rattle.std.proofs.Common.{◌≡◌, ℕ, ℤ, List, [], ◌∷◌, ◌++◌, length, refl, ap, sym, ◌∙◌, subst, Result, Ok, Err}
 use Rattle.ln_base.specs.declared.sign.Sign.{Sign}
-use Rattle.ln_base.specs.declared.sign.Sign.TheVariants.{Minus, Zero, Plus}
 use Rattle.ln_algebra.proofs.Ordering.Unique.{stage_list-unique}
 use Rattle.ln_tree.specs.declared.shape.VarInfo.{VarInfo}
 use Rattle.ln_tree.specs.Exps.{Pairs}
@@ -15,21 +14,11 @@ use Rattle.ln_rows.specs.Record.{read_row}
 use Rattle.ln_rows.specs.declared.record.RowStop.{RowStop}
 use Rattle.ln_stage.proofs.Walks.PairsLemmas.{same-pairs}
 use Rattle.ln_trace.specs.declared.line.TraceLine.{TraceLine}
+use Rattle.ln_due.proofs.Verdicts.UniqueLemmas.{sign-number-same}
 use Rattle.ln_trace.specs.declared.line.TraceLine.TheVariants as line
 use Rattle.ln_trace.specs.Told.{up_to_first}
 use Rattle.ln_trace.specs.Trace.{Subject}
 use Rattle.ln_trace.specs.Signs.{AreOf, Explains, RowsDiffer, at_lines, no_row, a_row}
-
-sign-one : (s t : Sign) → sign_number s ≡ sign_number t → s ≡ t
-sign-one Minus Minus e = refl
-sign-one Minus Zero e = cc
-sign-one Minus Plus e = cc
-sign-one Zero Minus e = cc
-sign-one Zero Zero e = refl
-sign-one Zero Plus e = cc
-sign-one Plus Minus e = cc
-sign-one Plus Zero e = cc
-sign-one Plus Plus e = refl
 
 -- exponents and values of the same vectors are one
 pairs-one : (vars : List VarInfo) (ps qs : List (Pairs × ℤ)) (ts : List (List ℕ × ℤ)) → AreOf vars ps ts → AreOf vars qs ts → ps ≡ qs
@@ -63,7 +52,7 @@ module _ (s : Subject) (n : ℕ) (fields : List (List ℕ)) (differ : RowsDiffer
       let p : ps ≡ qs = pairs-one s.vars ps qs _ v w1 in
       let i : sign_number t ≡ sign_number u = g ∙ ap (sign_along (row_sites s.vars row.index) (values row.values) s.tree) e ∙ sym h in
       ap (λ (xs : List (Pairs × ℤ)). line.Row n ∷ at_lines xs ++ line.Sign t ∷ []) p
-      ∙ ap (λ (z : Sign). line.Row n ∷ at_lines qs ++ line.Sign z ∷ []) (sign-one t u i)
+      ∙ ap (λ (z : Sign). line.Row n ∷ at_lines qs ++ line.Sign z ∷ []) (sign-number-same t u i)
 
   -- only one list of lines explains a record
   pub explains-one : (ls ks : List TraceLine) → Explains s n fields ls → Explains s n fields ks → ls ≡ ks

@@ -8,7 +8,7 @@ use Rattle.std.proofs.lemmas.Bool.{cases_lt}
 use Rattle.std.proofs.lemmas.List.{get_or-map, get_or_past, length-map}
 use Rattle.std.proofs.lemmas.List.Elements.{All-nil, All-tail}
 use Rattle.std.proofs.lemmas.Option.{get_or_from_slice_get, slice_get-get_or, slice_get-map, slice_get_within}
-use Rattle.ln_algebra.specs.Earlier.{IndicesDiffer, IsOver}
+use Rattle.ln_algebra.specs.Earlier.{IsOver}
 use Rattle.ln_algebra.specs.Stage.{IsStageList}
 use Rattle.ln_algebra.specs.Tree.{Tree}
 use Rattle.ln_algebra.specs.Vector.{same_vector}
@@ -20,14 +20,13 @@ use Rattle.ln_order.specs.Orders.{IsOrderOf, orders_of}
 use Rattle.ln_order.specs.Prefixes.{beside, prefixes_of, segments_from}
 use Rattle.ln_order.specs.Sites.{row_sites, site_of, sites_of}
 use Rattle.ln_order.proofs.Listing.OrdersLemmas.{is-member}
-use Rattle.ln_order.proofs.Signs.RowSigns.{orders-differ}
 use Rattle.ln_poly.specs.Sparse.{Sparse}
 use Rattle.ln_stage.specs.StageList.{IsStageListOf}
 use Rattle.ln_stage.specs.Staged.{Staged, block_vector, segment_of}
 use Rattle.ln_stage.proofs.Monomials.LawLemmas.{lists-of-trees}
 use Rattle.ln_code.specs.Kept.{AreOfSites, is_of_site}
 use Rattle.ln_order.specs.Places.{order_places}
-use Rattle.ln_trace.specs.declared.desk.Desk.{Desk}
+use Rattle.ln_trace.specs.declared.progress.Progress.{Progress}
 use Rattle.ln_trace.specs.Here.{HasPoly, IsAtRow, IsCase}
 use Rattle.ln_trace.specs.Left.{IsSpot, exps_at, left_at, numbers_at}
 use Rattle.ln_trace.specs.declared.pointer.Spot.{Spot}
@@ -110,10 +109,6 @@ module _ (s : Shape) (f : Sparse) (st : Staged) (h : IsCase s f st) (o : List �
   pub spot-first : IsSpot st o (record { sites = 0; at = 0 })
   spot-first = record { sites = omega arith; at = omega arith }
 
-  -- in an order no two sites have the same place
-  pub differ : IndicesDiffer (sites_of s.vars o)
-  differ = orders-differ s.sites s.vars o s.kept order
-
 -- ---- exponents of coordinates of sites
 site-within : (vars : List VarInfo) (v : ℕ) → is_of_site (slice_get vars v) ≡ true → v < length vars
 site-within [] v h = cc
@@ -144,9 +139,9 @@ sites-over vars index a h = record { size = vector-length (length vars) a; of_si
 
 -- ---- the order that is held
 -- the order that is held has a place for each site of the shape
-pub size-at : (s : Shape) (st : Staged) (d : Desk) → IsAtRow s st d → length (order_places d.order) ≡ s.sites
+pub size-at : (s : Shape) (st : Staged) (d : Progress) → IsAtRow s st d → length (order_places d.order) ≡ s.sites
 size-at s st d at = at.order.size ∙ at.range.size
 
 -- the order that is held has a place for each site of the stages
-pub size-staged : (s : Shape) (f : Sparse) (st : Staged) (d : Desk) → IsCase s f st → IsAtRow s st d → length (order_places d.order) ≡ st.sites
+pub size-staged : (s : Shape) (f : Sparse) (st : Staged) (d : Progress) → IsCase s f st → IsAtRow s st d → length (order_places d.order) ≡ st.sites
 size-staged s f st d c at = size-at s st d at ∙ sym c.stages.sites

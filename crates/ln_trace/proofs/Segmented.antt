@@ -12,12 +12,6 @@ segments-cons segment places j h =
     let e : suc (length places) - j ≡ suc (suc (length places) - (j + 1)) = omega arith in
     ap (λ k. joined (map (λ i. segment (take i places)) (range_with_len j k))) e
 
--- none remains after the last
-pub segments-end : {A : Type 0} (segment : List ℕ → List A) (places : List ℕ) (j : ℕ) → length places < j → segments_from segment places j ≡ []
-segments-end segment places j h =
-    let e : suc (length places) - j ≡ 0 = omega arith in
-    ap (λ k. joined (map (λ i. segment (take i places)) (range_with_len j k))) e
-
 drop-within : {A : Type 0} (xs ys : List A) (i : ℕ) (d : A) → i < length xs → drop i (xs ++ ys) ≡ get_or xs i d ∷ drop (i + 1) (xs ++ ys)
 drop-within [] ys i d h = absurd (omega arith)
 drop-within (x ∷ xs) ys zero d h = refl

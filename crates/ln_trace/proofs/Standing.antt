@@ -32,9 +32,6 @@ zeros-of n o zero [] l e = tt
 zeros-of n None zero (p ∷ stood) l e = absurd l
 zeros-of n (Some c) zero (p ∷ stood) l e = (l.2.0 e, l.1)
 
-never : {A : Type 0} → (A → ⊥) → IsTrue false ↔ A
-never h = (λ t. cc, λ x. absurd (h x))
-
 always : {A : Type 0} → A → IsTrue true ↔ A
 always x = (λ t. x, λ y. refl)
 

@@ -3,7 +3,7 @@ use Rattle.std.proofs.Common.{◌≡◌, ◌↔◌, ℕ, zero, suc, ◌+◌, Boo
 use Rattle.std.specs.Prelude.{Option, Ok, Err, Result, IsTrue}
 use Rattle.std.proofs.Math.IntN.{ℤ, pos, negsuc}
 use Rattle.ln_base.specs.declared.sign.Sign.{Sign}
-use Rattle.ln_base.specs.declared.sign.Sign.TheVariants.{Minus, Zero, Plus}
+use Rattle.ln_base.specs.declared.sign.Sign.TheVariants.{Zero}
 use Rattle.ln_algebra.proofs.Ordering.Order.{earlier-irreflexive}
 use Rattle.ln_algebra.specs.Earlier.{IndicesDiffer, IsOver, Sites}
 use Rattle.ln_algebra.specs.Sign.{sign_of}
@@ -21,6 +21,7 @@ use Rattle.ln_order.proofs.Signs.RowSigns.{orders-differ}
 use Rattle.ln_order.proofs.Signs.RowsLemmas.{order-places}
 use Rattle.ln_poly.specs.Sparse.{Sparse, terms_of}
 use Rattle.ln_stage.specs.Staged.{Staged}
+use Rattle.ln_due.proofs.Verdicts.UniqueLemmas.{sign-number-same}
 use Rattle.ln_code.specs.declared.row.Row as code
 use Rattle.ln_code.specs.Kept.{AreOfSites}
 use Rattle.ln_code.specs.RowOf.{row_of}
@@ -28,13 +29,13 @@ use Rattle.ln_due.specs.Due.{sign_number}
 use Rattle.ln_rows.specs.Left.{Records}
 use Rattle.ln_rows.specs.Record.{read_row}
 use Rattle.ln_rows.specs.declared.record.RowStop.{RowStop}
-use Rattle.ln_trace.specs.declared.desk.Desk.{Desk}
-use Rattle.ln_trace.specs.declared.desk.Next.{Next}
-use Rattle.ln_trace.specs.declared.desk.Next.TheVariants as next
+use Rattle.ln_trace.specs.declared.progress.Progress.{Progress}
+use Rattle.ln_trace.specs.declared.progress.Next.{Next}
+use Rattle.ln_trace.specs.declared.progress.Next.TheVariants as next
 use Rattle.ln_trace.specs.declared.line.TraceLine.{TraceLine}
 use Rattle.ln_trace.specs.declared.line.TraceLine.TheVariants as line
 use Rattle.ln_trace.specs.declared.pointer.Spot.{Spot}
-use Rattle.ln_trace.specs.Here.{Gone, HasPoly, IsAtRow, IsCase, IsHere, IsInRow, IsNextOf, Led, subject_of}
+use Rattle.ln_trace.specs.Here.{PlaceStep, HasPoly, IsAtRow, IsCase, IsHere, IsInRow, IsNextOf, Step, subject_of}
 use Rattle.ln_trace.specs.Left.{IsSpot, left_at}
 use Rattle.ln_trace.specs.Stand.{IsLastOf, MayStand}
 use Rattle.ln_trace.specs.Told.{IsNext, Stood}
@@ -67,17 +68,6 @@ pub order-of : (s : Shape) (r : code.Row) (places : List ℕ) → InRange s.site
 order-of s r places range order = subst (λ (k : ℕ). IsOrderOf k places) range.size (order-places (row_of s.sites s.vars r).index places order)
 
 -- ---- signs
-number-one : (t u : Sign) → sign_number t ≡ sign_number u → t ≡ u
-number-one Minus Minus e = refl
-number-one Minus Zero e = cc
-number-one Minus Plus e = cc
-number-one Zero Minus e = cc
-number-one Zero Zero e = refl
-number-one Zero Plus e = cc
-number-one Plus Minus e = cc
-number-one Plus Zero e = cc
-number-one Plus Plus e = refl
-
 zero-sign : (z : ℤ) → sign_of z ≡ pos 0 → z ≡ pos 0
 zero-sign (pos zero) e = refl
 zero-sign (pos (suc k)) e = cc
@@ -87,7 +77,7 @@ zero-sign (negsuc k) e = cc
 pub zero-where : (b0 : Bool) (t : Sign) (z : ℤ) → (b0 ≡ true) ↔ (t ≡ Zero) → sign_number t ≡ sign_of z → (b0 ≡ true) ↔ (z ≡ pos 0)
 zero-where b0 t z h e = (
   λ b. zero-sign z (sym e ∙ ap sign_number (h.0 b)),
-  λ q. h.1 (number-one t Zero (e ∙ ap sign_of q)),
+  λ q. h.1 (sign-number-same t Zero (e ∙ ap sign_of q)),
 )
 
 some-last : (n : ℕ) (o : Option Pairs) (b0 : Bool) (stood : Stood) → IsLastOf n o b0 stood → (o ≡ None → ⊥) → stood ≡ [] → ⊥
@@ -115,22 +105,23 @@ pub row-range : (s : Shape) (x : Next) (old rows : Records) (r : code.Row) → x
     → InRange s.sites s.vars (row_of s.sites s.vars r)
 row-range s x old rows r q y = (subst (λ (z : Next). IsNextOf s.sites s.vars z old rows r) q y).3
 
-module _ (s : Shape) (f : Sparse) (st : Staged) (old : Records) (d : Desk) where
-  refuses : (l : TraceLine) (rows : Records) (new : Desk)
-      → ((e : Tree) (here : Place) → IsHere s e st old d here → (q : Place) → Rule (subject_of s e) here l q → ⊥) → Led s f st old d l false rows new
+module _ (s : Shape) (f : Sparse) (st : Staged) (old : Records) (d : Progress) where
+  refuses : (l : TraceLine) (rows : Records) (new : Progress)
+      → ((e : Tree) (here : Place) → IsHere s e st old d here → (q : Place) → Rule (subject_of s e) here l q → ⊥) → Step s f st old d l false rows new
   refuses l rows new h = record { holds = λ e. absurd (false-true e); gone = λ e here p i. h e here i }
 
   -- ---- `refused`
   -- `refused` fails within a row, or where its number isn't the next one
-  pub refused-elsewhere : (n : ℕ) (rows : Records) (new : Desk) → ((d.inside ≡ false) × (n ≡ d.seen + 1) → ⊥) → Led s f st old d (line.Refused n) false rows new
+  pub refused-elsewhere : (n : ℕ) (rows : Records) (new : Progress) → ((d.inside ≡ false) × (n ≡ d.seen + 1) → ⊥)
+      → Step s f st old d (line.Refused n) false rows new
   refused-elsewhere n rows new h = refuses (line.Refused n) rows new go where
     go : (e : Tree) (here : Place) → IsHere s e st old d here → (q : Place) → Rule (subject_of s e) here (line.Refused n) q → ⊥
     go e (Between seen left) i q r = h (i.0, r.number ∙ ap (λ k. k + 1) (sym i.1))
     go e (Within seen left row stood) i q r = r
 
   -- `refused` fails where no record is next, or the next one is a row
-  pub refused-other : (n : ℕ) (x : Next) (rows : Records) (r : code.Row) (new : Desk) → (x ≡ next.Fault → ⊥)
-      → IsNextOf s.sites s.vars x old rows r → Led s f st old d (line.Refused n) false rows new
+  pub refused-other : (n : ℕ) (x : Next) (rows : Records) (r : code.Row) (new : Progress) → (x ≡ next.Fault → ⊥)
+      → IsNextOf s.sites s.vars x old rows r → Step s f st old d (line.Refused n) false rows new
   refused-other n x rows r new other k = refuses (line.Refused n) rows new (go x other k) where
     go : (x : Next) → (x ≡ next.Fault → ⊥) → IsNextOf s.sites s.vars x old rows r → (e : Tree) (here : Place) → IsHere s e st old d here
         → (q : Place) → Rule (subject_of s e) here (line.Refused n) q → ⊥
@@ -144,13 +135,13 @@ module _ (s : Shape) (f : Sparse) (st : Staged) (old : Records) (d : Desk) where
   -- where no row is open, `refused` with the number of the next record leads on if that record is invalid
   pub refused-goes : (n : ℕ) (x : Next) (rows : Records) (r : code.Row) → d.inside ≡ false → n ≡ d.seen + 1 → x ≡ next.Fault
       → IsNextOf s.sites s.vars x old rows r
-      → Led s f st old d (line.Refused n) true rows
+      → Step s f st old d (line.Refused n) true rows
       (record { inside = d.inside; seen = n; row = r; order = d.order; spot = d.spot; last = d.last; sign = d.sign })
   refused-goes n x rows r b m q y = record { holds = λ t i. absurd (clash d.inside i b); gone = go } where
     k : IsNextOf s.sites s.vars next.Fault old rows r
     k = subst (λ (z : Next). IsNextOf s.sites s.vars z old rows r) q y
 
-    go : (e : Tree) (here : Place) → HasPoly s e f → IsHere s e st old d here → Gone s e st here (line.Refused n) true rows
+    go : (e : Tree) (here : Place) → HasPoly s e f → IsHere s e st old d here → PlaceStep s e st here (line.Refused n) true rows
         (record { inside = d.inside; seen = n; row = r; order = d.order; spot = d.spot; last = d.last; sign = d.sign })
     go e (Between seen left) p i =
         let c : n ≡ seen + 1 = m ∙ ap (λ j. j + 1) i.1 in
@@ -159,15 +150,15 @@ module _ (s : Shape) (f : Sparse) (st : Staged) (old : Records) (d : Desk) where
 
   -- ---- `row`
   -- `row` fails within a row, or where its number isn't the next one
-  pub row-elsewhere : (n : ℕ) (rows : Records) (new : Desk) → ((d.inside ≡ false) × (n ≡ d.seen + 1) → ⊥) → Led s f st old d (line.Row n) false rows new
+  pub row-elsewhere : (n : ℕ) (rows : Records) (new : Progress) → ((d.inside ≡ false) × (n ≡ d.seen + 1) → ⊥) → Step s f st old d (line.Row n) false rows new
   row-elsewhere n rows new h = refuses (line.Row n) rows new go where
     go : (e : Tree) (here : Place) → IsHere s e st old d here → (q : Place) → Rule (subject_of s e) here (line.Row n) q → ⊥
     go e (Between seen left) i q r = h (i.0, r.number ∙ ap (λ k. k + 1) (sym i.1))
     go e (Within seen left row stood) i q r = r
 
   -- `row` fails where no record is next, or the next one is invalid
-  pub row-other : (n : ℕ) (x : Next) (rows : Records) (r : code.Row) (new : Desk) → (x ≡ next.Read → ⊥)
-      → IsNextOf s.sites s.vars x old rows r → Led s f st old d (line.Row n) false rows new
+  pub row-other : (n : ℕ) (x : Next) (rows : Records) (r : code.Row) (new : Progress) → (x ≡ next.Read → ⊥)
+      → IsNextOf s.sites s.vars x old rows r → Step s f st old d (line.Row n) false rows new
   row-other n x rows r new other k = refuses (line.Row n) rows new (go x other k) where
     go : (x : Next) → (x ≡ next.Read → ⊥) → IsNextOf s.sites s.vars x old rows r → (e : Tree) (here : Place) → IsHere s e st old d here
         → (q : Place) → Rule (subject_of s e) here (line.Row n) q → ⊥
@@ -179,15 +170,15 @@ module _ (s : Shape) (f : Sparse) (st : Staged) (old : Records) (d : Desk) where
         ok-err (read_row s.sites s.vars r.fields) r.row k.2 r.read (ap (read_row s.sites s.vars) (sym same) ∙ k.3)
 
   -- what is held after `row`: an open row with its number and order, at the beginning of the order's list, where no vector stood
-  abbrev pub opened : ℕ → code.Row → Order → Desk
+  abbrev pub opened : ℕ → code.Row → Order → Progress
   opened n r o =
       record { inside = true; seen = n; row = r; order = o; spot = record { sites = 0; at = 0 }; last = record { exps = None; zero = true }; sign = d.sign }
 
   -- where no row is open, `row` with the number of the next record opens it if that record is a row
-  pub row-goes : (n : ℕ) (x : Next) (rows : Records) (r : code.Row) (o : Order) (new : Desk) → IsCase s f st → d.inside ≡ false
+  pub row-goes : (n : ℕ) (x : Next) (rows : Records) (r : code.Row) (o : Order) (new : Progress) → IsCase s f st → d.inside ≡ false
       → n ≡ d.seen + 1 → x ≡ next.Read → IsNextOf s.sites s.vars x old rows r → IsOrder (take s.sites r.index) (order_places o)
-      → new ≡ opened n r o → Led s f st old d (line.Row n) true rows new
-  row-goes n x rows r o new c b m q y order w = subst (λ (z : Desk). Led s f st old d (line.Row n) true rows z) (sym w)
+      → new ≡ opened n r o → Step s f st old d (line.Row n) true rows new
+  row-goes n x rows r o new c b m q y order w = subst (λ (z : Progress). Step s f st old d (line.Row n) true rows z) (sym w)
       (record { holds = λ t i. record { range = k.3; order = order; spot = spot-first s f st c (order_places o) of }; gone = go })
     where
       k : IsNextOf s.sites s.vars next.Read old rows r
@@ -196,7 +187,7 @@ module _ (s : Shape) (f : Sparse) (st : Staged) (old : Records) (d : Desk) where
       of : IsOrderOf s.sites (order_places o)
       of = order-of s r (order_places o) k.3 order
 
-      go : (e : Tree) (here : Place) → HasPoly s e f → IsHere s e st old d here → Gone s e st here (line.Row n) true rows (opened n r o)
+      go : (e : Tree) (here : Place) → HasPoly s e f → IsHere s e st old d here → PlaceStep s e st here (line.Row n) true rows (opened n r o)
       go e (Between seen left) p i =
           let j : n ≡ seen + 1 = m ∙ ap (λ y. y + 1) i.1 in (
             Within (seen + 1) rows (row_of s.sites s.vars r) [],
@@ -207,14 +198,15 @@ module _ (s : Shape) (f : Sparse) (st : Staged) (old : Records) (d : Desk) where
 
   -- ---- `at`
   -- `at` fails outside a row
-  pub at-outside : (a : Pairs) (z : ℤ) (rows : Records) (new : Desk) → d.inside ≡ false → Led s f st old d (line.At a z) false rows new
+  pub at-outside : (a : Pairs) (z : ℤ) (rows : Records) (new : Progress) → d.inside ≡ false → Step s f st old d (line.At a z) false rows new
   at-outside a z rows new b = refuses (line.At a z) rows new go where
     go : (e : Tree) (here : Place) → IsHere s e st old d here → (q : Place) → Rule (subject_of s e) here (line.At a z) q → ⊥
     go e (Between seen left) i q r = r
     go e (Within seen left row stood) i q r = clash d.inside i.0 b
 
   -- `at` fails where its variables don't rise, or one of them is no coordinate of a site
-  pub at-unread : (a : Pairs) (z : ℤ) (rows : Records) (new : Desk) → (IsRising a → AreOfSites s.vars a → ⊥) → Led s f st old d (line.At a z) false rows new
+  pub at-unread : (a : Pairs) (z : ℤ) (rows : Records) (new : Progress) → (IsRising a → AreOfSites s.vars a → ⊥)
+      → Step s f st old d (line.At a z) false rows new
   at-unread a z rows new h = refuses (line.At a z) rows new go where
     go : (e : Tree) (here : Place) → IsHere s e st old d here → (q : Place) → Rule (subject_of s e) here (line.At a z) q → ⊥
     go e (Between seen left) i q r = r
@@ -247,8 +239,8 @@ module _ (s : Shape) (f : Sparse) (st : Staged) (old : Records) (d : Desk) where
       (sites-over s.vars (row_of s.sites s.vars d.row).index a sites) i.last i.left)
 
   -- `at` fails where its test comes to false
-  pub at-refused : (a : Pairs) (z : ℤ) (rows : Records) (new : Desk) → IsAtRow s st d → AreOfSites s.vars a
-      → Tests false a z (take (length s.vars) d.row.values) → Led s f st old d (line.At a z) false rows new
+  pub at-refused : (a : Pairs) (z : ℤ) (rows : Records) (new : Progress) → IsAtRow s st d → AreOfSites s.vars a
+      → Tests false a z (take (length s.vars) d.row.values) → Step s f st old d (line.At a z) false rows new
   at-refused a z rows new at sites t = record { holds = λ e. absurd (false-true e); gone = go } where
     go : (e : Tree) (here : Place) → HasPoly s e f → IsHere s e st old d here → (q : Place) → Rule (subject_of s e) here (line.At a z) q → ⊥
     go e (Between seen left) p i q r = r
@@ -265,19 +257,19 @@ module _ (s : Shape) (f : Sparse) (st : Staged) (old : Records) (d : Desk) where
       (map (vector (length s.vars)) (left_at st (order_places d.order) spot))
 
   -- what is held after `at`: these exponents as the last ones, whether their value is 0, its sign, and the place in the list
-  abbrev pub behind : Pairs → Spot → Bool → Sign → Desk
+  abbrev pub behind : Pairs → Spot → Bool → Sign → Progress
   behind a spot b0 t =
       record { inside = d.inside; seen = d.seen; row = d.row; order = d.order; spot = spot; last = record { exps = Some a; zero = b0 }; sign = t }
 
   -- `at` leads on where its test comes to true, and the place is moved to where the remaining stages begin
-  pub at-goes : (a : Pairs) (z : ℤ) (spot : Spot) (b0 : Bool) (t : Sign) (new : Desk) → IsAtRow s st d → IsRising a → AreOfSites s.vars a
+  pub at-goes : (a : Pairs) (z : ℤ) (spot : Spot) (b0 : Bool) (t : Sign) (new : Progress) → IsAtRow s st d → IsRising a → AreOfSites s.vars a
       → Tests true a z (take (length s.vars) d.row.values)
       → IsSpot st (order_places d.order) spot → Passes a spot → (b0 ≡ true) ↔ (t ≡ Zero) → sign_number t ≡ sign_of z → d.inside ≡ true
-      → new ≡ behind a spot b0 t → Led s f st old d (line.At a z) true old new
-  at-goes a z spot b0 t new at rising sites test is pass flag number b w = subst (λ (y : Desk). Led s f st old d (line.At a z) true old y)
+      → new ≡ behind a spot b0 t → Step s f st old d (line.At a z) true old new
+  at-goes a z spot b0 t new at rising sites test is pass flag number b w = subst (λ (y : Progress). Step s f st old d (line.At a z) true old y)
       (sym w) (record { holds = λ y i. record { range = at.range; order = at.order; spot = is }; gone = go })
     where
-      go : (e : Tree) (here : Place) → HasPoly s e f → IsHere s e st old d here → Gone s e st here (line.At a z) true old (behind a spot b0 t)
+      go : (e : Tree) (here : Place) → HasPoly s e f → IsHere s e st old d here → PlaceStep s e st here (line.At a z) true old (behind a spot b0 t)
       go e (Between seen left) p i = absurd (clash d.inside b i.0)
       go e (Within seen left row stood) p i =
           let n : ℕ = length s.vars in
@@ -305,31 +297,32 @@ module _ (s : Shape) (f : Sparse) (st : Staged) (old : Records) (d : Desk) where
           )
 
   -- a line says the exponents that were read of it
-  pub at-of : (a x : Pairs) (w z : ℤ) (ok : Bool) (new : Desk) → x ≡ a → w ≡ z → Led s f st old d (line.At x w) ok old new
-      → Led s f st old d (line.At a z) ok old new
+  pub at-of : (a x : Pairs) (w z : ℤ) (ok : Bool) (new : Progress) → x ≡ a → w ≡ z → Step s f st old d (line.At x w) ok old new
+      → Step s f st old d (line.At a z) ok old new
   at-of a x w z ok new q e h =
-      subst (λ (y : Pairs). Led s f st old d (line.At y z) ok old new) q (subst (λ (y : ℤ). Led s f st old d (line.At x y) ok old new) e h)
+      subst (λ (y : Pairs). Step s f st old d (line.At y z) ok old new) q (subst (λ (y : ℤ). Step s f st old d (line.At x y) ok old new) e h)
 
   -- ---- `sign`
   -- `sign` fails outside a row
-  pub sign-outside : (t : Sign) (rows : Records) (new : Desk) → d.inside ≡ false → Led s f st old d (line.Sign t) false rows new
+  pub sign-outside : (t : Sign) (rows : Records) (new : Progress) → d.inside ≡ false → Step s f st old d (line.Sign t) false rows new
   sign-outside t rows new b = refuses (line.Sign t) rows new go where
     go : (e : Tree) (here : Place) → IsHere s e st old d here → (q : Place) → Rule (subject_of s e) here (line.Sign t) q → ⊥
     go e (Between seen left) i q r = r
     go e (Within seen left row stood) i q r = clash d.inside i.0 b
 
   -- `sign` fails where no vector stood before it, or its sign isn't that of the last value
-  pub sign-unsaid : (t : Sign) (rows : Records) (new : Desk) → ((d.last.exps ≡ None → ⊥) × (t ≡ d.sign) → ⊥) → Led s f st old d (line.Sign t) false rows new
+  pub sign-unsaid : (t : Sign) (rows : Records) (new : Progress) → ((d.last.exps ≡ None → ⊥) × (t ≡ d.sign) → ⊥)
+      → Step s f st old d (line.Sign t) false rows new
   sign-unsaid t rows new h = refuses (line.Sign t) rows new go where
     go : (e : Tree) (here : Place) → IsHere s e st old d here → (q : Place) → Rule (subject_of s e) here (line.Sign t) q → ⊥
     go e (Between seen left) i q r = r
     go e (Within seen left row []) i q r = r.signed
     go e (Within seen left row (p ∷ stood)) i q r =
-        h (λ o. none-last (length s.vars) d.last.exps d.last.zero p stood i.3.last o, number-one t d.sign (r.signed.0 ∙ sym i.3.sign))
+        h (λ o. none-last (length s.vars) d.last.exps d.last.zero p stood i.3.last o, sign-number-same t d.sign (r.signed.0 ∙ sym i.3.sign))
 
   -- `sign` fails where the last value is 0 and some stage remains
-  pub sign-too-soon : (t : Sign) (rows : Records) (new : Desk) → IsAtRow s st d
-      → ((d.last.zero ≡ true → left_at st (order_places d.order) d.spot ≡ []) → ⊥) → Led s f st old d (line.Sign t) false rows new
+  pub sign-too-soon : (t : Sign) (rows : Records) (new : Progress) → IsAtRow s st d
+      → ((d.last.zero ≡ true → left_at st (order_places d.order) d.spot ≡ []) → ⊥) → Step s f st old d (line.Sign t) false rows new
   sign-too-soon t rows new at h = refuses (line.Sign t) rows new go where
     go : (e : Tree) (here : Place) → IsHere s e st old d here → (q : Place) → Rule (subject_of s e) here (line.Sign t) q → ⊥
     go e (Between seen left) i q r = r
@@ -345,14 +338,14 @@ module _ (s : Shape) (f : Sparse) (st : Staged) (old : Records) (d : Desk) where
         (r.signed.1 ((last-zero (length s.vars) d.last.exps d.last.zero p stood i.3.last).0 z)))))
 
   -- what is held after `sign`: the same, with no row open
-  abbrev pub closed : Desk
+  abbrev pub closed : Progress
   closed = record { inside = false; seen = d.seen; row = d.row; order = d.order; spot = d.spot; last = d.last; sign = d.sign }
 
   -- `sign` closes the row where its sign is that of the last value, and this value isn't 0 or no stage remains
   pub sign-goes : (t : Sign) → IsAtRow s st d → d.inside ≡ true → (d.last.exps ≡ None → ⊥) → t ≡ d.sign
-      → (d.last.zero ≡ true → left_at st (order_places d.order) d.spot ≡ []) → Led s f st old d (line.Sign t) true old closed
+      → (d.last.zero ≡ true → left_at st (order_places d.order) d.spot ≡ []) → Step s f st old d (line.Sign t) true old closed
   sign-goes t at b some same whole = record { holds = λ y i. absurd (false-true i); gone = go } where
-    go : (e : Tree) (here : Place) → HasPoly s e f → IsHere s e st old d here → Gone s e st here (line.Sign t) true old closed
+    go : (e : Tree) (here : Place) → HasPoly s e f → IsHere s e st old d here → PlaceStep s e st here (line.Sign t) true old closed
     go e (Between seen left) p i = absurd (clash d.inside b i.0)
     go e (Within seen left row []) p i = absurd (some-last (length s.vars) d.last.exps d.last.zero [] i.3.last some refl)
     go e (Within seen left row (p ∷ stood)) h i =

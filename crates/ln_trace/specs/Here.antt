@@ -23,9 +23,9 @@ use Rattle.ln_due.specs.Due.{sign_number}
 use Rattle.ln_rows.specs.Left.{Records}
 use Rattle.ln_rows.specs.Record.{read_row}
 use Rattle.ln_rows.specs.declared.record.RowStop.{RowStop}
-use Rattle.ln_trace.specs.declared.desk.Desk.{Desk}
-use Rattle.ln_trace.specs.declared.desk.Next.{Next}
-use Rattle.ln_trace.specs.declared.desk.Next.TheVariants as next
+use Rattle.ln_trace.specs.declared.progress.Progress.{Progress}
+use Rattle.ln_trace.specs.declared.progress.Next.{Next}
+use Rattle.ln_trace.specs.declared.progress.Next.TheVariants as next
 use Rattle.ln_trace.specs.declared.line.TraceLine.{TraceLine}
 use Rattle.ln_trace.specs.Left.{IsSpot, left_at}
 use Rattle.ln_trace.specs.Stand.{IsLastOf}
@@ -51,13 +51,13 @@ pub record IsCase (s : Shape) (f : Sparse) (st : Staged) : Type 0 where
 
 -- ---- places
 -- the row that is held is in range, its order is held with it, and a place in the list of that order
-pub record IsAtRow (s : Shape) (st : Staged) (d : Desk) : Type 0 where
+pub record IsAtRow (s : Shape) (st : Staged) (d : Progress) : Type 0 where
   pub range : InRange s.sites s.vars (row_of s.sites s.vars d.row)
   pub order : IsOrder (row_of s.sites s.vars d.row).index (order_places d.order)
   pub spot : IsSpot st (order_places d.order) d.spot
 
 -- so it is while a row is open
-abbrev pub Holds : Shape → Staged → Desk → Type 0
+abbrev pub Holds : Shape → Staged → Progress → Type 0
 Holds s st d = d.inside ≡ true → IsAtRow s st d
 
 -- it is the sign of the last value
@@ -66,7 +66,7 @@ IsSignOfLast t [] = Unit {0}
 IsSignOfLast t (p ∷ stood) = sign_number t ≡ sign_of p.1
 
 -- the row is held, with the vector that stood last, the sign of its value, and where the members begin that haven't stood
-pub record IsInRow (s : Shape) (e : Tree) (st : Staged) (d : Desk) (row : Row) (stood : Stood) : Type 0 where
+pub record IsInRow (s : Shape) (e : Tree) (st : Staged) (d : Progress) (row : Row) (stood : Stood) : Type 0 where
   pub held : row_of s.sites s.vars d.row ≡ row
   pub last : IsLastOf (length s.vars) d.last.exps d.last.zero stood
   pub sign : IsSignOfLast d.sign stood
@@ -74,22 +74,22 @@ pub record IsInRow (s : Shape) (e : Tree) (st : Staged) (d : Desk) (row : Row) (
       (map (vector (length s.vars)) (left_at st (order_places d.order) d.spot))
 
 -- what is held stands for a place with these records to come
-abbrev pub IsHere : Shape → Tree → Staged → Records → Desk → Place → Type 0
+abbrev pub IsHere : Shape → Tree → Staged → Records → Progress → Place → Type 0
 IsHere s e st rows d (Between seen left) = (d.inside ≡ false) × (d.seen ≡ seen) × (rows ≡ left)
 IsHere s e st rows d (Within seen left row stood) =
     (d.inside ≡ true) × (d.seen ≡ seen) × (rows ≡ left) × IsInRow s e st d row stood
 
 -- ---- what a line does
--- it leads to a place that the desk stands for, or nowhere
-abbrev pub Gone : Shape → Tree → Staged → Place → TraceLine → Bool → Records → Desk → Type 0
-Gone s e st here line true rows d = (q : Place) × Rule (subject_of s e) here line q × IsHere s e st rows d q
-Gone s e st here line false rows d = (q : Place) → Rule (subject_of s e) here line q → ⊥
+-- it leads to a place that the state of the judge stands for, or nowhere
+abbrev pub PlaceStep : Shape → Tree → Staged → Place → TraceLine → Bool → Records → Progress → Type 0
+PlaceStep s e st here line true rows d = (q : Place) × Rule (subject_of s e) here line q × IsHere s e st rows d q
+PlaceStep s e st here line false rows d = (q : Place) → Rule (subject_of s e) here line q → ⊥
 
--- what a call on a line has to say, of each expression with this polynomial and each place that the desk stood for
-pub record Led (s : Shape) (f : Sparse) (st : Staged) (old : Records) (before : Desk) (line : TraceLine) (ok : Bool)
-    (rows : Records) (d : Desk) : Type 0 where
+-- what a call on a line has to say, of each expression with this polynomial and each place that the state of the judge stood for
+pub record Step (s : Shape) (f : Sparse) (st : Staged) (old : Records) (before : Progress) (line : TraceLine) (ok : Bool)
+    (rows : Records) (d : Progress) : Type 0 where
   pub holds : ok ≡ true → Holds s st d
-  pub gone : (e : Tree) (here : Place) → HasPoly s e f → IsHere s e st old before here → Gone s e st here line ok rows d
+  pub gone : (e : Tree) (here : Place) → HasPoly s e f → IsHere s e st old before here → PlaceStep s e st here line ok rows d
 
 -- ---- the next record
 -- there is none; or it is taken, and is invalid; or it is this row, which is in range

@@ -14,9 +14,11 @@ use ln_code::{Program, Row, Scratch, block_value, decided};
 use ln_order::{Order, order_of};
 use std::alloc::Global;
 
+// Room for the lines of a row that its first block decides, in bytes.
+const ROW_ROOM: usize = 128;
+
 // Appends what a block tells, and where its value isn't 0 the sign: then that is all.
 fn tell_block(
-    alloc: Global,
     p: &Program,
     number: u32,
     s: &mut Scratch,
@@ -34,10 +36,10 @@ fn tell_block(
 {
     let block = &p.blocks()[number as usize];
     let z = block_value(block, p, s, r);
-    put_at(alloc, out, block.exps().pairs(), z)?;
+    put_at(out, block.exps().pairs(), z)?;
     match decided(z) {
         Some(sign) => {
-            put_sign(alloc, out, sign)?;
+            put_sign(out, sign)?;
             Ok(true)
         }
         None => Ok(false),
@@ -46,7 +48,6 @@ fn tell_block(
 
 // Appends what the blocks of a segment tell, up to the first whose value isn't 0.
 fn tell_segment(
-    alloc: Global,
     p: &Program,
     segment: &[u32],
     s: &mut Scratch,
@@ -63,7 +64,7 @@ fn tell_segment(
     ensures made { MadeFor p.now s.new }
 {
     'numbers: for number in segment {
-        if tell_block(alloc, p, *number, s, r, out)? {
+        if tell_block(p, *number, s, r, out)? {
             return Ok(true);
         }
     }
@@ -72,7 +73,6 @@ fn tell_segment(
 
 // Appends what the blocks of an order's list tell, and the sign.
 fn tell_list(
-    alloc: Global,
     p: &Program,
     order: &Order,
     s: &mut Scratch,
@@ -88,11 +88,11 @@ fn tell_list(
 {
     let sites = p.shape().sites;
     'prefixes: for j in 0..sites + 1 {
-        if tell_segment(alloc, p, p.segment(order, j), s, r, out)? {
+        if tell_segment(p, p.segment(order, j), s, r, out)? {
             return Ok(());
         }
     }
-    put_sign(alloc, out, Sign::Zero)?;
+    put_sign(out, Sign::Zero)?;
     Ok(())
 }
 
@@ -123,9 +123,9 @@ fn row_text(
     ensures made { MadeFor p.now s.new }
 {
     let order = order_of_row(p, r);
-    let mut text = Vec::new(alloc);
-    put_row(alloc, &mut text, n as u32)?;
-    tell_list(alloc, p, &order, s, r, &mut text)?;
+    let mut text = Vec::with_capacity(alloc, ROW_ROOM)?;
+    put_row(&mut text, n as u32)?;
+    tell_list(p, &order, s, r, &mut text)?;
     Ok(text)
 }
 

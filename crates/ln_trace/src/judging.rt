@@ -3,16 +3,16 @@ ghost use Rattle.std.specs.Prelude.{◌≡◌, ◌↔◌, ◌<◌, [], ℕ, List
 ghost use Rattle.ln_algebra.specs.Tree.{Tree};
 ghost use Rattle.ln_trace.specs.declared.judged.Judged.TheVariants.{Agreed};
 ghost use Rattle.ln_trace.specs.declared.line.TraceLine.{TraceLine as AnyLine};
-ghost use Rattle.ln_trace.specs.Here.{HasPoly, Holds, IsCase, Led, subject_of};
+ghost use Rattle.ln_trace.specs.Here.{HasPoly, Holds, IsCase, Step, subject_of};
 ghost use Rattle.ln_trace.specs.Judge.{IsAnswer};
 ghost use Rattle.ln_trace.specs.Judged.{IsJudged, fault_of};
 ghost use Rattle.ln_trace.specs.Signs.{AreRight, signs_in};
 ghost use Rattle.ln_trace.specs.Unread.{AreLeft};
 
-use crate::desk::{Desk, Next, fresh_desk, is, taken};
 use crate::judged::Judged;
 use crate::line::TraceLine;
 use crate::lines::TraceLines;
+use crate::progress::{Next, Progress, fresh_progress, is, taken};
 use crate::rules::{at, refused, row, sign};
 use crate::trace::Trace;
 use ln_base::NoMemory;
@@ -30,30 +30,30 @@ fn line(
     f: &Poly,
     st: &Stages,
     rows: &mut Rows<'_>,
-    desk: &mut Desk,
+    state: &mut Progress,
     line: &TraceLine,
 ) -> Result<bool, NoMemory>
     requires case { IsCase p.now.shape f.now st.now }
-    requires holds { Holds p.now.shape st.now desk.old }
-    ensures { IfOk result (λ ok. Led p.now.shape f.now st.now rows.old desk.old line.now ok rows.new desk.new) }
+    requires holds { Holds p.now.shape st.now state.old }
+    ensures { IfOk result (λ ok. Step p.now.shape f.now st.now rows.old state.old line.now ok rows.new state.new) }
 {
     match line {
-        TraceLine::Refused(n) => refused(p, rows, desk, *n),
-        TraceLine::Row(n) => row(p, rows, desk, *n),
-        TraceLine::At(a, z) => at(alloc, b, f, st, &p.shape, desk, a.as_slice(), *z),
-        TraceLine::Sign(t) => Ok(sign(f, st, &p.shape, desk, *t)),
+        TraceLine::Refused(n) => refused(p, rows, state, *n),
+        TraceLine::Row(n) => row(p, rows, state, *n),
+        TraceLine::At(a, z) => at(alloc, b, f, st, &p.shape, state, a.as_slice(), *z),
+        TraceLine::Sign(t) => Ok(sign(f, st, &p.shape, state, *t)),
     }
 }
 
 // Is no row open, and does no record remain?
-fn is_over(p: &Pred, rows: &mut Rows<'_>, desk: &mut Desk) -> Result<bool, NoMemory>
-    ensures over { IfOk result (λ ok. IsTrue ok ↔ ((desk.old.inside ≡ false) × (rows.old ≡ []))) }
-    ensures seen { desk.new.seen ≡ desk.old.seen }
+fn is_over(p: &Pred, rows: &mut Rows<'_>, state: &mut Progress) -> Result<bool, NoMemory>
+    ensures over { IfOk result (λ ok. IsTrue ok ↔ ((state.old.inside ≡ false) × (rows.old ≡ []))) }
+    ensures seen { state.new.seen ≡ state.old.seen }
 {
-    if desk.inside {
+    if state.inside {
         return Ok(false);
     }
-    let next = taken(p, rows, &mut desk.row)?;
+    let next = taken(p, rows, &mut state.row)?;
     Ok(is(next, Next::Nothing))
 }
 
@@ -66,26 +66,26 @@ fn over_lines(
     st: &Stages,
     rows: &mut Rows<'_>,
     lines: &mut TraceLines<'_>,
-    desk: &mut Desk,
+    state: &mut Progress,
 ) -> Result<Judged, NoMemory>
     requires case { IsCase p.now.shape f.now st.now }
     requires second { lines.old.line ≡ 2 }
-    requires inside { desk.old.inside ≡ false }
-    requires none { desk.old.seen ≡ 0 }
+    requires inside { state.old.inside ≡ false }
+    requires none { state.old.seen ≡ 0 }
     ensures { IfOk result (λ j. (e : Tree) (ls : List AnyLine) → HasPoly p.now.shape e f.now → AreLeft lines.old ls →
         IsJudged (subject_of p.now.shape e) rows.old ls j) }
 {
     'lines: while let Some(l) = lines.next(alloc)? {
-        let good = line(alloc, b, p, f, st, rows, desk, &l);
+        let good = line(alloc, b, p, f, st, rows, state, &l);
         drop(l);
         if !good? {
             return Ok(Judged::Wrong(lines.number() - 1));
         }
     }
-    if !is_over(p, rows, desk)? {
+    if !is_over(p, rows, state)? {
         return Ok(Judged::Wrong(lines.number()));
     }
-    Ok(Judged::Agreed(desk.seen))
+    Ok(Judged::Agreed(state.seen))
 }
 
 /// Judges the remaining lines of a trace by the polynomial of a predicate and the stages of that, over the remaining records: returns that they are
@@ -109,8 +109,8 @@ pub fn judge_lines(
         j ≡ Agreed n → AreRight (subject_of p.now.shape e) rows.old (signs_in ls)) }
 {
     let b = Binomials::new(alloc)?;
-    let mut desk = fresh_desk();
-    let j = over_lines(alloc, &b, p, f, st, rows, lines, &mut desk)?;
+    let mut state = fresh_progress();
+    let j = over_lines(alloc, &b, p, f, st, rows, lines, &mut state)?;
     Ok(j)
 }
 
@@ -123,23 +123,23 @@ fn over_trace(
     st: &Stages,
     rows: &mut Rows<'_>,
     read: &[TraceLine],
-    desk: &mut Desk,
+    state: &mut Progress,
 ) -> Result<Judged, NoMemory>
     requires case { IsCase p.now.shape f.now st.now }
     requires few { length read.now < 4294967294 }
-    requires inside { desk.old.inside ≡ false }
-    requires none { desk.old.seen ≡ 0 }
+    requires inside { state.old.inside ≡ false }
+    requires none { state.old.seen ≡ 0 }
     ensures { IfOk result (λ j. (e : Tree) → HasPoly p.now.shape e f.now → IsJudged (subject_of p.now.shape e) rows.old read.now j) }
 {
     'lines: for (i, l) in read.iter().enumerate() {
-        if !line(alloc, b, p, f, st, rows, desk, l)? {
+        if !line(alloc, b, p, f, st, rows, state, l)? {
             return Ok(Judged::Wrong(i as u32 + 2));
         }
     }
-    if !is_over(p, rows, desk)? {
+    if !is_over(p, rows, state)? {
         return Ok(Judged::Wrong(read.len() as u32 + 2));
     }
-    Ok(Judged::Agreed(desk.seen))
+    Ok(Judged::Agreed(state.seen))
 }
 
 // The first line that fails, if there is one.
@@ -169,7 +169,7 @@ pub fn judge(
         AreRight (subject_of p.now.shape e) rows.old (signs_in t.now)) }
 {
     let b = Binomials::new(alloc)?;
-    let mut desk = fresh_desk();
-    let j = over_trace(alloc, &b, p, f, st, rows, t.lines(), &mut desk)?;
+    let mut state = fresh_progress();
+    let j = over_trace(alloc, &b, p, f, st, rows, t.lines(), &mut state)?;
     Ok(fault_of(j))
 }

@@ -4,11 +4,10 @@
 //! whoever made it, has the perturbed sign of each row.
 #![tactic(auto)]
 
-pub mod desk;
+pub mod at_line;
 pub mod explain;
 pub mod exps;
 pub mod form_laws;
-pub mod goes;
 pub mod judged;
 pub mod judging;
 pub mod kinds;
@@ -16,6 +15,7 @@ pub mod laws;
 pub mod line;
 pub mod lines;
 pub mod pointer;
+pub mod progress;
 pub mod put;
 pub mod read;
 pub mod rules;

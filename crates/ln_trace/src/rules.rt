@@ -13,13 +13,13 @@ ghost use Rattle.ln_poly.specs.Sparse.{Sparse};
 ghost use Rattle.ln_rows.specs.Left.{Records};
 ghost use Rattle.ln_stage.specs.Staged.{Staged, segment_of};
 ghost use Rattle.ln_trace.specs.declared.line.TraceLine.TheVariants as line;
-ghost use Rattle.ln_trace.specs.Here.{Holds, IsAtRow, IsCase, Led};
+ghost use Rattle.ln_trace.specs.Here.{Holds, IsAtRow, IsCase, Step};
 ghost use Rattle.ln_trace.specs.Left.{IsSpot, left_at};
 
-use crate::desk::{Desk, Next, is, is_next, taken};
+use crate::at_line::is_next_at;
 use crate::exps::exps_of;
-use crate::goes::goes;
 use crate::pointer::{Spot, first_left};
+use crate::progress::{Next, Progress, is, is_next, taken};
 use crate::stand::{Last, passed};
 use ln_base::{NoMemory, Sign};
 use ln_code::Row;
@@ -31,18 +31,23 @@ use ln_tree::{Exps, Pred, Shape};
 use std::alloc::Global;
 
 /// `refused`.
-pub fn refused(p: &Pred, rows: &mut Rows<'_>, desk: &mut Desk, n: u32) -> Result<bool, NoMemory>
+pub fn refused(
+    p: &Pred,
+    rows: &mut Rows<'_>,
+    state: &mut Progress,
+    n: u32,
+) -> Result<bool, NoMemory>
     ensures { IfOk result (λ ok. (f : Sparse) (st : Staged) →
-        Led p.now.shape f st rows.old desk.old (line.Refused n) ok rows.new desk.new) }
+        Step p.now.shape f st rows.old state.old (line.Refused n) ok rows.new state.new) }
 {
-    if !is_next(desk, n) {
+    if !is_next(state, n) {
         return Ok(false);
     }
-    let next = taken(p, rows, &mut desk.row)?;
+    let next = taken(p, rows, &mut state.row)?;
     if !is(next, Next::Fault) {
         return Ok(false);
     }
-    desk.seen = n;
+    state.seen = n;
     Ok(true)
 }
 
@@ -58,41 +63,41 @@ fn order_at(p: &Pred, row: &Row) -> Order
 }
 
 // Opens the row that is held, which is the record of this number.
-fn open(desk: &mut Desk, o: Order, n: u32)
-    ensures { desk.new ≡ record {
+fn open(state: &mut Progress, o: Order, n: u32)
+    ensures { state.new ≡ record {
       inside = true;
       seen = n;
-      row = desk.old.row;
+      row = state.old.row;
       order = o;
       spot = record { sites = 0; at = 0 };
       last = record { exps = None; zero = true };
-      sign = desk.old.sign;
+      sign = state.old.sign;
     } }
 {
-    desk.order = o;
-    desk.spot = Spot { sites: 0, at: 0 };
-    desk.last = Last {
+    state.order = o;
+    state.spot = Spot { sites: 0, at: 0 };
+    state.last = Last {
         exps: None,
         zero: true,
     };
-    desk.seen = n;
-    desk.inside = true;
+    state.seen = n;
+    state.inside = true;
 }
 
 /// `row`.
-pub fn row(p: &Pred, rows: &mut Rows<'_>, desk: &mut Desk, n: u32) -> Result<bool, NoMemory>
+pub fn row(p: &Pred, rows: &mut Rows<'_>, state: &mut Progress, n: u32) -> Result<bool, NoMemory>
     ensures { IfOk result (λ ok. (f : Sparse) (st : Staged) → IsCase p.now.shape f st →
-        Led p.now.shape f st rows.old desk.old (line.Row n) ok rows.new desk.new) }
+        Step p.now.shape f st rows.old state.old (line.Row n) ok rows.new state.new) }
 {
-    if !is_next(desk, n) {
+    if !is_next(state, n) {
         return Ok(false);
     }
-    let next = taken(p, rows, &mut desk.row)?;
+    let next = taken(p, rows, &mut state.row)?;
     if !is(next, Next::Read) {
         return Ok(false);
     }
-    let o = order_at(p, &desk.row);
-    open(desk, o, n);
+    let o = order_at(p, &state.row);
+    open(state, o, n);
     Ok(true)
 }
 
@@ -123,24 +128,24 @@ fn is_sign(t: Sign, u: Sign) -> bool
 }
 
 // Holds that a stood with the value z, after which the members begin here.
-fn stood(desk: &mut Desk, spot: Spot, a: Exps, z: i128)
-    ensures held { desk.new ≡ record {
-      inside = desk.old.inside;
-      seen = desk.old.seen;
-      row = desk.old.row;
-      order = desk.old.order;
+fn stood(state: &mut Progress, spot: Spot, a: Exps, z: i128)
+    ensures held { state.new ≡ record {
+      inside = state.old.inside;
+      seen = state.old.seen;
+      row = state.old.row;
+      order = state.old.order;
       spot = spot;
-      last = record { exps = Some a; zero = desk.new.last.zero };
-      sign = desk.new.sign;
+      last = record { exps = Some a; zero = state.new.last.zero };
+      sign = state.new.sign;
     } }
-    ensures sign { sign_number desk.new.sign ≡ sign_of z }
-    ensures zero { IsTrue desk.new.last.zero ↔ (desk.new.sign ≡ Zero) }
+    ensures sign { sign_number state.new.sign ≡ sign_of z }
+    ensures zero { IsTrue state.new.last.zero ↔ (state.new.sign ≡ Zero) }
 {
     let sign = sign_of(z);
     let zero = is_sign(sign, Sign::Zero);
-    desk.spot = spot;
-    desk.sign = sign;
-    desk.last = Last {
+    state.spot = spot;
+    state.sign = sign;
+    state.last = Last {
         exps: Some(a),
         zero,
     };
@@ -152,23 +157,34 @@ fn stands(
     f: &Poly,
     st: &Stages,
     s: &Shape,
-    desk: &mut Desk,
+    state: &mut Progress,
     a: Exps,
     z: i128,
 ) -> bool
     requires case { IsCase s.now f.now st.now }
-    requires at { IsAtRow s.now st.now desk.old }
-    requires inside { desk.old.inside ≡ true }
+    requires at { IsAtRow s.now st.now state.old }
+    requires inside { state.old.inside ≡ true }
     requires rising { IsRising a }
     requires of_sites { AreOfSites s.now.vars a }
-    ensures { (rows : Records) → Led s.now f.now st.now rows desk.old (line.At a z) result rows desk.new }
+    ensures { (rows : Records) → Step s.now f.now st.now rows state.old (line.At a z) result rows state.new }
 {
-    let row = values_of(s, &desk.row);
-    if !goes(b, f, st, s, &desk.order, &desk.last, desk.spot, &a, z, row) {
+    let row = values_of(s, &state.row);
+    if !is_next_at(
+        b,
+        f,
+        st,
+        s,
+        &state.order,
+        &state.last,
+        state.spot,
+        &a,
+        z,
+        row,
+    ) {
         return false;
     }
-    let spot = passed(st, &desk.order, s, desk.spot, &a);
-    stood(desk, spot, a, z);
+    let spot = passed(st, &state.order, s, state.spot, &a);
+    stood(state, spot, a, z);
     true
 }
 
@@ -179,21 +195,21 @@ pub fn at(
     f: &Poly,
     st: &Stages,
     s: &Shape,
-    desk: &mut Desk,
+    state: &mut Progress,
     a: &[(u8, u8)],
     z: i128,
 ) -> Result<bool, NoMemory>
     requires case { IsCase s.now f.now st.now }
-    requires holds { Holds s.now st.now desk.old }
-    ensures { IfOk result (λ ok. (rows : Records) → Led s.now f.now st.now rows desk.old (line.At a.now z) ok rows desk.new) }
+    requires holds { Holds s.now st.now state.old }
+    ensures { IfOk result (λ ok. (rows : Records) → Step s.now f.now st.now rows state.old (line.At a.now z) ok rows state.new) }
 {
-    if !desk.inside {
+    if !state.inside {
         return Ok(false);
     }
     let Some(e) = exps_of(alloc, s.vars.as_slice(), a)? else {
         return Ok(false);
     };
-    let ok = stands(b, f, st, s, desk, e, z);
+    let ok = stands(b, f, st, s, state, e, z);
     Ok(ok)
 }
 
@@ -208,43 +224,43 @@ fn is_none_left(st: &Stages, o: &Order, spot: Spot) -> bool
 }
 
 // Did a vector stand, and is it the sign of the last value?
-fn is_said(desk: &Desk, t: Sign) -> bool
-    ensures { IsTrue result ↔ ((desk.now.last.exps ≡ None → ⊥) × (t ≡ desk.now.sign)) }
+fn is_said(state: &Progress, t: Sign) -> bool
+    ensures { IsTrue result ↔ ((state.now.last.exps ≡ None → ⊥) × (t ≡ state.now.sign)) }
 {
-    if desk.last.exps.is_none() {
+    if state.last.exps.is_none() {
         return false;
     }
-    is_sign(t, desk.sign)
+    is_sign(t, state.sign)
 }
 
 // Where the last value is 0, is none of the members left?
-fn is_whole(st: &Stages, desk: &Desk) -> bool
-    requires order { length (order_places desk.now.order) ≡ st.now.sites }
-    requires spot { IsSpot st.now (order_places desk.now.order) desk.now.spot }
+fn is_whole(st: &Stages, state: &Progress) -> bool
+    requires order { length (order_places state.now.order) ≡ st.now.sites }
+    requires spot { IsSpot st.now (order_places state.now.order) state.now.spot }
     requires numbers { (q : List ℕ) → All (λ i. i < length st.now.exps) (segment_of st.now q) }
-    ensures { IsTrue result ↔ (desk.now.last.zero ≡ true → left_at st.now (order_places desk.now.order) desk.now.spot ≡ []) }
+    ensures { IsTrue result ↔ (state.now.last.zero ≡ true → left_at st.now (order_places state.now.order) state.now.spot ≡ []) }
 {
-    if !desk.last.zero {
+    if !state.last.zero {
         return true;
     }
-    is_none_left(st, &desk.order, desk.spot)
+    is_none_left(st, &state.order, state.spot)
 }
 
 /// `sign`.
-pub fn sign(f: &Poly, st: &Stages, s: &Shape, desk: &mut Desk, t: Sign) -> bool
+pub fn sign(f: &Poly, st: &Stages, s: &Shape, state: &mut Progress, t: Sign) -> bool
     requires case { IsCase s.now f.now st.now }
-    requires holds { Holds s.now st.now desk.old }
-    ensures { (rows : Records) → Led s.now f.now st.now rows desk.old (line.Sign t) result rows desk.new }
+    requires holds { Holds s.now st.now state.old }
+    ensures { (rows : Records) → Step s.now f.now st.now rows state.old (line.Sign t) result rows state.new }
 {
-    if !desk.inside {
+    if !state.inside {
         return false;
     }
-    if !is_said(desk, t) {
+    if !is_said(state, t) {
         return false;
     }
-    if !is_whole(st, desk) {
+    if !is_whole(st, state) {
         return false;
     }
-    desk.inside = false;
+    state.inside = false;
     true
 }

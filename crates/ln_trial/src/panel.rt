@@ -2,7 +2,7 @@
 
 use ln_base::{MemConsole, NoMemory, Port, Sign};
 use ln_code::{By, Verdict};
-use ln_top::panel::Panel;
+use ln_signs::panel::Panel;
 use ln_watch::{DeciderWatch, FirstWatch, Keep, Line, SignWatch, Watch};
 use std::alloc::Global;
 use std::cell::Cell;

@@ -58,8 +58,8 @@ pub no_variable : (v : Version) (vars : List VarInfo) (k : ℕ) (p : Range) → 
 no_variable v vars k p e = ap (λ (o : Option VarInfo). next o (λ i. known (v.range i) p (least (magnitude p)) (v.size i) (Input k))) (sym e)
 
 -- the rules of a block keep a stack and locals as every machine does
-pub block_stack : (v : Version) (vars : List VarInfo) → HasStack (block_rules v vars)
-block_stack v vars = record { got = λ l j. refl; put = λ l j k. refl; room = λ m. refl }
+pub blocks_have_stack : (v : Version) (vars : List VarInfo) → HasStack (block_rules v vars)
+blocks_have_stack v vars = record { got = λ l j. refl; put = λ l j k. refl; room = λ m. refl }
 
 -- ---- in a filter
 -- what is known of a truncated number with this triple
@@ -71,5 +71,5 @@ pub no_number : (v : Version) (vars : List VarInfo) (k : ℕ) (a : Triple) → N
 no_number v vars k a e = ap (λ (o : Option VarInfo). next o (λ i. filter_known 0 (size_of i) 0 (v.size i) (Input k) a)) (sym e)
 
 -- the rules of a filter keep a stack and locals as every machine does
-pub triple_stack : (v : Version) (vars : List VarInfo) → HasStack (triple_rules v vars)
-triple_stack v vars = record { got = λ l j. refl; put = λ l j k. refl; room = λ m. refl }
+pub triples_have_stack : (v : Version) (vars : List VarInfo) → HasStack (triple_rules v vars)
+triples_have_stack v vars = record { got = λ l j. refl; put = λ l j k. refl; room = λ m. refl }

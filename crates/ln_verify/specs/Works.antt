@@ -27,9 +27,9 @@ op_of Minus w = Sub w
 op_of Times w = Mul w
 
 -- an operation leads each state that the old stack is for to one that the new one is for, or nowhere
-abbrev pub Led : {L B K : Type 0} → (L → Tree → ℕ → K) → (K → Tree) → (Version → List VarInfo → Engine B K (ℕ → Option K)) → Version →
+abbrev pub StackStep : {L B K : Type 0} → (L → Tree → ℕ → K) → (K → Tree) → (Version → List VarInfo → Engine B K (ℕ → Option K)) → Version →
     List VarInfo → Stack (Value L) → Op → B → Bool → Stack (Value L) → Type 0
-Led {K = K} known tree rules v vars old op b ok new =
+StackStep {K = K} known tree rules v vars old op b ok new =
     (s : State K (ℕ → Option K)) → IsState (IsFor known (length vars)) old.values.items old.locals.items s →
     Came (IsFor known (length vars)) tree (length vars) (rules v vars) s op b ok new.values.items new.locals.items
 
@@ -39,12 +39,12 @@ abbrev pub BlockStack : Type 0
 BlockStack = Stack (Value Ranged)
 
 -- the stack and the locals are for a state
-abbrev pub IsBench : ℕ → BlockStack → State Known (ℕ → Option Known) → Type 0
-IsBench n b s = IsState (IsFor in_range n) b.values.items b.locals.items s
+abbrev pub IsBlockStack : ℕ → BlockStack → State Known (ℕ → Option Known) → Type 0
+IsBlockStack n b s = IsState (IsFor in_range n) b.values.items b.locals.items s
 
 -- what an operation does to them
-abbrev pub BenchLed : Version → List VarInfo → BlockStack → Op → Range → Bool → BlockStack → Type 0
-BenchLed v vars old op p ok new = Led in_range tree_of block_rules v vars old op p ok new
+abbrev pub BlockStep : Version → List VarInfo → BlockStack → Op → Range → Bool → BlockStack → Type 0
+BlockStep v vars old op p ok new = StackStep in_range tree_of block_rules v vars old op p ok new
 
 -- ---- of a filter
 -- the stack and the locals of a filter
@@ -52,9 +52,9 @@ abbrev pub FilterStack : Type 0
 FilterStack = Stack (Value Triple)
 
 -- the stack and the locals are for a state
-abbrev pub IsTray : ℕ → FilterStack → State FilterKnown (ℕ → Option FilterKnown) → Type 0
-IsTray n b s = IsState (IsFor in_triple n) b.values.items b.locals.items s
+abbrev pub IsFilterStack : ℕ → FilterStack → State FilterKnown (ℕ → Option FilterKnown) → Type 0
+IsFilterStack n b s = IsState (IsFor in_triple n) b.values.items b.locals.items s
 
 -- what an operation does to them
-abbrev pub TrayLed : Version → List VarInfo → FilterStack → Op → Triple → Bool → FilterStack → Type 0
-TrayLed v vars old op a ok new = Led in_triple filter_tree_of triple_rules v vars old op a ok new
+abbrev pub FilterStep : Version → List VarInfo → FilterStack → Op → Triple → Bool → FilterStack → Type 0
+FilterStep v vars old op a ok new = StackStep in_triple filter_tree_of triple_rules v vars old op a ok new

@@ -7,13 +7,13 @@ ghost use Rattle.ln_poly.specs.Sparse.{size_of};
 ghost use Rattle.ln_verify.specs.Joined.{Joined};
 
 use crate::fits::all_fit;
-use crate::held::{Held, add, opposite};
+use crate::shared_poly::{SharedPoly, add, opposite};
 use ln_base::NoMemory;
 use ln_bound::Two;
 use ln_poly::{Poly, mul_within};
 use std::alloc::Global;
 
-fn plus(alloc: Global, f: Held, g: Held) -> Result<Option<Held>, NoMemory>
+fn plus(alloc: Global, f: SharedPoly, g: SharedPoly) -> Result<Option<SharedPoly>, NoMemory>
     requires { size_of f + size_of g < 2 ^ 127 }
     ensures { IfOk result (λ o. Joined Plus f g o) }
 {
@@ -21,7 +21,7 @@ fn plus(alloc: Global, f: Held, g: Held) -> Result<Option<Held>, NoMemory>
     Ok(Some(h))
 }
 
-fn minus(alloc: Global, f: Held, g: Held) -> Result<Option<Held>, NoMemory>
+fn minus(alloc: Global, f: SharedPoly, g: SharedPoly) -> Result<Option<SharedPoly>, NoMemory>
     requires { size_of f + size_of g < 2 ^ 127 }
     ensures { IfOk result (λ o. Joined Minus f g o) }
 {
@@ -31,7 +31,7 @@ fn minus(alloc: Global, f: Held, g: Held) -> Result<Option<Held>, NoMemory>
 }
 
 // The product, where its exponents are below 128 and it has at most 1,024 terms.
-fn within(alloc: Global, f: &Poly, g: &Poly) -> Result<Option<Held>, NoMemory>
+fn within(alloc: Global, f: &Poly, g: &Poly) -> Result<Option<SharedPoly>, NoMemory>
     requires { size_of f.now * size_of g.now < 2 ^ 127 }
     ensures { IfOk result (λ o. Joined Times f.now g.now o) }
 {
@@ -42,12 +42,12 @@ fn within(alloc: Global, f: &Poly, g: &Poly) -> Result<Option<Held>, NoMemory>
     let Some(p) = found else {
         return Ok(None);
     };
-    let h = Held::of(alloc, p)?;
+    let h = SharedPoly::of(alloc, p)?;
     Ok(Some(h))
 }
 
 // The product with a second polynomial, whose terms are copied only where a minus is beside them and it has other owners.
-fn times_by(alloc: Global, f: &Poly, g: Held) -> Result<Option<Held>, NoMemory>
+fn times_by(alloc: Global, f: &Poly, g: SharedPoly) -> Result<Option<SharedPoly>, NoMemory>
     requires { size_of f.now * size_of g < 2 ^ 127 }
     ensures { IfOk result (λ o. Joined Times f.now g o) }
 {
@@ -58,7 +58,7 @@ fn times_by(alloc: Global, f: &Poly, g: Held) -> Result<Option<Held>, NoMemory>
     within(alloc, f, &own)
 }
 
-fn times(alloc: Global, f: Held, g: Held) -> Result<Option<Held>, NoMemory>
+fn times(alloc: Global, f: SharedPoly, g: SharedPoly) -> Result<Option<SharedPoly>, NoMemory>
     requires { size_of f * size_of g < 2 ^ 127 }
     ensures { IfOk result (λ o. Joined Times f g o) }
 {
@@ -71,7 +71,12 @@ fn times(alloc: Global, f: Held, g: Held) -> Result<Option<Held>, NoMemory>
 
 /// The polynomial of a sum, a difference or a product; none where it isn't small. A product whose exponents exceed the limit isn't
 /// worked out.
-pub fn joined(alloc: Global, t: Two, f: Held, g: Held) -> Result<Option<Held>, NoMemory>
+pub fn joined(
+    alloc: Global,
+    t: Two,
+    f: SharedPoly,
+    g: SharedPoly,
+) -> Result<Option<SharedPoly>, NoMemory>
     requires { bound_of t (size_of f) (size_of g) ≤ most }
     ensures { IfOk result (λ o. Joined t f g o) }
 {

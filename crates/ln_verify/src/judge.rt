@@ -5,17 +5,17 @@ ghost use Rattle.ln_verify.specs.BlockRules.{Version};
 ghost use Rattle.ln_verify.specs.Line.{Place};
 ghost use Rattle.ln_cert.specs.declared.part.Part.{Part as AnyPart};
 ghost use Rattle.ln_cert.specs.declared.part.Part.TheVariants.{Done, Predicate};
-ghost use Rattle.ln_verify.specs.declared.desk.At.TheVariants.{Away};
-ghost use Rattle.ln_verify.specs.Here.{Finished, Gone, IsAnswer, IsHere, IsCase, Leads, subject_of, subjects_of};
+ghost use Rattle.ln_verify.specs.declared.progress.At.TheVariants.{Away};
+ghost use Rattle.ln_verify.specs.Here.{Finished, PlaceStep, IsAnswer, IsHere, IsCase, Leads, subject_of, subjects_of};
 ghost use Rattle.ln_verify.specs.Versions.{version_of};
 ghost use Rattle.ln_tree.specs.Names.{name_bytes};
 ghost use Rattle.ln_cert.specs.Listing.{AreNumbered, parts_of};
 ghost use Rattle.ln_cert.specs.Unread.{AreLeft};
 
 use crate::case::Case;
-use crate::desk::{At, Desk, is_at};
 use crate::form::Form;
 use crate::kinds::{block, block_op, decide, end, filter, filter_op, no_filter, order, range_op};
+use crate::progress::{At, Progress, is_at};
 use crate::stacks::empty;
 use ln_base::{NoMemory, Seq};
 use ln_cert::{Entry, Lines, Part};
@@ -26,24 +26,24 @@ fn within(
     alloc: Global,
     case: &Case,
     form: Form,
-    desk: &mut Desk,
+    state: &mut Progress,
     line: &Part,
 ) -> Result<bool, NoMemory>
     requires { IsCase case.now }
-    ensures { IfOk result (λ ok. Leads (version_of form) (subject_of case.now) desk.old line.now ok desk.new) }
+    ensures { IfOk result (λ ok. Leads (version_of form) (subject_of case.now) state.old line.now ok state.new) }
 {
     match line {
         Part::Predicate(_name) => Ok(false),
-        Part::NoFilter => Ok(no_filter(alloc, desk)),
-        Part::Filter => filter(alloc, desk),
-        Part::FilterOp(op, a) => filter_op(alloc, case, form, desk, *op, *a),
-        Part::Decide => decide(alloc, case, desk),
-        Part::Block(k, a) => block(alloc, case, desk, *k, a.as_slice()),
-        Part::BlockOp(op, b) => block_op(alloc, case, form, desk, *op, *b),
-        Part::RangeOp(op, low, high) => range_op(alloc, case, form, desk, *op, *low, *high),
-        Part::End => end(alloc, case, desk),
+        Part::NoFilter => Ok(no_filter(alloc, state)),
+        Part::Filter => filter(alloc, state),
+        Part::FilterOp(op, a) => filter_op(alloc, case, form, state, *op, *a),
+        Part::Decide => decide(alloc, case, state),
+        Part::Block(k, a) => block(alloc, case, state, *k, a.as_slice()),
+        Part::BlockOp(op, b) => block_op(alloc, case, form, state, *op, *b),
+        Part::RangeOp(op, low, high) => range_op(alloc, case, form, state, *op, *low, *high),
+        Part::End => end(alloc, case, state),
         Part::Order(places, list) => {
-            order(alloc, case, desk, places.as_slice(), list.as_slice())
+            order(alloc, case, state, places.as_slice(), list.as_slice())
         }
         Part::Done => Ok(false),
     }
@@ -69,29 +69,29 @@ fn is_done(line: &Part) -> bool
 }
 
 // `predicate`.
-fn predicate(cases: &[Case], desk: &mut Desk, name: &[u8]) -> bool
-    requires { desk.old.at ≡ Away }
-    ensures { (v : Version) (here : Place) → IsHere (subjects_of cases.now) desk.old here →
-        Gone v (subjects_of cases.now) here (Predicate name.now) result desk.new }
+fn predicate(cases: &[Case], state: &mut Progress, name: &[u8]) -> bool
+    requires { state.old.at ≡ Away }
+    ensures { (v : Version) (here : Place) → IsHere (subjects_of cases.now) state.old here →
+        PlaceStep v (subjects_of cases.now) here (Predicate name.now) result state.new }
 {
-    let Some(case) = case_at(cases, desk.parts) else {
+    let Some(case) = case_at(cases, state.parts) else {
         return false;
     };
     if !is_name(case, name) {
         return false;
     }
-    desk.at = At::AtName;
+    state.at = At::AtName;
     true
 }
 
 // A line outside the parts.
-fn outside(cases: &[Case], desk: &mut Desk, line: &Part) -> bool
-    requires { desk.old.at ≡ Away }
-    ensures { (v : Version) (here : Place) → IsHere (subjects_of cases.now) desk.old here →
-        Gone v (subjects_of cases.now) here line.now result desk.new }
+fn outside(cases: &[Case], state: &mut Progress, line: &Part) -> bool
+    requires { state.old.at ≡ Away }
+    ensures { (v : Version) (here : Place) → IsHere (subjects_of cases.now) state.old here →
+        PlaceStep v (subjects_of cases.now) here line.now result state.new }
 {
     match line {
-        Part::Predicate(name) => predicate(cases, desk, name.as_slice()),
+        Part::Predicate(name) => predicate(cases, state, name.as_slice()),
         Part::NoFilter => false,
         Part::Filter => false,
         Part::FilterOp(_op, _a) => false,
@@ -106,19 +106,19 @@ fn outside(cases: &[Case], desk: &mut Desk, line: &Part) -> bool
 }
 
 // `done`.
-fn done(case: &Case, desk: &mut Desk) -> bool
-    requires room { desk.old.parts < 18446744073709551615 }
+fn done(case: &Case, state: &mut Progress) -> bool
+    requires room { state.old.parts < 18446744073709551615 }
     requires case { IsCase case.now }
-    ensures { Finished (subject_of case.now) desk.old result desk.new }
+    ensures { Finished (subject_of case.now) state.old result state.new }
 {
-    if !is_at(desk.at, At::AtOrder) {
+    if !is_at(state.at, At::AtOrder) {
         return false;
     }
-    if desk.lists != case.orders.len() {
+    if state.lists != case.orders.len() {
         return false;
     }
-    desk.at = At::Away;
-    desk.parts += 1;
+    state.at = At::Away;
+    state.parts += 1;
     true
 }
 
@@ -127,48 +127,48 @@ fn line(
     alloc: Global,
     cases: &[Case],
     form: Form,
-    desk: &mut Desk,
+    state: &mut Progress,
     line: &Part,
 ) -> Result<bool, NoMemory>
     requires { All IsCase cases.now }
-    ensures { IfOk result (λ ok. (here : Place) → IsHere (subjects_of cases.now) desk.old here →
-        Gone (version_of form) (subjects_of cases.now) here line.now ok desk.new) }
+    ensures { IfOk result (λ ok. (here : Place) → IsHere (subjects_of cases.now) state.old here →
+        PlaceStep (version_of form) (subjects_of cases.now) here line.now ok state.new) }
 {
-    if is_at(desk.at, At::Away) {
-        return Ok(outside(cases, desk, line));
+    if is_at(state.at, At::Away) {
+        return Ok(outside(cases, state, line));
     }
-    let Some(case) = case_at(cases, desk.parts) else {
+    let Some(case) = case_at(cases, state.parts) else {
         return Ok(false);
     };
     if is_done(line) {
-        return Ok(done(case, desk));
+        return Ok(done(case, state));
     }
-    within(alloc, case, form, desk, line)
+    within(alloc, case, form, state, line)
 }
 
-fn fresh_desk(alloc: Global) -> Result<Desk, NoMemory>
+fn fresh_progress(alloc: Global) -> Result<Progress, NoMemory>
     ensures { IfOk result (λ d. (d.at ≡ Away) × (d.parts ≡ 0)) }
 {
-    let bench = empty(alloc)?;
-    let tray = empty(alloc)?;
-    Ok(Desk {
+    let block_stack = empty(alloc)?;
+    let filter_stack = empty(alloc)?;
+    Ok(Progress {
         at: At::Away,
         parts: 0,
         exps: Seq::new(alloc),
-        bench,
-        tray,
+        block_stack,
+        filter_stack,
         lists: 0,
     })
 }
 
 // Is the reader outside of parts, after one for each predicate?
-fn is_over(cases: &[Case], desk: &Desk) -> bool
-    ensures { IsTrue result ↔ ((desk.now.at ≡ Away) × (desk.now.parts ≡ length cases.now)) }
+fn is_over(cases: &[Case], state: &Progress) -> bool
+    ensures { IsTrue result ↔ ((state.now.at ≡ Away) × (state.now.parts ≡ length cases.now)) }
 {
-    if !is_at(desk.at, At::Away) {
+    if !is_at(state.at, At::Away) {
         return false;
     }
-    desk.parts == cases.len()
+    state.parts == cases.len()
 }
 
 // The first line that fails, or none fails, where the reader is before the first part.
@@ -177,21 +177,21 @@ fn over_entries(
     cases: &[Case],
     form: Form,
     entries: &[Entry],
-    desk: &mut Desk,
+    state: &mut Progress,
 ) -> Result<Option<u32>, NoMemory>
     requires cases { All IsCase cases.now }
     requires numbered { AreNumbered 2 entries.now }
     requires few { length entries.now < 4294967294 }
-    requires away { desk.old.at ≡ Away }
-    requires none { desk.old.parts ≡ 0 }
+    requires away { state.old.at ≡ Away }
+    requires none { state.old.parts ≡ 0 }
     ensures { IfOk result (λ o. IsAnswer (version_of form) (subjects_of cases.now) (parts_of entries.now) o) }
 {
     'lines: for (i, e) in entries.iter().enumerate() {
-        if !line(alloc, cases, form, desk, &e.part)? {
+        if !line(alloc, cases, form, state, &e.part)? {
             return Ok(Some(e.line));
         }
     }
-    if is_over(cases, desk) {
+    if is_over(cases, state) {
         return Ok(None);
     }
     Ok(Some(entries.len() as u32 + 2))
@@ -209,8 +209,8 @@ pub fn judge(
     requires few { length entries.now < 4294967294 }
     ensures { IfOk result (λ o. IsAnswer (version_of form) (subjects_of cases.now) (parts_of entries.now) o) }
 {
-    let mut desk = fresh_desk(alloc)?;
-    over_entries(alloc, cases, form, entries, &mut desk)
+    let mut state = fresh_progress(alloc)?;
+    over_entries(alloc, cases, form, entries, &mut state)
 }
 
 // The first of the remaining lines that fails, or none fails, where the reader is before the first part.
@@ -219,23 +219,23 @@ fn over_lines(
     cases: &[Case],
     form: Form,
     lines: &mut Lines<'_>,
-    desk: &mut Desk,
+    state: &mut Progress,
 ) -> Result<Option<u32>, NoMemory>
     requires cases { All IsCase cases.now }
     requires second { lines.old.line ≡ 2 }
-    requires away { desk.old.at ≡ Away }
-    requires none { desk.old.parts ≡ 0 }
+    requires away { state.old.at ≡ Away }
+    requires none { state.old.parts ≡ 0 }
     ensures { IfOk result (λ o. (ps : List AnyPart) → AreLeft lines.old ps → IsAnswer (version_of form) (subjects_of cases.now) ps o) }
 {
     'lines: while let Some(e) = lines.next(alloc)? {
         let number = e.line;
-        let good = line(alloc, cases, form, desk, &e.part);
+        let good = line(alloc, cases, form, state, &e.part);
         drop(e);
         if !good? {
             return Ok(Some(number));
         }
     }
-    if is_over(cases, desk) {
+    if is_over(cases, state) {
         return Ok(None);
     }
     Ok(Some(lines.number()))
@@ -252,6 +252,6 @@ pub fn judge_lines(
     requires second { lines.old.line ≡ 2 }
     ensures { IfOk result (λ o. (ps : List AnyPart) → AreLeft lines.old ps → IsAnswer (version_of form) (subjects_of cases.now) ps o) }
 {
-    let mut desk = fresh_desk(alloc)?;
-    over_lines(alloc, cases, form, lines, &mut desk)
+    let mut state = fresh_progress(alloc)?;
+    over_lines(alloc, cases, form, lines, &mut state)
 }

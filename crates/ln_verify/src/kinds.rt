@@ -5,18 +5,18 @@ ghost use Rattle.ln_code.specs.Engine.{State};
 ghost use Rattle.ln_code.specs.FilterRules.{FilterKnown};
 ghost use Rattle.ln_code.specs.Rules.{Known};
 ghost use Rattle.ln_verify.specs.BlockRules.{Version, balanced};
-ghost use Rattle.ln_verify.specs.Here.{AreAbove, BenchEnds, IsCase, Leads, TrayDecides, subject_of};
+ghost use Rattle.ln_verify.specs.Here.{AreAbove, BlockEnds, IsCase, Leads, FilterDecides, subject_of};
 ghost use Rattle.ln_verify.specs.Line.{Subject};
 ghost use Rattle.ln_verify.specs.Versions.{version_of};
-ghost use Rattle.ln_verify.specs.Works.{BenchLed, IsBench, IsTray, TrayLed};
+ghost use Rattle.ln_verify.specs.Works.{BlockStep, IsBlockStack, IsFilterStack, FilterStep};
 ghost use Rattle.ln_cert.specs.declared.part.Part.TheVariants.{NoFilter, Filter, FilterOp, Decide, Block, BlockOp, RangeOp, End, Order};
 
 use crate::case::Case;
 use crate::derived::{is_derivative, is_whole};
-use crate::desk::{At, Desk, before, is_at};
 use crate::form::{Form, is_form};
 use crate::heads::{are_of_sites, exps_of};
 use crate::orders::is_next;
+use crate::progress::{At, Progress, before, is_at};
 use crate::ranged::{BlockStack, pair_of_bound, pair_of_ends};
 use crate::stacks::empty;
 use crate::steps::operate;
@@ -27,41 +27,41 @@ use ln_tree::Exps;
 use std::alloc::Global;
 
 /// `nofilter`.
-pub fn no_filter(alloc: Global, desk: &mut Desk) -> bool
-    ensures { (v : Version) (p : Subject) → Leads v p desk.old NoFilter result desk.new }
+pub fn no_filter(alloc: Global, state: &mut Progress) -> bool
+    ensures { (v : Version) (p : Subject) → Leads v p state.old NoFilter result state.new }
 {
-    if !is_at(desk.at, At::AtName) {
+    if !is_at(state.at, At::AtName) {
         return false;
     }
-    desk.at = At::AtGap;
-    desk.exps = Seq::new(alloc);
+    state.at = At::AtGap;
+    state.exps = Seq::new(alloc);
     true
 }
 
 /// `filter`.
-pub fn filter(alloc: Global, desk: &mut Desk) -> Result<bool, NoMemory>
-    ensures { IfOk result (λ ok. (v : Version) (p : Subject) → Leads v p desk.old Filter ok desk.new) }
+pub fn filter(alloc: Global, state: &mut Progress) -> Result<bool, NoMemory>
+    ensures { IfOk result (λ ok. (v : Version) (p : Subject) → Leads v p state.old Filter ok state.new) }
 {
-    if !is_at(desk.at, At::AtName) {
+    if !is_at(state.at, At::AtName) {
         return Ok(false);
     }
-    desk.tray = empty(alloc)?;
-    desk.at = At::AtFilter;
+    state.filter_stack = empty(alloc)?;
+    state.at = At::AtFilter;
     Ok(true)
 }
 
 // An operation of a filter over the variables of a predicate.
-fn tray_line(
+fn filter_line_on(
     alloc: Global,
     case: &Case,
     form: Form,
-    tray: &mut FilterStack,
+    filter_stack: &mut FilterStack,
     op: Op,
     a: Triple,
 ) -> Result<bool, NoMemory>
-    ensures { IfOk result (λ ok. TrayLed (version_of form) case.now.shape.vars tray.old op a ok tray.new) }
+    ensures { IfOk result (λ ok. FilterStep (version_of form) case.now.shape.vars filter_stack.old op a ok filter_stack.new) }
 {
-    let ok = operate(alloc, form, case.shape.vars.as_slice(), tray, op, a)?;
+    let ok = operate(alloc, form, case.shape.vars.as_slice(), filter_stack, op, a)?;
     Ok(ok)
 }
 
@@ -70,16 +70,16 @@ pub fn filter_op(
     alloc: Global,
     case: &Case,
     form: Form,
-    desk: &mut Desk,
+    state: &mut Progress,
     op: Op,
     a: Triple,
 ) -> Result<bool, NoMemory>
-    ensures { IfOk result (λ ok. Leads (version_of form) (subject_of case.now) desk.old (FilterOp op a) ok desk.new) }
+    ensures { IfOk result (λ ok. Leads (version_of form) (subject_of case.now) state.old (FilterOp op a) ok state.new) }
 {
-    if !is_at(desk.at, At::AtFilter) {
+    if !is_at(state.at, At::AtFilter) {
         return Ok(false);
     }
-    let ok = tray_line(alloc, case, form, &mut desk.tray, op, a)?;
+    let ok = filter_line_on(alloc, case, form, &mut state.filter_stack, op, a)?;
     Ok(ok)
 }
 
@@ -88,14 +88,21 @@ fn bound_line(
     alloc: Global,
     case: &Case,
     form: Form,
-    bench: &mut BlockStack,
+    block_stack: &mut BlockStack,
     op: Op,
     b: u128,
 ) -> Result<bool, NoMemory>
-    ensures { IfOk result (λ ok. BenchLed (version_of form) case.now.shape.vars bench.old op (balanced b) ok bench.new) }
+    ensures { IfOk result (λ ok. BlockStep (version_of form) case.now.shape.vars block_stack.old op (balanced b) ok block_stack.new) }
 {
     let ends = pair_of_bound(b);
-    let ok = operate(alloc, form, case.shape.vars.as_slice(), bench, op, ends)?;
+    let ok = operate(
+        alloc,
+        form,
+        case.shape.vars.as_slice(),
+        block_stack,
+        op,
+        ends,
+    )?;
     Ok(ok)
 }
 
@@ -104,19 +111,19 @@ pub fn block_op(
     alloc: Global,
     case: &Case,
     form: Form,
-    desk: &mut Desk,
+    state: &mut Progress,
     op: Op,
     b: u128,
 ) -> Result<bool, NoMemory>
-    ensures { IfOk result (λ ok. Leads (version_of form) (subject_of case.now) desk.old (BlockOp op b) ok desk.new) }
+    ensures { IfOk result (λ ok. Leads (version_of form) (subject_of case.now) state.old (BlockOp op b) ok state.new) }
 {
     if !is_form(form, Form::One) {
         return Ok(false);
     }
-    if !is_at(desk.at, At::AtBlock) {
+    if !is_at(state.at, At::AtBlock) {
         return Ok(false);
     }
-    let ok = bound_line(alloc, case, form, &mut desk.bench, op, b)?;
+    let ok = bound_line(alloc, case, form, &mut state.block_stack, op, b)?;
     Ok(ok)
 }
 
@@ -125,16 +132,23 @@ fn range_line(
     alloc: Global,
     case: &Case,
     form: Form,
-    bench: &mut BlockStack,
+    block_stack: &mut BlockStack,
     op: Op,
     low: i128,
     high: i128,
 ) -> Result<bool, NoMemory>
     ensures { IfOk result (λ ok.
-        BenchLed (version_of form) case.now.shape.vars bench.old op (record { low = low; high = high }) ok bench.new) }
+        BlockStep (version_of form) case.now.shape.vars block_stack.old op (record { low = low; high = high }) ok block_stack.new) }
 {
     let ends = pair_of_ends(low, high);
-    let ok = operate(alloc, form, case.shape.vars.as_slice(), bench, op, ends)?;
+    let ok = operate(
+        alloc,
+        form,
+        case.shape.vars.as_slice(),
+        block_stack,
+        op,
+        ends,
+    )?;
     Ok(ok)
 }
 
@@ -143,20 +157,20 @@ pub fn range_op(
     alloc: Global,
     case: &Case,
     form: Form,
-    desk: &mut Desk,
+    state: &mut Progress,
     op: Op,
     low: i128,
     high: i128,
 ) -> Result<bool, NoMemory>
-    ensures { IfOk result (λ ok. Leads (version_of form) (subject_of case.now) desk.old (RangeOp op low high) ok desk.new) }
+    ensures { IfOk result (λ ok. Leads (version_of form) (subject_of case.now) state.old (RangeOp op low high) ok state.new) }
 {
     if !is_form(form, Form::Two) {
         return Ok(false);
     }
-    if !is_at(desk.at, At::AtBlock) {
+    if !is_at(state.at, At::AtBlock) {
         return Ok(false);
     }
-    let ok = range_line(alloc, case, form, &mut desk.bench, op, low, high)?;
+    let ok = range_line(alloc, case, form, &mut state.block_stack, op, low, high)?;
     Ok(ok)
 }
 
@@ -164,37 +178,37 @@ pub fn range_op(
 pub fn order(
     alloc: Global,
     case: &Case,
-    desk: &mut Desk,
+    state: &mut Progress,
     places: &[u8],
     list: &[u32],
 ) -> Result<bool, NoMemory>
     requires { IsCase case.now }
-    ensures { IfOk result (λ ok. (v : Version) → Leads v (subject_of case.now) desk.old (Order places.now list.now) ok desk.new) }
+    ensures { IfOk result (λ ok. (v : Version) → Leads v (subject_of case.now) state.old (Order places.now list.now) ok state.new) }
 {
-    let Some(n) = before(desk.at, desk.lists) else {
+    let Some(n) = before(state.at, state.lists) else {
         return Ok(false);
     };
     if n >= case.orders.len() {
         return Ok(false);
     }
-    if !is_next(alloc, case, desk.exps.as_slice(), n, places, list)? {
+    if !is_next(alloc, case, state.exps.as_slice(), n, places, list)? {
         return Ok(false);
     }
-    desk.at = At::AtOrder;
-    desk.lists = n + 1;
+    state.at = At::AtOrder;
+    state.lists = n + 1;
     Ok(true)
 }
 
 // Is there one value, whose polynomial is the predicate's, with an E that fits 64 bits?
-fn decides(alloc: Global, case: &Case, tray: &FilterStack) -> Result<bool, NoMemory>
+fn decides(alloc: Global, case: &Case, filter_stack: &FilterStack) -> Result<bool, NoMemory>
     requires { IsCase case.now }
-    ensures { IfOk result (λ ok. (s : State FilterKnown (ℕ → Option FilterKnown)) → IsTray (length case.now.shape.vars) tray.now s →
-        IsTrue ok ↔ TrayDecides (subject_of case.now) s) }
+    ensures { IfOk result (λ ok. (s : State FilterKnown (ℕ → Option FilterKnown)) → IsFilterStack (length case.now.shape.vars) filter_stack.now s →
+        IsTrue ok ↔ FilterDecides (subject_of case.now) s) }
 {
-    if tray.values.len() != 1 {
+    if filter_stack.values.len() != 1 {
         return Ok(false);
     }
-    let x = &tray.values[0];
+    let x = &filter_stack.values[0];
     if x.limits.e > 9223372036854775807 {
         return Ok(false);
     }
@@ -203,51 +217,56 @@ fn decides(alloc: Global, case: &Case, tray: &FilterStack) -> Result<bool, NoMem
 }
 
 /// `decide`.
-pub fn decide(alloc: Global, case: &Case, desk: &mut Desk) -> Result<bool, NoMemory>
+pub fn decide(alloc: Global, case: &Case, state: &mut Progress) -> Result<bool, NoMemory>
     requires { IsCase case.now }
-    ensures { IfOk result (λ ok. (v : Version) → Leads v (subject_of case.now) desk.old Decide ok desk.new) }
+    ensures { IfOk result (λ ok. (v : Version) → Leads v (subject_of case.now) state.old Decide ok state.new) }
 {
-    if !is_at(desk.at, At::AtFilter) {
+    if !is_at(state.at, At::AtFilter) {
         return Ok(false);
     }
-    if !decides(alloc, case, &desk.tray)? {
+    if !decides(alloc, case, &state.filter_stack)? {
         return Ok(false);
     }
-    desk.at = At::AtGap;
-    desk.exps = Seq::new(alloc);
+    state.at = At::AtGap;
+    state.exps = Seq::new(alloc);
     Ok(true)
 }
 
 // Is there one value, whose polynomial is the scaled derivative by the last of the exponents?
-fn ends(alloc: Global, case: &Case, exps: &[Exps], bench: &BlockStack) -> Result<bool, NoMemory>
+fn ends(
+    alloc: Global,
+    case: &Case,
+    exps: &[Exps],
+    block_stack: &BlockStack,
+) -> Result<bool, NoMemory>
     requires { IsCase case.now }
     ensures { IfOk result (λ ok. (es : List Pairs) (a : Pairs) (s : State Known (ℕ → Option Known)) → exps.now ≡ es ++ a ∷ [] →
         AreAbove (length case.now.shape.vars) exps.now →
-        IsBench (length case.now.shape.vars) bench.now s → IsTrue ok ↔ BenchEnds (subject_of case.now) a s) }
+        IsBlockStack (length case.now.shape.vars) block_stack.now s → IsTrue ok ↔ BlockEnds (subject_of case.now) a s) }
 {
     if exps.is_empty() {
         return Ok(false);
     }
-    if bench.values.len() != 1 {
+    if block_stack.values.len() != 1 {
         return Ok(false);
     }
-    let f = bench.values[0].poly.settled(alloc)?;
+    let f = block_stack.values[0].poly.settled(alloc)?;
     let ok = is_derivative(alloc, case, &exps[exps.len() - 1], &f)?;
     Ok(ok)
 }
 
 /// `end`.
-pub fn end(alloc: Global, case: &Case, desk: &mut Desk) -> Result<bool, NoMemory>
+pub fn end(alloc: Global, case: &Case, state: &mut Progress) -> Result<bool, NoMemory>
     requires { IsCase case.now }
-    ensures { IfOk result (λ ok. (v : Version) → Leads v (subject_of case.now) desk.old End ok desk.new) }
+    ensures { IfOk result (λ ok. (v : Version) → Leads v (subject_of case.now) state.old End ok state.new) }
 {
-    if !is_at(desk.at, At::AtBlock) {
+    if !is_at(state.at, At::AtBlock) {
         return Ok(false);
     }
-    if !ends(alloc, case, desk.exps.as_slice(), &desk.bench)? {
+    if !ends(alloc, case, state.exps.as_slice(), &state.block_stack)? {
         return Ok(false);
     }
-    desk.at = At::AtGap;
+    state.at = At::AtGap;
     Ok(true)
 }
 
@@ -255,16 +274,16 @@ pub fn end(alloc: Global, case: &Case, desk: &mut Desk) -> Result<bool, NoMemory
 pub fn block(
     alloc: Global,
     case: &Case,
-    desk: &mut Desk,
+    state: &mut Progress,
     k: u32,
     a: &[(u8, u8)],
 ) -> Result<bool, NoMemory>
-    ensures { IfOk result (λ ok. (v : Version) → Leads v (subject_of case.now) desk.old (Block k a.now) ok desk.new) }
+    ensures { IfOk result (λ ok. (v : Version) → Leads v (subject_of case.now) state.old (Block k a.now) ok state.new) }
 {
-    if !is_at(desk.at, At::AtGap) {
+    if !is_at(state.at, At::AtGap) {
         return Ok(false);
     }
-    if k as usize != desk.exps.len() {
+    if k as usize != state.exps.len() {
         return Ok(false);
     }
     if !are_of_sites(case.shape.vars.as_slice(), a) {
@@ -273,8 +292,8 @@ pub fn block(
     let Some(e) = exps_of(alloc, a)? else {
         return Ok(false);
     };
-    desk.bench = empty(alloc)?;
-    desk.exps.push(e)?;
-    desk.at = At::AtBlock;
+    state.block_stack = empty(alloc)?;
+    state.exps.push(e)?;
+    state.at = At::AtBlock;
     Ok(true)
 }

@@ -14,10 +14,10 @@ ghost use Rattle.ln_verify.specs.Versions.{version_of};
 
 use crate::allowed::{input_size, joined_size, variable};
 use crate::form::Form;
-use crate::held;
-use crate::held::{Held, opposite, power};
 use crate::joined::joined;
 use crate::limits::Limits;
+use crate::shared_poly;
+use crate::shared_poly::{SharedPoly, opposite, power};
 use crate::value::Value;
 use ln_base::NoMemory;
 use ln_bound::{Two, Width};
@@ -37,7 +37,7 @@ fn within<L: Limits>(found: Option<L>, size: u128) -> Option<L>
 }
 
 // The value, where its polynomial has at most 1,024 terms.
-fn kept<L: Limits>(limits: L, size: u128, poly: Held) -> Option<Value<L>>
+fn kept<L: Limits>(limits: L, size: u128, poly: SharedPoly) -> Option<Value<L>>
     requires small { size ≤ most }
     requires heavy { size_of poly ≤ size }
     ensures { (n : ℕ) (t : Tree) → IsNormal n t poly → IsMade (IsFor L.known n) L.tree n result (Some (L.known limits t size)) }
@@ -57,7 +57,7 @@ pub fn number<L: Limits>(alloc: Global, c: i128, s: L::Said) -> Result<Option<Va
     let Some(limits) = within(L::of_number(c, s), size) else {
         return Ok(None);
     };
-    let h = held::number(alloc, c)?;
+    let h = shared_poly::number(alloc, c)?;
     Ok(kept(limits, size, h))
 }
 

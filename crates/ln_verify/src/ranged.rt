@@ -56,7 +56,7 @@ impl Limits for Ranged {
     ghost use Rattle.ln_code.specs.Rules.{Known};
     ghost use Rattle.ln_verify.specs.BlockRules.{block_rules};
     ghost use Rattle.ln_verify.specs.Line.{tree_of};
-    ghost use Rattle.ln_verify.specs.Rules.{block_stack, no_variable};
+    ghost use Rattle.ln_verify.specs.Rules.{blocks_have_stack, no_variable};
 
     ghost Bound = { Range };
 
@@ -127,7 +127,7 @@ impl Limits for Ranged {
 
     ghost missing = { no_variable };
 
-    ghost stacked = { block_stack };
+    ghost stacked = { blocks_have_stack };
 }
 
 /// The pair of a bound, if it fits.

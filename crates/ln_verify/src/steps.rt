@@ -6,7 +6,7 @@ ghost use Rattle.ln_tree.specs.declared.shape.VarInfo.{VarInfo as Info};
 ghost use Rattle.ln_code.specs.declared.op.Op.TheVariants.{Push, Input, Get, Set, Neg, Cut};
 ghost use Rattle.ln_verify.specs.BlockRules.{Version};
 ghost use Rattle.ln_verify.specs.Versions.{version_of};
-ghost use Rattle.ln_verify.specs.Works.{Led, op_of};
+ghost use Rattle.ln_verify.specs.Works.{StackStep, op_of};
 
 use crate::form::Form;
 use crate::limits::Limits;
@@ -27,7 +27,7 @@ fn push_number<L: Limits>(
     s: L::Said,
 ) -> Result<bool, NoMemory>
     ensures { IfOk result (λ ok. (v : Version) (vars : List Info) (b : L.Bound) → L.tells s b →
-        Led L.known L.tree L.rules v vars on.old (Push c) b ok on.new) }
+        StackStep L.known L.tree L.rules v vars on.old (Push c) b ok on.new) }
 {
     let v = number(alloc, c, s)?;
     let ok = push(&mut on.values, v)?;
@@ -44,7 +44,7 @@ fn push_input<L: Limits>(
     s: L::Said,
 ) -> Result<bool, NoMemory>
     ensures { IfOk result (λ ok. (b : L.Bound) → L.tells s b →
-        Led L.known L.tree L.rules (version_of form) vars.now on.old (Input k) b ok on.new) }
+        StackStep L.known L.tree L.rules (version_of form) vars.now on.old (Input k) b ok on.new) }
 {
     let v = input(alloc, form, vars, k, s)?;
     let ok = push(&mut on.values, v)?;
@@ -60,7 +60,7 @@ fn with_two<L: Limits>(
     s: L::Said,
 ) -> Result<bool, NoMemory>
     ensures { IfOk result (λ ok. (v : Version) (vars : List Info) (b : L.Bound) → L.tells s b →
-        Led L.known L.tree L.rules v vars on.old (op_of t w) b ok on.new) }
+        StackStep L.known L.tree L.rules v vars on.old (op_of t w) b ok on.new) }
 {
     let Some(y) = pop(&mut on.values) else {
         return Ok(false);
@@ -76,7 +76,7 @@ fn with_two<L: Limits>(
 // One value off the stack, and minus it onto it.
 fn with_one<L: Limits>(on: &mut Stack<Value<L>>, w: Width, s: L::Said) -> Result<bool, NoMemory>
     ensures { IfOk result (λ ok. (v : Version) (vars : List Info) (b : L.Bound) → L.tells s b →
-        Led L.known L.tree L.rules v vars on.old (Neg w) b ok on.new) }
+        StackStep L.known L.tree L.rules v vars on.old (Neg w) b ok on.new) }
 {
     let Some(x) = pop(&mut on.values) else {
         return Ok(false);
@@ -89,7 +89,7 @@ fn with_one<L: Limits>(on: &mut Stack<Value<L>>, w: Width, s: L::Said) -> Result
 // One value off the stack, and it, divided by 2^n, onto it.
 fn with_cut<L: Limits>(on: &mut Stack<Value<L>>, n: u8, s: L::Said) -> Result<bool, NoMemory>
     ensures { IfOk result (λ ok. (v : Version) (vars : List Info) (b : L.Bound) → L.tells s b →
-        Led L.known L.tree L.rules v vars on.old (Cut n) b ok on.new) }
+        StackStep L.known L.tree L.rules v vars on.old (Cut n) b ok on.new) }
 {
     let Some(x) = pop(&mut on.values) else {
         return Ok(false);
@@ -101,7 +101,7 @@ fn with_cut<L: Limits>(on: &mut Stack<Value<L>>, n: u8, s: L::Said) -> Result<bo
 
 // A value off the stack into a local.
 fn set<L: Limits>(on: &mut Stack<Value<L>>, j: u8) -> bool
-    ensures { (v : Version) (vars : List Info) (b : L.Bound) → Led L.known L.tree L.rules v vars on.old (Set j) b result on.new }
+    ensures { (v : Version) (vars : List Info) (b : L.Bound) → StackStep L.known L.tree L.rules v vars on.old (Set j) b result on.new }
 {
     let j = usize::from(j);
     if j >= on.locals.len() {
@@ -117,7 +117,7 @@ fn set<L: Limits>(on: &mut Stack<Value<L>>, j: u8) -> bool
 // A local, onto the stack once more.
 fn get<L: Limits>(on: &mut Stack<Value<L>>, j: u8, s: L::Said) -> Result<bool, NoMemory>
     ensures { IfOk result (λ ok. (v : Version) (vars : List Info) (b : L.Bound) → L.tells s b →
-        Led L.known L.tree L.rules v vars on.old (Get j) b ok on.new) }
+        StackStep L.known L.tree L.rules v vars on.old (Get j) b ok on.new) }
 {
     let j = usize::from(j);
     if j >= on.locals.len() {
@@ -140,7 +140,7 @@ pub fn operate<L: Limits>(
     op: Op,
     s: L::Said,
 ) -> Result<bool, NoMemory>
-    ensures { IfOk result (λ ok. (b : L.Bound) → L.tells s b → Led L.known L.tree L.rules (version_of form) vars.now on.old op b ok on.new) }
+    ensures { IfOk result (λ ok. (b : L.Bound) → L.tells s b → StackStep L.known L.tree L.rules (version_of form) vars.now on.old op b ok on.new) }
 {
     match op {
         Op::Push(c) => push_number(alloc, on, c, s),

@@ -148,7 +148,7 @@ impl Limits for Triple {
     ghost use Rattle.ln_code.specs.FilterRules.{FilterKnown};
     ghost use Rattle.ln_verify.specs.BlockRules.{triple_rules};
     ghost use Rattle.ln_verify.specs.Line.{filter_tree_of};
-    ghost use Rattle.ln_verify.specs.Rules.{in_triple, no_number, triple_stack};
+    ghost use Rattle.ln_verify.specs.Rules.{in_triple, no_number, triples_have_stack};
 
     ghost Bound = { Triple };
 
@@ -196,5 +196,5 @@ impl Limits for Triple {
 
     ghost missing = { no_number };
 
-    ghost stacked = { triple_stack };
+    ghost stacked = { triples_have_stack };
 }

@@ -3,7 +3,7 @@ ghost use Rattle.std.specs.Prelude.{◌≤◌};
 ghost use Rattle.ln_interval.specs.Range.{most};
 ghost use Rattle.ln_poly.specs.Sparse.{size_of};
 
-use crate::held::Held;
+use crate::shared_poly::SharedPoly;
 
 /// A value on the judge's stack: its limits, which are its range and its width in a block and its triple in a filter, its running size
 /// and the polynomial that it carries. The size is at most `2^127 - 1`, and at least the sum of the polynomial's absolute factors: so sums
@@ -12,7 +12,7 @@ use crate::held::Held;
 pub struct Value<L> {
     pub limits: L,
     pub size: u128,
-    pub poly: Held,
+    pub poly: SharedPoly,
     ghost small: { size ≤ most },
     ghost heavy: { size_of poly ≤ size },
 }

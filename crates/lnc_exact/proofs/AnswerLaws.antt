@@ -6,28 +6,29 @@ use Rattle.std.proofs.lemmas.Bool.Decides.{nat_tests}
 use Rattle.std.proofs.lemmas.Option.{none-some}
 use Rattle.ln_base.specs.Outside.{Rose, Shelf, Shown}
 use Rattle.ln_tree.specs.Table.{pred_of}
-use Rattle.ln_top.specs.declared.prepare.Ready.{Ready}
-use Rattle.ln_top.specs.declared.status.Early.{Early}
-use Rattle.ln_top.specs.declared.status.End.{End}
-use Rattle.ln_top.specs.declared.status.End.TheVariants.{Done}
-use Rattle.ln_top.specs.declared.stop.Stop.{Stop}
-use Rattle.ln_top.specs.declared.stop.Stop.TheVariants as stop
-use Rattle.ln_top.specs.declared.stop.Why.TheVariants.{Usage}
+use Rattle.ln_frame.specs.declared.ready.Ready.{Ready}
+use Rattle.ln_frame.specs.declared.status.Early.{Early}
+use Rattle.ln_frame.specs.declared.status.End.{End}
+use Rattle.ln_frame.specs.declared.status.End.TheVariants.{Done}
+use Rattle.ln_frame.specs.declared.stop.Stop.{Stop}
+use Rattle.ln_frame.specs.declared.stop.Stop.TheVariants as stop
+use Rattle.ln_frame.specs.declared.stop.Why.TheVariants.{Usage}
 use Rattle.ln_top.specs.declared.words.Command.TheVariants as command
 use Rattle.ln_top.specs.Answer.{IsMissing, planned, stopped}
-use Rattle.ln_top.specs.Carried as c
-use Rattle.ln_top.specs.Carried.{CarriesOut, Halts, NoPart, PutsText, Says}
+use Rattle.ln_frame.specs.Carried as c
+use Rattle.ln_frame.specs.Carried.{CarriesOut, Halts, NoPart, PutsText, Says}
 use Rattle.ln_top.specs.Causes as cause
 use Rattle.ln_top.specs.Causes.{Ends, EndsExactly}
-use Rattle.ln_top.specs.Emit as emit
+use Rattle.ln_texts.specs.Emit as emit
 use Rattle.ln_top.specs.Plan.{Plan, plan_of}
-use Rattle.ln_top.specs.Ready.{StandsFor}
-use Rattle.ln_top.specs.Said.{Count, Said, end_status, put_both, status_of}
-use Rattle.ln_top.specs.Steps.{Given, Prepares, gives, stops}
-use Rattle.ln_top.specs.Stop.{said_of}
+use Rattle.ln_frame.specs.Ready.{StandsFor}
+use Rattle.ln_frame.specs.Said.{Count, Said, end_status, put_both, status_of}
+use Rattle.ln_frame.specs.Given.{Given, gives, stops}
+use Rattle.ln_top.specs.Steps.{Prepares}
+use Rattle.ln_frame.specs.Stop.{said_of}
 use Rattle.ln_top.specs.Works.{WorkEnds}
-use Rattle.ln_top.proofs.Gathering.LinesLaws.{ok_err, ok_same}
-use Rattle.ln_top.proofs.Steps.Carry.{Duty, lift, says_carried, text_carried, told_carried}
+use Rattle.ln_frame.proofs.LinesLaws.{ok_err, ok_same}
+use Rattle.ln_frame.proofs.Carry.{Duty, lift, says_carried, text_carried, told_carried}
 use Rattle.ln_top.proofs.Steps.Chain.{one_prepares}
 use Rattle.ln_top.proofs.Steps.TopLaws as top
 use Rattle.ln_top.proofs.Steps.TopLaws.{counted_rose, one_end, one_status, same_given, some_plan, stops_gives}

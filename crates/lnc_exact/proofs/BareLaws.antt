@@ -28,7 +28,7 @@ use Rattle.ln_csyn.specs.Meaning.{CCall, Signed}
 use Rattle.ln_cemit.specs.Names.{call_name}
 use Rattle.ln_cemit.specs.Whole.{part_name}
 use Rattle.ln_cemit.specs.Emitted.{AllSay, AreKept, BeginsFile, CallSays, IsEmitted}
-use Rattle.ln_top.proofs.Commands.EmitLaws.{AreNamed, names_of, names_there, same_number, small_more}
+use Rattle.ln_texts.proofs.EmitLaws.{AreNamed, names_of, names_there, same_number, small_more}
 use Rattle.ln_top.proofs.Theorem.HeadlineLaws.{never_zero}
 use Rattle.lnc_exact.specs.Exact.{BeginsExact}
 use Rattle.lnc_exact.specs.Signs.{CallSigns, CallsSign, IsExactC}

@@ -5,14 +5,15 @@ use Rattle.ln_tree.specs.Table.{PredOf}
 use Rattle.ln_code.specs.Part.{Part, without_filter}
 use Rattle.ln_compile.specs.Compiled.{AreProgramsOf}
 use Rattle.ln_cemit.specs.Emitted.{BeginsFile}
-use Rattle.ln_top.specs.declared.status.End.TheVariants.{Done}
-use Rattle.ln_top.specs.declared.stop.Why.{Why}
-use Rattle.ln_top.specs.declared.stop.Why.TheVariants.{Usage}
+use Rattle.ln_frame.specs.declared.status.End.TheVariants.{Done}
+use Rattle.ln_frame.specs.declared.stop.Why.{Why}
+use Rattle.ln_frame.specs.declared.stop.Why.TheVariants.{Usage}
 use Rattle.ln_top.specs.declared.words.Command.TheVariants.{Emit}
-use Rattle.ln_top.specs.Said.{Said, put_both, whole}
-use Rattle.ln_top.specs.Stop.{said_of}
+use Rattle.ln_frame.specs.Said.{Said, put_both, whole}
+use Rattle.ln_frame.specs.Stop.{said_of}
 use Rattle.ln_top.specs.Plan.{Plan, plan_of}
-use Rattle.ln_top.specs.Steps.{Given, Prepares, WhereGiven, gives, stops}
+use Rattle.ln_frame.specs.Given.{Given, gives, stops}
+use Rattle.ln_top.specs.Steps.{Prepares, WhereGiven}
 use Rattle.lnc_exact.specs.Signs.{IsExactC}
 
 -- the words with which `lnc` takes the same steps

@@ -9,7 +9,7 @@ mod exact;
 use exact::exact;
 use ln_base::NoMemory;
 use ln_disk::{DiskFiles, StdConsole, words_of};
-use ln_top::status::status_of;
+use ln_frame::status::status_of;
 use ln_top::{Status, exit_code};
 use std::process::ExitCode;
 

@@ -13,13 +13,12 @@ use Rattle.ln_lines.proofs.Fault.{one_whole}
 use Rattle.ln_lines.proofs.OneFault.{fault_first, fault_of, no_whole}
 use Rattle.ln_lines.proofs.OneFault as fault
 use Rattle.ln_lines.proofs.Walk.{lines_of_text}
-use Rattle.ln_cert.specs.declared.part.Entry.{Entry}
 use Rattle.ln_cert.specs.declared.part.Part.{Part}
 use Rattle.ln_cert.specs.declared.part.State.{State}
 use Rattle.ln_cert.specs.Listing.{IsFormFault, IsWhole, ListText, first_line, texts_of}
 use Rattle.ln_cert.specs.Reading.{list_rules}
 use Rattle.ln_cert.specs.Stop.{Stops}
-use Rattle.ln_cert.specs.Unread.{IsOpened, IsTaken}
+use Rattle.ln_cert.specs.Unread.{IsOpened}
 use Rattle.ln_cert.proofs.Reading.Sound.{list_sound}
 use Rattle.ln_cert.proofs.Reading.Walk.{is_form, whole}
 
@@ -89,12 +88,6 @@ opened bs v r k o = record {
   left = o.left;
   second = o.second;
 }
-
--- a line that it takes is taken with its number
-pub taken : (v : ℕ) (r s : left.Unread State) (e : Entry) → left.IsTaken (list_rules v) r e.part s → e.line ≡ r.line
-    → IsTaken (record { version = v; state = r.state; line = r.line; text = r.text })
-    e (record { version = v; state = s.state; line = s.line; text = s.text })
-taken v r s e t n = record { goes_on = t.goes_on; number = n; next = t.next; version = refl; shorter = t.shorter }
 
 -- ---- the first line
 -- where the bytes begin with no first line of a listing, the form fault is at line 1

@@ -2,8 +2,6 @@
 use Rattle.std.proofs.Common.{◌≡◌, inl, inr, ℕ, ◌+◌, ◌<◌, ◌≤◌, zero, suc, List, [], ◌∷◌, ◌++◌, length, map, take, drop, get_or, refl, ap}
 use Rattle.std.proofs.Common.{sym, subst, ◌∙◌, arith}
 use Rattle.std.proofs.lemmas.List.{drop_more, map-append, take-append-drop, take_more}
-use Rattle.std.specs.Prelude.{nat_le, ◌&&◌, true}
-use Rattle.std.proofs.lemmas.Bool.{and_parts}
 use Rattle.ln_base.specs.declared.span.Span.{Span}
 use Rattle.ln_algebra.specs.Tree.{Tree}
 use Rattle.ln_algebra.proofs.Bounding.Weights.{weighted-least}
@@ -11,14 +9,11 @@ use Rattle.ln_tree.specs.declared.expr.Expr.{Expr}
 use Rattle.ln_tree.specs.declared.expr.Node.{Node}
 use Rattle.ln_tree.specs.declared.expr.Node.TheVariants.{Num, Input, Name, Neg', Add', Sub', Mul', Pow'}
 use Rattle.ln_tree.specs.Formula.{formula, node_formula}
-use Rattle.ln_tree.specs.declared.items.Param.{Param}
-use Rattle.ln_tree.specs.declared.items.Site.{Site}
 use Rattle.ln_tree.specs.declared.pred.Pred.{Pred}
-use Rattle.ln_tree.specs.Table.{PredOf, TableOf, is_table, pred_of}
+use Rattle.ln_tree.specs.Table.{PredOf, TableOf, pred_of}
 use Rattle.ln_algebra.specs.Weights.{weighted_sum}
 use Rattle.ln_bound.specs.Light.{AreLight, IsBoundFault, most}
 use Rattle.ln_bound.specs.Value.{weights}
-use Rattle.ln_bound.proofs.Soundness.WidthLaws.{le_test}
 use Rattle.ln_poly.specs.Sparse.{Sparse, terms_of}
 use Rattle.ln_poly.specs.Expansion.{HaveFewTerms, IsNormal, IsTermsFault}
 use Rattle.ln_poly.proofs.Sorting.Collected.{collected}
@@ -122,9 +117,3 @@ text_refusal bytes e (inr n) = inr (ap refusal_of n)
 pub pred_refusal : (bytes : List ℕ) (t : TableOf) (r : Refusal) → TextOf bytes t → StopsPreds t.preds r → IsRefusal bytes r
 pred_refusal bytes t r x (inl f) = inl (of_pred t x f)
 pred_refusal bytes t r x (inr n) = inr n
-
--- a table has at most 16 predicates
-pub few_preds : (sites : List Site) (params : List Param) (preds : List Pred) → is_table sites params preds ≡ true → length preds ≤ 16
-few_preds sites params preds h =
-    let a = and_parts (nat_le (length sites) 16 && nat_le (length params) 16 && nat_le (length preds) 16) _ h in
-    le_test _ _ (and_parts (nat_le (length sites) 16 && nat_le (length params) 16) _ a.0).1

@@ -31,9 +31,6 @@ lexed_token {line = line} {n = n} {bs = bs} f (token {n = m} {ts = ts} k d) =
       lexed = subst (λ (z : ℕ). Lexed line (drop z bs) ts) (sym e) d;
     }
 
-blank_by : (line b : ℕ) (bs xs : List ℕ) (us : List Token) → xs ≡ b ∷ bs → is_blank b ≡ true → (n : ℕ) → IsFirst xs n → ⊥
-blank_by line b bs xs us e h n f = blank_none b bs n h (subst (λ (z : List ℕ). IsFirst z n) e f)
-
 lexed_blank : {line b : ℕ} {bs : List ℕ} {us : List Token} → is_blank b ≡ true → Lexed line (b ∷ bs) us → Lexed (behind b line) bs us
 lexed_blank h (blank k d) = d
 lexed_blank {b = b} {bs = bs} h (token {n = n} f d) = absurd (blank_none b bs n h f)

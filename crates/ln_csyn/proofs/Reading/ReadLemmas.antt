@@ -62,10 +62,6 @@ pub first_some : (bytes f r : List ℕ) → f ≡ take 20 bytes → r ≡ drop 2
 first_some bytes f r e d h =
     sym (take-append-drop 20 bytes) ∙ ap (λ (z : List ℕ). z ++ drop 20 bytes) (sym e ∙ h) ∙ ap (λ (z : List ℕ). first_line ++ z) (sym d)
 
--- where it is another one
-pub first_none : (bytes f : List ℕ) → f ≡ take 20 bytes → (f ≡ first_line → ⊥) → (r : List ℕ) → bytes ≡ first_line ++ r → ⊥
-first_none bytes f e n r h = n (e ∙ ap (λ (z : List ℕ). take 20 z) h)
-
 -- whole files
 pub no_first : (bytes : List ℕ) → ((r : List ℕ) → bytes ≡ first_line ++ r → ⊥) → (gs : List Fun) → CText bytes gs → ⊥
 no_first bytes n gs c = n c.rest c.first
@@ -77,10 +73,6 @@ no_file bytes rest ts e l n gs c =
     let r = behind_first c.rest rest (sym c.first ∙ e) in
     let t = one_lexed_by (subst (λ (z : List ℕ). Lexed 2 z c.tokens) r c.lexed) l in
     n gs (subst (λ (z : List Token). Spelt z gs) t c.spelt)
-
--- all parts of a text
-pub whole : (bytes rest : List ℕ) (ts : List Token) (fs : List Fun) → bytes ≡ first_line ++ rest → Lexed 2 rest ts → Spelt ts fs → CText bytes fs
-whole bytes rest ts fs e l s = record { rest = rest; tokens = ts; first = e; lexed = l; spelt = s }
 
 -- ---- names and numbers of what is derived
 

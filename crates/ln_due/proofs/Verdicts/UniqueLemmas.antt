@@ -28,7 +28,7 @@ use Rattle.ln_due.specs.DueLaw.{Agree, DueIsUnique, WithoutParamsNeverZero}
 
 -- ---- one verdict
 -- signs with one number are one
-sign-number-same : (s t : Sign) → sign_number s ≡ sign_number t → s ≡ t
+pub sign-number-same : (s t : Sign) → sign_number s ≡ sign_number t → s ≡ t
 sign-number-same Minus Minus e = refl
 sign-number-same Minus Zero e = cc
 sign-number-same Minus Plus e = cc

@@ -25,9 +25,6 @@ LeastTo indices places j m n = (k : ℕ) → j ≤ k → k < n → index_at indi
 never : (x y : ℤ) → x ≤ℤ y → y <ℤ x → ⊥
 never x y h l = grind (arith, ints)
 
-self : (x : ℤ) → x ≤ℤ x
-self x = grind (arith, ints)
-
 eqb_flips : (x y : ℕ) → eqb x y ≡ eqb y x
 eqb_flips x y = grind (arith, nat_tests)
 

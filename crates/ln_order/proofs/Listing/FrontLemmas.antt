@@ -1,18 +1,12 @@
 -- All prefixes, written one after the other.
-use Rattle.std.proofs.Common.{◌≡◌, ℕ, zero, suc, ◌+◌, ◌<◌, ◌≤◌, List, [], ◌∷◌, length, map, get_or, take, refl, sym, ◌∙◌, ap, subst, arith}
+use Rattle.std.proofs.Common.{◌≡◌, ℕ, zero, suc, ◌<◌, ◌≤◌, List, [], ◌∷◌, length, map, get_or, take, refl, sym, ◌∙◌, ap, subst, arith}
 use Rattle.std.specs.Prelude.{All}
-use Rattle.std.proofs.lemmas.List.{get_or-map, length-map, length-take, take_all}
+use Rattle.std.proofs.lemmas.List.{get_or-map, length-map, length-take}
 use Rattle.std.proofs.lemmas.List.Elements.{Contains-get_or}
-use Rattle.ln_order.specs.Orders.{behind, past}
 use Rattle.ln_order.specs.declared.front.Front.{Front}
 use Rattle.ln_order.specs.Fronts.{front_places}
 use Rattle.ln_order.specs.Prefixes.{IsPrefixOf, prefixes_of}
 use Rattle.ln_order.proofs.Listing.PrefixLemmas.{prefix-is}
-
--- what was written after the first, once all others are
-pub all_behind : (first i : ℕ) (others places : List ℕ) → length others ≤ i → take (i + 1) places ≡ first ∷ map (past first) (take i others)
-    → i ≤ length others → take (length others + 1) places ≡ behind first others
-all_behind first i others places h e l = let q : i ≡ length others = omega arith in rw (← q) (e ∙ ap (λ z. first ∷ map (past first) z) (take_all i others h))
 
 at-front : (j : ℕ) (o : List ℕ) (i d : ℕ) → i < length (take j o) → (i < length o) × (get_or (take j o) i d ≡ get_or o i d)
 at-front zero o i d h = absurd (omega arith)

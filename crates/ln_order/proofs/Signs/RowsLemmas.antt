@@ -36,9 +36,6 @@ module _ (indices : List ℤ) (order : List ℕ) (p : IsOrder indices order) (wh
   from_0 : (s : ℕ) → s < length indices → pos 0 ≤ℤ index_at indices s
   from_0 s h = whole s (pos 0) h
 
-  index : ℕ → ℕ
-  index s = unsigned_abs (index_at indices s)
-
   -- the places of two sites, where one has the smaller place
   rising : (s t : ℕ) → s < length indices → t < length indices → place_in order s < place_in order t → index_at indices s <ℤ index_at indices t
   rising s t hs ht l =

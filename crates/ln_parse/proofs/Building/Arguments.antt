@@ -16,8 +16,8 @@ use Rattle.ln_tree.specs.Variables.{same_site}
 use Rattle.ln_tree.specs.Arguments.{site_behind, is_of, are_of, coords_of, args_fit}
 use Rattle.ln_tree.specs.Table.{CoordOf, SiteOf, ArgOf, SiteArg, ParamArg, arg_of, site_of, param_of, coord_of}
 use Rattle.ln_parse.specs.Says.{site_vars, coords_or, param_vars, vars_behind}
-use Rattle.ln_parse.specs.Ready.{is_known}
 use Rattle.ln_parse.proofs.Building.LaidOut.{Known, all_numbers, count_cons, count_append}
+use Rattle.ln_tree.specs.Whole.{is_one_of}
 
 -- all coordinates of a site pass
 site_all : (p : VarInfo → Bool) (k s c : ℕ) (xs : List CoordOf)
@@ -56,7 +56,7 @@ of_all S P all a s (IsParam p ∷ args) h =
 
 -- the variables are those of the arguments, and each argument has some
 pub all_are_of : (S : List SiteOf) (P : List CoordOf) → Known S P → (args : List Arg)
-    → list_all (is_known (length S) (length P)) (map arg_of args) ≡ true → are_of args (vars_behind S P 0 0 (map arg_of args)) ≡ true
+    → list_all (is_one_of (length S) (length P)) (map arg_of args) ≡ true → are_of args (vars_behind S P 0 0 (map arg_of args)) ≡ true
 all_are_of S P g args h =
     let n = (all_numbers S P g 0 0 (map arg_of args) h).args in
     let l = length-map args arg_of in
@@ -103,14 +103,14 @@ coords_same : (sites : List Site) (t : ℕ) → length (coords_or (slice_get (ma
 coords_same sites t = ap (λ (o : Option SiteOf). length (coords_or o)) (slice_get-map site_of sites t) ∙ coords_length (slice_get sites t)
 
 fit_from : (sites : List Site) (params : List Param) (a s : ℕ) (args : List Arg) (done : List VarInfo)
-    → list_all (is_known (length sites) (length params)) (map arg_of args) ≡ true
+    → list_all (is_one_of (length sites) (length params)) (map arg_of args) ≡ true
     → ((k : ℕ) → a ≤ k → count_by (of_arg k) done ≡ 0)
     → args_fit sites params (done ++ vars_behind (map site_of sites) (map param_of params) a s (map arg_of args)) a args ≡ true
 fit_from sites params a s [] done h z = refl
 fit_from sites params a s (IsSite n t ∷ args) done h z =
     let S = map site_of sites in
     let P = map param_of params in
-    let q = and_parts (nat_lt t (length sites)) (list_all (is_known (length sites) (length params)) (map arg_of args)) h in
+    let q = and_parts (nat_lt t (length sites)) (list_all (is_one_of (length sites) (length params)) (map arg_of args)) h in
     let mine = site_vars a s 0 (coords_or (slice_get S t)) in
     let rest = vars_behind S P (suc a) (suc s) (map arg_of args) in
     let c1 = count_append (of_arg a) done (mine ++ rest) in
@@ -131,7 +131,7 @@ fit_from sites params a s (IsSite n t ∷ args) done h z =
 fit_from sites params a s (IsParam p ∷ args) done h z =
     let S = map site_of sites in
     let P = map param_of params in
-    let q = and_parts (nat_lt p (length params)) (list_all (is_known (length sites) (length params)) (map arg_of args)) h in
+    let q = and_parts (nat_lt p (length params)) (list_all (is_one_of (length sites) (length params)) (map arg_of args)) h in
     let mine = param_vars a (slice_get P p) in
     let rest = vars_behind S P (suc a) s (map arg_of args) in
     let next = λ (k : ℕ) (l : suc a ≤ k). let d1 = count_append (of_arg k) done mine in
@@ -143,6 +143,6 @@ fit_from sites params a s (IsParam p ∷ args) done h z =
     and_from _ _ q.0 (subst (λ (w : List VarInfo). args_fit sites params w (suc a) args ≡ true) (append_assoc done mine rest) r)
 
 -- known arguments with their variables are of the table's site types and params
-pub all_fit : (sites : List Site) (params : List Param) (args : List Arg) → list_all (is_known (length sites) (length params)) (map arg_of args) ≡ true
+pub all_fit : (sites : List Site) (params : List Param) (args : List Arg) → list_all (is_one_of (length sites) (length params)) (map arg_of args) ≡ true
     → args_fit sites params (vars_behind (map site_of sites) (map param_of params) 0 0 (map arg_of args)) 0 args ≡ true
 all_fit sites params args h = fit_from sites params 0 0 args [] h (λ k l. refl)

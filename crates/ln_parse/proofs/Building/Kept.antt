@@ -37,12 +37,13 @@ use Rattle.ln_tree.specs.Names.{name_bytes}
 use Rattle.ln_tree.specs.Variables.{is_laid_out}
 use Rattle.ln_tree.specs.Table.{CoordOf, SiteOf, ArgOf, TableOf, PredOf, arg_of, site_of, param_of, pred_of, pred_fits, is_table}
 use Rattle.ln_parse.specs.Says.{ranged, resolved, Says, LetsSay, PredsSay, arg_said, sites_said, params_said, vars_behind, is_site_said}
-use Rattle.ln_parse.specs.Ready.{ReadyValue, ReadyCoord, ReadyArg, ReadyLet, ReadyPred, ReadyItem, ReadyFile, is_ranged, is_good_site, is_known, Declares}
+use Rattle.ln_parse.specs.Ready.{ReadyValue, ReadyCoord, ReadyArg, ReadyLet, ReadyPred, ReadyItem, ReadyFile, is_ranged, is_good_site, Declares}
 use Rattle.ln_parse.proofs.Building.Predicates.{PredAt}
 use Rattle.ln_parse.proofs.Building.LaidOut.{Known, count_cons, laid_out}
 use Rattle.ln_parse.proofs.Building.Arguments.{all_are_of, all_fit}
 use Rattle.ln_parse.proofs.Expressions.Fitting.{Sees, said, all_known, fits}
 use Rattle.ln_parse.proofs.Wholes.TestLemmas.{in_order}
+use Rattle.ln_tree.specs.Whole.{is_one_of}
 
 above : (b : Bool) (n : ℕ) → n < 2 ^ 63 → int_lt (neg_ℤ (pos (2 ^ 63))) (signed b n) ≡ true
 above false n h = grind (arith, nat_tests, ints)
@@ -195,8 +196,8 @@ pub pred_kept : {r : PredAt} {S : List SiteOf} {P : List CoordOf} {args : List A
 pred_kept {r = r} {S = S} {P = P} {args = args} d vars xs names root v b =
     let g = sees r.bytes r.before r.args S P d.declares d.ready.args in
     let k : Known S P = record { sites = d.declares.good_sites; params = d.declares.good_params } in
-    let h : list_all (is_known (length S) (length P)) (map arg_of args) ≡ true =
-    ap (list_all (is_known (length S) (length P))) d.args_are ∙ all_known r.bytes r.before r.args S P g in
+    let h : list_all (is_one_of (length S) (length P)) (map arg_of args) ≡ true =
+    ap (list_all (is_one_of (length S) (length P))) d.args_are ∙ all_known r.bytes r.before r.args S P g in
     let w : vars_behind S P 0 0 (said r.bytes r.before r.args) ≡ vars = ap (vars_behind S P 0 0) (sym d.args_are) ∙ sym v in
     let m = lets_kept r.bytes r.ts r.before r.args [] r.lets xs S P g b.lets_are d.ready.lets in
     let f = value_fit r.bytes r.ts r.before r.args r.lets r.root (formula root) S P g b.root_is d.ready.root in
@@ -234,8 +235,8 @@ few_args bytes is raws xs a m n =
 
 -- the arguments of a ready predicate are of the table's site types and params
 pub args_known : {r : PredAt} {S : List SiteOf} {P : List CoordOf} {xs : List Arg} → PredReady r S P xs
-    → list_all (is_known (length S) (length P)) (map arg_of xs) ≡ true
-args_known {r = r} {S = S} {P = P} d = ap (list_all (is_known (length S) (length P))) d.args_are
+    → list_all (is_one_of (length S) (length P)) (map arg_of xs) ≡ true
+args_known {r = r} {S = S} {P = P} d = ap (list_all (is_one_of (length S) (length P))) d.args_are
     ∙ all_known r.bytes r.before r.args S P (sees r.bytes r.before r.args S P d.declares d.ready.args)
 
 -- the variables of a ready predicate are those of a shape
@@ -258,9 +259,9 @@ args_kept {xs = xs} sites params vars d v =
     let h = args_known d in
     let m = length-map sites site_of in
     let n = length-map params param_of in
-    let g : list_all (is_known (length sites) (length params)) (map arg_of xs) ≡ true =
-    subst (λ (u : ℕ). list_all (is_known u (length params)) (map arg_of xs) ≡ true) m
-    (subst (λ (u : ℕ). list_all (is_known (length (map site_of sites)) u) (map arg_of xs) ≡ true) n h) in
+    let g : list_all (is_one_of (length sites) (length params)) (map arg_of xs) ≡ true =
+    subst (λ (u : ℕ). list_all (is_one_of u (length params)) (map arg_of xs) ≡ true) m
+    (subst (λ (u : ℕ). list_all (is_one_of (length (map site_of sites)) u) (map arg_of xs) ≡ true) n h) in
     rw v (all_fit sites params xs g)
 
 -- there are as many names as lets

@@ -11,7 +11,8 @@ use Rattle.ln_tree.specs.declared.shape.VarInfo.{VarInfo}
 use Rattle.ln_tree.specs.Variables.{in_order, goes_on, has_range, starts_site, starts_arg, is_param, no_var, is_laid_out}
 use Rattle.ln_tree.specs.Table.{CoordOf, SiteOf, ArgOf, SiteArg, ParamArg}
 use Rattle.ln_parse.specs.Says.{site_vars, coords_or, param_vars, vars_behind, is_site_said}
-use Rattle.ln_parse.specs.Ready.{is_ranged, is_good_site, is_known}
+use Rattle.ln_parse.specs.Ready.{is_ranged, is_good_site}
+use Rattle.ln_tree.specs.Whole.{is_one_of}
 
 -- an element that passes, where all do
 pub get_all : {A : Type 0} (p : A → Bool) (xs : List A) (k : ℕ) → list_all p xs ≡ true → k < length xs → (x : A) × (slice_get xs k ≡ Some x) × (p x ≡ true)
@@ -32,10 +33,6 @@ same n = eq-eqb n n refl
 
 not_first : (n : ℕ) → (suc n == 0) ≡ false
 not_first n = grind (arith, nat_tests)
-
--- the variable of coordinate c of site s, which is argument k
-var : ℕ → ℕ → ℕ → CoordOf → VarInfo
-var k s c x = record { arg = k; site = Some s; coord = c; lo = x.lo; hi = x.hi }
 
 -- a coordinate goes on with the one before
 goes : (a s n : ℕ) (x y : CoordOf) → suc n < 32 → goes_on (record { arg = a; site = Some s; coord = n; lo = x.lo; hi = x.hi })
@@ -87,16 +84,16 @@ coords_order a s b (x ∷ xs) rest p q r = site_order a s b x xs rest (omega ari
 
 -- the variables of known arguments are in order
 pub all_order : (S : List SiteOf) (P : List CoordOf) → Known S P → (a s : ℕ) (b : VarInfo) (args : List ArgOf)
-    → list_all (is_known (length S) (length P)) args ≡ true → in_order a s b (vars_behind S P a s args) ≡ true
+    → list_all (is_one_of (length S) (length P)) args ≡ true → in_order a s b (vars_behind S P a s args) ≡ true
 all_order S P g a s b [] h = refl
 all_order S P g a s b (SiteArg n t ∷ args) h =
-    let q = and_parts (nat_lt t (length S)) (list_all (is_known (length S) (length P)) args) h in
+    let q = and_parts (nat_lt t (length S)) (list_all (is_one_of (length S) (length P)) args) h in
     let x = get_all is_good_site S t g.sites (ltb-true t (length S) q.0) in
     let y = good_parts x.0 x.2 in
     let e = x.1 in
     rw e (coords_order a s b x.0.coords (vars_behind S P (suc a) (suc s) args) y.0 y.1 (λ d. all_order S P g (suc a) (suc s) d args q.1))
 all_order S P g a s b (ParamArg p ∷ args) h =
-    let q = and_parts (nat_lt p (length P)) (list_all (is_known (length S) (length P)) args) h in
+    let q = and_parts (nat_lt p (length P)) (list_all (is_one_of (length S) (length P)) args) h in
     let x = get_all is_ranged P p g.params (ltb-true p (length P) q.0) in
     let e = x.1 in
     rw e (param_order a s b x.0 (vars_behind S P (suc a) s args) (λ d. all_order S P g (suc a) s d args q.1))
@@ -107,17 +104,17 @@ site_ranges k s c (x ∷ xs) h = let q = and_parts (is_ranged x) (list_all is_ra
 
 -- and each has a range
 pub all_ranges : (S : List SiteOf) (P : List CoordOf) → Known S P → (a s : ℕ) (args : List ArgOf)
-    → list_all (is_known (length S) (length P)) args ≡ true → list_all has_range (vars_behind S P a s args) ≡ true
+    → list_all (is_one_of (length S) (length P)) args ≡ true → list_all has_range (vars_behind S P a s args) ≡ true
 all_ranges S P g a s [] h = refl
 all_ranges S P g a s (SiteArg n t ∷ args) h =
-    let q = and_parts (nat_lt t (length S)) (list_all (is_known (length S) (length P)) args) h in
+    let q = and_parts (nat_lt t (length S)) (list_all (is_one_of (length S) (length P)) args) h in
     let x = get_all is_good_site S t g.sites (ltb-true t (length S) q.0) in
     let y = good_parts x.0 x.2 in
     let e = x.1 in
     rw e (list_all-append has_range (site_vars a s 0 x.0.coords) (vars_behind S P (suc a) (suc s) args)
     ∙ and_from _ _ (site_ranges a s 0 x.0.coords y.2) (all_ranges S P g (suc a) (suc s) args q.1))
 all_ranges S P g a s (ParamArg p ∷ args) h =
-    let q = and_parts (nat_lt p (length P)) (list_all (is_known (length S) (length P)) args) h in
+    let q = and_parts (nat_lt p (length P)) (list_all (is_one_of (length S) (length P)) args) h in
     let x = get_all is_ranged P p g.params (ltb-true p (length P) q.0) in
     let e = x.1 in
     rw e (and_from _ _ x.2 (all_ranges S P g (suc a) s args q.1))
@@ -162,10 +159,10 @@ pub record Numbers (as' : List ArgOf) (vars : List VarInfo) : Type 0 where
 
 -- the variables of known arguments have these numbers
 pub all_numbers : (S : List SiteOf) (P : List CoordOf) → Known S P → (a s : ℕ) (args : List ArgOf)
-    → list_all (is_known (length S) (length P)) args ≡ true → Numbers args (vars_behind S P a s args)
+    → list_all (is_one_of (length S) (length P)) args ≡ true → Numbers args (vars_behind S P a s args)
 all_numbers S P g a s [] h = record { sites = refl; args = refl; params = refl; size = omega arith }
 all_numbers S P g a s (SiteArg n t ∷ args) h =
-    let q = and_parts (nat_lt t (length S)) (list_all (is_known (length S) (length P)) args) h in
+    let q = and_parts (nat_lt t (length S)) (list_all (is_one_of (length S) (length P)) args) h in
     let x = get_all is_good_site S t g.sites (ltb-true t (length S) q.0) in
     let y = good_parts x.0 x.2 in
     let mine = site_vars a s 0 x.0.coords in
@@ -186,7 +183,7 @@ all_numbers S P g a s (SiteArg n t ∷ args) h =
     subst (λ (w : List VarInfo). Numbers (SiteArg n t ∷ args) w) (sym v)
     (record { sites = omega arith; args = omega arith; params = omega arith; size = omega arith })
 all_numbers S P g a s (ParamArg p ∷ args) h =
-    let q = and_parts (nat_lt p (length P)) (list_all (is_known (length S) (length P)) args) h in
+    let q = and_parts (nat_lt p (length P)) (list_all (is_one_of (length S) (length P)) args) h in
     let x = get_all is_ranged P p g.params (ltb-true p (length P) q.0) in
     let mine = param_vars a (Some x.0) in
     let rest = vars_behind S P (suc a) s args in
@@ -202,7 +199,7 @@ all_numbers S P g a s (ParamArg p ∷ args) h =
     (record { sites = omega arith; args = omega arith; params = omega arith; size = omega arith })
 
 -- the variables of known arguments are those of a shape
-pub laid_out : (S : List SiteOf) (P : List CoordOf) → Known S P → (args : List ArgOf) → list_all (is_known (length S) (length P)) args ≡ true
+pub laid_out : (S : List SiteOf) (P : List CoordOf) → Known S P → (args : List ArgOf) → list_all (is_one_of (length S) (length P)) args ≡ true
     → count_by is_site_said args ≤ 5 → length args ≤ count_by is_site_said args + 8
     → is_laid_out (count_by is_site_said args) (vars_behind S P 0 0 args) ≡ true
 laid_out S P g args h sites params =

@@ -21,9 +21,10 @@ use Rattle.ln_tree.specs.Formula as formulas
 use Rattle.ln_tree.specs.Fits.{is_fit}
 use Rattle.ln_tree.specs.Table.{CoordOf, SiteOf, ArgOf, SiteArg, ParamArg}
 use Rattle.ln_parse.specs.Says.{place, resolved, name_of, arg_said, site_names, param_names, sites_said, params_said, vars_behind}
-use Rattle.ln_parse.specs.Ready.{Declares, Fit, is_known}
+use Rattle.ln_parse.specs.Ready.{Declares, Fit}
 use Rattle.ln_parse.proofs.Expressions.Found.{found_at, place_len, position_below, no_position, number_from, coord_there, param_there}
 use Rattle.ln_parse.proofs.Expressions.Found.{site_found, param_found, get_longer, each_get}
+use Rattle.ln_tree.specs.Whole.{is_one_of}
 
 -- what follows the colons of arguments is declared
 pub record Sees (bytes : List ℕ) (is : List Item) (raws : List RawArg) (S : List SiteOf) (P : List CoordOf) : Type 0 where
@@ -68,20 +69,20 @@ value_found bytes is S P name d h =
     (f.param, ap (slice_get P) e ∙ ap (λ (w : List CoordOf). slice_get w (position_or_len q (param_names is))) d.params_are ∙ g)
 
 known_one : (bytes : List ℕ) (is : List Item) (S : List SiteOf) (P : List CoordOf) (a : RawArg) (b : Bool) → Declares bytes is S P
-    → IsKnown bytes is a b → is_known (length S) (length P) (arg_said bytes is a b) ≡ true
+    → IsKnown bytes is a b → is_one_of (length S) (length P) (arg_said bytes is a b) ≡ true
 known_one bytes is S P a true d k = let f = value_found bytes is S P a.name d k in lt-ltb _ (length P) (slice_get_within P _ f.0 f.1)
 known_one bytes is S P a false d k = let f = type_found bytes is S P a.kind d k in lt-ltb _ (length S) (slice_get_within S _ f.site f.there)
 
 known_from : (bytes : List ℕ) (is : List Item) (S : List SiteOf) (P : List CoordOf) (before raws : List RawArg) → Declares bytes is S P
     → Each (λ before a. IsKnown bytes is a a.is_param) before raws
-    → list_all (is_known (length S) (length P)) (said bytes is raws) ≡ true
+    → list_all (is_one_of (length S) (length P)) (said bytes is raws) ≡ true
 known_from bytes is S P before [] d e = refl
 known_from bytes is S P before (a ∷ raws) d e =
     and_from _ _ (known_one bytes is S P a a.is_param d e.0) (known_from bytes is S P (before ++ (a ∷ [])) raws d e.1)
 
 -- the arguments are of the table's site types and params
 pub all_known : (bytes : List ℕ) (is : List Item) (raws : List RawArg) (S : List SiteOf) (P : List CoordOf) → Sees bytes is raws S P
-    → list_all (is_known (length S) (length P)) (said bytes is raws) ≡ true
+    → list_all (is_one_of (length S) (length P)) (said bytes is raws) ≡ true
 all_known bytes is raws S P s = known_from bytes is S P [] raws s.declares s.known
 
 -- an argument that is no param is said to be a site

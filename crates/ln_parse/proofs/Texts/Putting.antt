@@ -14,7 +14,7 @@ use Rattle.ln_parse.proofs.Building.Lists.{IsAt, drop_item}
 use Rattle.ln_parse.specs.declared.printer.Room.{Room}
 use Rattle.ln_parse.specs.Lexemes.{Lexeme, gap, word, text_of, each, name, number, Puts, opening, closing}
 use Rattle.ln_parse.specs.Written.{Written, Naming}
-use Rattle.ln_parse.specs.Canonical.{fits, wrap, inside, lets, let_of}
+use Rattle.ln_parse.specs.Canonical.{fits, wrap, inside, lets}
 
 -- a text is appended
 pub puts_text : {a b : List ℕ} (t u : List ℕ) (f : List Lexeme → List Lexeme) → ((rest : List Lexeme) → text_of (f rest) ≡ t ++ text_of rest)
@@ -125,19 +125,6 @@ pub record LetLists : Type 0 where
 pub record LetsPut (old new : List ℕ) (n : Naming) (all last : LetLists) : Type 0 where
   pub on : (rest : List Lexeme) → new ++ text_of (lets n (map name_bytes last.names) (map formula last.values) rest)
       ≡ old ++ text_of (lets n (map name_bytes all.names) (map formula all.values) rest)
-
--- the first of these lets, and the others
-pub record FirstLet (last after : LetLists) (t : Name) (e : Expr) : Type 0 where
-  pub name : last.names ≡ t ∷ after.names
-  pub value : last.values ≡ e ∷ after.values
-
--- one more let is appended
-pub lets_more : {a b c : List ℕ} {n : Naming} {all last after : LetLists} (t : Name) (e : Expr) → FirstLet last after t e → LetsPut a b n all last
-    → Puts b c (let_of n (name_bytes t) (formula e)) → LetsPut a c n all after
-lets_more {n = n} {after = after} t e f l s = record {
-  on = λ rest. let p = f.name in let q = f.value in
-      s.on (lets n (map name_bytes after.names) (map formula after.values) rest) ∙ simp (p, q) at (l.on rest);
-}
 
 no_lets : (n : Naming) (ts : List (List ℕ)) (rest : List Lexeme) → lets n ts [] rest ≡ rest
 no_lets n [] rest = refl

@@ -5,7 +5,7 @@ use Rattle.std.specs.Prelude.{ℤ, pos, neg_ℤ, int_lt, nat_le, slice_get, byte
 use Rattle.std.specs.List.{list_any, list_all}
 use Rattle.std.specs.Ordering.{int_eq}
 use Rattle.std.specs.Cmp.{signed_Decides}
-use Rattle.std.proofs.lemmas.Bool.{and_parts, and_from, le-leb, lt-ltb, eq-eqb}
+use Rattle.std.proofs.lemmas.Bool.{and_from, le-leb, lt-ltb, eq-eqb}
 use Rattle.std.proofs.lemmas.Bool.Decides.{nat_tests}
 use Rattle.std.proofs.lemmas.Int.{ints}
 use Rattle.std.proofs.lemmas.List.{length-map, map-append}
@@ -32,13 +32,13 @@ use Rattle.ln_names.specs.Limits.{Each, RangeWithin, CoordWithin, IsKnown, ArgWi
 use Rattle.ln_tree.specs.declared.shape.VarInfo.{VarInfo}
 use Rattle.ln_tree.specs.Variables.{same_site}
 use Rattle.ln_tree.specs.Formula.{Formula}
-use Rattle.ln_tree.specs.Table.{CoordOf, SiteOf, ArgOf, SiteArg, ParamArg, PredOf, TableOf}
+use Rattle.ln_tree.specs.Table.{CoordOf, SiteOf, ArgOf, PredOf, TableOf}
 use Rattle.ln_tree.specs.Whole.{is_new, differ, is_range, site_whole, is_one_of, is_param_said, arg_name, range_name, same_var, same_vars}
 use Rattle.ln_tree.specs.Whole.{nesting, tokens_of, total, end_tokens, range_tokens, site_tokens, param_tokens, pred_tokens, text_tokens}
 use Rattle.ln_tree.specs.Whole.{item_names, pred_whole, vars_behind, is_whole}
 use Rattle.ln_parse.specs.Says.{place, ranged, resolved, Says, LetsSay, PredSays, PredsSay, ItemsSay, arg_said, param_names, sites_said}
 use Rattle.ln_parse.specs.Says.{params_said, is_site_said}
-use Rattle.ln_parse.specs.Ready.{ReadyValue, ReadyLet, ReadyPred, ReadyItem, ReadySite, ReadyFile, Declares, is_known}
+use Rattle.ln_parse.specs.Ready.{ReadyValue, ReadyLet, ReadyPred, ReadyItem, ReadySite, ReadyFile, Declares}
 use Rattle.ln_parse.proofs.Expressions.Fitting.{said, all_known}
 use Rattle.ln_parse.proofs.Expressions.Found.{found_at, param_found, get_longer}
 use Rattle.ln_parse.proofs.Wholes.FromTokens.{depth_step, expression_nests, expression_tokens}
@@ -210,11 +210,6 @@ params_are bytes is (a ∷ args) =
     let r = params_are bytes is args in
     count_cons is_param_said (arg_said bytes is a a.is_param) (said bytes is args) ∙ rw (e, r) (sym (count_cons is_param_arg a args))
 
-known_of : (n m : ℕ) (xs : List ArgOf) → list_all (is_known n m) xs ≡ true → list_all (is_one_of n m) xs ≡ true
-known_of n m [] h = refl
-known_of n m (SiteArg a k ∷ xs) h = let q = and_parts (nat_lt k n) (list_all (is_known n m) xs) h in and_from _ _ q.0 (known_of n m xs q.1)
-known_of n m (ParamArg p ∷ xs) h = let q = and_parts (nat_lt p m) (list_all (is_known n m) xs) h in and_from _ _ q.0 (known_of n m xs q.1)
-
 -- what an expression at a depth of none says
 record ValueWhole (ts : List Token) (p : Places) (args : List ArgOf) (x : Formula) : Type 0 where
   back : depth_after 0 (take p.to ts) ≡ 0
@@ -385,7 +380,7 @@ pred_from bytes ts is t p (file.predicate {i = i} {j = j} {k = k} {l = l} {args 
     subst (λ (w : List ArgOf). pred_tests S P p.shape_name p.name w p.sites p.vars p.let_names p.lets p.root ≡ true) (sym q)
     (and_from _ _ (and_from _ _ (and_from _ _ (and_from _ _ (and_from _ _ (and_from _ _
     (and_from _ _ (and_from _ _ (and_from _ _ (name_same p.shape_name p.name (s.shape_is ∙ sym s.name_is)) (lt-ltb 0 (length xs) (omega arith)))
-    (known_of (length S) (length P) xs (all_known bytes is raws S P g))) (le-leb (count_by is_site_said xs) 5 (omega arith)))
+    (all_known bytes is raws S P g)) (le-leb (count_by is_site_said xs) 5 (omega arith)))
     (le-leb (count_by is_param_said xs) 8 (omega arith)))
     (eq-eqb p.sites (count_by is_site_said xs) (s.sites_are ∙ ap (count_by is_site_said) q)))
     (vars_same p.vars (vars_behind S P 0 0 xs) (s.vars_are ∙ ap (vars_behind S P 0 0) q)))

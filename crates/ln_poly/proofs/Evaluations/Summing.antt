@@ -64,12 +64,6 @@ pair-above n (p ∷ ps) (suc i) h l = pair-above n ps i h.1 (omega (arith, l))
 
 module _ (vars : List VarInfo) (zs : List ℤ) (a ps : Pairs) (c y : ℤ) (i : ℕ) (there : i < length ps) (row : AreWithin vars zs)
     (above : IsAbove ps (length vars)) (r : IsProduct vars (values zs) a ps c y i) where
-  here : ℕ × ℕ
-  here = get_or ps i (0, 0)
-
-  abbrev X : ℤ
-  X = values zs (get_or ps i (0, 0)).0
-
   behind : drop i ps ≡ get_or ps i (0, 0) ∷ drop (i + 1) ps
   behind = drop-cons ps i (0, 0) there ∙ ap (λ j. get_or ps i (0, 0) ∷ drop j ps) (let e : suc i ≡ i + 1 = omega arith in e)
 

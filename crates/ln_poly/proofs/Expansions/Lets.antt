@@ -115,11 +115,6 @@ lets-stop vars lets j e polys s l h a q =
     subst (λ (ns : Nodes). StopsExpanding (length vars) ns s) (sym b.stands)
     (stop-behind (length vars) b.nodes _ s b.few (stop-before (length vars) (expanded vars (closed_lets vars (map formula (take j lets))) (formula e)) _ s q))
 
--- the next let weighs at most 2^127 - 1 at each node, where each variable counts 2
-pub next-light : (vars : List VarInfo) (lets : List Expr) (j : ℕ) (e : Expr) (polys : List Sparse) → j < length lets → e ≡ get_or lets j e
-    → LetsTo vars lets j polys → AreLight (length vars) two (closed_lets vars (map formula (take j lets))) (tree vars (formula e))
-next-light vars lets j e polys l h a = (lets-at vars lets j e polys l h a).light.0
-
 -- there are as many normal polynomials as trees
 pub length-normal : (n : ℕ) (ts : List Tree) (fs : List Sparse) → AreNormal n ts fs → length fs ≡ length ts
 length-normal n [] [] a = refl

@@ -124,13 +124,6 @@ raised-next tops old ps i x v r l e k z q =
     subst (λ y. IsRaised (set tops y x) old ps (i + 1)) (sym e) (raised-step tops old ps i x (get_or ps i (0, 0)) r l refl (omega (arith, k, e))
     (r.long ∙ z) (q ∙ ap (λ y. max (get_or tops y 0) (get_or ps i (0, 0)).1) e))
 
--- all pairs are raised
-pub raised-end : (tops old : List ℕ) (ps : Pairs) (i : ℕ) → length ps ≤ i → IsRaised tops old ps i → (v : ℕ) → v < 256
-    → get_or tops v 0 ≡ max (exponent v ps) (get_or old v 0)
-raised-end tops old ps i l r v h =
-    let none : drop i ps ≡ [] = drop_all i ps l in
-    sym (zero-max (get_or tops v 0)) ∙ subst (λ y. max (exponent v y) (get_or tops v 0) ≡ max (exponent v ps) (get_or old v 0)) none (r.largest v h)
-
 -- the largest exponents of the terms so far, and the remaining terms
 pub record IsLargest (tops : List ℕ) (f : Sparse) (i : ℕ) : Type 0 where
   pub largest : (v : ℕ) → v < 256 → max (largest (drop i f) v) (get_or tops v 0) ≡ largest f v

@@ -6,19 +6,13 @@ use Rattle.ln_tree.specs.Variables.{is_laid_out}
 use Rattle.ln_code.specs.declared.row.Row.{Row}
 use Rattle.ln_code.specs.RowOf.{row_of}
 use Rattle.ln_order.specs.Order.{first_equal}
-use Rattle.ln_rows.specs.Record.{columns, first_fault, indices, index_column, unless_fault, read_row, IsRead}
-use Rattle.ln_rows.specs.declared.record.RowStop.{RowStop}
+use Rattle.ln_rows.specs.Record.{columns, indices, index_column, unless_fault, read_row, IsRead}
 use Rattle.ln_rows.specs.declared.record.RowStop.TheVariants.{Fields, Index}
 use Rattle.ln_rows.proofs.Fields.RangeLemmas.{shape_columns}
 
 -- another number of fields than of columns
 pub not_fields : (sites : ℕ) (vars : List VarInfo) (fields : List (List ℕ)) → length fields ≢ length (columns vars) → read_row sites vars fields ≡ Err Fields
 not_fields sites vars fields ne = rw (ne_eqb (length fields) (length (columns vars)) ne) refl
-
--- a column with a fault
-pub has_fault : (sites : ℕ) (vars : List VarInfo) (fields : List (List ℕ)) (e : RowStop) → length fields ≡ length (columns vars)
-    → first_fault 0 (columns vars) fields ≡ Some e → read_row sites vars fields ≡ Err e
-has_fault sites vars fields e size fault = rw (eq-eqb (length fields) (length (columns vars)) size, fault) refl
 
 -- the first places of a row that was read are the indices
 read_indices : (sites : ℕ) (vars : List VarInfo) (fields : List (List ℕ)) (r : Row) → is_laid_out sites vars ≡ true → IsRead vars fields r

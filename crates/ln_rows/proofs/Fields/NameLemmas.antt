@@ -1,12 +1,12 @@
 -- Names among fields, place by place.
-use Rattle.std.proofs.Common.{◌≡◌, ◌≢◌, ℕ, zero, suc, ◌+◌, ◌-◌, ◌<◌, ◌≤◌, min, List, [], ◌∷◌, ◌++◌, length, get_or, take, drop, map, Option}
+use Rattle.std.proofs.Common.{◌≡◌, ◌≢◌, ℕ, zero, suc, ◌+◌, ◌-◌, ◌<◌, ◌≤◌, min, List, [], ◌∷◌, ◌++◌, length, get_or, take, drop, map}
 use Rattle.std.proofs.Common.{Some, None, refl, ap, sym, ◌∙◌, arith, add-one, drop-cons, append_assoc, length-drop, length-append}
 use Rattle.std.specs.Prelude.{flat_map, slice_get}
 use Rattle.std.proofs.lemmas.List.{append_cancel_left, append-nil, take_more, take-append-drop, map-append, drop_all, drop_more}
 use Rattle.std.proofs.lemmas.List.{get_or_append_left, get_or-append_right}
 use Rattle.std.proofs.lemmas.List.Concat.{flat_map-append}
 use Rattle.csv.specs.Records.{field_at}
-use Rattle.ln_rows.specs.Columns.{StandAt, Passes}
+use Rattle.ln_rows.specs.Columns.{StandAt}
 
 -- the field at a place, by what stands there
 pub field_drop : (fields : List (List ℕ)) (at : ℕ) (x : List ℕ) → field_at fields at ≡ Some x
@@ -40,11 +40,6 @@ stand_more xs ys fields at mid to p q = (p.0 ∙ ap (λ (l : List (List ℕ)). x
 pub stand_left : (xs ys fields : List (List ℕ)) (at mid : ℕ) → StandAt xs fields at mid → (rest : List (List ℕ))
     → drop at fields ≡ (xs ++ ys) ++ rest → drop mid fields ≡ ys ++ rest
 stand_left xs ys fields at mid p rest h = append_cancel_left xs (drop mid fields) (ys ++ rest) (sym p.0 ∙ h ∙ append_assoc xs ys rest)
-
--- names that pass after names that stand
-pub passes_more : (xs ys fields : List (List ℕ)) (at mid : ℕ) (o : Option ℕ) → StandAt xs fields at mid → Passes ys fields mid o → Passes (xs ++ ys) fields at o
-passes_more xs ys fields at mid None p q = λ rest h. q rest (stand_left xs ys fields at mid p rest h)
-passes_more xs ys fields at mid (Some to) p q = stand_more xs ys fields at mid to p q
 
 -- a list around one of its elements
 split_at : {X : Type 0} (xs : List X) (i : ℕ) (x : X) → i < length xs → x ≡ get_or xs i x → xs ≡ take i xs ++ (x ∷ drop (suc i) xs)

@@ -23,10 +23,6 @@ pub record Stands (text : List ℕ) (fields : List (List ℕ)) (rest : List ℕ)
   pub fresh : IsFresh state
   pub is : first_of text ≡ next_record default_config state fields [] rest
 
--- the field of a number
-field_of : {text : List ℕ} {lo hi z : ℤ} {last : Bool} {rest : List ℕ} → HasValue text lo hi last z rest → List ℕ
-field_of h = h.number.first ∷ h.number.others
-
 -- ---- the next field of a record is a value
 module _ (text : List ℕ) (fields : List (List ℕ)) (rest more : List ℕ) (lo hi z : ℤ)
     (s : Stands text fields rest) where

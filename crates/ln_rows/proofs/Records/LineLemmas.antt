@@ -215,11 +215,6 @@ splits_on line most kept kept2 rest size s l m all comma k =
 pub rest_within : (rest : List ℕ) (k n : ℕ) → length rest ≤ n → length (take (length rest - k) (drop k rest)) ≤ n
 rest_within rest k n h = let e = length-take (length rest - k) (drop k rest) in omega (arith, e, h)
 
--- all fields are kept, or as many as there is room for
-take_front : (xs ys : List (List ℕ)) (n : ℕ) → n ≡ length xs → xs ≡ take n (xs ++ ys)
-take_front [] ys n e = ap (λ (k : ℕ). take k ys) (sym e)
-take_front (x ∷ xs) ys n e = ap (λ (zs : List (List ℕ)). x ∷ zs) (take_front xs ys (length xs) refl) ∙ ap (λ (k : ℕ). take k (x ∷ (xs ++ ys))) (sym e)
-
 -- with the last field, those kept are the fields of the line, as many as there is room for
 pub splits_all : (line : List ℕ) (most : ℕ) (kept kept2 : List (List ℕ)) (rest : List ℕ) (size : ℕ) → Splits line most kept rest
     → length kept < most → size ≡ length rest → list_all is_no_comma (take size rest) ≡ true

@@ -89,11 +89,6 @@ module _ (old : Records) (o : Option Records) (rest text : List ℕ) (view : lef
   left_reads most found quoted new kept q t =
       subst (λ (rs : Records). TakesWithin most found rs new kept) (q ∙ sym (same_first rest text same) ∙ ap (left_of rest) (sym none) ∙ view) t
 
--- what a read of some fields takes
-pub takes_none : (most : ℕ) (found : Bool) (old new : Records) (kept : List (List ℕ)) → TakesWithin most found old new kept → found ≡ false → old ≡ []
-takes_none most false old new kept t e = t
-takes_none most true old new kept t e = absurd (true≢false e)
-
 -- a read that finds a record takes the first of the remaining ones
 pub takes_some : (most : ℕ) (found : Bool) (old new : Records) (kept : List (List ℕ)) → TakesWithin most found old new kept → found ≡ true
     → TakesFirst most old new kept

@@ -185,7 +185,7 @@ module _ (f : Sparse) (vs kept p : List ℕ) (s : IsStep f vs kept p) (more : 0 
 
 -- ---- the same, as the code has it
 -- where a variable remains, what is listed from its exponent 0 on is all that is listed of the degree
-pub begins : (f : Sparse) (vs kept p : List ℕ) (d : ℕ) → 0 < length vs → listed_degree_from f vs kept p d 0 ≡ listed_degree f vs kept p d
+begins : (f : Sparse) (vs kept p : List ℕ) (d : ℕ) → 0 < length vs → listed_degree_from f vs kept p d 0 ≡ listed_degree f vs kept p d
 unfolding listed_degree listed_degree_from
 begins f vs kept p d h = let z : d + 1 - 0 ≡ d + 1 = omega arith in rw z (sym (walk-first vs d (rows (length p) f kept) p h))
 
@@ -276,6 +276,49 @@ walk-nothing (v ∷ vs) ms p h =
     ap (λ z. unless_none z (before (walk_at vs 0 (at_least v 0 ms) (set p v 0)) ([], false))) a
     ∙ ap (unless_none ms) (before-end (walk_at vs 0 (at_least v 0 ms) (set p v 0)) ∙ down)
     ∙ unless_none-twice ms (p ∷ [], all_same ms p)
+
+-- ---- the exponent 0: all terms remain, and the vector stays as it is
+high-all : (f : Sparse) (v : ℕ) (kept : List ℕ) → kept ≡ high f v 0 kept
+high-all f v [] = refl
+high-all f v (i ∷ kept) =
+    let z : nat_le 0 (exponent v (term_at f i).0) ≡ true = grind (arith, nat_tests) in
+    rw z (ap (λ r. i ∷ r) (high-all f v kept))
+
+first-none : (vs p : List ℕ) → 0 < length vs → ((v : ℕ) → Member vs v → get_or p v 0 ≡ 0) → get_or p (get_or vs 0 0) 0 ≡ 0
+first-none [] p more h = absurd (omega (arith, more))
+first-none (v ∷ vs) p more h = h v (inl refl)
+
+module _ (f : Sparse) (vs kept p : List ℕ) (s : IsStep f vs kept p) (more : 0 < length vs) (d : ℕ) (r : List ℕ) (er : r ≡ drop 1 vs) where
+  stays : p ≡ set p (get_or vs 0 0) 0
+  stays = sym (set-same p (get_or vs 0 0) (first-none vs p more s.none_yet))
+
+  -- it is a step without the first variable
+  pub zero-step : IsStep f r kept p
+  zero-step = at-step f vs kept p s more d 0 (omega arith) (omega arith) kept (high-all f (get_or vs 0 0) kept) s.some p stays r er
+
+  module _ (t : Tallied) where
+    all-from-zero : see_all (length p) f t (listed_degree_from f vs kept p d 0).0 ≡ see_all (length p) f t (listed_degree f vs kept p d).0
+    all-from-zero = ap (λ z. see_all (length p) f t z.0) (begins f vs kept p d more)
+
+    -- where listing without the first variable stops, so does listing the degree
+    pub zero-stops : (x : StageStop) → IsStoppedBy x (IsOver (see_all (length p) f t (listed_degree f r kept p d).0))
+        → IsStoppedBy x (IsOver (see_all (length p) f t (listed_degree f vs kept p d).0))
+    zero-stops x o = at-stops f vs kept p s more d 0 (omega arith) (omega arith) kept (high-all f (get_or vs 0 0) kept) s.some p stays r er d (omega arith)
+        t _ all-from-zero x o
+
+    module _ (t' : Tallied) (stop : Bool) (seen : t' ≡ see_all (length p) f t (listed_degree f r kept p d).0)
+        (stops : stop ≡ (listed_degree f r kept p d).1) where
+      -- where the cut ends what is listed without the first variable, it ends the listing of the degree
+      pub zero-cut : stop ≡ true → (true ≡ (listed_degree f vs kept p d).1) × (t' ≡ see_all (length p) f t (listed_degree f vs kept p d).0)
+      zero-cut c = at-cut f vs kept p s more d 0 (omega arith) (omega arith) kept (high-all f (get_or vs 0 0) kept) s.some p stays r er d (omega arith)
+          t _ all-from-zero t' stop _ seen stops (ap (λ z. z.1) (begins f vs kept p d more)) c
+
+      -- and else what is listed from the exponent 1 on comes after it
+      pub zero-keeps : stop ≡ false
+          → (see_all (length p) f t' (listed_degree_from f vs kept p d 1).0 ≡ see_all (length p) f t (listed_degree f vs kept p d).0)
+          × ((listed_degree_from f vs kept p d 1).1 ≡ (listed_degree f vs kept p d).1)
+      zero-keeps c = at-keeps f vs kept p s more d 0 (omega arith) (omega arith) kept (high-all f (get_or vs 0 0) kept) s.some p stays r er d (omega arith)
+          t _ all-from-zero t' stop _ seen stops (ap (λ z. z.1) (begins f vs kept p d more)) c
 
 -- the end of a branch
 pub leaf-is : (f : Sparse) (vs kept p : List ℕ) (d : ℕ) → IsStep f vs kept p → d ≡ 0 → listed_degree f vs kept p d ≡ listed f [] kept p

@@ -7,10 +7,9 @@ use Rattle.std.proofs.lemmas.List.{append-nil, length-map}
 use Rattle.std.proofs.lemmas.List.Elements.{All-cons, All-nil}
 use Rattle.ln_algebra.specs.Vector.{same_vector}
 use Rattle.ln_algebra.proofs.Expanded.Normal.{same_vector-is}
-use Rattle.ln_tree.specs.declared.shape.VarInfo.{VarInfo}
 use Rattle.ln_tree.specs.Exps.{same_pairs}
 use Rattle.ln_poly.specs.Sparse.{Sparse}
-use Rattle.ln_stage.specs.Kept.{numbers_by, numbers_of, tallied_by}
+use Rattle.ln_stage.specs.Kept.{numbers_by, tallied_by}
 use Rattle.ln_stage.specs.Lists.{all_covering, all_seen_behind, covering, put_last, seen_behind, stage_count}
 use Rattle.ln_stage.specs.Staged.{count_numbers}
 use Rattle.ln_stage.specs.Tally.{IsOver, Tallied, next_list, number_in, pairs_of, put_exps, see, see_all}
@@ -198,11 +197,6 @@ extends-all bs (l ∷ ls) = extends-trans bs (seen_behind bs l) (all_seen_behind
 pub all-sized : (n : ℕ) (bs : List (List ℕ)) (ls : List (List (List ℕ))) → Sized n bs → AllSized n ls → Sized n (all_seen_behind bs ls)
 all-sized n bs [] s t = s
 all-sized n bs (l ∷ ls) s t = all-sized n (seen_behind bs l) ls (behind-sized n bs l s t.0) t.1
-
--- the lists of no orders have no numbers
-pub numbers-nil : (vars : List VarInfo) (f : Sparse) (t : Tallied) → numbers_of vars f t [] ≡ []
-unfolding numbers_of
-numbers-nil vars f t = refl
 
 -- ---- any lists, one at each of these
 -- what is kept after the lists at several places: the blocks by first sight, their numbers, count and weight, and the limits as before

@@ -127,12 +127,6 @@ orders-headed k = let r = orders-some k in subst (λ z. IsHeaded (firsts (suc k)
 
 -- ---- first sight
 module _ (C : List (List ℕ)) (segment : List ℕ → List (List ℕ)) where
-  abbrev listed : List ℕ → List (List ℕ)
-  listed o = C ++ list_along segment o
-
-  abbrev D : List (List ℕ)
-  D = C ++ segment []
-
   listed-behind : (x : ℕ) (o : List ℕ) → C ++ list_along segment (behind x o) ≡ (C ++ segment []) ++ list_along (λ p. segment (behind x p)) o
   listed-behind x o = ap (λ z. C ++ z) (along-behind segment x o) ∙ sym (append_assoc C (segment []) (list_along (λ p. segment (behind x p)) o))
 

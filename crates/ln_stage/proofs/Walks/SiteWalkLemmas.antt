@@ -290,9 +290,6 @@ module _ (n : ℕ) (sites : Sites) (f : Sparse) where
 
 module _ (k : ℕ) (vars : List VarInfo) (f : Sparse) (o : List ℕ) (laid : is_laid_out k vars ≡ true) (full : IsOrderOf k o) (poly : IsPoly f)
     (below : AreBelow (length vars) f) where
-  abbrev the_rows : List (List ℕ)
-  the_rows = all_rows (length vars) f
-
   ranking : IsRanking (length vars) (sites_of vars o) (ranking_of vars o)
   ranking = ranking-is k vars o laid full.size full.each
 

@@ -12,12 +12,10 @@ use Rattle.ln_algebra.specs.Walk.{IsRanked, IsRanking, Member}
 use Rattle.ln_algebra.proofs.Expanded.Expansion.{length-zeros}
 use Rattle.ln_algebra.proofs.Ordering.Order.{before-irreflexive}
 use Rattle.ln_algebra.proofs.Walking.Stages.{zeros-get}
-use Rattle.ln_tree.specs.declared.shape.VarInfo.{VarInfo}
 use Rattle.ln_tree.specs.Exps.{vector}
 use Rattle.ln_tree.proofs.Powers.{vector-length}
-use Rattle.ln_order.specs.Sites.{ranking_of}
 use Rattle.ln_poly.specs.Sparse.{Sparse, AreBelow, AreRising}
-use Rattle.ln_stage.specs.Kept.{AreFresh, IsStep, all_rows, list_of, listed, rows, term_at}
+use Rattle.ln_stage.specs.Kept.{AreFresh, IsStep, all_rows, rows, term_at}
 
 -- ---- the variables
 fresh-ranked : (n : ℕ) (sites : Sites) (vs : List ℕ) → IsRanked sites vs → ((v : ℕ) → Member vs v → v < n) → AreFresh n vs
@@ -81,10 +79,3 @@ start-step f n vs kept p below rising some r ek ep =
       none_yet = λ v m. ap (λ z. get_or z v 0) ep ∙ zeros-get n v;
       small = rw (ep, ← zeros-replicate n) (All-replicate (λ x. x < 128) n 0 (omega arith));
     }
-
--- ---- what is listed from there
--- the listing that begins with all terms and the vector of zeros finds the order's list
-pub list-is : (vars : List VarInfo) (f : Sparse) (o vs kept p : List ℕ) → vs ≡ ranking_of vars o → kept ≡ range_with_len 0 (length f)
-    → p ≡ zeros (length vars) → (listed f vs kept p).0 ≡ list_of vars f o
-unfolding list_of
-list-is vars f o vs kept p ev ek ep = rw (ev, ek, ep) refl

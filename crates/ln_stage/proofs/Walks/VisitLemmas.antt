@@ -56,9 +56,6 @@ pairs : (l : List (List ℕ)) (b : Bool) (r : Found) → l ≡ r.0 → b ≡ r.1
 pairs l b (m, c) e q = ap (λ z. (z, b)) e ∙ ap (λ z. (m, z)) q
 
 module _ (vars : List VarInfo) (f : Sparse) where
-  abbrev the_rows : List (List ℕ)
-  the_rows = all_rows (length vars) f
-
   -- the segment and the cut, from the walk of the last site
   at-last : (p : List ℕ) (n : ℕ) → length p ≡ suc n → (segment_at vars f p ≡ (site_walk 127 vars (all_rows (length vars) f) (take n p) (get_or p n 0)).0)
       × (is_cut_at vars f p ≡ (site_walk 127 vars (all_rows (length vars) f) (take n p) (get_or p n 0)).1)

@@ -31,9 +31,6 @@ walk-first [] ms p h = absurd (omega arith)
 walk-first (v ∷ vs) ms p h = refl
 
 module _ (f : Sparse) (vs kept p : List ℕ) (s : IsStep f vs kept p) (more : 0 < length vs) (e : ℕ) (small : e < 128) where
-  first : ℕ
-  first = get_or vs 0 0
-
   step : IsStep f (get_or vs 0 0 ∷ drop 1 vs) kept p
   step = subst (λ x. IsStep f x kept p) (split vs more) s
 

@@ -1,6 +1,5 @@
 -- Chains: one lemma on what they come to, and one for each way to run through a list.
-use Rattle.std.proofs.Common.{◌≡◌, ℕ, ◌<◌, Bool, true, false, List, [], ◌∷◌, ◌++◌, length, refl, ap, sym}
-use Rattle.std.proofs.Common.{◌∙◌, subst, arith, Some, None, append_assoc}
+use Rattle.std.proofs.Common.{◌≡◌, ℕ, ◌<◌, List, [], ◌∷◌, ◌++◌, length, refl, ap, sym, ◌∙◌, subst, arith, Some, append_assoc}
 use Rattle.std.proofs.lemmas.List.{append-nil}
 use Rattle.std.proofs.lemmas.Option.{none-some}
 use Rattle.ln_base.specs.Outside.{Shelf}
@@ -9,50 +8,19 @@ use Rattle.ln_parse.proofs.Settling.OneAnswer.{one_table}
 use Rattle.ln_compile.specs.declared.refusal.Refusal.{Refusal}
 use Rattle.ln_compile.specs.Refused.{span_of}
 use Rattle.ln_compile.proofs.Refusing.OneRefusal.{accepted_alone, refused_one}
-use Rattle.ln_top.specs.declared.stop.Why.{Why}
-use Rattle.ln_top.specs.declared.stop.Why.TheVariants.{Refused}
-use Rattle.ln_top.specs.declared.stop.Place.{Place}
+use Rattle.ln_frame.specs.declared.stop.Why.TheVariants.{Refused}
+use Rattle.ln_frame.specs.declared.stop.Place.{Place}
 use Rattle.ln_top.specs.declared.words.Command.{Command}
 use Rattle.ln_top.specs.Plan.{Plan}
-use Rattle.ln_top.specs.Source.{IsRefusedAt, place_at}
-use Rattle.ln_top.specs.Steps.{Outcome, stops, missing, gives, Then, stopped, lacks, goes, Gives, Each, Reads, there, long, absent}
-use Rattle.ln_top.specs.Steps.{Compiles, accepted, refused, Finds, found, none, Suits, suited, unsuited, Prepares, most_source, most_file}
+use Rattle.ln_frame.specs.Source.{IsRefusedAt, place_at}
+use Rattle.ln_frame.specs.Given.{Outcome, stops, missing, gives, most_file}
+use Rattle.ln_top.specs.Steps.{Then, stopped, lacks, goes, Gives, Each, Reads, there, long, absent, Compiles, accepted, refused, Finds, found, none, Suits}
+use Rattle.ln_top.specs.Steps.{suited, unsuited, Prepares, most_source}
+use Rattle.ln_frame.proofs.Outcomes.{value_or, IsGiven, IsStop, why_or, some_same}
 
 -- a step comes to one thing
 abbrev pub One : {A : Type 0} → (Outcome A → Type 0) → Type 0
 One {A} step = (o p : Outcome A) → step o → step p → o ≡ p
-
--- the value of an outcome, or another one
-abbrev pub value_or : {A : Type 0} → A → Outcome A → A
-value_or a (gives b) = b
-value_or a missing = a
-value_or a (stops why) = a
-
--- the outcome is a value
-abbrev pub IsGiven : {A : Type 0} → Outcome A → Type 0
-IsGiven (gives a) = Unit {0}
-IsGiven missing = ⊥
-IsGiven (stops why) = ⊥
-
--- the outcome is a stop
-abbrev pub IsStop : {A : Type 0} → Outcome A → Type 0
-IsStop (gives a) = ⊥
-IsStop missing = ⊥
-IsStop (stops why) = Unit {0}
-
--- why an outcome stops, or another reason
-abbrev pub why_or : {A : Type 0} → Why → Outcome A → Why
-why_or w (gives b) = w
-why_or w missing = w
-why_or w (stops why) = why
-
-abbrev IsTrueHere : Bool → Type 0
-IsTrueHere true = Unit {0}
-IsTrueHere false = ⊥
-
--- true isn't false
-pub true_false : true ≡ false → ⊥
-true_false e = subst IsTrueHere e tt
 
 -- A chain of steps that each come to one thing comes to one thing.
 pub one_then : {A B : Type 0} (first : Outcome A → Type 0) (next : A → Outcome B → Type 0) → One first
@@ -75,10 +43,6 @@ one_each step f [] = one_gives []
 one_each step f (a ∷ rest) =
     one_then (step a) (λ b. Then (Each step rest) (λ bs. Gives (b ∷ bs))) (f a)
     (λ b. one_then (Each step rest) (λ bs. Gives (b ∷ bs)) (one_each step f rest) (λ bs. one_gives (b ∷ bs)))
-
--- equal options that are Some have equal values
-pub some_same : {A : Type 0} (a b : A) → Some a ≡ Some b → a ≡ b
-some_same a b e = ap (λ o. elim o [ Some x ↦ x | None ↦ a ]) e
 
 -- the known bytes of a file are one
 one_reads : (shelf : Shelf) (limit : ℕ) (name : List ℕ) → One (Reads (Some shelf) limit name)

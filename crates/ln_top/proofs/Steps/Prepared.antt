@@ -1,27 +1,28 @@
 -- The steps of a plan, taken one after the other.
-use Rattle.std.proofs.Common.{◌≡◌, ◌⊎◌, inl, inr, ℕ, ◌+◌, ◌≤◌, ◌<◌, List, [], ◌∷◌, ◌++◌}
-use Rattle.std.proofs.Common.{length, map, drop, refl, ap, sym, ◌∙◌, subst, arith, Option, Some, None, get_or}
-use Rattle.std.specs.Prelude.{All, slice_get, slice_index_or, IfErr, IfSome, Result, Ok, Err}
+use Rattle.std.proofs.Common.{◌≡◌, ◌⊎◌, inl, inr, ℕ, ◌+◌, ◌≤◌, ◌<◌, List, [], ◌∷◌, ◌++◌, length, map, drop, refl, ap, sym}
+use Rattle.std.proofs.Common.{◌∙◌, subst, Option, Some, None, get_or}
+use Rattle.std.specs.Prelude.{slice_get, IfErr, IfSome, Result, Ok, Err}
 use Rattle.std.specs.Result.{IsErrAnd}
-use Rattle.std.proofs.lemmas.List.Elements.{All-nil, All-cons}
 use Rattle.std.proofs.lemmas.List.{drop_more, drop_all}
 use Rattle.ln_base.specs.Outside.{Shelf, bytes_of, IsAbsent, Rose, refused}
 use Rattle.ln_tree.specs.declared.pred.Pred.{Pred}
 use Rattle.ln_tree.specs.Table.{PredOf, TableOf, pred_of}
 use Rattle.ln_compile.specs.Compiled.{number_of}
-use Rattle.ln_top.specs.declared.stop.Why.TheVariants.{TooLong, NoPredicate}
-use Rattle.ln_top.specs.declared.stop.Stop.{Stop}
-use Rattle.ln_top.specs.declared.stop.Stop.TheVariants as stop
-use Rattle.ln_top.specs.declared.prepare.Ready.{Ready}
+use Rattle.ln_frame.specs.declared.stop.Why.TheVariants.{TooLong, NoPredicate}
+use Rattle.ln_frame.specs.declared.stop.Stop.{Stop}
+use Rattle.ln_frame.specs.declared.stop.Stop.TheVariants as stop
+use Rattle.ln_frame.specs.declared.ready.Ready.{Ready}
 use Rattle.ln_top.specs.declared.words.Command.{Command}
 use Rattle.ln_top.specs.Plan.{Plan}
-use Rattle.ln_top.specs.Source.{view}
-use Rattle.ln_top.specs.Steps.{Outcome, stops, missing, gives, Then, stopped, lacks, goes, Each, Reads, there, long, absent, Finds}
-use Rattle.ln_top.specs.Steps.{found, none, Compiles, Suits, suited, unsuited, Prepares, most_source, most_file}
-use Rattle.ln_top.specs.Carried.{Halts, tells, unread, short}
-use Rattle.ln_top.specs.Ready.{AreNumbered, HasNumbers, IsReady}
+use Rattle.ln_frame.specs.Source.{view}
+use Rattle.ln_frame.specs.Given.{Outcome, stops, missing, gives, most_file}
+use Rattle.ln_top.specs.Steps.{Then, stopped, lacks, goes, Each, Reads, there, long, absent, Finds, found, none, Compiles, Suits, suited, unsuited, Prepares}
+use Rattle.ln_top.specs.Steps.{most_source}
+use Rattle.ln_frame.specs.Carried.{Halts, tells, unread, short}
+use Rattle.ln_frame.specs.Ready.{AreNumbered}
+use Rattle.ln_top.specs.Ready.{HasNumbers, IsReady}
 use Rattle.ln_top.proofs.Steps.Chain.{Behind, behind_at, behind_more, behind_all}
-use Rattle.ln_top.proofs.Steps.FindLaws.{found_at, none_at, within_at, same_at}
+use Rattle.ln_frame.proofs.FindLaws.{found_at, none_at}
 use Rattle.ln_top.specs.Signature.{Asks, objection}
 
 -- what stops the first step stops the chain
@@ -196,13 +197,6 @@ files_stop plan told bytes table preds r s a c n y h =
     halts_next _ _ bytes r r s a (halts_next _ _ table r r s c (halts_next _ _ preds r r s n (halts_next _ _ tt r r s (suited y)
     (halts_first _ _ r r s h (λ x. x)) (λ x. x)) (λ x. x)) (λ x. x)) (λ x. x)
 
--- the numbers are within
-pub numbers_within : (ps : List Pred) (is : List ℕ) (preds : List PredOf) → AreNumbered (map pred_of ps) is preds
-    → All (λ i. i < length ps) is
-numbers_within ps [] preds h = All-nil (λ i. i < length ps)
-numbers_within ps (i ∷ is) [] h = absurd h
-numbers_within ps (i ∷ is) (p ∷ preds) h = All-cons (λ i. i < length ps) i is (within_at ps i p h.0) (numbers_within ps is preds h.1)
-
 -- all is ready
 pub is_ready : (plan : Plan) (told : Option Shelf) (bytes : List ℕ) (r : Ready) → Reads told most_source plan.source (gives bytes)
     → Compiles bytes (gives (view r.compiled.table))
@@ -214,36 +208,3 @@ is_ready plan told bytes r a c n y t = record {
       (goes (map (λ v. v.items) r.texts.items) t refl))));
   stands = record { table = refl; numbered = n.numbered; texts = refl };
 }
-
--- one further file
-pub one_text : {A : Type 0} (f : A → List ℕ) (xs : List A) (x : A) → length xs ≡ 1 → x ≡ get_or xs 0 x
-    → map f xs ≡ f x ∷ []
-one_text f [] x l e = absurd (omega (arith, l))
-one_text f (y ∷ []) x l e = ap (λ z. f z ∷ []) (sym e)
-one_text f (y ∷ z ∷ rest) x l e = absurd (omega (arith, l))
-
--- two of them
-pub two_texts : {A : Type 0} (f : A → List ℕ) (xs : List A) (x y : A) → length xs ≡ 2 → x ≡ get_or xs 0 x → y ≡ get_or xs 1 y
-    → map f xs ≡ f x ∷ f y ∷ []
-two_texts f [] x y l e g = absurd (omega (arith, l))
-two_texts f (z ∷ []) x y l e g = absurd (omega (arith, l))
-two_texts f (z ∷ w ∷ []) x y l e g = ap (λ a. f a ∷ f w ∷ []) (sym e) ∙ ap (λ b. f x ∷ f b ∷ []) (sym g)
-two_texts f (z ∷ w ∷ v ∷ rest) x y l e g = absurd (omega (arith, l))
-
--- the one number is within, and is that of the one predicate
-pub one_within : (ps : List Pred) (numbers : List ℕ) (preds : List PredOf) → AreNumbered (map pred_of ps) numbers preds
-    → length numbers ≡ 1 → slice_index_or numbers 0 0 < length ps
-one_within ps [] preds h l = absurd (omega (arith, l))
-one_within ps (i ∷ []) [] h l = absurd h
-one_within ps (i ∷ []) (p ∷ rest) h l = within_at ps i p h.0
-one_within ps (i ∷ j ∷ rest) preds h l = absurd (omega (arith, l))
-
--- where there is one number, its predicate is the only one given
-pub one_numbered : (ps : List Pred) (numbers : List ℕ) (preds : List PredOf) (p : Pred)
-    → AreNumbered (map pred_of ps) numbers preds → length numbers ≡ 1 → slice_get ps (slice_index_or numbers 0 0) ≡ Some p
-    → preds ≡ pred_of p ∷ []
-one_numbered ps [] preds p h l e = absurd (omega (arith, l))
-one_numbered ps (i ∷ []) [] p h l e = absurd h
-one_numbered ps (i ∷ []) (q ∷ []) p h l e = ap (λ x. x ∷ []) (same_at ps i p q e h.0)
-one_numbered ps (i ∷ []) (q ∷ r ∷ rest) p h l e = absurd h.1
-one_numbered ps (i ∷ j ∷ rest) preds p h l e = absurd (omega (arith, l))

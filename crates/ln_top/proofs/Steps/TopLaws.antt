@@ -6,45 +6,46 @@ use Rattle.std.proofs.lemmas.Option.{none-some}
 use Rattle.ln_base.specs.Outside.{Shelf, Shown, Rose, refused}
 use Rattle.ln_watch.specs.Panel.{State}
 use Rattle.ln_tree.specs.Table.{PredOf}
-use Rattle.ln_top.specs.declared.status.End.{End}
-use Rattle.ln_top.specs.declared.status.End.TheVariants as end
-use Rattle.ln_top.specs.declared.status.Early.{Early}
-use Rattle.ln_top.specs.declared.status.Early.TheVariants as early
-use Rattle.ln_top.specs.declared.status.Status.{Status}
-use Rattle.ln_top.specs.declared.status.Status.TheVariants as status
-use Rattle.ln_top.specs.declared.stop.Stop.{Stop}
-use Rattle.ln_top.specs.declared.stop.Stop.TheVariants as stop
-use Rattle.ln_top.specs.declared.stop.Why.{Why}
-use Rattle.ln_top.specs.declared.stop.Why.TheVariants.{Usage, TooLong, Refused, NoPredicate}
+use Rattle.ln_frame.specs.declared.status.End.{End}
+use Rattle.ln_frame.specs.declared.status.End.TheVariants as end
+use Rattle.ln_frame.specs.declared.status.Early.{Early}
+use Rattle.ln_frame.specs.declared.status.Early.TheVariants as early
+use Rattle.ln_frame.specs.declared.status.Status.{Status}
+use Rattle.ln_frame.specs.declared.status.Status.TheVariants as status
+use Rattle.ln_frame.specs.declared.stop.Stop.{Stop}
+use Rattle.ln_frame.specs.declared.stop.Stop.TheVariants as stop
+use Rattle.ln_frame.specs.declared.stop.Why.{Why}
+use Rattle.ln_frame.specs.declared.stop.Why.TheVariants.{Usage, TooLong, Refused, NoPredicate}
 use Rattle.ln_top.specs.declared.words.Command.{Command}
 use Rattle.ln_top.specs.declared.words.Command.TheVariants as command
-use Rattle.ln_top.specs.Said.{Said, Count, Rises, IsCalm, put_both, end_status, status_of}
-use Rattle.ln_top.specs.Stop.{why_end}
+use Rattle.ln_frame.specs.Said.{Said, Count, Rises, IsCalm, put_both, end_status, status_of}
+use Rattle.ln_frame.specs.Stop.{why_end}
 use Rattle.ln_top.specs.Plan.{Plan, plan_of}
 use Rattle.ln_top.specs.Steps as step
-use Rattle.ln_top.specs.Steps.{Outcome, stops, missing, gives, Given, Prepares, Each, Finds, Reads, most_file}
-use Rattle.ln_top.specs.Carried as c
-use Rattle.ln_top.specs.Carried.{CarriesOut, Halts, Says, LeavesFronts, LeavesPart, read_line}
-use Rattle.ln_top.specs.Work as kind_of
-use Rattle.ln_top.specs.Work.{IsWorkEnd}
+use Rattle.ln_frame.specs.Given.{Outcome, stops, missing, gives, Given, most_file}
+use Rattle.ln_top.specs.Steps.{Prepares, Each, Finds, Reads}
+use Rattle.ln_frame.specs.Carried as c
+use Rattle.ln_frame.specs.Carried.{CarriesOut, Halts, Says, LeavesFronts, LeavesPart, read_line}
+use Rattle.ln_frame.specs.Work as kind_of
+use Rattle.ln_frame.specs.Work.{IsWorkEnd}
 use Rattle.ln_top.specs.Answer.{PlanOwes, stopped, worked, PlanPart, PlanLacks, Answer, usage, planned, Part, IsMissing}
 use Rattle.ln_top.specs.Call.{HasRisen, Keeps, call}
 use Rattle.ln_top.specs.Causes as cause
 use Rattle.ln_top.specs.Causes.{SaysLine, IsSettled, Answered, Ends, Yields, ExactlyWhere, EndsExactly}
-use Rattle.ln_top.proofs.Steps.Carry.{Duty, lift, says_carried, told_carried}
+use Rattle.ln_frame.proofs.Carry.{Duty, lift, says_carried, told_carried}
 use Rattle.ln_top.proofs.Steps.Chain.{one_prepares}
-use Rattle.ln_top.proofs.Steps.Laws.{IsLawful, usage_other}
-use Rattle.ln_top.proofs.Gathering.LinesLaws.{ok_err, ok_same}
-use Rattle.ln_top.proofs.Commands.CheckLaws as check_laws
-use Rattle.ln_top.proofs.Commands.ListLaws as list_laws
-use Rattle.ln_top.proofs.Commands.EmitLaws as emit_laws
-use Rattle.ln_top.proofs.Commands.VerifyLaws as verify_laws
-use Rattle.ln_top.proofs.Commands.RunLaws as run_laws
-use Rattle.ln_top.proofs.Commands.ProductLaws as product_laws
-use Rattle.ln_top.proofs.Commands.EdgesLaws as edges_laws
-use Rattle.ln_top.proofs.Commands.ExplainLaws as explain_laws
-use Rattle.ln_top.proofs.Commands.AuditLaws as audit_laws
-use Rattle.ln_top.proofs.Commands.GenLaws as gen_laws
+use Rattle.ln_frame.proofs.Laws.{IsLawful, usage_other}
+use Rattle.ln_frame.proofs.LinesLaws.{ok_err, ok_same}
+use Rattle.ln_texts.proofs.CheckLaws as check_laws
+use Rattle.ln_texts.proofs.ListLaws as list_laws
+use Rattle.ln_texts.proofs.EmitLaws as emit_laws
+use Rattle.ln_judges.proofs.VerifyLaws as verify_laws
+use Rattle.ln_signs.proofs.SignsLaws as signs_laws
+use Rattle.ln_signs.proofs.ProductLaws as product_laws
+use Rattle.ln_judges.proofs.EdgesLaws as edges_laws
+use Rattle.ln_signs.proofs.ExplainLaws as explain_laws
+use Rattle.ln_judges.proofs.AuditLaws as audit_laws
+use Rattle.ln_signs.proofs.GenLaws as gen_laws
 use Rattle.ln_top.specs.Signature.{objection, signature_of}
 use Rattle.ln_top.specs.Works.{WorkOwes, WorkPart, WorkEnds, work_of}
 
@@ -102,9 +103,9 @@ lawful command.Check = check_laws.lawful
 lawful command.List = list_laws.lawful
 lawful command.Emit = emit_laws.lawful
 lawful command.Verify = verify_laws.lawful
-lawful command.Run = run_laws.lawful
+lawful command.Run = signs_laws.lawful
 lawful command.Product = product_laws.lawful
-lawful command.Graded = run_laws.lawful_graded
+lawful command.Graded = signs_laws.lawful_graded
 lawful command.Edges = edges_laws.lawful
 lawful command.Explain = explain_laws.lawful
 lawful command.Audit = audit_laws.lawful

@@ -10,22 +10,23 @@ use Rattle.ln_rows.specs.Left.{Records}
 use Rattle.ln_trace.proofs.Agreeing.{agreed-right}
 use Rattle.ln_trace.specs.Signs.{RowsDiffer}
 use Rattle.ln_watch.specs.Panel.{State}
-use Rattle.ln_top.specs.declared.status.Status.{Status}
-use Rattle.ln_top.specs.declared.status.Status.TheVariants.{Done}
+use Rattle.ln_frame.specs.declared.status.Status.{Status}
+use Rattle.ln_frame.specs.declared.status.Status.TheVariants.{Done}
 use Rattle.ln_top.specs.Answer.{Answer}
-use Rattle.ln_top.specs.Audit as audit
-use Rattle.ln_top.specs.Audit.{AuditSaid, HasTrace, IsRightTrace}
+use Rattle.ln_judges.specs.Audit as audit
+use Rattle.ln_judges.specs.Audit.{AuditSaid, HasTrace, IsRightTrace}
 use Rattle.ln_top.specs.Audited.{AgreedTracesTellSigns, TellsRight}
 use Rattle.ln_top.specs.Causes.{Answered, IsSettled}
-use Rattle.ln_top.specs.Explain.{subject_of}
-use Rattle.ln_top.specs.Said.{Said, end_status}
-use Rattle.ln_top.specs.Steps.{Given}
-use Rattle.ln_top.proofs.Commands.AuditLaws.{moved_right}
-use Rattle.ln_top.proofs.Commands.ExplainLaws.{rows_differ}
+use Rattle.ln_frame.specs.Subject.{subject_of}
+use Rattle.ln_frame.specs.Said.{Said, end_status}
+use Rattle.ln_frame.specs.Given.{Given}
+use Rattle.ln_judges.proofs.AuditLaws.{moved_right}
+use Rattle.ln_signs.proofs.ExplainLaws.{rows_differ}
 use Rattle.ln_top.proofs.Steps.TopLaws.{work_of_words}
-use Rattle.ln_top.proofs.Steps.Grounded.{grounded, in_memory}
+use Rattle.ln_top.proofs.Steps.Grounded.{grounded}
+use Rattle.ln_frame.proofs.Grounded.{in_memory}
 use Rattle.ln_top.proofs.Theorem.HeadlineLaws.{head_sound}
-use Rattle.ln_top.proofs.Theorem.Lightness.{light_of}
+use Rattle.ln_frame.proofs.Lightness.{light_of}
 use Rattle.ln_top.proofs.Theorem.TrustedLaws.{settled_done}
 use Rattle.ln_top.specs.Works.{WorkOwes}
 

@@ -6,15 +6,15 @@ use Rattle.ln_tree.specs.Table.{PredOf, SiteOf}
 use Rattle.ln_rows.specs.Left.{Records}
 use Rattle.ln_watch.specs.Panel.{State}
 use Rattle.ln_edges.specs.Points.{PointOf}
-use Rattle.ln_top.specs.declared.status.Status.{Status}
+use Rattle.ln_frame.specs.declared.status.Status.{Status}
 use Rattle.ln_top.specs.Answer.{Answer}
 use Rattle.ln_top.specs.Causes.{Answered}
 use Rattle.ln_top.specs.Edged.{EdgesAreListed, PutEdges}
-use Rattle.ln_top.specs.Edges as edges
-use Rattle.ln_top.specs.Edges.{AreEdgesOf, EdgesSaid, HasPoints, ReadsPoints}
-use Rattle.ln_top.specs.Said.{Said, put_both}
-use Rattle.ln_top.specs.Steps.{Given, gives}
-use Rattle.ln_top.proofs.Commands.EdgesLaws.{never_both, one_read, same_pred}
+use Rattle.ln_judges.specs.Edges as edges
+use Rattle.ln_judges.specs.Edges.{AreEdgesOf, EdgesSaid, HasPoints, ReadsPoints}
+use Rattle.ln_frame.specs.Said.{Said, put_both}
+use Rattle.ln_frame.specs.Given.{Given, gives}
+use Rattle.ln_judges.proofs.EdgesLaws.{never_both, one_read, same_pred}
 use Rattle.ln_top.proofs.Steps.TopLaws.{work_of_words}
 use Rattle.ln_top.specs.Works.{WorkOwes}
 

@@ -18,24 +18,26 @@ use Rattle.ln_due.proofs.Verdicts.UniqueLemmas.{due-sign}
 use Rattle.ln_compile.specs.Accepted.{AreSound, IsSound, root_of}
 use Rattle.ln_compile.specs.Filtered.{Does}
 use Rattle.ln_csyn.specs.Tree.{Fun}
-use Rattle.ln_top.specs.declared.status.Status.{Status}
-use Rattle.ln_top.specs.Said.{Said, put_both}
+use Rattle.ln_frame.specs.declared.status.Status.{Status}
+use Rattle.ln_frame.specs.Said.{Said, put_both}
 use Rattle.ln_top.specs.Plan.{Plan}
 use Rattle.ln_top.specs.Steps as step
-use Rattle.ln_top.specs.Steps.{gives, Given, Prepares}
+use Rattle.ln_frame.specs.Given.{gives, Given}
+use Rattle.ln_top.specs.Steps.{Prepares}
 use Rattle.ln_top.specs.Answer.{Answer}
 use Rattle.ln_top.specs.Causes.{Answered}
-use Rattle.ln_top.specs.Emit as e
-use Rattle.ln_top.specs.Emit.{AllAreDue, CallIsDue, EmitSaid}
+use Rattle.ln_texts.specs.Emit as e
+use Rattle.ln_texts.specs.Emit.{AllAreDue, CallIsDue, EmitSaid}
 use Rattle.ln_top.specs.Emitted.{CallsPerturbedSign, CallPerturbedSigns, PutC, CallsArePerturbed}
 use Rattle.ln_top.specs.ByValue.{IsByValue, IsVerdictByValue, Takes}
 use Rattle.ln_top.specs.Perturbed.{FilterDecides}
-use Rattle.ln_top.proofs.Commands.EmitLaws.{AreNamed}
-use Rattle.ln_top.proofs.Steps.Chain.{value_or}
+use Rattle.ln_texts.proofs.EmitLaws.{AreNamed}
+use Rattle.ln_frame.proofs.Outcomes.{value_or}
 use Rattle.ln_top.proofs.Theorem.ByValueLaws.{by_value}
 use Rattle.ln_top.proofs.Theorem.HeadlineLaws.{never_zero}
 use Rattle.ln_top.proofs.Steps.TopLaws.{work_of_words}
-use Rattle.ln_top.proofs.Steps.Grounded.{IsGrounded, accepted_of, grounded}
+use Rattle.ln_frame.proofs.Grounded.{IsGrounded}
+use Rattle.ln_top.proofs.Steps.Grounded.{accepted_of, grounded}
 use Rattle.ln_top.specs.Works.{WorkOwes}
 
 said_named : (bytes : List ℕ) (ts : List Token) (before : List Item) (t : TableOf) (is : List Item) (ps : List PredOf)

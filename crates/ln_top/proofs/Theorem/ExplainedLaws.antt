@@ -37,28 +37,32 @@ use Rattle.ln_trace.specs.Form.{TraceText}
 use Rattle.ln_trace.specs.FormLaw.{HasSmallSum, HasSmallValue}
 use Rattle.ln_trace.specs.Text.{first_line, text_of_line, text_of_lines}
 use Rattle.ln_watch.specs.Panel.{State}
-use Rattle.ln_top.specs.declared.status.Status.{Status}
+use Rattle.ln_frame.specs.declared.status.Status.{Status}
 use Rattle.ln_top.specs.Answer.{Answer}
-use Rattle.ln_top.specs.Audit as audit
-use Rattle.ln_top.specs.Causes.{Answered}
-use Rattle.ln_top.specs.Explain as explain
-use Rattle.ln_top.specs.Explain.{ExplainSaid, ExplainStep, subject_of}
+use Rattle.ln_signs.specs.Explain.{ExplainSaid, ExplainLine}
+use Rattle.ln_frame.specs.Subject.{subject_of}
 use Rattle.ln_top.specs.Explained.{PutTrace, TracesExplain}
-use Rattle.ln_top.specs.Lines as l
-use Rattle.ln_top.specs.Lines.{Lines}
-use Rattle.ln_top.specs.Run.{HasRecords}
-use Rattle.ln_top.specs.Said.{Said, put_both}
-use Rattle.ln_top.specs.Steps.{Given}
+use Rattle.ln_judges.specs.Audit as audit
+use Rattle.ln_top.specs.Causes.{Answered}
+use Rattle.ln_frame.specs.Lines as l
+use Rattle.ln_frame.specs.Lines.{Lines}
+use Rattle.ln_signs.specs.Run.{HasRecords}
+use Rattle.ln_frame.specs.Said.{Said, put_both}
+use Rattle.ln_frame.specs.Given.{Given}
 use Rattle.ln_top.specs.Works.{WorkOwes}
-use Rattle.ln_top.proofs.Commands.ExplainLaws.{rows_differ}
-use Rattle.ln_top.proofs.Commands.RunLaws.{same_pred, same_records, tail_same, wrong_right}
-use Rattle.ln_top.proofs.Gathering.FewRecords.{few_in}
-use Rattle.ln_top.proofs.Steps.Grounded.{IsGrounded, grounded, in_memory}
+use Rattle.ln_signs.proofs.ExplainLaws.{rows_differ}
+use Rattle.ln_signs.proofs.FewRecords.{few_in}
+use Rattle.ln_frame.proofs.Grounded.{IsGrounded, in_memory}
+use Rattle.ln_top.proofs.Steps.Grounded.{grounded}
 use Rattle.ln_top.proofs.Steps.TopLaws.{work_of_words}
 use Rattle.ln_top.proofs.Theorem.HeadlineLaws.{head_sound}
-use Rattle.ln_top.proofs.Theorem.Lightness.{light_of}
-use Rattle.ln_top.proofs.Theorem.Standing.{fine, one_short}
-use Rattle.ln_top.specs.Ready.{AreShort}
+use Rattle.ln_frame.proofs.Lightness.{light_of}
+use Rattle.ln_top.proofs.Theorem.Standing.{fine}
+use Rattle.ln_frame.proofs.ReadyLaws.{one_short}
+use Rattle.ln_frame.specs.Ready.{AreShort}
+use Rattle.ln_signs.specs.Rows.{RowStep}
+use Rattle.ln_signs.specs.Watching.{Watching, watching}
+use Rattle.ln_signs.proofs.RowsLaws.{lines_err, of_rows}
 
 -- the texts of lines, one after the other
 pub texts_join : (xs ys : List TraceLine) → text_of_lines (xs ++ ys) ≡ text_of_lines xs ++ text_of_lines ys
@@ -72,15 +76,22 @@ pub record Told (p : PredOf) (seen : ℕ) (records : Records) (out : List ℕ) :
   pub text : out ≡ text_of_lines lines
 
 -- what is written for records, one after the other, is the text of lines that explain them
-pub all_told : (p : PredOf) (s z : ℕ) (records : Records) (out err : List ℕ) → Lines (ExplainStep p) s records out err z
-    → Told p s records out
-all_told p s z [] out err (l.none _) = record { lines = []; are = refl; text = refl }
-all_told p s z (fields ∷ rest) out err (l.more {out = o2} {err = e2} _ o e m t k) =
-    let k1 : Lines (ExplainStep p) (s + 1) rest o2 e2 z = subst (λ (n : ℕ). Lines (ExplainStep p) n rest o2 e2 z) t.counted k in
-    let u = all_told p (s + 1) z rest o2 e2 k1 in record {
-      lines = t.lines ++ u.lines;
-      are = (t.lines, u.lines, t.explains, u.are, refl);
-      text = ap (λ x. x ++ o2) t.text_is ∙ ap (λ x. text_of_lines t.lines ++ x) u.text ∙ sym (texts_join t.lines u.lines);
+pub all_told : (p : PredOf) (names : List (List ℕ)) (w z : Watching) (records : Records) (out err : List ℕ)
+    → Lines (RowStep (ExplainLine p names)) w records out err z → Told p w.seen records out
+all_told p names w z [] out err (l.none _) = record { lines = []; are = refl; text = refl }
+all_told p names w z (fields ∷ rest) out err (l.more {out = o2} {err = e2} _ o e m t k) =
+    let u = all_told p names m z rest o2 e2 k in
+    let seen : m.seen ≡ w.seen + 1 = ap (λ (x : Watching). x.seen) t.left in
+    record {
+      lines = t.is.lines ++ u.lines;
+      are = (
+        t.is.lines,
+        u.lines,
+        t.is.explains,
+        subst (λ (n : ℕ). AreExplained (subject_of p) (n + 1) rest u.lines) seen u.are,
+        refl,
+      );
+      text = ap (λ x. x ++ o2) t.is.is ∙ ap (λ x. text_of_lines t.is.lines ++ x) u.text ∙ sym (texts_join t.is.lines u.lines);
     }
 
 -- ---- a predicate of an accepted source
@@ -127,11 +138,9 @@ trace_text q sound records lines few e =
     explained-trace (subject_of (pred_of q)) records lines (have_stages q sound) (few_vars q.shape.sites q.shape.vars q.shape.kept) few e small
 
 -- what is written for records
-trace_of : (q : Pred) (p : PredOf) (records : Records) (out : List ℕ) (seen : ℕ) (was now : Option Shown) → pred_of q ≡ p → IsSound p
-    → length records < 2 ^ 32 → Lines (ExplainStep p) 0 records out [] seen → now ≡ put_both (first_line ++ out) [] was
-    → PutTrace p records was now
-trace_of q p records out seen was now i s few x e =
-    let t = all_told p 0 seen records out [] x in
+trace_of : (q : Pred) (p : PredOf) (records : Records) (out : List ℕ) (was now : Option Shown) → pred_of q ≡ p → IsSound p
+    → length records < 2 ^ 32 → Told p 0 records out → now ≡ put_both (first_line ++ out) [] was → PutTrace p records was now
+trace_of q p records out was now i s few t e =
     let sound : IsSound (pred_of q) = subst IsSound (sym i) s in
     let differ : RowsDiffer (subject_of p) = subst (λ (r : PredOf). RowsDiffer (subject_of r)) i (rows_differ q) in
     let some : HaveStages (subject_of p) = subst (λ (r : PredOf). HaveStages (subject_of r)) i (have_stages q sound) in
@@ -162,14 +171,13 @@ few_records_in g p names records short k =
 -- what is required for records after the right header
 put_trace : (g : Given) (p : PredOf) (names : List (List ℕ)) (records : Records) (a : Said) (was now : Option Shown) → IsGrounded g
     → AreShort g.texts → ExplainSaid g a → HasRecords g p names (names ∷ records) → now ≡ put_both a.out a.err was → PutTrace p records was now
-put_trace g p names records a was now i short (explain.header q others ss h x) k e = wrong_right g q p others names ss records h x k
-put_trace g p names records a was now i short (explain.ran r others ss out seen h x) k e =
+put_trace g p names records a was now i short o k e =
     let q = in_memory g p k.others i k.pred in
-    let x1 = subst (λ (t : PredOf). Lines (ExplainStep t) 0 ss out [] seen)
-    (same_pred g r p others names (others ∷ ss) (names ∷ records) h k) x in
-    let x2 = subst (λ (zs : Records). Lines (ExplainStep p) 0 zs out [] seen)
-    (tail_same (same_records g r p others names (others ∷ ss) (names ∷ records) h k)) x1 in
-    trace_of q.0 p records out seen was now q.1 (head_sound g p k.others i k.pred) (few_records_in g p names records short k) x2 e
+    let r = of_rows first_line ExplainLine [] g o k in
+    let silent = lines_err (ExplainLine p names) records r.out r.err (watching 0 []) r.left refl r.lines in
+    trace_of q.0 p records r.out was now q.1 (head_sound g p k.others i k.pred) (few_records_in g p names records short k)
+    (all_told p names (watching 0 []) r.left records r.out r.err r.lines)
+    (e ∙ ap (λ (s : Said). put_both s.out s.err was) r.is ∙ ap (λ (t : List ℕ). put_both (first_line ++ r.out) t was) silent)
 
 -- what is required explains the records
 pub explained : (words : List (List ℕ)) (told : Option Shelf) (boxes : List State) (result : Status) (was now : Option Shown)

@@ -1,12 +1,12 @@
 -- The lines that were written are the perturbed signs of their rows with what decides them, and each is one line.
 use Rattle.std.proofs.Common.{◌≡◌, ◌≢◌, ◌⊎◌, inl, inr, ℕ, zero, suc, ◌<◌, Bool, true, false, cond, List, []}
-use Rattle.std.proofs.Common.{◌∷◌, ◌++◌, find, length, is_some, Option, Some, None, Result, Ok, Err, refl, ap, sym}
+use Rattle.std.proofs.Common.{◌∷◌, ◌++◌, find, length, is_some, Option, Some, None, Result, Ok, refl, ap, sym}
 use Rattle.std.proofs.Common.{◌∙◌, subst, arith, bytes_eq}
 use Rattle.std.specs.Prelude.{All, IfSome}
 use Rattle.std.proofs.Math.IntN.{ℤ, pos, negsuc}
 use Rattle.std.proofs.lemmas.List.Elements.{All-head, All-tail}
 use Rattle.std.proofs.lemmas.Option.{none-some}
-use Rattle.ln_base.specs.Outside.{Shelf, Shown, counted}
+use Rattle.ln_base.specs.Outside.{Shelf, Shown}
 use Rattle.ln_base.specs.declared.sign.Sign.{Sign}
 use Rattle.ln_base.specs.declared.sign.Sign.TheVariants.{Zero}
 use Rattle.ln_algebra.proofs.Ordering.Admissible.{both-admissible}
@@ -14,6 +14,23 @@ use Rattle.ln_algebra.proofs.Ordering.First.{all-first-in}
 use Rattle.ln_algebra.proofs.Expanded.Normal.{zero_cases}
 use Rattle.ln_algebra.specs.Coefficient.{normal_coefficient}
 use Rattle.ln_algebra.specs.Earlier.{Sites}
+use Rattle.ln_signs.specs.Run.{HasRecords}
+use Rattle.ln_signs.specs.Watching.{Watching, watching, last_of}
+use Rattle.ln_top.specs.Answer.{Answer}
+use Rattle.ln_top.specs.Causes.{Answered}
+use Rattle.ln_top.specs.Headline.{GradedSignsArePerturbed, HasPerturbedSign, HavePerturbedSigns, none, more, PutSigns, SignsArePerturbed}
+use Rattle.ln_top.specs.Perturbed.{IsSignOn}
+use Rattle.ln_top.proofs.Theorem.Feeds.{HaveNoFeed, said_no_feed, columns_no_feed}
+use Rattle.ln_top.proofs.Steps.TopLaws.{work_of_words}
+use Rattle.ln_frame.proofs.Grounded.{AreFound, IsGrounded, in_memory}
+use Rattle.ln_top.proofs.Steps.Grounded.{grounded}
+use Rattle.ln_top.proofs.Theorem.ByValueLaws.{by_value}
+use Rattle.ln_frame.proofs.Lightness.{light_of}
+use Rattle.ln_top.specs.Works.{WorkOwes}
+use Rattle.ln_signs.proofs.OneLine.{same_row, not_both}
+use Rattle.ln_signs.specs.Rows.{RowStep}
+use Rattle.ln_signs.specs.Signs.{RunLine, RunSaid}
+use Rattle.ln_signs.proofs.RowsLaws.{lines_err, of_rows}
 use Rattle.ln_algebra.specs.Sign as algebra
 use Rattle.ln_algebra.specs.Sign.{perturbed}
 use Rattle.ln_algebra.specs.Tree.{InputsBelow, Tree}
@@ -25,7 +42,7 @@ use Rattle.ln_bound.specs.Value.{values}
 use Rattle.ln_order.specs.Rows.{RowFirst, RowSign}
 use Rattle.ln_order.specs.Sites.{row_sites, site_of}
 use Rattle.ln_rows.specs.Left.{Records}
-use Rattle.ln_watch.specs.Panel.{State, last_lines}
+use Rattle.ln_watch.specs.Panel.{State}
 use Rattle.ln_rows.specs.Record.{read_row}
 use Rattle.ln_rows.proofs.Fields.RangeLemmas.{row_in_range}
 use Rattle.ln_rows.specs.declared.record.RowStop.{RowStop}
@@ -36,27 +53,12 @@ use Rattle.ln_compile.specs.Filtered.{IsDueIn}
 use Rattle.ln_algebra.specs.Orders.{Before, BySmallest, ByDegree, Rank}
 use Rattle.ln_order.proofs.Signs.RowSigns.{rows-differ}
 use Rattle.ln_due.proofs.Verdicts.UniqueLemmas.{due-sign}
-use Rattle.ln_top.specs.declared.status.Status.{Status}
-use Rattle.ln_top.specs.Said.{Said, line, put_both}
-use Rattle.ln_top.specs.Steps.{Given, named}
-use Rattle.ln_top.specs.Line.{said_text, Says, due, refused_}
-use Rattle.ln_top.specs.Lines as l
-use Rattle.ln_top.specs.Lines.{Lines}
-use Rattle.ln_top.specs.Run as run
-use Rattle.ln_top.specs.Run.{RunStep, RunSaid, HasRecords}
-use Rattle.ln_top.specs.Watching.{Watching, watching, last_of}
-use Rattle.ln_top.specs.Answer.{Answer}
-use Rattle.ln_top.specs.Causes.{Answered}
-use Rattle.ln_top.specs.Headline.{GradedSignsArePerturbed, HasPerturbedSign, HavePerturbedSigns, none, more, PutSigns, SignsArePerturbed}
-use Rattle.ln_top.specs.Perturbed.{IsSignOn}
-use Rattle.ln_top.proofs.Gathering.Feeds.{HaveNoFeed, said_no_feed, columns_no_feed}
-use Rattle.ln_top.proofs.Commands.RunLaws.{same_pred, same_names, same_records, tail_same, wrong_right}
-use Rattle.ln_top.proofs.Steps.TopLaws.{work_of_words}
-use Rattle.ln_top.proofs.Steps.Grounded.{AreFound, IsGrounded, grounded, in_memory}
-use Rattle.ln_top.proofs.Theorem.ByValueLaws.{by_value}
-use Rattle.ln_top.proofs.Theorem.Lightness.{light_of}
-use Rattle.ln_top.proofs.Gathering.WatchingLaws.{none_told, none_left}
-use Rattle.ln_top.specs.Works.{WorkOwes}
+use Rattle.ln_frame.specs.declared.status.Status.{Status}
+use Rattle.ln_frame.specs.Said.{Said, line, put_both}
+use Rattle.ln_frame.specs.Given.{Given, named}
+use Rattle.ln_signs.specs.Line.{said_text, Says, due, refused_}
+use Rattle.ln_frame.specs.Lines as l
+use Rattle.ln_frame.specs.Lines.{Lines}
 
 -- ---- without params no row has the sign 0
 some_site : (o : Option ℕ) → o ≢ None → is_some o ≡ true
@@ -109,12 +111,6 @@ pub never_zero : (p : Pred) (row : Row) → InRange p.shape.sites p.shape.vars r
 never_zero p row = never_zero_in BySmallest p row
 
 -- ---- lines
-same_row : (r s : Row) (o : Result Row RowStop) → o ≡ Ok r → o ≡ Ok s → r ≡ s
-same_row r s o e f = cc
-
-not_both : (r : Row) (s : RowStop) (o : Result Row RowStop) → o ≡ Ok r → o ≡ Err s → ⊥
-not_both r s o e f = cc
-
 module _ (rank : Rank) (p : Pred) (sound : IsSound (pred_of p)) (names : List (List ℕ)) where
   due_sign : (row : Row) (v : Verdict) (text : List ℕ) (fields : List (List ℕ))
       → read_row p.shape.sites p.shape.vars fields ≡ Ok row → IsDueIn rank (pred_of p) row v
@@ -141,20 +137,11 @@ module _ (rank : Rank) (p : Pred) (sound : IsSound (pred_of p)) (names : List (L
   line_sign fields text (refused_ s e) t row f = absurd (not_both row s (read_row p.shape.sites p.shape.vars fields) f e)
 
   lines_signs : HaveNoFeed names → (records : Records) (out err : List ℕ) (w z : Watching)
-      → Lines (RunStep rank (pred_of p) names) w records out err z → HavePerturbedSigns rank (pred_of p) records out
+      → Lines (RowStep (RunLine rank (pred_of p) names)) w records out err z → HavePerturbedSigns rank (pred_of p) records out
   lines_signs n [] out err w z (l.none _) = none
   lines_signs n (fields ∷ rest) out err w z (l.more {out = o2} {err = e2} _ o e m t k) =
-      more o o2 (record { body = said_text names t.line.said; is = t.line.is; none = said_no_feed names t.line.said n })
-      (λ row f. line_sign fields o t.line.says t.line.is row f) (lines_signs n rest o2 e2 m z k)
-
-  -- where no watcher is handed in, none remains and nothing comes to Err
-  lines_err : (records : Records) (out err : List ℕ) (w z : Watching) → w.boxes ≡ []
-      → Lines (RunStep rank (pred_of p) names) w records out err z → err ++ last_of z ≡ []
-  lines_err [] out err w z b (l.none _) = ap last_lines b
-  lines_err (fields ∷ rest) out err w z b (l.more {out = o2} {err = e2} _ o e m t k) =
-      let blank : e ≡ [] = t.told ∙ none_told (counted w.seen) t.line.said w.boxes b in
-      let gone : m.boxes ≡ [] = ap (λ (x : Watching). x.boxes) t.left ∙ none_left (counted w.seen) t.line.said w.boxes b in
-      ap (λ x. (x ++ e2) ++ last_of z) blank ∙ lines_err rest o2 e2 m z gone k
+      more o o2 (record { body = said_text names t.is.said; is = t.is.is; none = said_no_feed names t.is.said n })
+      (λ row f. line_sign fields o t.is.says t.is.is row f) (lines_signs n rest o2 e2 m z k)
 
 -- no predicate of an accepted source is 0
 sound_if : (test : PredOf → Bool) (p x : PredOf) (ps : List PredOf) (v : Bool) → test x ≡ v → IsSound x
@@ -171,37 +158,25 @@ found_sound name (x ∷ ps) p s f =
 pub head_sound : (g : Given) (p : PredOf) (others : List PredOf) → IsGrounded g → g.preds ≡ p ∷ others → IsSound p
 head_sound g p others h e = let found = subst (AreFound g.table.preds) e h.found in found_sound found.0.0 g.table.preds p h.sound found.0.1
 
--- lines of a predicate in memory have the perturbed signs
-signs_of : (rank : Rank) (boxes : List State) (q : Pred) (p : PredOf) (names : List (List ℕ)) (records : Records) (out err : List ℕ)
-    (z : Watching) (was now : Option Shown) → pred_of q ≡ p → IsSound p → HaveNoFeed names
-    → Lines (RunStep rank p names) (watching 0 boxes) records out err z → now ≡ put_both out (err ++ last_of z) was
-    → PutSigns rank p records boxes was now
-signs_of rank boxes q p names records out err z was now i s n x e =
-    let sound = subst IsSound (sym i) s in
-    let x1 = subst (λ t. Lines (RunStep rank t names) (watching 0 boxes) records out err z) (sym i) x in
-    record {
-      lines = out;
-      signs = subst (λ t. HavePerturbedSigns rank t records out) i (lines_signs rank q sound names n records out err (watching 0 boxes) z x1);
-      err = err ++ last_of z;
-      none = λ b. lines_err rank q sound names records out err (watching 0 boxes) z b x1;
-      shown = e;
-    }
-
 -- what is required for records after the right header
 run_signs : (rank : Rank) (boxes : List State) (g : Given) (p : PredOf) (names : List (List ℕ)) (records : Records) (a : Said)
     (was now : Option Shown) → IsGrounded g → RunSaid rank boxes g a → HasRecords g p names (names ∷ records)
     → now ≡ put_both a.out a.err was → PutSigns rank p records boxes was now
-run_signs rank boxes g p names records a was now i (run.header q others ss h x) k e = wrong_right g q p others names ss records h x k
-run_signs rank boxes g p names records a was now i (run.ran r others ss out err z h x) k e =
+run_signs rank boxes g p names records a was now i o k e =
     let q = in_memory g p k.others i k.pred in
-    let x1 = subst (λ t. Lines (RunStep rank t others) (watching 0 boxes) ss out err z)
-    (same_pred g r p others names (others ∷ ss) (names ∷ records) h k) x in
-    let x2 = subst (λ (ns : List (List ℕ)). Lines (RunStep rank p ns) (watching 0 boxes) ss out err z)
-    (same_names g r p others names (others ∷ ss) (names ∷ records) h k) x1 in
-    let x3 = subst (λ (zs : Records). Lines (RunStep rank p names) (watching 0 boxes) zs out err z)
-    (tail_same (same_records g r p others names (others ∷ ss) (names ∷ records) h k)) x2 in
-    signs_of rank boxes q.0 p names records out err z was now q.1 (head_sound g p k.others i k.pred)
-    (columns_no_feed g q.0 p names i.table i.is q.1 k.columns) x3 e
+    let r = of_rows [] (RunLine rank) boxes g o k in
+    let sound = subst IsSound (sym q.1) (head_sound g p k.others i k.pred) in
+    let x = subst (λ t. Lines (RowStep (RunLine rank t names)) (watching 0 boxes) records r.out r.err r.left) (sym q.1) r.lines in
+    let feed = columns_no_feed g q.0 p names i.table i.is q.1 k.columns in
+    record {
+      lines = r.out;
+      signs =
+          subst (λ t. HavePerturbedSigns rank t records r.out) q.1
+          (lines_signs rank q.0 sound names feed records r.out r.err (watching 0 boxes) r.left x);
+      err = r.err ++ last_of r.left;
+      none = λ b. lines_err (RunLine rank p names) records r.out r.err (watching 0 boxes) r.left b r.lines;
+      shown = e ∙ ap (λ (s : Said). put_both s.out s.err was) r.is;
+    }
 
 -- what is required has the perturbed signs
 pub headline : (words : List (List ℕ)) (told : Option Shelf) (boxes : List State) (result : Status) (was now : Option Shown)

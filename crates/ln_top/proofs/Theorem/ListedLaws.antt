@@ -18,22 +18,23 @@ use Rattle.ln_bound.specs.Value.{values}
 use Rattle.ln_order.specs.Sites.{row_sites}
 use Rattle.ln_verify.specs.Line.{Written}
 use Rattle.ln_verify.specs.Verified.{IsValidFor}
-use Rattle.ln_top.specs.declared.status.Status.{Status}
-use Rattle.ln_top.specs.declared.status.End.TheVariants.{Done}
-use Rattle.ln_top.specs.Said.{Said, line, put_both, whole}
-use Rattle.ln_top.specs.Steps.{Given}
+use Rattle.ln_frame.specs.declared.status.Status.{Status}
+use Rattle.ln_frame.specs.declared.status.End.TheVariants.{Done}
+use Rattle.ln_frame.specs.Said.{Said, line, put_both, whole}
+use Rattle.ln_frame.specs.Given.{Given}
 use Rattle.ln_top.specs.Answer.{Answer}
 use Rattle.ln_top.specs.Causes.{Answered}
-use Rattle.ln_top.specs.Listing as l
-use Rattle.ln_top.specs.Listing.{AnswersDue, IsListingOf, ListSaid, PartIsDue, PartsAreDue}
+use Rattle.ln_texts.specs.Listing as l
+use Rattle.ln_texts.specs.Listing.{AnswersDue, IsListingOf, ListSaid, PartIsDue, PartsAreDue}
 use Rattle.ln_top.specs.Listed.{GivesFilteredSign, ListingGivesSigns, PartGives, PartsGive, PutListing}
-use Rattle.ln_top.specs.Verify as v
-use Rattle.ln_top.proofs.Commands.EmitLaws.{AreNamed}
+use Rattle.ln_judges.specs.Verify as v
+use Rattle.ln_texts.proofs.EmitLaws.{AreNamed}
 use Rattle.ln_top.proofs.Theorem.ByValueLaws.{by_value}
 use Rattle.ln_top.proofs.Theorem.EmittedLaws.{by_filter, names_given}
 use Rattle.ln_top.proofs.Theorem.HeadlineLaws.{never_zero}
 use Rattle.ln_top.proofs.Steps.TopLaws.{work_of_words}
-use Rattle.ln_top.proofs.Steps.Grounded.{IsGrounded, grounded}
+use Rattle.ln_frame.proofs.Grounded.{IsGrounded}
+use Rattle.ln_top.proofs.Steps.Grounded.{grounded}
 use Rattle.ln_top.specs.Works.{WorkOwes}
 
 -- the machine of a part on a row returns the perturbed sign

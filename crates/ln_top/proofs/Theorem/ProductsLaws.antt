@@ -33,32 +33,35 @@ use Rattle.ln_rows.specs.Record.{read_row}
 use Rattle.ln_rows.specs.declared.record.RowStop.{RowStop}
 use Rattle.ln_rows.proofs.Fields.RangeLemmas.{row_in_range}
 use Rattle.ln_watch.specs.Panel.{State}
-use Rattle.ln_top.specs.declared.status.Status.{Status}
-use Rattle.ln_top.specs.Said.{Said, line, put_both}
-use Rattle.ln_top.specs.Steps.{Given}
-use Rattle.ln_top.specs.Alike.{are_alike}
-use Rattle.ln_top.specs.Line.{decider_text, sign_text}
-use Rattle.ln_top.specs.Lines as l
-use Rattle.ln_top.specs.Lines.{Lines}
-use Rattle.ln_top.specs.Headline.{NoFeed}
-use Rattle.ln_top.specs.Perturbed.{IsSignOn}
-use Rattle.ln_top.specs.Product as product
-use Rattle.ln_top.specs.Product.{AreDue, IsMultiplied, Multiplied, ProductSaid, ProductStep, SaysProduct, due, refused_}
-use Rattle.ln_top.specs.Product.{deciders_after, product_text}
+use Rattle.ln_frame.specs.declared.status.Status.{Status}
+use Rattle.ln_frame.specs.Said.{Said, line, put_both}
+use Rattle.ln_frame.specs.Given.{Given}
+use Rattle.ln_signs.specs.Alike.{are_alike}
+use Rattle.ln_signs.specs.Line.{decider_text, sign_text}
+use Rattle.ln_signs.specs.Product.{AreDue, IsMultiplied, Multiplied, ProductSaid, SaysProduct, due, refused_, ProductLine}
+use Rattle.ln_signs.specs.Product.{deciders_after, product_text}
 use Rattle.ln_top.specs.Products.{HasProductSign, HasSummedFirsts, HaveProductSigns, OneIsZeroOn, ProductsArePerturbed, PutProducts}
 use Rattle.ln_top.specs.Products.{none, more, product_of}
-use Rattle.ln_top.specs.Run.{HasRecords}
+use Rattle.ln_signs.specs.Run.{HasRecords}
 use Rattle.ln_top.specs.Answer.{Answer}
 use Rattle.ln_top.specs.Causes.{Answered}
-use Rattle.ln_top.proofs.Commands.FactorsLaws.{IsOver}
-use Rattle.ln_top.proofs.Commands.RunLaws.{same_pred, same_names, same_records, tail_same, wrong_right}
-use Rattle.ln_top.proofs.Commands.ProductLaws.{all_over}
-use Rattle.ln_top.proofs.Gathering.Feeds.{HaveNoFeed, behind, columns_no_feed, decider_feed, other, sign_feed, stop_feed}
-use Rattle.ln_top.proofs.Gathering.OneProduct.{sign_same}
+use Rattle.ln_signs.proofs.FactorsLaws.{IsOver}
+use Rattle.ln_signs.proofs.ProductLaws.{all_over}
+use Rattle.ln_top.proofs.Theorem.Feeds.{HaveNoFeed, behind, columns_no_feed, decider_feed, other, sign_feed, stop_feed}
+use Rattle.ln_signs.proofs.OneProduct.{sign_same}
 use Rattle.ln_top.proofs.Steps.TopLaws.{work_of_words}
-use Rattle.ln_top.proofs.Steps.Grounded.{IsGrounded, asked, grounded, in_memory}
+use Rattle.ln_frame.proofs.Grounded.{IsGrounded, in_memory}
+use Rattle.ln_top.proofs.Steps.Grounded.{asked, grounded}
 use Rattle.ln_top.specs.Signature.{Asks}
 use Rattle.ln_top.specs.Works.{WorkOwes}
+use Rattle.ln_signs.proofs.OneLine.{same_row, not_both}
+use Rattle.ln_signs.specs.Rows.{RowStep}
+use Rattle.ln_signs.specs.Watching.{Watching, watching}
+use Rattle.ln_signs.proofs.RowsLaws.{lines_err, of_rows}
+use Rattle.ln_frame.specs.Lines as l
+use Rattle.ln_frame.specs.Lines.{Lines}
+use Rattle.ln_top.specs.Headline.{NoFeed}
+use Rattle.ln_top.specs.Perturbed.{IsSignOn}
 
 -- ---- signs
 module _ (sites : ℕ) (vars : List VarInfo) (row : Row) where
@@ -116,12 +119,6 @@ product_feed : (names : List (List ℕ)) (said : Result Multiplied RowStop) → 
 product_feed names (Ok m) f =
     behind (sign_text m.sign) (deciders_after 32 m.verdicts) (sign_feed m.sign) (deciders_feed 32 m.verdicts (other 32 refl))
 product_feed names (Err s) f = stop_feed names s f
-
-same_row : (r s : Row) (o : Result Row RowStop) → o ≡ Ok r → o ≡ Ok s → r ≡ s
-same_row r s o e f = cc
-
-not_both : (r : Row) (s : RowStop) (o : Result Row RowStop) → o ≡ Ok r → o ≡ Err s → ⊥
-not_both r s o e f = cc
 
 module _ (q : Pred) (others : List PredOf) (over : Every (IsOver q.shape.sites q.shape.vars) (pred_of q ∷ others))
     (names : List (List ℕ)) where
@@ -181,43 +178,35 @@ module _ (q : Pred) (others : List PredOf) (over : Every (IsOver q.shape.sites q
       subst (λ (z : Row). HasProductSign (pred_of q) others z text) same (due_sign r m text fields e d k t)
   line_sign fields text (refused_ s e) t row f = absurd (not_both row s (read_row q.shape.sites q.shape.vars fields) f e)
 
-  lines_signs : HaveNoFeed names → (records : Records) (out err : List ℕ) (w z : Unit {0})
-      → Lines (ProductStep (pred_of q) (pred_of q ∷ others) names) w records out err z
+  lines_signs : HaveNoFeed names → (records : Records) (out err : List ℕ) (w z : Watching)
+      → Lines (RowStep (ProductLine (pred_of q ∷ others) (pred_of q) names)) w records out err z
       → HaveProductSigns (pred_of q) others records out
   lines_signs n [] out err w z (l.none _) = none
   lines_signs n (fields ∷ rest) out err w z (l.more {out = o2} {err = e2} _ o e m t k) =
-      more o o2 (record { body = product_text names t.said; is = t.line_is; none = product_feed names t.said n })
-      (λ row f. line_sign fields o t.says t.line_is row f) (lines_signs n rest o2 e2 m z k)
-
--- lines of a predicate in memory and of others have the signs of the products
-signs_of : (q : Pred) (p : PredOf) (others : List PredOf) (names : List (List ℕ)) (records : Records) (out : List ℕ)
-    (was now : Option Shown) → pred_of q ≡ p → Every (IsOver p.sites p.vars) (p ∷ others) → HaveNoFeed names
-    → Lines (ProductStep p (p ∷ others) names) tt records out [] tt → now ≡ put_both out [] was → PutProducts p others records was now
-signs_of q p others names records out was now i over n x e =
-    let over1 = subst (λ (t : PredOf). Every (IsOver t.sites t.vars) (t ∷ others)) (sym i) over in
-    let x1 = subst (λ t. Lines (ProductStep t (t ∷ others) names) tt records out [] tt) (sym i) x in
-    record {
-      lines = out;
-      signs = subst (λ t. HaveProductSigns t others records out) i (lines_signs q others over1 names n records out [] tt tt x1);
-      shown = e;
-    }
+      more o o2 (record { body = product_text names t.is.said; is = t.is.is; none = product_feed names t.is.said n })
+      (λ row f. line_sign fields o t.is.says t.is.is row f) (lines_signs n rest o2 e2 m z k)
 
 -- what is required for records after the right header
 product_signs : (g : Given) (p : PredOf) (others : List PredOf) (names : List (List ℕ)) (records : Records) (a : Said)
     (was now : Option Shown) → IsGrounded g → are_alike g.preds ≡ true → ProductSaid g a → g.preds ≡ p ∷ others
     → HasRecords g p names (names ∷ records) → now ≡ put_both a.out a.err was → PutProducts p others records was now
-product_signs g p others names records a was now i v (product.header q ns ss h x) f k e = wrong_right g q p ns names ss records h x k
-product_signs g p others names records a was now i v (product.ran r ns ss out h x) f k e =
+product_signs g p others names records a was now i v o f k e =
     let q = in_memory g p others i f in
-    let x0 = subst (λ (ps : List PredOf). Lines (ProductStep r ps ns) tt ss out [] tt) f x in
-    let x1 = subst (λ t. Lines (ProductStep t (p ∷ others) ns) tt ss out [] tt)
-    (same_pred g r p ns names (ns ∷ ss) (names ∷ records) h k) x0 in
-    let x2 = subst (λ (m : List (List ℕ)). Lines (ProductStep p (p ∷ others) m) tt ss out [] tt)
-    (same_names g r p ns names (ns ∷ ss) (names ∷ records) h k) x1 in
-    let x3 = subst (λ (zs : Records). Lines (ProductStep p (p ∷ others) names) tt zs out [] tt)
-    (tail_same (same_records g r p ns names (ns ∷ ss) (names ∷ records) h k)) x2 in
-    signs_of q.0 p others names records out was now q.1 (all_over g i v p others f)
-    (columns_no_feed g q.0 p names i.table i.is q.1 k.columns) x3 e
+    let r = of_rows [] (ProductLine g.preds) [] g o k in
+    let over = subst (λ (t : PredOf). Every (IsOver t.sites t.vars) (t ∷ others)) (sym q.1) (all_over g i v p others f) in
+    let x0 = subst (λ (ps : List PredOf). Lines (RowStep (ProductLine ps p names)) (watching 0 []) records r.out r.err r.left) f r.lines in
+    let x = subst (λ t. Lines (RowStep (ProductLine (t ∷ others) t names)) (watching 0 []) records r.out r.err r.left) (sym q.1) x0 in
+    let feed = columns_no_feed g q.0 p names i.table i.is q.1 k.columns in
+    record {
+      lines = r.out;
+      signs =
+          subst (λ t. HaveProductSigns t others records r.out) q.1
+          (lines_signs q.0 others over names feed records r.out r.err (watching 0 []) r.left x);
+      shown =
+          e ∙ ap (λ (s : Said). put_both s.out s.err was) r.is
+          ∙ ap (λ (t : List ℕ). put_both r.out t was)
+          (lines_err (ProductLine g.preds p names) records r.out r.err (watching 0 []) r.left refl r.lines);
+    }
 
 -- what is required has the signs of the products
 pub products : (words : List (List ℕ)) (told : Option Shelf) (boxes : List State) (result : Status) (was now : Option Shown)

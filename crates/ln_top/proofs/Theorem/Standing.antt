@@ -3,13 +3,15 @@ use Rattle.std.proofs.Common.{◌≡◌, ℕ, ◌≤◌, List, [], ◌∷◌, le
 use Rattle.ln_base.specs.Outside.{Shelf}
 use Rattle.ln_tree.specs.Table.{TableOf}
 use Rattle.ln_compile.specs.Accepted.{AreSound}
-use Rattle.ln_top.specs.declared.prepare.Ready.{Ready}
+use Rattle.ln_frame.specs.declared.ready.Ready.{Ready}
 use Rattle.ln_top.specs.Plan.{HasForm, Plan}
-use Rattle.ln_top.specs.Signature.{form}
+use Rattle.ln_top.specs.Signature.{form, signature_of}
 use Rattle.ln_top.specs.Steps as step
-use Rattle.ln_top.specs.Steps.{gives, Given, Prepares, Each, Reads, most_file}
-use Rattle.ln_top.specs.Ready.{AreShort, HasStanding, IsReady, IsReadyFor}
-use Rattle.ln_top.proofs.Steps.Chain.{value_or}
+use Rattle.ln_frame.specs.Given.{gives, Given, most_file}
+use Rattle.ln_top.specs.Steps.{Prepares, Each, Reads}
+use Rattle.ln_frame.specs.Ready.{AreShort, HasStanding, IsReadyFor}
+use Rattle.ln_top.specs.Ready.{IsReady}
+use Rattle.ln_frame.proofs.Outcomes.{value_or}
 use Rattle.ln_top.proofs.Steps.Grounded.{accepted_of, asked}
 
 -- the further files that were read are within their limit
@@ -45,13 +47,9 @@ standing plan told r h =
       short = f.short;
     }
 
--- the one further file
-pub one_short : (texts : List (List ℕ)) (bytes : List ℕ) → texts ≡ bytes ∷ [] → AreShort texts → length bytes ≤ most_file
-one_short texts bytes e h = (subst AreShort e h).0
-
 -- and it is as much as the command takes, and suits it
 pub ready_for : (plan : Plan) (told : Option Shelf) (r : Ready) → IsReady plan told r → HasForm plan
-    → length r.numbers.items ≡ length plan.names → length r.texts.items ≡ length plan.files → IsReadyFor plan.command r
+    → length r.numbers.items ≡ length plan.names → length r.texts.items ≡ length plan.files → IsReadyFor (signature_of plan.command) r
 unfolding standing
 ready_for plan told r h f a b = record {
   stands = standing plan told r h;

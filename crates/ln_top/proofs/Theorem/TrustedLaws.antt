@@ -13,21 +13,22 @@ use Rattle.ln_verify.specs.AsPart.{GivesSign, part_of}
 use Rattle.ln_verify.specs.Line.{Subject, Written}
 use Rattle.ln_verify.specs.Verified.{AreSubjectsOf, IsValidFor}
 use Rattle.ln_verify.proofs.Validity.Tells.{signs-told}
-use Rattle.ln_top.specs.declared.status.Status.{Status}
-use Rattle.ln_top.specs.declared.status.Status.TheVariants.{Done}
-use Rattle.ln_top.specs.declared.status.Status.TheVariants as status
-use Rattle.ln_top.specs.Steps.{Given}
+use Rattle.ln_frame.specs.declared.status.Status.{Status}
+use Rattle.ln_frame.specs.declared.status.Status.TheVariants.{Done}
+use Rattle.ln_frame.specs.declared.status.Status.TheVariants as status
+use Rattle.ln_frame.specs.Given.{Given}
 use Rattle.ln_top.specs.Answer.{Answer}
 use Rattle.ln_top.specs.Causes.{Answered, IsSettled}
-use Rattle.ln_top.specs.Said.{Said, end_status}
-use Rattle.ln_top.specs.Verify.{HasValid, VerifySaid, valid, invalid}
+use Rattle.ln_frame.specs.Said.{Said, end_status}
+use Rattle.ln_judges.specs.Verify.{HasValid, VerifySaid, valid, invalid}
 use Rattle.ln_top.specs.Works.{WorkOwes}
 use Rattle.ln_top.specs.Listed.{GivesPerturbedSign, PartsGiveSigns}
 use Rattle.ln_top.specs.Trusted.{TellsSigns, ValidTellsSigns}
-use Rattle.ln_top.proofs.Commands.EmitLaws.{AreNamed}
+use Rattle.ln_texts.proofs.EmitLaws.{AreNamed}
 use Rattle.ln_top.proofs.Theorem.EmittedLaws.{names_given}
 use Rattle.ln_top.proofs.Theorem.HeadlineLaws.{never_zero}
-use Rattle.ln_top.proofs.Steps.Grounded.{IsGrounded, grounded}
+use Rattle.ln_frame.proofs.Grounded.{IsGrounded}
+use Rattle.ln_top.proofs.Steps.Grounded.{grounded}
 use Rattle.ln_top.proofs.Steps.TopLaws.{work_of_words}
 
 -- ---- the parts of a valid listing

@@ -102,12 +102,6 @@ same_words (line.Sign t) (line.Sign u) k p q e = ap line.Sign (same_sign t u (he
 same_words x y k p q e = absurd (cc)
 
 -- ---- words without blanks
-first_plain : (k : Kind) → is_plain (word_of k) ≡ true
-first_plain kind.Refused = refl
-first_plain kind.Row = refl
-first_plain kind.At = refl
-first_plain kind.Sign = refl
-
 sign_plain : (t : Sign) → is_plain (sign_word t) ≡ true
 sign_plain Minus = refl
 sign_plain Zero = refl

@@ -1,4 +1,4 @@
--- Lines within the part of a predicate: from what a stack does to what the whole desk stands for.
+-- Lines within the part of a predicate: from what a stack does to what the whole state stands for.
 use Rattle.std.proofs.Common.{◌≡◌, ℕ, ◌<◌, ◌+◌, Bool, true, false, List, [], ◌∷◌, ◌++◌, length, refl, sym, ap, arith, subst, ◌∙◌}
 use Rattle.std.proofs.lemmas.List.{length-map, map-append}
 use Rattle.std.specs.Prelude.{Option, Some, None, slice_get}
@@ -11,7 +11,7 @@ use Rattle.ln_code.specs.Engine.{State}
 use Rattle.ln_code.specs.FilterRules.{FilterKnown}
 use Rattle.ln_code.specs.Kept.{AreOfSites, is_of_site}
 use Rattle.ln_verify.specs.Line.{fresh}
-use Rattle.ln_verify.specs.declared.desk.At.{At}
+use Rattle.ln_verify.specs.declared.progress.At.{At}
 use Rattle.ln_code.specs.declared.op.Op.{Op}
 use Rattle.ln_code.specs.declared.op.Triple.{Triple}
 use Rattle.ln_interval.specs.Range.{Range}
@@ -19,38 +19,38 @@ use Rattle.ln_code.specs.Rules.{Known}
 use Rattle.ln_verify.specs.BlockRules.{Version, balanced}
 use Rattle.ln_verify.specs.Line.{Between, InBlock, InFilter, IsNextList, Named, Ordering, Piece, Subject, exps_of}
 use Rattle.ln_cert.specs.declared.part.Part.TheVariants.{Filter, FilterOp, Decide, Block, BlockOp, RangeOp, End, NoFilter, Order}
-use Rattle.ln_verify.specs.declared.desk.At.TheVariants.{AtName, AtFilter, AtGap, AtBlock, AtOrder}
-use Rattle.ln_verify.specs.declared.desk.Desk.{Desk}
-use Rattle.ln_verify.specs.Here.{AreAbove, BenchEnds, Leads, TrayDecides, before_of}
+use Rattle.ln_verify.specs.declared.progress.At.TheVariants.{AtName, AtFilter, AtGap, AtBlock, AtOrder}
+use Rattle.ln_verify.specs.declared.progress.Progress.{Progress}
+use Rattle.ln_verify.specs.Here.{AreAbove, BlockEnds, Leads, FilterDecides, before_of}
 use Rattle.ln_verify.specs.Versions.{version_of}
 use Rattle.ln_verify.specs.declared.form.Form.{Form}
 use Rattle.ln_verify.specs.declared.form.Form.TheVariants.{One, Two}
-use Rattle.ln_verify.specs.Works.{BenchLed, BlockStack, FilterStack, IsBench, IsTray, TrayLed}
+use Rattle.ln_verify.specs.Works.{BlockStep, BlockStack, FilterStack, IsBlockStack, IsFilterStack, FilterStep}
 
--- the desk with another tray
-abbrev pub with_tray : Desk → FilterStack → Desk
-with_tray d t = record { at = d.at; parts = d.parts; exps = d.exps; bench = d.bench; tray = t; lists = d.lists }
+-- the state of the judge with another stack of a filter
+abbrev pub with_filter_stack : Progress → FilterStack → Progress
+with_filter_stack d t = record { at = d.at; parts = d.parts; exps = d.exps; block_stack = d.block_stack; filter_stack = t; lists = d.lists }
 
--- and with another bench
-abbrev pub with_bench : Desk → BlockStack → Desk
-with_bench d b = record { at = d.at; parts = d.parts; exps = d.exps; bench = b; tray = d.tray; lists = d.lists }
+-- and with another stack of a block
+abbrev pub with_block_stack : Progress → BlockStack → Progress
+with_block_stack d b = record { at = d.at; parts = d.parts; exps = d.exps; block_stack = b; filter_stack = d.filter_stack; lists = d.lists }
 
-module _ (v : Version) (p : Subject) (d : Desk) where
-  -- in a filter, the line of an operation does to the desk what the operation does to the filter's stack
-  pub tray-led : (t : FilterStack) (op : Op) (a : Triple) (ok : Bool) → d.at ≡ AtFilter → TrayLed v p.vars d.tray op a ok t
-      → Leads v p d (FilterOp op a) ok (with_tray d t)
-  tray-led t op a ok e h Named i = cc
-  tray-led t op a true e h (InFilter lines s) i =
+module _ (v : Version) (p : Subject) (d : Progress) where
+  -- in a filter, the line of an operation does to the state of the judge what the operation does to the filter's stack
+  pub filter_stack-led : (t : FilterStack) (op : Op) (a : Triple) (ok : Bool) → d.at ≡ AtFilter → FilterStep v p.vars d.filter_stack op a ok t
+      → Leads v p d (FilterOp op a) ok (with_filter_stack d t)
+  filter_stack-led t op a ok e h Named i = cc
+  filter_stack-led t op a true e h (InFilter lines s) i =
       let r = h s i.1 in
       (refl, (InFilter (lines ++ record { op = op; bound = a } ∷ []) r.0, (r.0, r.1, refl), (e, r.2)))
-  tray-led t op a false e h (InFilter lines s) i = let r = h s i.1 in (refl, λ q k. r k.0 k.1)
-  tray-led t op a ok e h (Between f bs) i = cc
-  tray-led t op a ok e h (InBlock f bs x lines s) i = cc
-  tray-led t op a ok e h (Ordering w) i = cc
+  filter_stack-led t op a false e h (InFilter lines s) i = let r = h s i.1 in (refl, λ q k. r k.0 k.1)
+  filter_stack-led t op a ok e h (Between f bs) i = cc
+  filter_stack-led t op a ok e h (InBlock f bs x lines s) i = cc
+  filter_stack-led t op a ok e h (Ordering w) i = cc
 
-  -- in a block of version 1, a line with a bound does to the desk what its operation does to the block's stack
-  pub bound-led : (t : BlockStack) (op : Op) (b : ℕ) (ok : Bool) → v.number ≡ 1 → d.at ≡ AtBlock → BenchLed v p.vars d.bench op (balanced b) ok t
-      → Leads v p d (BlockOp op b) ok (with_bench d t)
+  -- in a block of version 1, a line with a bound does to the state of the judge what its operation does to the block's stack
+  pub bound-led : (t : BlockStack) (op : Op) (b : ℕ) (ok : Bool) → v.number ≡ 1 → d.at ≡ AtBlock → BlockStep v p.vars d.block_stack op (balanced b) ok t
+      → Leads v p d (BlockOp op b) ok (with_block_stack d t)
   bound-led t op b ok o e h Named i = cc
   bound-led t op b ok o e h (InFilter lines s) i = cc
   bound-led t op b ok o e h (Between f bs) i = cc
@@ -60,9 +60,9 @@ module _ (v : Version) (p : Subject) (d : Desk) where
   bound-led t op b false o e h (InBlock f bs x lines s) i = let r = h s i.3 in (refl, λ q k. r k.1.0 k.1.1)
   bound-led t op b ok o e h (Ordering w) i = cc
 
-  -- in a block of version 2, a line with two ends of a range does to the desk what its operation does to the block's stack
-  pub range-led : (t : BlockStack) (op : Op) (b : Range) (ok : Bool) → v.number ≡ 2 → d.at ≡ AtBlock → BenchLed v p.vars d.bench op b ok t
-      → Leads v p d (RangeOp op b.low b.high) ok (with_bench d t)
+  -- in a block of version 2, a line with two ends of a range does to the state of the judge what its operation does to the block's stack
+  pub range-led : (t : BlockStack) (op : Op) (b : Range) (ok : Bool) → v.number ≡ 2 → d.at ≡ AtBlock → BlockStep v p.vars d.block_stack op b ok t
+      → Leads v p d (RangeOp op b.low b.high) ok (with_block_stack d t)
   range-led t op b ok o e h Named i = cc
   range-led t op b ok o e h (InFilter lines s) i = cc
   range-led t op b ok o e h (Between f bs) i = cc
@@ -72,9 +72,9 @@ module _ (v : Version) (p : Subject) (d : Desk) where
   range-led t op b false o e h (InBlock f bs x lines s) i = let r = h s i.3 in (refl, λ q k. r k.1.0 k.1.1)
   range-led t op b ok o e h (Ordering w) i = cc
 
--- the desk at another place, with other exponents
-abbrev pub moved : Desk → At → List Pairs → Desk
-moved d x es = record { at = x; parts = d.parts; exps = es; bench = d.bench; tray = d.tray; lists = d.lists }
+-- the state of the judge at another place, with other exponents
+abbrev pub moved : Progress → At → List Pairs → Progress
+moved d x es = record { at = x; parts = d.parts; exps = es; block_stack = d.block_stack; filter_stack = d.filter_stack; lists = d.lists }
 
 above-none : (n : ℕ) (es : List Pairs) → es ≡ [] → AreAbove n es
 above-none n [] e = λ i d l. absurd (omega (arith, l))
@@ -102,7 +102,7 @@ length-more : {A : Type 0} (xs : List A) (x : A) → length (xs ++ x ∷ []) ≡
 length-more [] x = refl
 length-more (y ∷ xs) x = omega (arith, length-more xs x)
 
-module _ (v : Version) (p : Subject) (d : Desk) where
+module _ (v : Version) (p : Subject) (d : Progress) where
   -- after the name of a predicate, `nofilter` leads to the place before the first block
   pub named-gap : (es : List Pairs) → d.at ≡ AtName → es ≡ [] → Leads v p d NoFilter true (moved d AtGap es)
   named-gap es e h Named i = (refl, (Between None [], refl, (refl, h, above-none (length p.vars) es h)))
@@ -112,8 +112,8 @@ module _ (v : Version) (p : Subject) (d : Desk) where
   named-gap es e h (Ordering w) i = cc
 
   -- after the name of a predicate, `filter` leads into a filter, with nothing on the stack and no local set
-  pub named-filter : (t : FilterStack) → d.at ≡ AtName → ((n : ℕ) → IsTray n t fresh)
-      → Leads v p d Filter true (record { at = AtFilter; parts = d.parts; exps = d.exps; bench = d.bench; tray = t; lists = d.lists })
+  pub named-filter : (t : FilterStack) → d.at ≡ AtName → ((n : ℕ) → IsFilterStack n t fresh)
+      → Leads v p d Filter true (record { at = AtFilter; parts = d.parts; exps = d.exps; block_stack = d.block_stack; filter_stack = t; lists = d.lists })
   named-filter t e h Named i = (refl, (InFilter [] fresh, refl, (refl, h (length p.vars))))
   named-filter t e h (InFilter lines s) i = cc
   named-filter t e h (Between f bs) i = cc
@@ -122,7 +122,8 @@ module _ (v : Version) (p : Subject) (d : Desk) where
 
   -- in a filter with what `decide` asks for on the stack, `decide` leads to the place before the first block
   pub decided : (es : List Pairs) → d.at ≡ AtFilter → es ≡ []
-      → ((s : State FilterKnown (ℕ → Option FilterKnown)) → IsTray (length p.vars) d.tray s → TrayDecides p s) → Leads v p d Decide true (moved d AtGap es)
+      → ((s : State FilterKnown (ℕ → Option FilterKnown)) → IsFilterStack (length p.vars) d.filter_stack s → FilterDecides p s)
+      → Leads v p d Decide true (moved d AtGap es)
   decided es e h k Named i = cc
   decided es e h k (InFilter lines s) i =
       let r = k s i.1 in (
@@ -139,7 +140,7 @@ module _ (v : Version) (p : Subject) (d : Desk) where
 
   -- where the block's stack doesn't have what `end` asks for, `end` leads nowhere
   pub end-not : ((es : List Pairs) (a : Pairs) (s : State Known (ℕ → Option Known)) → d.exps ≡ es ++ a ∷ []
-      → AreAbove (length p.vars) d.exps → IsBench (length p.vars) d.bench s → BenchEnds p a s → ⊥) → Leads v p d End false d
+      → AreAbove (length p.vars) d.exps → IsBlockStack (length p.vars) d.block_stack s → BlockEnds p a s → ⊥) → Leads v p d End false d
   end-not k Named i = (refl, λ t r. r)
   end-not k (InFilter lines s) i = (refl, λ t r. r)
   end-not k (Between f bs) i = (refl, λ t r. r)
@@ -148,7 +149,7 @@ module _ (v : Version) (p : Subject) (d : Desk) where
 
   -- in a block with what `end` asks for on the stack, `end` leads to the place after the block
   pub ended : d.at ≡ AtBlock → ((es : List Pairs) (a : Pairs) (s : State Known (ℕ → Option Known)) → d.exps ≡ es ++ a ∷ []
-      → AreAbove (length p.vars) d.exps → IsBench (length p.vars) d.bench s → BenchEnds p a s) → Leads v p d End true (moved d AtGap d.exps)
+      → AreAbove (length p.vars) d.exps → IsBlockStack (length p.vars) d.block_stack s → BlockEnds p a s) → Leads v p d End true (moved d AtGap d.exps)
   ended e k Named i = cc
   ended e k (InFilter lines s) i = cc
   ended e k (Between f bs) i = cc
@@ -165,8 +166,8 @@ module _ (v : Version) (p : Subject) (d : Desk) where
 
   -- between blocks, a `block` line with the next number and rising exponents of coordinates of sites leads into a block
   pub opened : (k : ℕ) (a : Pairs) (es : List Pairs) (b : BlockStack) → d.at ≡ AtGap → k ≡ length d.exps → AreOfSites p.vars a → IsRising a →
-      es ≡ d.exps ++ a ∷ [] → ((n : ℕ) → IsBench n b fresh) →
-      Leads v p d (Block k a) true (record { at = AtBlock; parts = d.parts; exps = es; bench = b; tray = d.tray; lists = d.lists })
+      es ≡ d.exps ++ a ∷ [] → ((n : ℕ) → IsBlockStack n b fresh) →
+      Leads v p d (Block k a) true (record { at = AtBlock; parts = d.parts; exps = es; block_stack = b; filter_stack = d.filter_stack; lists = d.lists })
   opened k a es b e l o r h z Named i = cc
   opened k a es b e l o r h z (InFilter lines s) i = cc
   opened k a es b e l o r h z (Between f bs) i =
@@ -199,7 +200,15 @@ module _ (v : Version) (p : Subject) (d : Desk) where
 
   -- where an `order` line is allowed and has the list of the next order, it leads on, to one list more
   pub ordered : (n : ℕ) (places list : List ℕ) → before_of d.at d.lists ≡ Some n → (AreAbove (length p.vars) d.exps → IsNextList p d.exps n places list) →
-      Leads v p d (Order places list) true (record { at = AtOrder; parts = d.parts; exps = d.exps; bench = d.bench; tray = d.tray; lists = n + 1 })
+      Leads v p d (Order places list) true (record {
+        at = AtOrder;
+        parts = d.parts;
+        exps = d.exps;
+        block_stack = d.block_stack;
+        filter_stack =
+            d.filter_stack;
+        lists = n + 1;
+      })
   ordered n places list e k Named i = absurd (none n (sym (ap (λ x. before_of x d.lists) i) ∙ e))
     where
       none : (m : ℕ) → None ≡ Some m → ⊥
@@ -230,7 +239,7 @@ module _ (v : Version) (p : Subject) (d : Desk) where
         ),
       )
 
-module _ (v : Version) (p : Subject) (d : Desk) (places list : List ℕ) where
+module _ (v : Version) (p : Subject) (d : Progress) (places list : List ℕ) where
   none-is : (m : ℕ) → None ≡ Some m → ⊥
   none-is m q = cc
 

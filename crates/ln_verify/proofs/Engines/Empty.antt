@@ -5,7 +5,7 @@ use Rattle.std.proofs.lemmas.List.{get_or-replicate}
 use Rattle.ln_verify.specs.Line.{fresh}
 use Rattle.ln_verify.specs.Values.{IsFor, IsLocal, IsState}
 use Rattle.ln_verify.specs.Rules.{in_range, in_triple}
-use Rattle.ln_verify.specs.Works.{BlockStack, FilterStack, IsBench, IsTray}
+use Rattle.ln_verify.specs.Works.{BlockStack, FilterStack, IsBlockStack, IsFilterStack}
 
 suc-more : {A : Type 0} (n : ℕ) (x : A) → replicate n x ++ x ∷ [] ≡ replicate (suc n) x
 suc-more zero x = refl
@@ -27,9 +27,9 @@ empty-state {X} R xs ls e l = record {
 }
 
 -- an empty stack of a block, with 256 locals that aren't set, is for the state before the first line
-pub bench-empty : (n : ℕ) (b : BlockStack) → b.values.items ≡ [] → b.locals.items ≡ replicate 256 None → IsBench n b fresh
-bench-empty n b e l = empty-state (IsFor in_range n) b.values.items b.locals.items e l
+pub block_stack-empty : (n : ℕ) (b : BlockStack) → b.values.items ≡ [] → b.locals.items ≡ replicate 256 None → IsBlockStack n b fresh
+block_stack-empty n b e l = empty-state (IsFor in_range n) b.values.items b.locals.items e l
 
 -- the same of a filter
-pub tray-empty : (n : ℕ) (b : FilterStack) → b.values.items ≡ [] → b.locals.items ≡ replicate 256 None → IsTray n b fresh
-tray-empty n b e l = empty-state (IsFor in_triple n) b.values.items b.locals.items e l
+pub filter_stack-empty : (n : ℕ) (b : FilterStack) → b.values.items ≡ [] → b.locals.items ≡ replicate 256 None → IsFilterStack n b fresh
+filter_stack-empty n b e l = empty-state (IsFor in_triple n) b.values.items b.locals.items e l

@@ -7,11 +7,11 @@ use Rattle.ln_base.specs.Lines.{joined, parted}
 use Rattle.ln_cert.specs.Listing.{AreNumbered, Kept, Listed, first_line, parts_of, texts_of}
 use Rattle.ln_cert.specs.Text.{text_of, words_of}
 use Rattle.ln_verify.specs.BlockRules.{Version}
-use Rattle.ln_verify.specs.Here.{Gone, IsHere}
+use Rattle.ln_verify.specs.Here.{PlaceStep, IsHere}
 use Rattle.ln_verify.specs.Judge.{IsFirstFault, IsValid}
 use Rattle.ln_verify.specs.Line.{Place, Subject}
-use Rattle.ln_verify.specs.declared.desk.Desk.{Desk}
-use Rattle.ln_verify.specs.declared.desk.At.TheVariants.{Away}
+use Rattle.ln_verify.specs.declared.progress.Progress.{Progress}
+use Rattle.ln_verify.specs.declared.progress.At.TheVariants.{Away}
 use Rattle.ln_verify.proofs.Judging.Places.{Come, come-more, come-stops, come-whole, come-lacks}
 
 part-at : (es : List Entry) (i : ℕ) (d : Entry) → get_or (parts_of es) i d.part ≡ (get_or es i d).part
@@ -28,23 +28,23 @@ parts-many : (es : List Entry) → length (parts_of es) ≡ length es
 parts-many es = length-map es (λ (e : Entry). e.part)
 
 -- ---- the loop
-module _ (v : Version) (ps : List Subject) (d : Desk) (es : List Entry) (i : ℕ) where
+module _ (v : Version) (ps : List Subject) (d : Progress) (es : List Entry) (i : ℕ) where
   -- the line at hand leads on
-  pub entry-more : (e : Entry) (new : Desk) → i < length es → e ≡ get_or es i e → Come v ps (take i (parts_of es)) d
-      → ((here : Place) → IsHere ps d here → Gone v ps here e.part true new) → Come v ps (take (i + 1) (parts_of es)) new
+  pub entry-more : (e : Entry) (new : Progress) → i < length es → e ≡ get_or es i e → Come v ps (take i (parts_of es)) d
+      → ((here : Place) → IsHere ps d here → PlaceStep v ps here e.part true new) → Come v ps (take (i + 1) (parts_of es)) new
   entry-more e new l q c h =
       let p : e.part ≡ get_or (parts_of es) i e.part = ap (λ (x : Entry). x.part) q ∙ sym (part-at es i e) in
       come-more v ps d (parts_of es) i e.part new (omega (arith, l, parts-many es)) c
-      (subst (λ (x : Part). (here : Place) → IsHere ps d here → Gone v ps here x true new) p h)
+      (subst (λ (x : Part). (here : Place) → IsHere ps d here → PlaceStep v ps here x true new) p h)
 
   -- or it fails: it is the first that does, by its own number
-  pub entry-stops : (e : Entry) (new : Desk) → i < length es → e ≡ get_or es i e → AreNumbered 2 es → Come v ps (take i (parts_of es)) d
-      → ((here : Place) → IsHere ps d here → Gone v ps here e.part false new) → IsFirstFault v ps (parts_of es) e.line
+  pub entry-stops : (e : Entry) (new : Progress) → i < length es → e ≡ get_or es i e → AreNumbered 2 es → Come v ps (take i (parts_of es)) d
+      → ((here : Place) → IsHere ps d here → PlaceStep v ps here e.part false new) → IsFirstFault v ps (parts_of es) e.line
   entry-stops e new l q k c h =
       let p : e.part ≡ get_or (parts_of es) i e.part = ap (λ (x : Entry). x.part) q ∙ sym (part-at es i e) in
       let n : e.line ≡ i + 2 = omega (arith, ap (λ (x : Entry). x.line) q, number-at 2 es i e k l) in
       subst (IsFirstFault v ps (parts_of es)) (sym n) (come-stops v ps d (parts_of es) i e.part new (omega (arith, l, parts-many es)) c
-      (subst (λ (x : Part). (here : Place) → IsHere ps d here → Gone v ps here x false new) p h))
+      (subst (λ (x : Part). (here : Place) → IsHere ps d here → PlaceStep v ps here x false new) p h))
 
   -- the end of the file, within a part or where a predicate lacks its part
   pub entries-lack : (n : ℕ) → i ≡ length es → n ≡ length es + 2 → Come v ps (take i (parts_of es)) d

@@ -22,7 +22,6 @@ use Rattle.ln_stage.specs.StageList.{IsStageListOf}
 use Rattle.ln_stage.specs.Staged.{AreStagesOf, Staged, block_vector, segment_of}
 use Rattle.ln_stage.proofs.Monomials.LawLemmas.{list-unique}
 use Rattle.ln_stage.proofs.Walks.PairsLemmas.{same-pairs, same_pairs-refl}
-use Rattle.ln_due.proofs.Parts.BlockLemmas.{some-same}
 use Rattle.ln_verify.specs.Line.{IsNextList, Subject, named}
 use Rattle.ln_verify.specs.Orders.{HasVector, SameStages}
 
@@ -147,11 +146,6 @@ pub order-none : (orders : List Order) (sites before : ℕ) (places : List ℕ) 
 order-none orders sites before places e l h =
     let b : before < length (orders_of sites) = slice_get_within (orders_of sites) before places h in
     omega (arith, b, l, ap length e, length-map orders order_places)
-
--- another order isn't the next one
-pub other : (p : Subject) (exps : List Pairs) (before : ℕ) (at places list : List ℕ) → slice_get (orders_of p.sites) before ≡ Some at
-    → (at ≡ places → ⊥) → IsNextList p exps before places list → ⊥
-other p exps before at places list o t h = t (some-same at places (sym o ∙ h.order))
 
 module _ (p : Subject) (st : Staged) (laid : is_laid_out p.sites p.vars ≡ true) (stages : AreStagesOf p.sites p.vars p.poly st) (before : ℕ)
     (o : List ℕ) (at : slice_get (orders_of p.sites) before ≡ Some o) where

@@ -13,11 +13,11 @@ use Rattle.ln_verify.specs.Judge.{FailsAt, Go, IsFirstFault, IsValid}
 use Rattle.ln_verify.specs.Line.{Between, InBlock, InFilter, LineRule, Named, Ordering, Outside, PartRule, Place, Spot, Subject, Within, Written}
 use Rattle.ln_cert.specs.declared.part.Part.{Part}
 use Rattle.ln_cert.specs.declared.part.Part.TheVariants.{Predicate, NoFilter, Filter, FilterOp, Decide, Block, BlockOp, RangeOp, End, Order, Done}
-use Rattle.ln_verify.specs.declared.desk.At.{At}
-use Rattle.ln_verify.specs.declared.desk.At.TheVariants.{Away, AtName, AtFilter, AtGap, AtBlock, AtOrder}
+use Rattle.ln_verify.specs.declared.progress.At.{At}
+use Rattle.ln_verify.specs.declared.progress.At.TheVariants.{Away, AtName, AtFilter, AtGap, AtBlock, AtOrder}
 use Rattle.ln_verify.specs.declared.case.Case.{Case}
-use Rattle.ln_verify.specs.declared.desk.Desk.{Desk}
-use Rattle.ln_verify.specs.Here.{Finished, Gone, IsHere, IsSpot, IsCase, Leads, Over, subject_of, subjects_of}
+use Rattle.ln_verify.specs.declared.progress.Progress.{Progress}
+use Rattle.ln_verify.specs.Here.{Finished, PlaceStep, IsHere, IsSpot, IsCase, Leads, Over, subject_of, subjects_of}
 
 some-same : (x y : Subject) → Some x ≡ Some y → x ≡ y
 some-same x y e = cc
@@ -30,8 +30,8 @@ subject-at cs i c e = slice_get-map subject_of cs i ∙ ap (option_map subject_o
 pub case-staged : (cs : List Case) (i : ℕ) (c : Case) → All IsCase cs → slice_get cs i ≡ Some c → IsCase c
 case-staged cs i c h e = subst IsCase (get_or_from_slice_get cs i c c e) (h i c (slice_get_within cs i c e))
 
--- a desk that stands nowhere is at no spot
-pub away-none : (n : ℕ) (d : Desk) (s : Spot) → d.at ≡ Away → IsSpot n d s → ⊥
+-- a state of the judge that stands nowhere is at no spot
+pub away-none : (n : ℕ) (d : Progress) (s : Spot) → d.at ≡ Away → IsSpot n d s → ⊥
 away-none n d Named e i = cc
 away-none n d (InFilter lines s) e i = cc
 away-none n d (Between f bs) e i = cc
@@ -39,9 +39,17 @@ away-none n d (InBlock f bs x lines s) e i = cc
 away-none n d (Ordering w) e i = cc
 
 -- outside of parts, a line with the name of the next predicate leads into its part
-pub named-one : (v : Version) (cs : List Case) (d : Desk) (c : Case) (name : List ℕ) (here : Place) → d.at ≡ Away →
+pub named-one : (v : Version) (cs : List Case) (d : Progress) (c : Case) (name : List ℕ) (here : Place) → d.at ≡ Away →
     slice_get cs d.parts ≡ Some c → name_bytes c.shape.name ≡ name → IsHere (subjects_of cs) d here →
-    Gone v (subjects_of cs) here (Predicate name) true (record { at = AtName; parts = d.parts; exps = d.exps; bench = d.bench; tray = d.tray; lists = d.lists })
+    PlaceStep v (subjects_of cs) here (Predicate name) true (record {
+      at = AtName;
+      parts = d.parts;
+      exps = d.exps;
+      block_stack =
+          d.block_stack;
+      filter_stack = d.filter_stack;
+      lists = d.lists;
+    })
 named-one v cs d c name (Outside parts) a g e i =
     let there : slice_get (subjects_of cs) (length parts) ≡ Some (subject_of c) =
     subst (λ k. slice_get (subjects_of cs) k ≡ Some (subject_of c)) i.1 (subject-at cs d.parts c g) in
@@ -55,17 +63,17 @@ subject-none : (cs : List Case) (i : ℕ) → slice_get cs i ≡ None → slice_
 subject-none cs i e = slice_get-map subject_of cs i ∙ ap (option_map subject_of) e
 
 -- past the last predicate a line with a name leads nowhere
-pub named-none : (v : Version) (cs : List Case) (d new : Desk) (name : List ℕ) (here : Place) → d.at ≡ Away → slice_get cs d.parts ≡ None
-    → IsHere (subjects_of cs) d here → Gone v (subjects_of cs) here (Predicate name) false new
+pub named-none : (v : Version) (cs : List Case) (d new : Progress) (name : List ℕ) (here : Place) → d.at ≡ Away → slice_get cs d.parts ≡ None
+    → IsHere (subjects_of cs) d here → PlaceStep v (subjects_of cs) here (Predicate name) false new
 named-none v cs d new name (Outside parts) a g i =
     let there = subst (λ k. slice_get (subjects_of cs) k ≡ None) i.1 (subject-none cs d.parts g) in
     λ q r. none-some r.subject (sym there ∙ r.there)
 named-none v cs d new name (Within parts s) a g i = absurd (away-none (length i.1.vars) d s a i.3)
 
 -- and so does a line with a name other than that of the next predicate
-pub named-other : (v : Version) (cs : List Case) (d new : Desk) (c : Case) (name : List ℕ) (here : Place) → d.at ≡ Away →
+pub named-other : (v : Version) (cs : List Case) (d new : Progress) (c : Case) (name : List ℕ) (here : Place) → d.at ≡ Away →
     slice_get cs d.parts ≡ Some c → (name_bytes c.shape.name ≡ name → ⊥) → IsHere (subjects_of cs) d here →
-    Gone v (subjects_of cs) here (Predicate name) false new
+    PlaceStep v (subjects_of cs) here (Predicate name) false new
 named-other v cs d new c name (Outside parts) a g n i =
     let there : slice_get (subjects_of cs) (length parts) ≡ Some (subject_of c) =
     subst (λ k. slice_get (subjects_of cs) k ≡ Some (subject_of c)) i.1 (subject-at cs d.parts c g) in
@@ -78,7 +86,7 @@ pub case-orders : (c : Case) → IsCase c → length c.orders ≡ length (orders
 case-orders c k = sym (length-map c.orders order_places) ∙ ap length k.ordered
 
 -- where no list of an order has been read, `done` leads nowhere
-pub done-elsewhere : (p : Subject) (d : Desk) → (d.at ≡ AtOrder → ⊥) → Finished p d false d
+pub done-elsewhere : (p : Subject) (d : Progress) → (d.at ≡ AtOrder → ⊥) → Finished p d false d
 done-elsewhere p d h parts Named e i = tt
 done-elsewhere p d h parts (InFilter lines s) e i = tt
 done-elsewhere p d h parts (Between f bs) e i = tt
@@ -86,7 +94,7 @@ done-elsewhere p d h parts (InBlock f bs x lines s) e i = tt
 done-elsewhere p d h parts (Ordering w) e i = λ q. h i.0
 
 -- nor does it where an order lacks its list
-pub done-lacks : (p : Subject) (d : Desk) → (d.lists ≡ length (orders_of p.sites) → ⊥) → Finished p d false d
+pub done-lacks : (p : Subject) (d : Progress) → (d.lists ≡ length (orders_of p.sites) → ⊥) → Finished p d false d
 done-lacks p d h parts Named e i = tt
 done-lacks p d h parts (InFilter lines s) e i = tt
 done-lacks p d h parts (Between f bs) e i = tt
@@ -106,8 +114,8 @@ apart-block : (x : At) → x ≡ AtBlock → x ≡ AtOrder → ⊥
 apart-block x e f = cc
 
 -- after the lists of all orders, `done` ends the part
-pub done-over : (p : Subject) (d : Desk) (n : ℕ) → d.at ≡ AtOrder → d.lists ≡ length (orders_of p.sites) → n ≡ d.parts + 1 →
-    Finished p d true (record { at = Away; parts = n; exps = d.exps; bench = d.bench; tray = d.tray; lists = d.lists })
+pub done-over : (p : Subject) (d : Progress) (n : ℕ) → d.at ≡ AtOrder → d.lists ≡ length (orders_of p.sites) → n ≡ d.parts + 1 →
+    Finished p d true (record { at = Away; parts = n; exps = d.exps; block_stack = d.block_stack; filter_stack = d.filter_stack; lists = d.lists })
 done-over p d n a h q parts Named e i = absurd (apart-at d.at i a)
 done-over p d n a h q parts (InFilter lines s) e i = absurd (apart-filter d.at i.0 a)
 done-over p d n a h q parts (Between f bs) e i = absurd (apart-gap d.at i.0 a)
@@ -156,9 +164,9 @@ part-no v p parts (Ordering w) End q n h r = h r.0 r.1
 part-no v p parts (Ordering w) Done q n h r = absurd (n refl)
 
 -- a line other than `done` leads the listing where it leads the part of the predicate at hand
-pub within-part : (v : Version) (cs : List Case) (old new : Desk) (c : Case) (line : Part) (ok : Bool) (here : Place) → (old.at ≡ Away → ⊥) →
+pub within-part : (v : Version) (cs : List Case) (old new : Progress) (c : Case) (line : Part) (ok : Bool) (here : Place) → (old.at ≡ Away → ⊥) →
     slice_get cs old.parts ≡ Some c → (line ≡ Done → ⊥) → Leads v (subject_of c) old line ok new → IsHere (subjects_of cs) old here →
-    Gone v (subjects_of cs) here line ok new
+    PlaceStep v (subjects_of cs) here line ok new
 within-part v cs old new c line ok (Outside parts) a g n h i = absurd (a i.0)
 within-part v cs old new c line true (Within parts s) a g n h i =
     let ps : List Subject = subjects_of cs in
@@ -175,15 +183,16 @@ length-more : (xs : List Written) (x : Written) → length (xs ++ x ∷ []) ≡ 
 length-more [] x = refl
 length-more (y ∷ xs) x = omega (arith, length-more xs x)
 
-done-yes : (v : Version) (ps : List Subject) (p : Subject) (new : Desk) (parts : List Written) (s : Spot)
-    → slice_get ps (length parts) ≡ Some p → Over p parts s true new → Gone v ps (Within parts s) Done true new
+done-yes : (v : Version) (ps : List Subject) (p : Subject) (new : Progress) (parts : List Written) (s : Spot)
+    → slice_get ps (length parts) ≡ Some p → Over p parts s true new → PlaceStep v ps (Within parts s) Done true new
 done-yes v ps p new parts Named g o = absurd o
 done-yes v ps p new parts (InFilter lines s) g o = absurd o
 done-yes v ps p new parts (Between f bs) g o = absurd o
 done-yes v ps p new parts (InBlock f bs x lines s) g o = absurd o
 done-yes v ps p new parts (Ordering w) g o = (Outside (parts ++ w ∷ []), (p, g, record { all = o.0; to = refl }), (o.1, o.2 ∙ sym (length-more parts w)))
 
-done-no : (v : Version) (p : Subject) (new : Desk) (parts : List Written) (s : Spot) (q : Place) → Over p parts s false new → PartRule v p parts s Done q → ⊥
+done-no : (v : Version) (p : Subject) (new : Progress) (parts : List Written) (s : Spot) (q : Place) → Over p parts s false new
+    → PartRule v p parts s Done q → ⊥
 done-no v p new parts Named q o r = r.1
 done-no v p new parts (InFilter lines s) q o r = r.1
 done-no v p new parts (Between f bs) q o r = r.1
@@ -191,8 +200,8 @@ done-no v p new parts (InBlock f bs x lines s) q o r = r.1
 done-no v p new parts (Ordering w) q o r = o r.all
 
 -- and so does `done`
-pub done-part : (v : Version) (cs : List Case) (old new : Desk) (c : Case) (ok : Bool) (here : Place) → (old.at ≡ Away → ⊥)
-    → slice_get cs old.parts ≡ Some c → Finished (subject_of c) old ok new → IsHere (subjects_of cs) old here → Gone v (subjects_of cs) here Done ok new
+pub done-part : (v : Version) (cs : List Case) (old new : Progress) (c : Case) (ok : Bool) (here : Place) → (old.at ≡ Away → ⊥)
+    → slice_get cs old.parts ≡ Some c → Finished (subject_of c) old ok new → IsHere (subjects_of cs) old here → PlaceStep v (subjects_of cs) here Done ok new
 done-part v cs old new c ok (Outside parts) a g h i = absurd (a i.0)
 done-part v cs old new c true (Within parts s) a g h i =
     let ps : List Subject = subjects_of cs in
@@ -205,11 +214,11 @@ done-part v cs old new c false (Within parts s) a g h i =
     (subst (λ (p : Subject). PartRule v p parts s Done q) (some-same k.0 i.1 (sym k.1 ∙ i.2)) k.2))
 
 -- ---- the loop
--- what the loop keeps: the lines so far lead to a place that the desk stands for
-abbrev pub Come : Version → List Subject → List Part → Desk → Type 0
+-- what the loop keeps: the lines so far lead to a place that the state of the judge stands for
+abbrev pub Come : Version → List Subject → List Part → Progress → Type 0
 Come v ps lines d = (here : Place) × Go v ps (Outside []) lines here × IsHere ps d here
 
-module _ (v : Version) (ps : List Subject) (d : Desk) where
+module _ (v : Version) (ps : List Subject) (d : Progress) where
   -- before the first line, the state outside of parts and after none of them is where a listing begins
   pub come-first : d.at ≡ Away → d.parts ≡ 0 → Come v ps [] d
   come-first e h = (Outside [], refl, (e, h))
@@ -233,11 +242,11 @@ module _ (v : Version) (ps : List Subject) (d : Desk) where
   come-whole lines i e c a h = whole lines i c.0 (omega (arith, e)) c.1 c.2 a h
 
   -- where the line at hand leads nowhere it is the first that fails, and its number is 2 more than the count of those before it
-  pub come-stops : (lines : List Part) (i : ℕ) (x : Part) (e : Desk) → i < length lines → Come v ps (take i lines) d
-      → ((here : Place) → IsHere ps d here → Gone v ps here (get_or lines i x) false e) → IsFirstFault v ps lines (i + 2)
+  pub come-stops : (lines : List Part) (i : ℕ) (x : Part) (e : Progress) → i < length lines → Come v ps (take i lines) d
+      → ((here : Place) → IsHere ps d here → PlaceStep v ps here (get_or lines i x) false e) → IsFirstFault v ps lines (i + 2)
   come-stops lines i x e l c h = walk-stops v ps lines i (i + 2) x c.0 l refl c.1 (h c.0 c.2)
 
-  -- where the line at hand leads on, the lines up to it lead to the place of the new desk
-  pub come-more : (lines : List Part) (i : ℕ) (x : Part) (e : Desk) → i < length lines → Come v ps (take i lines) d
-      → ((here : Place) → IsHere ps d here → Gone v ps here (get_or lines i x) true e) → Come v ps (take (i + 1) lines) e
+  -- where the line at hand leads on, the lines up to it lead to the place of the new state
+  pub come-more : (lines : List Part) (i : ℕ) (x : Part) (e : Progress) → i < length lines → Come v ps (take i lines) d
+      → ((here : Place) → IsHere ps d here → PlaceStep v ps here (get_or lines i x) true e) → Come v ps (take (i + 1) lines) e
   come-more lines i x e l c h = let r = h c.0 c.2 in (r.0, walk-more v ps lines i x (Outside []) c.0 r.0 l c.1 r.1, r.2)

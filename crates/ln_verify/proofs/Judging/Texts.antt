@@ -12,13 +12,13 @@ use Rattle.ln_cert.specs.Stop.{Stops}
 use Rattle.ln_cert.specs.Unread.{AreLeft, IsOpened, IsTaken, Takes, Unread}
 use Rattle.ln_cert.proofs.Reading.Whole.{no_text, one_fault, one_text}
 use Rattle.ln_verify.specs.BlockRules.{Version}
-use Rattle.ln_verify.specs.Here.{Gone, IsAnswer, IsHere, subjects_of}
+use Rattle.ln_verify.specs.Here.{PlaceStep, IsAnswer, IsHere, subjects_of}
 use Rattle.ln_verify.specs.Judge.{IsFirstFault, IsValid}
 use Rattle.ln_verify.specs.Line.{Place, Subject}
 use Rattle.ln_verify.specs.Verified.{AreSubjectsOf, IsFaultFor, IsTextFaultFor, IsValidFor, IsValidTextFor, form, rule, rules_of}
 use Rattle.ln_verify.specs.declared.case.Case.{Case}
-use Rattle.ln_verify.specs.declared.desk.Desk.{Desk}
-use Rattle.ln_verify.specs.declared.desk.At.TheVariants.{Away}
+use Rattle.ln_verify.specs.declared.progress.Progress.{Progress}
+use Rattle.ln_verify.specs.declared.progress.At.TheVariants.{Away}
 use Rattle.ln_verify.specs.declared.listings.Judged.{Judged}
 use Rattle.ln_verify.specs.declared.listings.Judged.TheVariants.{Valid, Invalid}
 use Rattle.ln_verify.proofs.Judging.Places.{Come, come-first, come-more, come-stops, come-whole, come-lacks}
@@ -42,22 +42,22 @@ none-left (x ∷ xs) zero e l = absurd (cc)
 none-left (x ∷ xs) (suc i) e l = omega (arith, none-left xs i e (omega (arith, l)))
 
 -- ---- the loop
--- what it keeps: this many of the lines lead to a place that the desk stands for, and the others remain
-pub record Midway (v : Version) (ss : List Subject) (ps : List Part) (d : Desk) (u : Unread) : Type 0 where
+-- what it keeps: this many of the lines lead to a place that the state of the judge stands for, and the others remain
+pub record Midway (v : Version) (ss : List Subject) (ps : List Part) (d : Progress) (u : Unread) : Type 0 where
   pub at : ℕ
   pub number : u.line ≡ at + 2
   pub within : at ≤ length ps
   pub left : AreLeft u (drop at ps)
   pub come : Come v ss (take at ps) d
 
-module _ (v : Version) (ss : List Subject) (ps : List Part) (d : Desk) (u : Unread) where
+module _ (v : Version) (ss : List Subject) (ps : List Part) (d : Progress) (u : Unread) where
   -- before line 2, outside of parts, none of the lines has been judged and all of them remain
   pub midway-first : u.line ≡ 2 → d.at ≡ Away → d.parts ≡ 0 → AreLeft u ps → Midway v ss ps d u
   midway-first n a b h = record { at = 0; number = n; within = omega arith; left = h; come = come-first v ss d a b }
 
   -- the line at hand leads on
-  pub midway-more : (e : Entry) (w : Unread) (new : Desk) → Midway v ss ps d u → IsTaken u e w
-      → ((here : Place) → IsHere ss d here → Gone v ss here e.part true new) → Midway v ss ps new w
+  pub midway-more : (e : Entry) (w : Unread) (new : Progress) → Midway v ss ps d u → IsTaken u e w
+      → ((here : Place) → IsHere ss d here → PlaceStep v ss here e.part true new) → Midway v ss ps new w
   midway-more e w new m t h =
       let g = t.goes_on (drop m.at ps) m.left in
       let f = front ps m.at e.part g.behind g.first in
@@ -67,17 +67,18 @@ module _ (v : Version) (ss : List Subject) (ps : List Part) (d : Desk) (u : Unre
         number = omega (arith, t.next, m.number);
         within = omega (arith, f.less);
         left = subst (AreLeft w) (f.behind ∙ ap (λ (k : ℕ). drop k ps) s) g.left;
-        come = come-more v ss d ps m.at e.part new f.less m.come (subst (λ (x : Part). (here : Place) → IsHere ss d here → Gone v ss here x true new) f.here h);
+        come = come-more v ss d ps m.at e.part new f.less m.come
+            (subst (λ (x : Part). (here : Place) → IsHere ss d here → PlaceStep v ss here x true new) f.here h);
       }
 
   -- or it fails: it is the first that does, by its own number
-  pub midway-stops : (e : Entry) (w : Unread) (new : Desk) → Midway v ss ps d u → IsTaken u e w
-      → ((here : Place) → IsHere ss d here → Gone v ss here e.part false new) → IsFirstFault v ss ps e.line
+  pub midway-stops : (e : Entry) (w : Unread) (new : Progress) → Midway v ss ps d u → IsTaken u e w
+      → ((here : Place) → IsHere ss d here → PlaceStep v ss here e.part false new) → IsFirstFault v ss ps e.line
   midway-stops e w new m t h =
       let g = t.goes_on (drop m.at ps) m.left in
       let f = front ps m.at e.part g.behind g.first in
       subst (IsFirstFault v ss ps) (sym (t.number ∙ m.number))
-      (come-stops v ss d ps m.at e.part new f.less m.come (subst (λ (x : Part). (here : Place) → IsHere ss d here → Gone v ss here x false new) f.here h))
+      (come-stops v ss d ps m.at e.part new f.less m.come (subst (λ (x : Part). (here : Place) → IsHere ss d here → PlaceStep v ss here x false new) f.here h))
 
   ended : (w : Unread) (m : Midway v ss ps d u) → Takes u None w → (m.at ≡ length ps) × (length ps + 2 ≡ w.line)
   ended w m t =

@@ -15,9 +15,9 @@ use Rattle.ln_code.specs.Rules.{Known}
 use Rattle.ln_verify.specs.Line.{Subject}
 use Rattle.ln_verify.specs.Values.{AreFor, IsFor}
 use Rattle.ln_verify.specs.declared.value.Value.{Value}
-use Rattle.ln_verify.specs.Here.{AreAbove, BenchEnds, TrayDecides}
+use Rattle.ln_verify.specs.Here.{AreAbove, BlockEnds, FilterDecides}
 use Rattle.ln_verify.specs.Rules.{in_range, in_triple}
-use Rattle.ln_verify.specs.Works.{BlockStack, FilterStack, IsBench, IsTray}
+use Rattle.ln_verify.specs.Works.{BlockStack, FilterStack, IsBlockStack, IsFilterStack}
 use Rattle.ln_verify.specs.declared.ranged.Ranged.{Ranged}
 use Rattle.ln_code.specs.declared.op.Triple.{Triple}
 use Rattle.ln_verify.proofs.Engines.Steps.{for-length}
@@ -61,17 +61,17 @@ one-value R (x ∷ (y ∷ xs)) ks d l h = absurd (omega (arith, l))
 
 -- ---- blocks
 -- without just one value on the stack of a block, `end` doesn't hold
-pub bench-not-one : (p : Subject) (a : Pairs) (b : BlockStack) (s : State Known (ℕ → Option Known)) → (length b.values.items ≡ 1 → ⊥)
-    → IsBench (length p.vars) b s → BenchEnds p a s → ⊥
-bench-not-one p a b s l i q =
+pub block_stack-not-one : (p : Subject) (a : Pairs) (b : BlockStack) (s : State Known (ℕ → Option Known)) → (length b.values.items ≡ 1 → ⊥)
+    → IsBlockStack (length p.vars) b s → BlockEnds p a s → ⊥
+block_stack-not-one p a b s l i q =
     l (sym (length-reverse b.values.items) ∙ for-length (IsFor in_range (length p.vars)) (reverse b.values.items) s.stack i.stack ∙ ap length q.one)
 
 -- with one value on the stack of a block, the test of its polynomial decides whether `end` holds
-pub bench-ends : (p : Subject) (a : Pairs) (b : BlockStack) (s : State Known (ℕ → Option Known)) (d x : Value Ranged) (ok : Bool) →
-    length b.values.items ≡ 1 → x ≡ get_or b.values.items 0 d → IsBench (length p.vars) b s →
+pub block_stack-ends : (p : Subject) (a : Pairs) (b : BlockStack) (s : State Known (ℕ → Option Known)) (d x : Value Ranged) (ok : Bool) →
+    length b.values.items ≡ 1 → x ≡ get_or b.values.items 0 d → IsBlockStack (length p.vars) b s →
     ((t : Tree) → IsNormal (length p.vars) t x.poly →
-    IsTrue ok ↔ IsNormalOf (length p.vars) t (derived (vector (length p.vars) a) (terms_of (length p.vars) p.poly))) → IsTrue ok ↔ BenchEnds p a s
-bench-ends p a b s d x ok l e i h =
+    IsTrue ok ↔ IsNormalOf (length p.vars) t (derived (vector (length p.vars) a) (terms_of (length p.vars) p.poly))) → IsTrue ok ↔ BlockEnds p a s
+block_stack-ends p a b s d x ok l e i h =
     let n : ℕ = length p.vars in
     let o = one-value (IsFor in_range n) b.values.items s.stack d l i.stack in
     let f : IsFor in_range n x o.0 = subst (λ (y : Value Ranged). IsFor in_range n y o.0) (sym e) o.2 in
@@ -82,15 +82,15 @@ bench-ends p a b s d x ok l e i h =
 
 -- ---- filters
 -- without just one number on the stack of a filter, `decide` doesn't hold
-pub tray-not-one : (p : Subject) (b : FilterStack) (s : State FilterKnown (ℕ → Option FilterKnown)) → (length b.values.items ≡ 1 → ⊥)
-    → IsTray (length p.vars) b s → TrayDecides p s → ⊥
-tray-not-one p b s l i q =
+pub filter_stack-not-one : (p : Subject) (b : FilterStack) (s : State FilterKnown (ℕ → Option FilterKnown)) → (length b.values.items ≡ 1 → ⊥)
+    → IsFilterStack (length p.vars) b s → FilterDecides p s → ⊥
+filter_stack-not-one p b s l i q =
     l (sym (length-reverse b.values.items) ∙ for-length (IsFor in_triple (length p.vars)) (reverse b.values.items) s.stack i.stack ∙ ap length q.one)
 
 -- where the error of the one number of a filter exceeds 64 bits, `decide` doesn't hold
-pub tray-wide : (p : Subject) (b : FilterStack) (s : State FilterKnown (ℕ → Option FilterKnown)) (d x : Value Triple) → length b.values.items ≡ 1
-    → x ≡ get_or b.values.items 0 d → IsTray (length p.vars) b s → limit W64 < x.limits.e → TrayDecides p s → ⊥
-tray-wide p b s d x l e i w q =
+pub filter_stack-wide : (p : Subject) (b : FilterStack) (s : State FilterKnown (ℕ → Option FilterKnown)) (d x : Value Triple) → length b.values.items ≡ 1
+    → x ≡ get_or b.values.items 0 d → IsFilterStack (length p.vars) b s → limit W64 < x.limits.e → FilterDecides p s → ⊥
+filter_stack-wide p b s d x l e i w q =
     let n : ℕ = length p.vars in
     let o = one-value (IsFor in_triple n) b.values.items s.stack d l i.stack in
     let f : IsFor in_triple n x o.0 = subst (λ (y : Value Triple). IsFor in_triple n y o.0) (sym e) o.2 in
@@ -99,10 +99,11 @@ tray-wide p b s d x l e i w q =
     omega (arith, q.narrow, w, z)
 
 -- with one number whose error fits 64 bits, the test of its polynomial decides whether `decide` holds
-pub tray-decides : (p : Subject) (b : FilterStack) (s : State FilterKnown (ℕ → Option FilterKnown)) (d x : Value Triple) (ok : Bool) →
-    length b.values.items ≡ 1 → x ≡ get_or b.values.items 0 d → IsTray (length p.vars) b s → x.limits.e ≤ limit W64 →
-    ((t : Tree) → IsNormal (length p.vars) t x.poly → IsTrue ok ↔ IsNormalOf (length p.vars) t (terms_of (length p.vars) p.poly)) → IsTrue ok ↔ TrayDecides p s
-tray-decides p b s d x ok l e i w h =
+pub filter_stack-decides : (p : Subject) (b : FilterStack) (s : State FilterKnown (ℕ → Option FilterKnown)) (d x : Value Triple) (ok : Bool) →
+    length b.values.items ≡ 1 → x ≡ get_or b.values.items 0 d → IsFilterStack (length p.vars) b s → x.limits.e ≤ limit W64 →
+    ((t : Tree) → IsNormal (length p.vars) t x.poly → IsTrue ok ↔ IsNormalOf (length p.vars) t (terms_of (length p.vars) p.poly))
+    → IsTrue ok ↔ FilterDecides p s
+filter_stack-decides p b s d x ok l e i w h =
     let n : ℕ = length p.vars in
     let o = one-value (IsFor in_triple n) b.values.items s.stack d l i.stack in
     let f : IsFor in_triple n x o.0 = subst (λ (y : Value Triple). IsFor in_triple n y o.0) (sym e) o.2 in

@@ -1,5 +1,6 @@
 use Rattle.ln_top.specs.Plan.{with_bytes}
-use Rattle.ln_top.proofs.Steps.Prepared.{file_stops, compiler_stops, names_stop, suits_stop, files_stop, is_ready, numbers_within}
+use Rattle.ln_top.proofs.Steps.Prepared.{file_stops, compiler_stops, names_stop, suits_stop, files_stop, is_ready}
+use Rattle.ln_frame.proofs.ReadyLaws.{numbers_within}
 use Rattle.ln_top.proofs.Steps.Prepared.{halts_wider, rose_same}
 use Rattle.ln_top.proofs.prepare.prepare.Goals as goal
 

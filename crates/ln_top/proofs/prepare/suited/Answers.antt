@@ -1,5 +1,5 @@
 use Rattle.std.proofs.Common.{refl}
-use Rattle.ln_top.specs.Carried.{short}
+use Rattle.ln_frame.specs.Carried.{short}
 use Rattle.ln_top.proofs.Steps.Prepared.{objects}
 use Rattle.ln_top.proofs.prepare.suited.Goals as goal
 

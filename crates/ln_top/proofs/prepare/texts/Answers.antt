@@ -1,5 +1,6 @@
 use Rattle.std.proofs.Common.{string_bytes, rules}
-use Rattle.ln_top.specs.Steps.{Reads, most_file}
+use Rattle.ln_top.specs.Steps.{Reads}
+use Rattle.ln_frame.specs.Given.{most_file}
 use Rattle.ln_top.proofs.Steps.Chain.{behind_at, behind_more, behind_all}
 use Rattle.ln_top.proofs.Steps.Prepared.{halts_behind, halts_wider, left_more, left_none, map_behind, refused_halts, rose_same}
 use Rattle.ln_top.proofs.prepare.texts.Goals as goal

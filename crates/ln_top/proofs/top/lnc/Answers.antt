@@ -1,4 +1,4 @@
-use Rattle.ln_top.specs.Said.{count}
+use Rattle.ln_frame.specs.Said.{count}
 use Rattle.ln_top.proofs.Steps.TopLaws.{exact, keeps}
 use Rattle.ln_top.proofs.Theorem.HeadlineLaws.{graded_headline, headline}
 use Rattle.ln_top.proofs.Theorem.ProductsLaws.{products}

@@ -14,4 +14,4 @@ returns-clause-told c =
     let p = c.args.p.now in
     row-told p (row_of p.shape.sites p.shape.vars c.args.r.now) c.args.n (order_places c.order_of_row-order.result)
     c.put_row.new.out.items c.tell_list.new.out.items c.requires.row.size c.order_of_row-order.ensures
-    (c.in_ok-put_row.ensures.ok ∙ ap (λ y. y ++ text_of_line (line.Row c.args.n)) c.new-text.ensures.items) c.in_ok-tell_list.ensures.told
+    (c.in_ok-put_row.ensures ∙ ap (λ y. y ++ text_of_line (line.Row c.args.n)) c.in_ok-text.ensures.items) c.in_ok-tell_list.ensures.told

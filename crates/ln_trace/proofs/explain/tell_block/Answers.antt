@@ -23,8 +23,8 @@ returns-in_ok-put_sign-in-Some-clause-all c = λ q rest.
     block-tells p zs c.args.number c.index-blocks-number.result c.pairs.result.now z c.blocks-2.ensures.kept c.requires.number
     (rw c.blocks-2.ensures.value at c.index-blocks-number.is) (c.pairs.ensures.value ∙ c.exps.ensures) rising c.block_value-z.ensures.value in
     let d : (z ≢ pos 0) × (c.in-Some.sign ≡ sign_of z) = rw (to_z-of_z w128 z f) at c.in-Some.ensures in
-    let a = rw (to_z-of_z w128 z f) at c.in_ok-put_at.ensures.ok in
-    let s = rw d.1 at c.in_ok-put_sign-in-Some.ensures.ok in
+    let a = rw (to_z-of_z w128 z f) at c.in_ok-put_at.ensures in
+    let s = rw d.1 at c.in_ok-put_sign-in-Some.ensures in
     other-told p zs c.args.number c.pairs.result.now z c.args.out.now.items c.put_at.new.out.items c.put_sign.new.out.items b d.0 a s rest
 
 pub returns-in-None-clause-on : goal.returns-in-None-clause-on
@@ -38,5 +38,5 @@ returns-in-None-clause-on c = λ q rest.
     block-tells p zs c.args.number c.index-blocks-number.result c.pairs.result.now z c.blocks-2.ensures.kept c.requires.number
     (rw c.blocks-2.ensures.value at c.index-blocks-number.is) (c.pairs.ensures.value ∙ c.exps.ensures) rising c.block_value-z.ensures.value in
     let d : z ≡ pos 0 = rw (to_z-of_z w128 z f) at c.in-None.ensures in
-    let a = rw (to_z-of_z w128 z f) at c.in_ok-put_at.ensures.ok in
+    let a = rw (to_z-of_z w128 z f) at c.in_ok-put_at.ensures in
     zero-on p zs c.args.number c.pairs.result.now z c.args.out.now.items c.put_at.new.out.items b d a rest

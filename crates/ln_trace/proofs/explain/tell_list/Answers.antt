@@ -50,4 +50,4 @@ returns-clause-told c =
     let e : c.shape.result.now.sites ≡ p.shape.sites = ap (λ (s : Shape). s.sites) c.shape.ensures in
     let h : length o < c.prefixes.j = omega (arith, e, c.requires.order, c.prefixes-test.false) in
     list-end p (row_of p.shape.sites p.shape.vars c.args.r.now).values o (list_of p o) c.args.out.now.items c.prefixes.out.items
-    c.put_sign.new.out.items c.prefixes.j h c.prefixes.invariant.on c.in_ok-put_sign.ensures.ok
+    c.put_sign.new.out.items c.prefixes.j h c.prefixes.invariant.on c.in_ok-put_sign.ensures

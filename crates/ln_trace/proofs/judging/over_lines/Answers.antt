@@ -1,6 +1,6 @@
 -- Answers to the goals of `over_lines` in src/judging.rt.
 use Rattle.std.proofs.Common.{Bool, false, true, arith, refl, sym, ◌∙◌, subst}
-use Rattle.ln_trace.specs.Here.{Led}
+use Rattle.ln_trace.specs.Here.{Step}
 use Rattle.ln_trace.specs.Unread.{IsTaken}
 use Rattle.ln_trace.proofs.Midway.{judged-seen, midway-ends, midway-first, midway-lacks, midway-more, midway-stops}
 use Rattle.ln_trace.proofs.Steps.{clash, false-true}
@@ -8,35 +8,37 @@ use Rattle.ln_trace.proofs.judging.over_lines.Goals as goal
 
 pub lines-init : goal.lines-init
 lines-init c = record {
-  holds = λ i. absurd (clash c.args.desk.now.inside i c.requires.inside);
-  midway = λ e ls p h. midway-first c.args.p.now.shape e c.args.f.now c.args.st.now c.args.rows.now ls c.args.desk.now c.args.lines.now
+  holds = λ i. absurd (clash c.args.state.now.inside i c.requires.inside);
+  midway = λ e ls p h. midway-first c.args.p.now.shape e c.args.f.now c.args.st.now c.args.rows.now ls c.args.state.now c.args.lines.now
       c.requires.second c.requires.inside c.requires.none h;
 }
 
 pub lines-preserved : goal.lines-preserved
 lines-preserved c =
-    let g : Led c.args.p.now.shape c.args.f.now c.args.st.now c.lines.rows c.lines.desk c.in-Some.l true c.line-good.new.rows c.line-good.new.desk =
-    subst (λ (ok : Bool). Led c.args.p.now.shape c.args.f.now c.args.st.now c.lines.rows c.lines.desk c.in-Some.l ok c.line-good.new.rows c.line-good.new.desk)
+    let g : Step c.args.p.now.shape c.args.f.now c.args.st.now c.lines.rows c.lines.state c.in-Some.l true c.line-good.new.rows c.line-good.new.state =
+    subst (λ (ok : Bool). Step c.args.p.now.shape c.args.f.now c.args.st.now c.lines.rows c.lines.state c.in-Some.l ok c.line-good.new.rows
+    c.line-good.new.state)
     c.if-not-branch.false c.in_ok-good.ensures in
     record {
       holds = g.holds refl;
-      midway = λ e ls p h. midway-more c.args.p.now.shape e c.args.f.now c.args.st.now c.args.rows.now ls c.lines.desk c.lines.rows
-          c.lines.lines p (c.lines.invariant.midway e ls p h) c.in-Some.l c.next.new.self c.line-good.new.rows c.line-good.new.desk
+      midway = λ e ls p h. midway-more c.args.p.now.shape e c.args.f.now c.args.st.now c.args.rows.now ls c.lines.state c.lines.rows
+          c.lines.lines p (c.lines.invariant.midway e ls p h) c.in-Some.l c.next.new.self c.line-good.new.rows c.line-good.new.state
           (rw c.in-Some.is at c.in_ok-l.ensures.takes) g;
     }
 
 pub returns-then-not-branch : goal.returns-then-not-branch
 returns-then-not-branch c =
-    let g : Led c.args.p.now.shape c.args.f.now c.args.st.now c.lines.rows c.lines.desk c.in-Some.l false c.line-good.new.rows c.line-good.new.desk =
-    subst (λ (ok : Bool). Led c.args.p.now.shape c.args.f.now c.args.st.now c.lines.rows c.lines.desk c.in-Some.l ok c.line-good.new.rows c.line-good.new.desk)
+    let g : Step c.args.p.now.shape c.args.f.now c.args.st.now c.lines.rows c.lines.state c.in-Some.l false c.line-good.new.rows c.line-good.new.state =
+    subst (λ (ok : Bool). Step c.args.p.now.shape c.args.f.now c.args.st.now c.lines.rows c.lines.state c.in-Some.l ok c.line-good.new.rows
+    c.line-good.new.state)
     c.if-not-branch.true c.in_ok-good.ensures in
     let t : IsTaken c.lines.lines c.in-Some.l c.next.new.self = rw c.in-Some.is at c.in_ok-l.ensures.takes in
-    λ e ls p h. midway-stops c.args.p.now.shape e c.args.f.now c.args.st.now c.args.rows.now ls c.lines.desk c.lines.rows c.lines.lines p
-    (c.lines.invariant.midway e ls p h) c.in-Some.l c.next.new.self c.line-good.new.rows c.line-good.new.desk _ t g (omega (arith, c.number.ensures, t.next))
+    λ e ls p h. midway-stops c.args.p.now.shape e c.args.f.now c.args.st.now c.args.rows.now ls c.lines.state c.lines.rows c.lines.lines p
+    (c.lines.invariant.midway e ls p h) c.in-Some.l c.next.new.self c.line-good.new.rows c.line-good.new.state _ t g (omega (arith, c.number.ensures, t.next))
 
 pub returns-then-not-branch-2 : goal.returns-then-not-branch-2
 returns-then-not-branch-2 c =
-    λ e ls p h. midway-lacks c.args.p.now.shape e c.args.f.now c.args.st.now c.args.rows.now ls c.lines.desk c.lines.rows c.lines.lines p
+    λ e ls p h. midway-lacks c.args.p.now.shape e c.args.f.now c.args.st.now c.args.rows.now ls c.lines.state c.lines.rows c.lines.lines p
     (c.lines.invariant.midway e ls p h) c.next.new.self _ (rw c.in_default.is at c.in_ok-l.ensures.takes) c.number-then-not-branch-2.ensures
     (λ o. false-true (sym c.if-not-branch-2.true ∙ c.in_ok-is_over.ensures.over.1 o))
 
@@ -44,4 +46,4 @@ pub returns : goal.returns
 returns c =
     let o = c.in_ok-is_over.ensures.over.0 c.if-not-branch-2.false in
     λ e ls p h. judged-seen _ _ ls _ _ c.in_ok-is_over.ensures.seen (midway-ends c.args.p.now.shape e c.args.f.now c.args.st.now c.args.rows.now
-    ls c.lines.desk c.lines.rows c.lines.lines p (c.lines.invariant.midway e ls p h) c.next.new.self (rw c.in_default.is at c.in_ok-l.ensures.takes) o.0 o.1)
+    ls c.lines.state c.lines.rows c.lines.lines p (c.lines.invariant.midway e ls p h) c.next.new.self (rw c.in_default.is at c.in_ok-l.ensures.takes) o.0 o.1)

@@ -1,4 +1,4 @@
--- In the loop of `over_lines` the lines so far lead to the place that the desk stands for, and the other lines remain.
+-- In the loop of `over_lines` the lines so far lead to the place that the state of the judge stands for, and the other lines remain.
 use Rattle.std.proofs.Common.{List, length}
 use Rattle.ln_algebra.specs.Tree.{Tree}
 use Rattle.ln_trace.specs.declared.line.TraceLine.{TraceLine}
@@ -9,9 +9,9 @@ use Rattle.ln_trace.proofs.judging.over_lines.Given as goal
 
 abbrev pub invariant-lines : goal.invariant-lines
 invariant-lines l = record {
-  holds : Holds l.p.shape l.st l.desk;
+  holds : Holds l.p.shape l.st l.state;
   midway : (e : Tree) (ls : List TraceLine) → HasPoly l.p.shape e l.f → AreLeft l.initial.lines ls
-      → Midway l.p.shape e l.st l.initial.rows ls l.rows l.desk l.lines;
+      → Midway l.p.shape e l.st l.initial.rows ls l.rows l.state l.lines;
 }
 
 abbrev pub decreases-lines : goal.decreases-lines

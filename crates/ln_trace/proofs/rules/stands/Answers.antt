@@ -9,42 +9,43 @@ use Rattle.ln_trace.proofs.Premises.{case-above, case-numbers, sites-above, size
 use Rattle.ln_trace.proofs.Steps.{at-goes, at-refused, tests-of}
 use Rattle.ln_trace.proofs.rules.stands.Goals as goal
 
-pub goes-requires-clause-sites : goal.goes-requires-clause-sites
-goes-requires-clause-sites c = size-at c.args.s.now c.args.st.now c.args.desk.now c.requires.at
+pub is_next_at-requires-clause-sites : goal.is_next_at-requires-clause-sites
+is_next_at-requires-clause-sites c = size-at c.args.s.now c.args.st.now c.args.state.now c.requires.at
 
-pub goes-requires-clause-order : goal.goes-requires-clause-order
-goes-requires-clause-order c = size-staged c.args.s.now c.args.f.now c.args.st.now c.args.desk.now c.requires.case c.requires.at
+pub is_next_at-requires-clause-order : goal.is_next_at-requires-clause-order
+is_next_at-requires-clause-order c = size-staged c.args.s.now c.args.f.now c.args.st.now c.args.state.now c.requires.case c.requires.at
 
-pub goes-requires-clause-spot : goal.goes-requires-clause-spot
-goes-requires-clause-spot c = c.requires.at.spot
+pub is_next_at-requires-clause-spot : goal.is_next_at-requires-clause-spot
+is_next_at-requires-clause-spot c = c.requires.at.spot
 
-pub goes-requires-clause-numbers : goal.goes-requires-clause-numbers
-goes-requires-clause-numbers c = case-numbers c.args.s.now c.args.f.now c.args.st.now c.requires.case
+pub is_next_at-requires-clause-numbers : goal.is_next_at-requires-clause-numbers
+is_next_at-requires-clause-numbers c = case-numbers c.args.s.now c.args.f.now c.args.st.now c.requires.case
 
-pub goes-requires-clause-above : goal.goes-requires-clause-above
-goes-requires-clause-above c = sites-above c.args.s.now.vars c.args.a c.requires.of_sites
+pub is_next_at-requires-clause-above : goal.is_next_at-requires-clause-above
+is_next_at-requires-clause-above c = sites-above c.args.s.now.vars c.args.a c.requires.of_sites
 
-pub goes-requires-clause-below : goal.goes-requires-clause-below
-goes-requires-clause-below c = c.requires.case.below
+pub is_next_at-requires-clause-below : goal.is_next_at-requires-clause-below
+is_next_at-requires-clause-below c = c.requires.case.below
 
-pub goes-requires-clause-light : goal.goes-requires-clause-light
-goes-requires-clause-light c = c.requires.case.light
+pub is_next_at-requires-clause-light : goal.is_next_at-requires-clause-light
+is_next_at-requires-clause-light c = c.requires.case.light
 
-pub goes-requires-clause-row : goal.goes-requires-clause-row
-goes-requires-clause-row c = subst (AreWithin c.args.s.now.vars) (sym c.values_of-row.ensures) c.requires.at.range.values
+pub is_next_at-requires-clause-row : goal.is_next_at-requires-clause-row
+is_next_at-requires-clause-row c = subst (AreWithin c.args.s.now.vars) (sym c.values_of-row.ensures) c.requires.at.range.values
 
-pub returns-then-not-goes : goal.returns-then-not-goes
-returns-then-not-goes c =
+pub returns-then-not-is_next_at : goal.returns-then-not-is_next_at
+returns-then-not-is_next_at c =
     let fits : FitsSigned w128 c.args.z = search rules in
-    λ rows. at-refused c.args.s.now c.args.f.now c.args.st.now rows c.args.desk.now c.args.a c.args.z rows _ c.requires.at c.requires.of_sites
-    (tests-of c.args.s.now c.args.f.now c.args.st.now rows c.args.desk.now c.goes.result false c.args.a _ c.args.z c.values_of-row.result.now
-    (take (length c.args.s.now.vars) c.args.desk.now.row.values) c.if-not-goes.true (to_z-of_z w128 c.args.z fits) c.values_of-row.ensures c.goes.ensures)
+    λ rows. at-refused c.args.s.now c.args.f.now c.args.st.now rows c.args.state.now c.args.a c.args.z rows _ c.requires.at c.requires.of_sites
+    (tests-of c.args.s.now c.args.f.now c.args.st.now rows c.args.state.now c.is_next_at.result false c.args.a _ c.args.z c.values_of-row.result.now
+    (take (length c.args.s.now.vars) c.args.state.now.row.values) c.if-not-is_next_at.true (to_z-of_z w128 c.args.z fits) c.values_of-row.ensures
+    c.is_next_at.ensures)
 
 pub passed-spot-requires-clause-sites : goal.passed-spot-requires-clause-sites
-passed-spot-requires-clause-sites c = size-at c.args.s.now c.args.st.now c.args.desk.now c.requires.at
+passed-spot-requires-clause-sites c = size-at c.args.s.now c.args.st.now c.args.state.now c.requires.at
 
 pub passed-spot-requires-clause-order : goal.passed-spot-requires-clause-order
-passed-spot-requires-clause-order c = size-staged c.args.s.now c.args.f.now c.args.st.now c.args.desk.now c.requires.case c.requires.at
+passed-spot-requires-clause-order c = size-staged c.args.s.now c.args.f.now c.args.st.now c.args.state.now c.requires.case c.requires.at
 
 pub passed-spot-requires-clause-spot : goal.passed-spot-requires-clause-spot
 passed-spot-requires-clause-spot c = c.requires.at.spot
@@ -56,14 +57,15 @@ pub passed-spot-requires-clause-above : goal.passed-spot-requires-clause-above
 passed-spot-requires-clause-above c = sites-above c.args.s.now.vars c.args.a c.requires.of_sites
 
 pub passed-spot-requires-clause-all : goal.passed-spot-requires-clause-all
-passed-spot-requires-clause-all c = case-above c.args.s.now c.args.f.now c.args.st.now c.requires.case (order_places c.args.desk.now.order)
+passed-spot-requires-clause-all c = case-above c.args.s.now c.args.f.now c.args.st.now c.requires.case (order_places c.args.state.now.order)
 
 pub returns : goal.returns
 returns c =
     let fits : FitsSigned w128 c.args.z = search rules in
-    λ rows. at-goes c.args.s.now c.args.f.now c.args.st.now rows c.args.desk.now c.args.a c.args.z c.passed-spot.result
-    c.stood.new.desk.last.zero c.stood.new.desk.sign c.stood.new.desk c.requires.at c.requires.rising c.requires.of_sites
-    (tests-of c.args.s.now c.args.f.now c.args.st.now rows c.args.desk.now c.goes.result true c.args.a _ c.args.z c.values_of-row.result.now
-    (take (length c.args.s.now.vars) c.args.desk.now.row.values) c.if-not-goes.false (to_z-of_z w128 c.args.z fits) c.values_of-row.ensures c.goes.ensures)
+    λ rows. at-goes c.args.s.now c.args.f.now c.args.st.now rows c.args.state.now c.args.a c.args.z c.passed-spot.result
+    c.stood.new.state.last.zero c.stood.new.state.sign c.stood.new.state c.requires.at c.requires.rising c.requires.of_sites
+    (tests-of c.args.s.now c.args.f.now c.args.st.now rows c.args.state.now c.is_next_at.result true c.args.a _ c.args.z c.values_of-row.result.now
+    (take (length c.args.s.now.vars) c.args.state.now.row.values) c.if-not-is_next_at.false (to_z-of_z w128 c.args.z fits) c.values_of-row.ensures
+    c.is_next_at.ensures)
     c.passed-spot.ensures.spot c.passed-spot.ensures.left c.stood.ensures.zero
     (c.stood.ensures.sign ∙ ap sign_of (to_z-of_z w128 c.args.z fits)) c.requires.inside c.stood.ensures.held

@@ -7,4 +7,4 @@ use Rattle.ln_verify.proofs.Judging.Places.{Come}
 use Rattle.ln_verify.proofs.judge.over_entries.Given as goal
 
 abbrev pub invariant-lines : goal.invariant-lines
-invariant-lines l = Come (version_of l.form) (subjects_of l.cases) (take l.i (parts_of l.entries)) l.desk
+invariant-lines l = Come (version_of l.form) (subjects_of l.cases) (take l.i (parts_of l.entries)) l.state

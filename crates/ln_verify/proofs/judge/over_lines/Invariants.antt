@@ -8,7 +8,7 @@ use Rattle.ln_verify.proofs.Judging.Texts.{Midway}
 use Rattle.ln_verify.proofs.judge.over_lines.Given as goal
 
 abbrev pub invariant-lines : goal.invariant-lines
-invariant-lines l = (ps : List Part) → AreLeft l.initial.lines ps → Midway (version_of l.form) (subjects_of l.cases) ps l.desk l.lines
+invariant-lines l = (ps : List Part) → AreLeft l.initial.lines ps → Midway (version_of l.form) (subjects_of l.cases) ps l.state l.lines
 
 abbrev pub decreases-lines : goal.decreases-lines
 decreases-lines l = length l.lines.text

@@ -13,40 +13,40 @@ pub returns-in-NoFilter : goal.returns-in-NoFilter
 returns-in-NoFilter c =
     let v = version_of c.args.form in
     let p = subject_of c.args.case.now in
-    subst (λ (x : Part). Leads v p c.args.desk.now x c.no_filter.result c.no_filter.new.desk) (sym c.in-NoFilter.is) (c.no_filter.ensures v p)
+    subst (λ (x : Part). Leads v p c.args.state.now x c.no_filter.result c.no_filter.new.state) (sym c.in-NoFilter.is) (c.no_filter.ensures v p)
 
 pub returns-in-Filter : goal.returns-in-Filter
 returns-in-Filter c =
     let v = version_of c.args.form in
     let p = subject_of c.args.case.now in
-    IfOk-weaker c.filter.result (λ (ok : Bool). (v : Version) (p : Subject) → Leads v p c.args.desk.now Filter ok c.filter.new.desk)
-    (λ (ok : Bool). Leads v p c.args.desk.now c.args.line.now ok c.filter.new.desk)
-    (λ ok h. subst (λ (x : Part). Leads v p c.args.desk.now x ok c.filter.new.desk) (sym c.in-Filter.is) (h v p)) c.filter.ensures
+    IfOk-weaker c.filter.result (λ (ok : Bool). (v : Version) (p : Subject) → Leads v p c.args.state.now Filter ok c.filter.new.state)
+    (λ (ok : Bool). Leads v p c.args.state.now c.args.line.now ok c.filter.new.state)
+    (λ ok h. subst (λ (x : Part). Leads v p c.args.state.now x ok c.filter.new.state) (sym c.in-Filter.is) (h v p)) c.filter.ensures
 
 pub returns-in-Decide : goal.returns-in-Decide
 returns-in-Decide c =
     let v = version_of c.args.form in
     let p = subject_of c.args.case.now in
-    IfOk-weaker c.decide.result (λ (ok : Bool). (v : Version) → Leads v p c.args.desk.now Decide ok c.decide.new.desk)
-    (λ (ok : Bool). Leads v p c.args.desk.now c.args.line.now ok c.decide.new.desk)
-    (λ ok h. subst (λ (x : Part). Leads v p c.args.desk.now x ok c.decide.new.desk) (sym c.in-Decide.is) (h v)) c.decide.ensures
+    IfOk-weaker c.decide.result (λ (ok : Bool). (v : Version) → Leads v p c.args.state.now Decide ok c.decide.new.state)
+    (λ (ok : Bool). Leads v p c.args.state.now c.args.line.now ok c.decide.new.state)
+    (λ ok h. subst (λ (x : Part). Leads v p c.args.state.now x ok c.decide.new.state) (sym c.in-Decide.is) (h v)) c.decide.ensures
 
 pub returns-in-Block : goal.returns-in-Block
 returns-in-Block c =
     let v = version_of c.args.form in
     let p = subject_of c.args.case.now in
     let e : c.args.line.now ≡ Block c.in-Block.k c.as_slice.result.now = c.in-Block.is ∙ ap (Block c.in-Block.k) (sym c.as_slice.ensures) in
-    IfOk-weaker c.block.result (λ (ok : Bool). (v : Version) → Leads v p c.args.desk.now (Block c.in-Block.k c.as_slice.result.now) ok c.block.new.desk)
-    (λ (ok : Bool). Leads v p c.args.desk.now c.args.line.now ok c.block.new.desk)
-    (λ ok h. subst (λ (x : Part). Leads v p c.args.desk.now x ok c.block.new.desk) (sym e) (h v)) c.block.ensures
+    IfOk-weaker c.block.result (λ (ok : Bool). (v : Version) → Leads v p c.args.state.now (Block c.in-Block.k c.as_slice.result.now) ok c.block.new.state)
+    (λ (ok : Bool). Leads v p c.args.state.now c.args.line.now ok c.block.new.state)
+    (λ ok h. subst (λ (x : Part). Leads v p c.args.state.now x ok c.block.new.state) (sym e) (h v)) c.block.ensures
 
 pub returns-in-End : goal.returns-in-End
 returns-in-End c =
     let v = version_of c.args.form in
     let p = subject_of c.args.case.now in
-    IfOk-weaker c.end.result (λ (ok : Bool). (v : Version) → Leads v p c.args.desk.now End ok c.end.new.desk)
-    (λ (ok : Bool). Leads v p c.args.desk.now c.args.line.now ok c.end.new.desk)
-    (λ ok h. subst (λ (x : Part). Leads v p c.args.desk.now x ok c.end.new.desk) (sym c.in-End.is) (h v)) c.end.ensures
+    IfOk-weaker c.end.result (λ (ok : Bool). (v : Version) → Leads v p c.args.state.now End ok c.end.new.state)
+    (λ (ok : Bool). Leads v p c.args.state.now c.args.line.now ok c.end.new.state)
+    (λ ok h. subst (λ (x : Part). Leads v p c.args.state.now x ok c.end.new.state) (sym c.in-End.is) (h v)) c.end.ensures
 
 pub returns-in-Order : goal.returns-in-Order
 returns-in-Order c =
@@ -56,6 +56,6 @@ returns-in-Order c =
     c.in-Order.is ∙ ap (λ x. Order x c.in-Order.list) (sym c.as_slice-in-Order.ensures)
     ∙ ap (λ x. Order c.as_slice-in-Order.result.now x) (sym c.as_slice-in-Order-2.ensures) in
     IfOk-weaker c.order.result
-    (λ (ok : Bool). (v : Version) → Leads v p c.args.desk.now (Order c.as_slice-in-Order.result.now c.as_slice-in-Order-2.result.now) ok c.order.new.desk)
-    (λ (ok : Bool). Leads v p c.args.desk.now c.args.line.now ok c.order.new.desk)
-    (λ ok h. subst (λ (x : Part). Leads v p c.args.desk.now x ok c.order.new.desk) (sym e) (h v)) c.order.ensures
+    (λ (ok : Bool). (v : Version) → Leads v p c.args.state.now (Order c.as_slice-in-Order.result.now c.as_slice-in-Order-2.result.now) ok c.order.new.state)
+    (λ (ok : Bool). Leads v p c.args.state.now c.args.line.now ok c.order.new.state)
+    (λ ok h. subst (λ (x : Part). Leads v p c.args.state.now x ok c.order.new.state) (sym e) (h v)) c.order.ensures

@@ -6,5 +6,5 @@ use Rattle.ln_verify.proofs.kinds.block_op.Goals as goal
 
 pub returns : goal.returns
 returns c =
-    bound-led (version_of c.args.form) (subject_of c.args.case.now) c.args.desk.now c.bound_line.new.bench c.args.op c.args.b c.in_ok-ok.ok
+    bound-led (version_of c.args.form) (subject_of c.args.case.now) c.args.state.now c.bound_line.new.block_stack c.args.op c.args.b c.in_ok-ok.ok
     (one-number c.args.form (c.is_form.ensures.0 c.if-not-is_form.false)) (c.is_at.ensures.0 c.if-not-is_at.false) c.in_ok-ok.ensures

@@ -10,25 +10,25 @@ use Rattle.ln_verify.proofs.kinds.order.Goals as goal
 
 pub returns-in_default : goal.returns-in_default
 returns-in_default c v =
-    order-nowhere v (subject_of c.args.case.now) c.args.desk.now c.args.places.now c.args.list.now (sym c.before-2.ensures ∙ c.in_default.is)
+    order-nowhere v (subject_of c.args.case.now) c.args.state.now c.args.places.now c.args.list.now (sym c.before-2.ensures ∙ c.in_default.is)
 
 pub returns-then-n-len : goal.returns-then-n-len
 returns-then-n-len c v =
     let p = subject_of c.args.case.now in
     let o = case-orders c.args.case.now c.requires in
-    order-not v p c.args.desk.now c.args.places.now c.args.list.now c.in-Some.n (sym c.before-2.ensures ∙ c.in-Some.is)
-    (λ a h. let w = next-within p c.args.desk.now.exps c.in-Some.n c.args.places.now c.args.list.now h in omega (arith, w, o, c.len.ensures, c.if-n-len.true))
+    order-not v p c.args.state.now c.args.places.now c.args.list.now c.in-Some.n (sym c.before-2.ensures ∙ c.in-Some.is)
+    (λ a h. let w = next-within p c.args.state.now.exps c.in-Some.n c.args.places.now c.args.list.now h in omega (arith, w, o, c.len.ensures, c.if-n-len.true))
 
 pub returns-then-not-branch : goal.returns-then-not-branch
 returns-then-not-branch c v =
     let p = subject_of c.args.case.now in
-    order-not v p c.args.desk.now c.args.places.now c.args.list.now c.in-Some.n (sym c.before-2.ensures ∙ c.in-Some.is)
+    order-not v p c.args.state.now c.args.places.now c.args.list.now c.in-Some.n (sym c.before-2.ensures ∙ c.in-Some.is)
     (λ a h. not-true _ (sym c.if-not-branch.true ∙ (c.in_ok-is_next.ensures (subst (AreAbove (length p.vars)) (sym c.as_slice.ensures) a)).1
     (subst (λ (es : List Pairs). IsNextList p es c.in-Some.n c.args.places.now c.args.list.now) (sym c.as_slice.ensures) h)))
 
 pub returns : goal.returns
 returns c v =
     let p = subject_of c.args.case.now in
-    ordered v p c.args.desk.now c.in-Some.n c.args.places.now c.args.list.now (sym c.before-2.ensures ∙ c.in-Some.is)
+    ordered v p c.args.state.now c.in-Some.n c.args.places.now c.args.list.now (sym c.before-2.ensures ∙ c.in-Some.is)
     (λ a. subst (λ (es : List Pairs). IsNextList p es c.in-Some.n c.args.places.now c.args.list.now) c.as_slice.ensures
     ((c.in_ok-is_next.ensures (subst (AreAbove (length p.vars)) (sym c.as_slice.ensures) a)).0 c.if-not-branch.false))

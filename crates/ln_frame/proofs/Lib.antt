@@ -1,0 +1,13 @@
+pub mod HeaderLaws
+pub mod HeadCarry
+pub mod LinesCarry
+pub mod LinesLaws
+pub mod Loops
+pub mod Carry
+pub mod Outcomes
+pub mod FindLaws
+pub mod Grounded
+pub mod Laws
+pub mod Likeness
+pub mod ReadyLaws
+pub mod Lightness

@@ -1,0 +1,11 @@
+pub mod Said
+pub mod Given
+pub mod Source
+pub mod Stop
+pub mod Signature
+pub mod Columns
+pub mod Subject
+pub mod Carried
+pub mod Lines
+pub mod Ready
+pub mod Work

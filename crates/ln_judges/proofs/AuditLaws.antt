@@ -1,0 +1,270 @@
+-- `audit`: what it requires is carried out by a whole text; a trace is agreed or has one first line that is wrong, and where it ends.
+use Rattle.std.proofs.Common.{◌≡◌, ℕ, zero, suc, map, List, [], ◌∷◌, length, refl, ap, sym, ◌∙◌, subst, Option, Some, Result}
+use Rattle.std.specs.Prelude.{slice_get, slice_index_or}
+use Rattle.std.proofs.lemmas.Option.{none-some, same_Some}
+use Rattle.ln_stage.specs.Sound.{AreSound, IsSound}
+use Rattle.ln_base.specs.Outside.{Shown}
+use Rattle.ln_algebra.specs.Tree.{InputsBelow, Tree}
+use Rattle.ln_compile.specs.Accepted.{root_of}
+use Rattle.ln_poly.specs.Expansion.{IsNormal}
+use Rattle.ln_poly.specs.Sparse.{Sparse}
+use Rattle.ln_tree.specs.declared.pred.Pred.{Pred}
+use Rattle.ln_tree.specs.Table.{PredOf, pred_of}
+use Rattle.ln_rows.specs.Left.{Records, records_in}
+use Rattle.ln_trace.specs.declared.line.TraceLine.{TraceLine}
+use Rattle.ln_trace.specs.declared.judged.Judged.{Judged}
+use Rattle.ln_trace.specs.declared.judged.Judged.TheVariants.{Agreed, Wrong}
+use Rattle.ln_trace.specs.Here.{HasPoly}
+use Rattle.ln_trace.specs.Here as traced
+use Rattle.ln_trace.specs.Judge.{IsAnswer, IsFirstFault}
+use Rattle.ln_trace.specs.Judged.{fault_of}
+use Rattle.ln_trace.specs.Unread.{AreLeft, IsOpened, Unread}
+use Rattle.ln_trace.proofs.Reading.Whole.{no_text, one_fault, one_text}
+use Rattle.ln_trace.proofs.Walking.{not-both, one-fault}
+use Rattle.ln_watch.specs.Panel.{State}
+use Rattle.ln_frame.specs.declared.status.End.{End}
+use Rattle.ln_frame.specs.declared.status.End.TheVariants.{Done, Invalid}
+use Rattle.ln_frame.specs.declared.ready.Ready.{Ready}
+use Rattle.ln_frame.specs.declared.status.Early.{Early}
+use Rattle.ln_frame.specs.declared.stop.Stop.TheVariants as stop
+use Rattle.ln_frame.specs.declared.stop.Why.TheVariants.{Header}
+use Rattle.ln_judges.specs.Audit as audit
+use Rattle.ln_judges.specs.Audit.{AreJudged, AuditEnds, AuditSaid, HasTrace, IsAuditOf, IsRightTrace, IsWrongAt, PutsOrStops, audit_work}
+use Rattle.ln_judges.specs.Audit.{agreed_text, form, puts_it, rule, stops_before, wrong_text}
+use Rattle.ln_frame.specs.Carried as carried
+use Rattle.ln_frame.specs.Carried.{CarriesOut, NoPart, PutsText}
+use Rattle.ln_frame.specs.Columns.{columns_of, names_of}
+use Rattle.ln_frame.specs.Ready.{StandsFor}
+use Rattle.ln_frame.specs.Subject.{subject_of}
+use Rattle.ln_frame.specs.Columns.{IsWrongHeader}
+use Rattle.ln_frame.specs.Said.{Count, Said, whole}
+use Rattle.ln_frame.specs.Given.{Given}
+use Rattle.ln_frame.specs.Work as kind_of
+use Rattle.ln_frame.specs.Work.{IsWorkEnd}
+use Rattle.ln_frame.proofs.Loops.{Streams, faults_in}
+use Rattle.ln_frame.proofs.HeaderLaws.{tail_same}
+use Rattle.ln_frame.proofs.Carry.{text_carried, told_carried}
+use Rattle.ln_frame.proofs.Likeness.{columns_like}
+use Rattle.ln_frame.proofs.ReadyLaws.{one_numbered}
+use Rattle.ln_frame.proofs.Laws.{IsLawful, shape_objects}
+use Rattle.ln_frame.specs.Signature.{asks_nothing}
+
+-- ---- two ways to see what is given are one
+module _ (g : Given) (p q : PredOf) (names others : List (List ℕ)) (rs ss : Records) (t u : List ℕ)
+    (h : HasTrace g p names rs t) (k : HasTrace g q others ss u) where
+  -- a trace is audited by only one predicate
+  pub same_pred : p ≡ q
+  same_pred = ap (λ (xs : List PredOf). elim xs [ [] ↦ p | x ∷ rest ↦ x ]) (sym h.pred ∙ k.pred)
+
+  -- the columns have only one list of names
+  pub same_names : names ≡ others
+  same_names = h.columns ∙ ap (columns_of g.table) same_pred ∙ sym k.columns
+
+  texts : h.rows ∷ t ∷ [] ≡ k.rows ∷ u ∷ []
+  texts = sym h.texts ∙ k.texts
+
+  -- the rows file has only one list of records
+  pub same_records : rs ≡ ss
+  same_records =
+      sym h.are ∙ ap records_in (ap (λ (xs : List (List ℕ)). elim xs [ [] ↦ h.rows | x ∷ rest ↦ x ]) texts) ∙ k.are
+
+  -- only one text is the trace
+  pub same_trace : t ≡ u
+  same_trace = ap (λ (xs : List (List ℕ)). elim xs [ [] ↦ t | x ∷ rest ↦ elim rest [ [] ↦ t | y ∷ more ↦ y ] ]) texts
+
+-- a predicate with the names of its columns, records, and the bytes of a trace
+record Judging : Type 0 where
+  pred : PredOf
+  names : List (List ℕ)
+  records : Records
+  trace : List ℕ
+
+abbrev judging : PredOf → List (List ℕ) → Records → List ℕ → Judging
+judging p names records trace = record { pred = p; names = names; records = records; trace = trace }
+
+-- the header is right or wrong
+wrong_right : {P : Type 0} (g : Given) (x y : Judging) → HasTrace g x.pred x.names x.records x.trace → IsWrongHeader x.names x.records
+    → HasTrace g y.pred y.names (y.names ∷ y.records) y.trace → P
+wrong_right g x y h w k =
+    let ys = y.names ∷ y.records in
+    let wrong : IsWrongHeader x.names ys = subst (IsWrongHeader x.names)
+    (same_records g x.pred y.pred x.names y.names x.records ys x.trace y.trace h k) w in
+    absurd (wrong (sym (same_names g x.pred y.pred x.names y.names x.records ys x.trace y.trace h k)))
+
+-- ---- one output
+-- a trace isn't agreed and wrong
+right_wrong : (p : PredOf) (records : Records) (trace : List ℕ) (at : ℕ) → IsRightTrace p records trace → IsWrongAt p records trace at → ⊥
+right_wrong p records trace at h (form f) = no_text trace at h.lines f h.text
+right_wrong p records trace at h (rule lines t f) =
+    not-both (subject_of p) records h.lines at h.agreed
+    (subst (λ (ls : List TraceLine). IsFirstFault (subject_of p) records ls at) (one_text trace lines h.lines t h.text) f)
+
+-- and is wrong first at one line
+one_line : (p : PredOf) (records : Records) (trace : List ℕ) (m n : ℕ) → IsWrongAt p records trace m → IsWrongAt p records trace n → m ≡ n
+one_line p records trace m n (form f) (form k) = one_fault trace m n f k
+one_line p records trace m n (form f) (rule lines t k) = absurd (no_text trace m lines f t)
+one_line p records trace m n (rule lines t f) (form k) = absurd (no_text trace n lines k t)
+one_line p records trace m n (rule lines t f) (rule others u k) =
+    one-fault (subject_of p) records lines m n f
+    (subst (λ (ls : List TraceLine). IsFirstFault (subject_of p) records ls n) (one_text trace others lines u t) k)
+
+module _ (g : Given) (p q : PredOf) (names others : List (List ℕ)) (rs ss : Records) (t u : List ℕ)
+    (h : HasTrace g p names (names ∷ rs) t) (k : HasTrace g q others (others ∷ ss) u) where
+  rows : rs ≡ ss
+  rows = tail_same (same_records g p q names others (names ∷ rs) (others ∷ ss) t u h k)
+
+  -- whether the trace is agreed doesn't depend on the way to see what is given
+  pub moved_right : IsRightTrace p rs t → IsRightTrace q ss u
+  moved_right r =
+      subst (λ (v : List ℕ). IsRightTrace q ss v) (same_trace g p q names others (names ∷ rs) (others ∷ ss) t u h k)
+      (subst (λ (xs : Records). IsRightTrace q xs t) rows
+      (subst (λ (x : PredOf). IsRightTrace x rs t) (same_pred g p q names others (names ∷ rs) (others ∷ ss) t u h k) r))
+
+  -- the line at which the trace is first wrong doesn't depend on the way to see what is given
+  pub moved_wrong : (at : ℕ) → IsWrongAt p rs t at → IsWrongAt q ss u at
+  moved_wrong at r =
+      subst (λ (v : List ℕ). IsWrongAt q ss v at) (same_trace g p q names others (names ∷ rs) (others ∷ ss) t u h k)
+      (subst (λ (xs : Records). IsWrongAt q xs t at) rows
+      (subst (λ (x : PredOf). IsWrongAt x rs t at) (same_pred g p q names others (names ∷ rs) (others ∷ ss) t u h k) r))
+
+  -- the text of the line `agreed N` doesn't depend on the way to see what is given
+  pub same_count : agreed_text (length rs) ≡ agreed_text (length ss)
+  same_count = ap (λ (xs : Records). agreed_text (length xs)) rows
+
+-- what it requires is one
+pub one_said : (g : Given) (a b : Said) → AuditSaid g a → AuditSaid g b → a ≡ b
+one_said g a b (audit.header p names rs t h x) (audit.header q others ss u k y) = refl
+one_said g a b (audit.header p names rs t h x) (audit.agreed q others ss u k y) =
+    wrong_right g (judging p names rs t) (judging q others ss u) h x k
+one_said g a b (audit.header p names rs t h x) (audit.wrong q others ss u n k y) =
+    wrong_right g (judging p names rs t) (judging q others ss u) h x k
+one_said g a b (audit.agreed p names rs t h x) (audit.header q others ss u k y) =
+    wrong_right g (judging q others ss u) (judging p names rs t) k y h
+one_said g a b (audit.agreed p names rs t h x) (audit.agreed q others ss u k y) =
+    ap (whole Done) (same_count g p q names others rs ss t u h k)
+one_said g a b (audit.agreed p names rs t h x) (audit.wrong q others ss u n k y) =
+    absurd (right_wrong q ss u n (moved_right g p q names others rs ss t u h k x) y)
+one_said g a b (audit.wrong p names rs t m h x) (audit.header q others ss u k y) =
+    wrong_right g (judging q others ss u) (judging p names rs t) k y h
+one_said g a b (audit.wrong p names rs t m h x) (audit.agreed q others ss u k y) =
+    absurd (right_wrong q ss u m y (moved_wrong g p q names others rs ss t u h k m x))
+one_said g a b (audit.wrong p names rs t m h x) (audit.wrong q others ss u n k y) =
+    ap (λ (z : ℕ). whole Invalid (wrong_text z)) (one_line q ss u m n (moved_wrong g p q names others rs ss t u h k m x) y)
+
+-- ---- where it ends
+tells : (boxes : List State) (g : Given) (a : Said) → AuditSaid g a → AuditEnds g a.end
+tells boxes g a (audit.header p names rs t h x) = audit.header p names rs t h x
+tells boxes g a (audit.agreed p names rs t h x) = audit.agreed p names rs t h x
+tells boxes g a (audit.wrong p names rs t m h x) = audit.wrong p names rs t m h x
+
+one : (g : Given) (a b : End) → AuditEnds g a → AuditEnds g b → a ≡ b
+one g a b (audit.header p names rs t h x) (audit.header q others ss u k y) = refl
+one g a b (audit.header p names rs t h x) (audit.agreed q others ss u k y) =
+    wrong_right g (judging p names rs t) (judging q others ss u) h x k
+one g a b (audit.header p names rs t h x) (audit.wrong q others ss u n k y) =
+    wrong_right g (judging p names rs t) (judging q others ss u) h x k
+one g a b (audit.agreed p names rs t h x) (audit.header q others ss u k y) =
+    wrong_right g (judging q others ss u) (judging p names rs t) k y h
+one g a b (audit.agreed p names rs t h x) (audit.agreed q others ss u k y) = refl
+one g a b (audit.agreed p names rs t h x) (audit.wrong q others ss u n k y) =
+    absurd (right_wrong q ss u n (moved_right g p q names others rs ss t u h k x) y)
+one g a b (audit.wrong p names rs t m h x) (audit.header q others ss u k y) =
+    wrong_right g (judging q others ss u) (judging p names rs t) k y h
+one g a b (audit.wrong p names rs t m h x) (audit.agreed q others ss u k y) =
+    absurd (right_wrong q ss u m y (moved_wrong g p q names others rs ss t u h k m x))
+one g a b (audit.wrong p names rs t m h x) (audit.wrong q others ss u n k y) = refl
+
+kind : (g : Given) (e : End) → AuditEnds g e → IsWorkEnd e
+kind g e (audit.header p names rs t h x) = kind_of.rows
+kind g e (audit.agreed p names rs t h x) = kind_of.done
+kind g e (audit.wrong p names rs t m h x) = kind_of.invalid
+
+-- the laws of a work hold for `audit`
+pub lawful : IsLawful asks_nothing audit_work
+lawful = record {
+  tells = tells;
+  single = one;
+  kind = kind;
+  objects = shape_objects;
+  said = λ v boxes g i q. one_said g;
+}
+
+-- ---- from the code
+-- the header is wrong
+pub header_carried : (g : Given) (p : PredOf) (names : List (List ℕ)) (records : Records) (trace : List ℕ) (puts : Count)
+    (result : Result End Early) (was now : Option Shown) → HasTrace g p names records trace → IsWrongHeader names records
+    → carried.Says (stop.Tell Header) puts result was now → CarriesOut (AuditSaid g) NoPart ⊥ ⊥ puts result was now
+header_carried g p names records trace puts result was now h w s =
+    told_carried (AuditSaid g) NoPart ⊥ ⊥ puts Header result was now (audit.header p names records trace h w) s
+
+-- the text that is required was written, or memory ran out before
+put_carried : (g : Given) (end : End) (text : List ℕ) (puts : Count) (result : Result End Early) (was now : Option Shown)
+    → AuditSaid g (whole end text) → PutsOrStops text end puts result was now → CarriesOut (AuditSaid g) NoPart ⊥ ⊥ puts result was now
+put_carried g end text puts result was now o (puts_it s) = text_carried (AuditSaid g) NoPart ⊥ ⊥ puts end text result was now o s
+put_carried g end text puts result was now o (stops_before q e n) = carried.short q (carried.nothing n) e
+
+-- where the trace is agreed, writing the line `agreed N` carries out what is required
+pub agreed_carried : {g : Given} {p : PredOf} {names : List (List ℕ)} {records : Records} {trace : List ℕ} {n : ℕ} {result : Result End Early}
+    {was now : Streams} → HasTrace g p names (names ∷ records) trace → IsAuditOf p records trace (Agreed n)
+    → PutsOrStops (agreed_text n) Done (faults_in was now) result was.shown now.shown
+    → CarriesOut (AuditSaid g) NoPart ⊥ ⊥ (faults_in was now) result was.shown now.shown
+agreed_carried {g = g} {p = p} {names = names} {records = records} {trace = trace} {n = n} {was = was} {now = now} h (r, e) s =
+    put_carried g Done (agreed_text n) (faults_in was now) _ was.shown now.shown
+    (subst (λ (k : ℕ). AuditSaid g (whole Done (agreed_text k))) (sym e) (audit.agreed p names records trace h r)) s
+
+-- where the trace is wrong, writing the line `wrong N` carries out what is required
+pub wrong_carried : {g : Given} {p : PredOf} {names : List (List ℕ)} {records : Records} {trace : List ℕ} {at : ℕ} {result : Result End Early}
+    {was now : Streams} → HasTrace g p names (names ∷ records) trace → IsAuditOf p records trace (Wrong at)
+    → PutsOrStops (wrong_text at) Invalid (faults_in was now) result was.shown now.shown
+    → CarriesOut (AuditSaid g) NoPart ⊥ ⊥ (faults_in was now) result was.shown now.shown
+wrong_carried {g = g} {p = p} {names = names} {records = records} {trace = trace} {at = at} {was = was} {now = now} h r s =
+    put_carried g Invalid (wrong_text at) (faults_in was now) _ was.shown now.shown (audit.wrong p names records trace at h r) s
+
+-- ---- what is judged
+-- the lines of a trace that was opened
+pub opened_judged : (p : PredOf) (records : Records) (trace : List ℕ) (u : Unread) (j : Judged) → IsOpened trace u
+    → AreJudged p records u j → IsAuditOf p records trace j
+opened_judged p records trace u (Agreed n) o h =
+    let a = h o.read o.left in (record { lines = o.read; text = o.trace; agreed = a.0 }, a.1)
+opened_judged p records trace u (Wrong at) o h = rule o.read o.trace (h o.read o.left)
+
+-- the judge's expression is the predicate's root
+pub judged_of : (p : Pred) (f : Sparse) (records : Records) (u : Unread) (j : Judged) → InputsBelow (length p.shape.vars) (root_of (pred_of p))
+    → IsNormal (length p.shape.vars) (root_of (pred_of p)) f
+    → ((e : Tree) (ls : List TraceLine) → HasPoly p.shape e f → AreLeft u ls → IsAnswer (traced.subject_of p.shape e) records ls (fault_of j))
+    → ((e : Tree) (ls : List TraceLine) (n : ℕ) → HasPoly p.shape e f → AreLeft u ls → j ≡ Agreed n → n ≡ length records)
+    → AreJudged (pred_of p) records u j
+judged_of p f records u (Agreed n) i norm h c = λ ls l.
+    let poly : HasPoly p.shape (root_of (pred_of p)) f = record { inputs = i; normal = norm.normal } in
+    (h (root_of (pred_of p)) ls poly l, c (root_of (pred_of p)) ls n poly l refl)
+judged_of p f records u (Wrong at) i norm h c = λ ls l.
+    h (root_of (pred_of p)) ls (record { inputs = i; normal = norm.normal }) l
+
+-- ---- what is given
+-- the predicate with this number is the one that is given, over these two files
+pub has_trace : (r : Ready) (g : Given) (p : Pred) (rows trace : List ℕ) (records : Records) → StandsFor r g
+    → length r.numbers.items ≡ 1
+    → slice_get r.compiled.table.preds (slice_index_or r.numbers.items 0 0) ≡ Some p → g.texts ≡ rows ∷ trace ∷ []
+    → records ≡ records_in rows → HasTrace g (pred_of p) (names_of r.compiled.table p) records trace
+has_trace r g p rows trace records s one e t q =
+    let preds = one_numbered r.compiled.table.preds r.numbers.items g.preds p s.numbered one e in record {
+      others = [];
+      pred = preds;
+      columns = columns_like r.compiled.table.sites r.compiled.table.params p.args
+          ∙ ap (λ v. columns_of v (pred_of p)) (sym s.table);
+      rows = rows;
+      texts = t;
+      are = sym q;
+    }
+
+-- the text that is written
+pub puts_text : (text wanted : List ℕ) (end : End) (puts : Count) (result : Result End Early) (was now : Option Shown) → text ≡ wanted
+    → PutsText text end puts result was now → PutsOrStops wanted end puts result was now
+puts_text text wanted end puts result was now e s =
+    puts_it (subst (λ (x : List ℕ). PutsText x end puts result was now) e s)
+
+-- each predicate of an accepted source has no fault
+pub sound_in : (ps : List Pred) (k : ℕ) (p : Pred) → AreSound (map pred_of ps) → slice_get ps k ≡ Some p → IsSound (pred_of p)
+sound_in [] k p a e = absurd (none-some p e)
+sound_in (q ∷ ps) zero p a e = subst (λ (r : Pred). IsSound (pred_of r)) (same_Some q p e) a.0
+sound_in (q ∷ ps) (suc k) p a e = sound_in ps k p a.1 e

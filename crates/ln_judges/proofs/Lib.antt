@@ -1,0 +1,4 @@
+pub mod AuditLaws
+pub mod EdgesLaws
+pub mod VerifyLaws
+pub mod ThreeLaws

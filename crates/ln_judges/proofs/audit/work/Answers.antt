@@ -1,0 +1,15 @@
+use Rattle.std.proofs.Common.{refl}
+use Rattle.ln_judges.proofs.AuditLaws.{has_trace, sound_in}
+use Rattle.ln_frame.proofs.ReadyLaws.{one_name}
+use Rattle.ln_judges.proofs.audit.work.Goals as goal
+
+pub audit_records-requires-clause-accepted : goal.audit_records-requires-clause-accepted
+audit_records-requires-clause-accepted g c =
+    sound_in c.args.ready.now.compiled.table.preds _ _ c.requires.stands.sound c.named.ensures
+
+pub returns : goal.returns
+returns g c = λ given s.
+    let said = rw c.table.ensures at c.audit_records.ensures in
+    said given
+    (has_trace c.args.ready.now given c.named.result.now _ _ _ s (one_name _ _ _ c.requires.fit refl refl) c.named.ensures (c.two_texts.ensures given s)
+    c.new-rows.ensures)

@@ -1,0 +1,4 @@
+pub mod Verify
+pub mod Audit
+pub mod Three
+pub mod Edges

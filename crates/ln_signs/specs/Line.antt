@@ -1,0 +1,74 @@
+-- The line of each record.
+use Rattle.std.specs.Prelude.{◌≡◌, ℕ, Bool, true, false, List, [], ◌∷◌, ◌++◌, slice_index_or}
+use Rattle.std.specs.Prelude.{codes, decimal, Result, Ok, Err}
+use Rattle.ln_base.specs.declared.sign.Sign.{Sign}
+use Rattle.ln_base.specs.declared.sign.Sign.TheVariants.{Minus, Zero, Plus}
+use Rattle.ln_algebra.specs.Orders.{Rank}
+use Rattle.ln_tree.specs.Row.{Row}
+use Rattle.ln_tree.specs.Table.{PredOf}
+use Rattle.ln_code.specs.declared.verdict.Verdict.{Verdict}
+use Rattle.ln_code.specs.declared.verdict.By.{By}
+use Rattle.ln_code.specs.declared.verdict.By.TheVariants.{Filter, Stage, Nothing}
+use Rattle.ln_rows.specs.declared.record.RowStop.{RowStop}
+use Rattle.ln_rows.specs.declared.record.RowStop.TheVariants.{Fields, Number, Range, Index}
+use Rattle.ln_rows.specs.Record.{read_row}
+use Rattle.ln_compile.specs.Filtered.{IsDueIn}
+
+-- a sign as text: `-`, `0` or `+`
+abbrev pub sign_text : Sign → List ℕ
+sign_text Minus = codes "-"
+sign_text Zero = codes "0"
+sign_text Plus = codes "+"
+
+-- the decider: the filter, the place of a stage, or nothing
+abbrev pub decider_text : By → List ℕ
+decider_text Filter = codes "F"
+decider_text (Stage place) = decimal place
+decider_text Nothing = codes "-"
+
+-- why a record is invalid; a column by its name
+abbrev pub stop_text : List (List ℕ) → RowStop → List ℕ
+stop_text names Fields = codes "! fields"
+stop_text names (Number k) = codes "! number " ++ slice_index_or names k []
+stop_text names (Range k) = codes "! range " ++ slice_index_or names k []
+stop_text names (Index k) = codes "! index " ++ slice_index_or names k []
+
+-- a verdict's sign, a space and its decider; or why the record is invalid
+abbrev pub said_text : List (List ℕ) → Result Verdict RowStop → List ℕ
+said_text names (Ok v) = sign_text v.sign ++ 32 ∷ decider_text v.by
+said_text names (Err stop) = stop_text names stop
+
+-- the result of a predicate on a record in an order of infinitesimals: a verdict that the record's row requires, or why the
+-- record is invalid
+pub data Says (rank : Rank) (p : PredOf) (fields : List (List ℕ)) : Result Verdict RowStop → Type 0 where
+  due : (row : Row) (v : Verdict) → read_row p.sites p.vars fields ≡ Ok row → IsDueIn rank p row v → Says rank p fields (Ok v)
+  refused_ : (stop : RowStop) → read_row p.sites p.vars fields ≡ Err stop → Says rank p fields (Err stop)
+
+-- is the result of reading a record a row?
+abbrev pub is_read : Result Row RowStop → Bool
+is_read (Ok row) = true
+is_read (Err stop) = false
+
+-- is a record a row in range?
+abbrev pub is_row : PredOf → List (List ℕ) → Bool
+is_row p fields = is_read (read_row p.sites p.vars fields)
+
+-- a line names no column: that of a verdict, or of another number of fields
+abbrev pub is_bare_stop : RowStop → Bool
+is_bare_stop Fields = true
+is_bare_stop (Number k) = false
+is_bare_stop (Range k) = false
+is_bare_stop (Index k) = false
+
+-- does the line of a verdict, or of a refused record, name no column?
+abbrev pub is_bare : {T : Type 0} → Result T RowStop → Bool
+is_bare (Ok v) = true
+is_bare (Err stop) = is_bare_stop stop
+
+-- the line of a record names none
+abbrev pub is_bare_record : PredOf → List (List ℕ) → Bool
+is_bare_record p fields = is_bare (read_row p.sites p.vars fields)
+
+-- the room that any line fits in that names no column
+abbrev pub line_room : ℕ
+line_room = 64

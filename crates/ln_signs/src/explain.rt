@@ -1,0 +1,112 @@
+//! The work of `explain`: a trace, which for each record after the header tells the stages that were looked at and the sign.
+ghost use Rattle.std.specs.Prelude.{◌≡◌, [], ℕ, List, Option};
+ghost use Rattle.ln_algebra.specs.Orders.{BySmallest};
+ghost use Rattle.ln_code.specs.Memory.{MadeFor};
+ghost use Rattle.ln_compile.specs.Accepted.{IsSound};
+ghost use Rattle.ln_frame.specs.Carried.{CarriesOut};
+ghost use Rattle.ln_signs.specs.Explain.{ExplainPart, ExplainSaid, explain_signature, ExplainLine};
+ghost use Rattle.ln_frame.specs.Ready.{IsReadyFor, StandsFor};
+ghost use Rattle.ln_frame.specs.Said.{count};
+ghost use Rattle.ln_frame.specs.Given.{Given};
+ghost use Rattle.ln_signs.specs.Target.{Belongs};
+ghost use Rattle.ln_tree.specs.Table.{PredOf, pred_of};
+ghost use Rattle.ln_code.specs.declared.verdict.Verdict.{Verdict as verdict};
+ghost use Rattle.ln_trace.specs.Text.{first_line};
+
+use crate::records::{RecordWriter, put_lines};
+use crate::target::{Target, one_target};
+use crate::watching::no_watchers;
+use ln_base::{Console, NoMemory};
+use ln_code::{Row, Scratch, Verdict};
+use ln_frame::ready::{Ready, short_text};
+use ln_frame::status::{Early, End};
+use ln_rows::{RowStop, Rows};
+use ln_trace::{explain_row, put_refused};
+use ln_tree::Pred;
+use std::alloc::Global;
+
+// A predicate whose rows are explained.
+#[derive(Drop)]
+struct Explainer<'a> {
+    target: Target<'a>,
+}
+
+impl<'a> RecordWriter for Explainer<'a> {
+    type Room = Scratch;
+
+    ghost begins = { λ t. first_line };
+
+    ghost over = { λ t. t.target.pred };
+
+    ghost columns = { λ t. t.target.names };
+
+    ghost knows = { λ t ps. IsSound (pred_of t.target.pred) × (t.target.rank ≡ BySmallest) };
+
+    ghost line = { λ t ps. ExplainLine };
+
+    ghost fits = { λ t s. MadeFor t.target.program s × Belongs t.target.rank t.target.pred t.target.program };
+
+    ghost space = { λ t n. Unit {0} };
+
+    fn head(&self) -> &[u8] {
+        b"trace 1\n"
+    }
+
+    fn pred(&self) -> &Pred {
+        self.target.pred()
+    }
+
+    fn take_header(&self, rows: &mut Rows<'_>) -> Result<bool, NoMemory> {
+        self.target.take_header(rows)
+    }
+
+    fn make_room(&self, alloc: Global) -> Result<Scratch, NoMemory> {
+        let scratch = self.target.scratch(alloc)?;
+        Ok(scratch)
+    }
+
+    fn add(
+        &self,
+        alloc: Global,
+        room: &mut Scratch,
+        number: u32,
+        read: Result<(), RowStop>,
+        row: &Row,
+        text: &mut Vec<u8>,
+    ) -> Result<Option<Verdict>, NoMemory> {
+        match read {
+            Ok(()) => {
+                explain_row(
+                    alloc,
+                    self.target.program(),
+                    room,
+                    u64::from(number),
+                    row,
+                    text,
+                )?;
+                Ok(None)
+            }
+            Err(_) => {
+                put_refused(alloc, text, number)?;
+                Ok(None)
+            }
+        }
+    }
+}
+
+/// Writes a trace of the records after the header, or refuses the header.
+pub fn work<C: Console>(alloc: Global, con: &mut C, ready: &Ready) -> Result<End, Early>
+    requires { IsReadyFor explain_signature ready.now }
+    ensures { (g : Given) → StandsFor ready.now g → CarriesOut (ExplainSaid g) (ExplainPart g) ⊥ ⊥
+        (count (C.faults con.old) (C.faults con.new)) result (C.shown con.old) (C.shown con.new) }
+{
+    let target = one_target(alloc, ready)?;
+    let explainer = Explainer { target };
+    put_lines(
+        alloc,
+        con,
+        &explainer,
+        short_text(ready),
+        no_watchers(alloc),
+    )
+}

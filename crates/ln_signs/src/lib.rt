@@ -1,0 +1,19 @@
+//! The commands that write for each record or row: `run`, `graded`, `product`, `explain` and `gen`.
+//!
+//! Each has a file with its work. Lines are gathered and written in pieces. The watchers come by value, and the panel that holds them is here, beside the
+//! loops that show verdicts to it.
+#![tactic(auto)]
+
+pub mod alike;
+pub mod explain;
+pub mod factors;
+mod gather;
+pub mod generate;
+pub mod graded;
+pub mod line;
+pub mod panel;
+pub mod product;
+mod records;
+pub mod run;
+pub mod target;
+mod watching;

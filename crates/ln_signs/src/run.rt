@@ -1,0 +1,148 @@
+//! The work of `run`: a line for each record after the header, and the lines of the watchers.
+ghost use Rattle.std.specs.Prelude.{◌≡◌, ◌≤◌, ◌+◌, ◌++◌, [], ◌∷◌, ℕ, List, true, Option};
+ghost use Rattle.std.specs.Prelude.{vec_len, vec_capacity, IfOk, IsOk, OnOk, OnErr};
+ghost use Rattle.ln_algebra.specs.Orders.{BySmallest};
+ghost use Rattle.ln_code.specs.Memory.{MadeFor};
+ghost use Rattle.ln_frame.specs.Carried.{CarriesOut};
+ghost use Rattle.ln_signs.specs.Line.{Says, is_bare_record, line_room, said_text};
+ghost use Rattle.ln_frame.specs.Ready.{IsReadyFor, StandsFor};
+ghost use Rattle.ln_signs.specs.Run.{run_signature, piece_room};
+ghost use Rattle.ln_frame.specs.Said.{count, line};
+ghost use Rattle.ln_frame.specs.Given.{Given};
+ghost use Rattle.ln_signs.specs.Target.{IsInRange, IsReadFor, pred_in};
+ghost use Rattle.ln_watch.specs.Panel.{states_of};
+ghost use Rattle.ln_tree.specs.Table.{PredOf};
+ghost use Rattle.ln_code.specs.declared.verdict.Verdict.{Verdict as verdict};
+ghost use Rattle.ln_signs.specs.Signs.{RunLine, RunPart, RunSaid, shown_of};
+
+use crate::line::add_line;
+use crate::records::{RecordWriter, put_lines};
+use crate::target::{Target, one_target};
+use ln_base::{Console, NoMemory};
+use ln_code::{Row, Scratch, Verdict};
+use ln_frame::ready::{Ready, short_text};
+use ln_frame::status::{Early, End};
+use ln_rows::{RowStop, Rows};
+use ln_tree::Pred;
+use ln_watch::Watch;
+use std::alloc::Global;
+
+// Returns the result of the predicate on a record that was read: the verdict on its row, or why the record is invalid.
+fn verdict_of(
+    target: &Target<'_>,
+    s: &mut Scratch,
+    read: Result<(), RowStop>,
+    row: &Row,
+) -> Result<Verdict, RowStop>
+    requires made { MadeFor target.now.program s.old }
+    requires range { OnOk read (IsInRange target.now row.now) }
+    ensures says { (fields : List (List ℕ)) → IsReadFor target.now fields read row.now
+        → Says target.now.rank (pred_in target.now) fields result }
+    ensures made { MadeFor target.now.program s.new }
+{
+    match read {
+        Ok(()) => Ok(target.verdict(s, row)),
+        Err(stop) => Err(stop),
+    }
+}
+
+// Returns the verdict on a row; none of a record that is refused.
+fn shown_of(said: Result<Verdict, RowStop>) -> Option<Verdict>
+    ensures { result ≡ shown_of said }
+{
+    match said {
+        Ok(v) => Some(v),
+        Err(_) => None,
+    }
+}
+
+// Adds the line of a record that was read, and returns what is said of it. Only a line that names a column allocates.
+fn add_record(
+    alloc: Global,
+    target: &Target<'_>,
+    s: &mut Scratch,
+    read: Result<(), RowStop>,
+    row: &Row,
+    text: &mut Vec<u8>,
+) -> Result<Result<Verdict, RowStop>, NoMemory>
+    requires made { MadeFor target.now.program s.old }
+    requires range { OnOk read (IsInRange target.now row.now) }
+    requires room { vec_len text.old + line_room ≤ vec_capacity text.old }
+    ensures says { IfOk result (λ said. (fields : List (List ℕ)) → IsReadFor target.now fields read row.now
+        → Says target.now.rank (pred_in target.now) fields said) }
+    ensures line { IfOk result (λ said. text.new.items ≡ text.old.items ++ line (said_text target.now.names said)) }
+    ensures err { OnErr result (text.new.items ≡ text.old.items) }
+    ensures made { MadeFor target.now.program s.new }
+    ensures room { vec_capacity text.old ≤ vec_capacity text.new }
+    ensures steady { (fields : List (List ℕ)) → IsReadFor target.now fields read row.now
+        → is_bare_record (pred_in target.now) fields ≡ true → IsOk result }
+{
+    let said = verdict_of(target, s, read, row);
+    add_line(alloc, text, target, said)?;
+    Ok(said)
+}
+
+impl<'a> RecordWriter for Target<'a> {
+    type Room = Scratch;
+
+    ghost begins = { λ t. [] };
+
+    ghost over = { λ t. t.pred };
+
+    ghost columns = { λ t. t.names };
+
+    ghost knows = { λ t ps. Unit {0} };
+
+    ghost line = { λ t ps. RunLine t.rank };
+
+    ghost fits = { λ t s. MadeFor t.program s };
+
+    ghost space = { λ t n. piece_room ≤ n };
+
+    fn head(&self) -> &[u8] {
+        b""
+    }
+
+    fn pred(&self) -> &Pred {
+        Target::pred(self)
+    }
+
+    fn take_header(&self, rows: &mut Rows<'_>) -> Result<bool, NoMemory> {
+        Target::take_header(self, rows)
+    }
+
+    fn make_room(&self, alloc: Global) -> Result<Scratch, NoMemory> {
+        let scratch = self.scratch(alloc)?;
+        Ok(scratch)
+    }
+
+    fn add(
+        &self,
+        alloc: Global,
+        room: &mut Scratch,
+        number: u32,
+        read: Result<(), RowStop>,
+        row: &Row,
+        text: &mut Vec<u8>,
+    ) -> Result<Option<Verdict>, NoMemory> {
+        let said = add_record(alloc, self, room, read, row, text)?;
+        Ok(shown_of(said))
+    }
+}
+
+/// Writes a line for each record after the header, and the lines of the watchers to Err; or refuses the header.
+pub fn work<C: Console>(
+    alloc: Global,
+    con: &mut C,
+    ready: &Ready,
+    watchers: Vec<Box<dyn Watch>>,
+) -> Result<End, Early>
+    requires { IsReadyFor run_signature ready.now }
+    ensures { (g : Given) → StandsFor ready.now g
+        → CarriesOut (RunSaid BySmallest (states_of kind_of tally_of watchers.items) g)
+        (RunPart BySmallest (states_of kind_of tally_of watchers.items) g) ⊥ ⊥
+        (count (C.faults con.old) (C.faults con.new)) result (C.shown con.old) (C.shown con.new) }
+{
+    let target = one_target(alloc, ready)?;
+    put_lines(alloc, con, &target, short_text(ready), watchers)
+}

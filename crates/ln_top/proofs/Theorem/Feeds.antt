@@ -1,0 +1,162 @@
+-- Which texts have no line feed.
+use Rattle.std.proofs.Common.{◌≡◌, ◌≢◌, ℕ, zero, suc, ◌+◌, ◌/◌, ◌%◌, ◌==◌, nat_lt, not}
+use Rattle.std.proofs.Common.{cond, Bool, true, false, true≢false, List, [], ◌∷◌, ◌++◌, codes, map, Option, Some, None}
+use Rattle.std.proofs.Common.{Result, Ok, Err, refl, ap, sym, ◌∙◌, subst, arith, decimal}
+use Rattle.std.specs.Prelude.{slice_get, slice_index_or}
+use Rattle.std.specs.Fmt.{digits, digits_onto, digit_glyph}
+use Rattle.ln_base.specs.Words.{is_word, is_keyword, is_letter, is_name_byte, every}
+use Rattle.ln_base.specs.declared.sign.Sign.{Sign}
+use Rattle.ln_base.specs.declared.sign.Sign.TheVariants.{Minus, Zero, Plus}
+use Rattle.ln_tree.specs.declared.name.Name.{Name}
+use Rattle.ln_tree.specs.declared.items.Arg.{Arg}
+use Rattle.ln_tree.specs.declared.items.Arg.TheVariants.{Site as IsSite, Param as IsParam}
+use Rattle.ln_tree.specs.declared.items.Coord.{Coord}
+use Rattle.ln_tree.specs.declared.items.Site.{Site}
+use Rattle.ln_tree.specs.declared.items.Param.{Param}
+use Rattle.ln_tree.specs.declared.table.Table.{Table}
+use Rattle.ln_tree.specs.declared.pred.Pred.{Pred}
+use Rattle.ln_tree.specs.Names.{name_bytes}
+use Rattle.ln_tree.specs.Table.{PredOf, pred_of}
+use Rattle.ln_rows.specs.Columns.{coord_column, site_columns, param_columns, arg_columns, column_names}
+use Rattle.ln_rows.specs.declared.record.RowStop.{RowStop}
+use Rattle.ln_rows.specs.declared.record.RowStop.TheVariants.{Fields, Number, Range, Index}
+use Rattle.ln_code.specs.declared.verdict.Verdict.{Verdict}
+use Rattle.ln_code.specs.declared.verdict.By.{By}
+use Rattle.ln_code.specs.declared.verdict.By.TheVariants.{Filter, Stage, Nothing}
+use Rattle.ln_frame.specs.Source.{view}
+use Rattle.ln_frame.specs.Given.{Given}
+use Rattle.ln_frame.specs.Columns.{columns_of}
+use Rattle.ln_signs.specs.Line.{sign_text, decider_text, stop_text, said_text}
+use Rattle.ln_top.specs.Headline.{NoFeed}
+use Rattle.ln_frame.proofs.Likeness.{columns_like}
+use Rattle.ln_signs.proofs.RunLaws.{and_left, and_right}
+
+-- one text after another
+pub behind : (xs ys : List ℕ) → NoFeed xs → NoFeed ys → NoFeed (xs ++ ys)
+behind [] ys f g = g
+behind (x ∷ xs) ys f g = (f.0, behind xs ys f.1 g)
+
+-- digits
+glyph : (d : ℕ) → digit_glyph false d ≢ 10
+glyph d = by_test (nat_lt d 10)
+  where
+    by_test : (b : Bool) → cond b (48 + d) (87 + d) ≢ 10
+    by_test true e = absurd (omega (arith, e))
+    by_test false e = absurd (omega (arith, e))
+
+digits_feed : (k n : ℕ) (acc : List ℕ) → NoFeed acc → NoFeed (digits_onto k 10 false n acc)
+digits_feed zero n acc f = f
+digits_feed (suc k) n acc f = by_test (n / 10 == 0) (digits_feed k (n / 10) (digit_glyph false (n % 10) ∷ acc) (glyph (n % 10), f))
+  where
+    by_test : (b : Bool) → NoFeed (digits_onto k 10 false (n / 10) (digit_glyph false (n % 10) ∷ acc))
+        → NoFeed (cond b (digit_glyph false (n % 10) ∷ acc) (digits_onto k 10 false (n / 10) (digit_glyph false (n % 10) ∷ acc)))
+    by_test true g = (glyph (n % 10), f)
+    by_test false g = g
+
+digits_are : (n : ℕ) → digits_onto 64 10 false n [] ≡ digits 10 false n
+unfolding digits
+digits_are n = refl
+
+decimal_feed : (n : ℕ) → NoFeed (decimal n)
+decimal_feed n = subst NoFeed (digits_are n) (digits_feed 64 n [] tt)
+
+-- bytes above a line feed
+pub other : (b : ℕ) → nat_lt 10 b ≡ true → b ≢ 10
+other b e f = true≢false (sym e ∙ ap (nat_lt 10) f)
+
+above : (bs : List ℕ) → every (nat_lt 10) bs ≡ true → NoFeed bs
+above [] e = tt
+above (b ∷ bs) e =
+    (other b (and_left (nat_lt 10 b) (every (nat_lt 10) bs) e), above bs (and_right (nat_lt 10 b) (every (nat_lt 10) bs) e))
+
+-- the text of a sign has no line feed
+pub sign_feed : (s : Sign) → NoFeed (sign_text s)
+sign_feed Minus = above (codes "-") refl
+sign_feed Zero = above (codes "0") refl
+sign_feed Plus = above (codes "+") refl
+
+-- the text of a decider has no line feed
+pub decider_feed : (by : By) → NoFeed (decider_text by)
+decider_feed Filter = above (codes "F") refl
+decider_feed (Stage place) = decimal_feed place
+decider_feed Nothing = above (codes "-") refl
+
+-- names
+letter : (b : ℕ) → is_letter b ≡ true → b ≢ 10
+letter b h e = true≢false (sym h ∙ ap is_letter e)
+
+name_byte : (b : ℕ) → is_name_byte b ≡ true → b ≢ 10
+name_byte b h e = true≢false (sym h ∙ ap is_name_byte e)
+
+name_bytes_feed : (bs : List ℕ) → every is_name_byte bs ≡ true → NoFeed bs
+name_bytes_feed [] e = tt
+name_bytes_feed (b ∷ bs) e = (
+  name_byte b (and_left (is_name_byte b) (every is_name_byte bs) e),
+  name_bytes_feed bs (and_right (is_name_byte b) (every is_name_byte bs) e),
+)
+
+word_feed : (bs : List ℕ) → is_word bs ≡ true → NoFeed bs
+word_feed [] e = tt
+word_feed (b ∷ bs) e = (
+  letter b (and_left (is_letter b) (every is_name_byte bs) e),
+  name_bytes_feed bs (and_right (is_letter b) (every is_name_byte bs) e),
+)
+
+name_feed : (n : Name) → NoFeed (name_bytes n)
+name_feed n = word_feed (name_bytes n) (and_left (is_word (name_bytes n)) (not (is_keyword (name_bytes n))) n.named)
+
+-- each text has none
+abbrev pub HaveNoFeed : List (List ℕ) → Type 0
+HaveNoFeed [] = Unit {0}
+HaveNoFeed (t ∷ ts) = NoFeed t × HaveNoFeed ts
+
+join : (xs ys : List (List ℕ)) → HaveNoFeed xs → HaveNoFeed ys → HaveNoFeed (xs ++ ys)
+join [] ys f g = g
+join (x ∷ xs) ys f g = (f.0, join xs ys f.1 g)
+
+coords_feed : (n : Name) (cs : List Coord) → HaveNoFeed (map (coord_column n) cs)
+coords_feed n [] = tt
+coords_feed n (c ∷ cs) =
+    (behind (name_bytes n) (46 ∷ name_bytes c.name) (name_feed n) (other 46 refl, name_feed c.name), coords_feed n cs)
+
+site_feed : (n : Name) (o : Option Site) → HaveNoFeed (site_columns n o)
+site_feed n None = (name_feed n, tt)
+site_feed n (Some t) = (name_feed n, coords_feed n t.coords)
+
+param_feed : (o : Option Param) → HaveNoFeed (param_columns o)
+param_feed None = tt
+param_feed (Some p) = (name_feed p.name, tt)
+
+arg_feed : (sites : List Site) (params : List Param) (a : Arg) → HaveNoFeed (arg_columns sites params a)
+arg_feed sites params (IsSite n t) = site_feed n (slice_get sites t)
+arg_feed sites params (IsParam p) = param_feed (slice_get params p)
+
+args_feed : (sites : List Site) (params : List Param) (args : List Arg) → HaveNoFeed (column_names sites params args)
+args_feed sites params [] = tt
+args_feed sites params (a ∷ as') =
+    join (arg_columns sites params a) (column_names sites params as') (arg_feed sites params a) (args_feed sites params as')
+
+-- the columns of what is given stand for those of a table in memory
+pub columns_no_feed : (g : Given) (q : Pred) (p : PredOf) (names : List (List ℕ)) (t : Table) → view t ≡ g.table
+    → pred_of q ≡ p → names ≡ columns_of g.table p → HaveNoFeed names
+columns_no_feed g q p names t e f n =
+    let same : column_names t.sites t.params q.args ≡ names = columns_like t.sites t.params q.args
+    ∙ ap (λ v. columns_of v (pred_of q)) e ∙ ap (columns_of g.table) f ∙ sym n in
+    subst HaveNoFeed same (args_feed t.sites t.params q.args)
+
+nth : (names : List (List ℕ)) (k : ℕ) → HaveNoFeed names → NoFeed (slice_index_or names k [])
+nth [] k f = tt
+nth (n ∷ ns) zero f = f.0
+nth (n ∷ ns) (suc k) f = nth ns k f.1
+
+-- the text of a refused record has no line feed where the names of the columns have none
+pub stop_feed : (names : List (List ℕ)) (s : RowStop) → HaveNoFeed names → NoFeed (stop_text names s)
+stop_feed names Fields f = above (codes "! fields") refl
+stop_feed names (Number k) f = behind (codes "! number ") (slice_index_or names k []) (above (codes "! number ") refl) (nth names k f)
+stop_feed names (Range k) f = behind (codes "! range ") (slice_index_or names k []) (above (codes "! range ") refl) (nth names k f)
+stop_feed names (Index k) f = behind (codes "! index ") (slice_index_or names k []) (above (codes "! index ") refl) (nth names k f)
+
+-- what is said of a record is one line
+pub said_no_feed : (names : List (List ℕ)) (said : Result Verdict RowStop) → HaveNoFeed names → NoFeed (said_text names said)
+said_no_feed names (Ok v) f = behind (sign_text v.sign) (32 ∷ decider_text v.by) (sign_feed v.sign) (other 32 refl, decider_feed v.by)
+said_no_feed names (Err s) f = stop_feed names s f

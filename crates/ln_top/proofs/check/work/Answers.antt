@@ -1,5 +1,0 @@
-use Rattle.ln_top.proofs.Commands.CheckLaws.{carried}
-use Rattle.ln_top.proofs.check.work.Goals as goal
-
-pub returns : goal.returns
-returns g c = λ given s. carried c.args.ready.now given _ _ _ _ _ s c.in_ok-text.ensures (rw c.deref.ensures.value at c.put_text.ensures)

@@ -1,6 +1,0 @@
-use Rattle.ln_top.proofs.Commands.EdgesLaws.{lines_carried}
-use Rattle.ln_top.proofs.edges.put_edges.Goals as goal
-
-pub returns : goal.returns
-returns g c =
-    λ given s. lines_carried given _ _ _ _ _ (c.in_ok-text.ensures given s) (rw c.deref.ensures.value at c.put_text.ensures)

@@ -1,7 +1,0 @@
--- Answers to the goals of `work` in src/emit.rt.
-use Rattle.ln_top.proofs.Commands.EmitLaws.{carried}
-use Rattle.ln_top.proofs.emit.work.Goals as goal
-
-pub returns : goal.returns
-returns g c =
-    λ given s. carried c.args.ready.now given _ _ _ _ _ s c.in_ok-text.ensures (rw c.deref.ensures.value at c.put_text.ensures)

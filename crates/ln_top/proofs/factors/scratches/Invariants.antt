@@ -1,5 +1,0 @@
-use Rattle.ln_top.proofs.Commands.FactorsLaws.{AreMadeSoFar}
-use Rattle.ln_top.proofs.factors.scratches.Given as goal
-
-abbrev pub invariant-each : goal.invariant-each
-invariant-each l = AreMadeSoFar l.programs l.which l.scratches.items l.i-index

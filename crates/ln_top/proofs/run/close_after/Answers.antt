@@ -1,9 +1,0 @@
-use Rattle.std.proofs.Common.{refl, ap, Ok}
-use Rattle.ln_top.specs.Lines.{closed, unclosed}
-use Rattle.ln_top.proofs.run.close_after.Goals as goal
-
-pub returns-then-not-close : goal.returns-then-not-close
-returns-then-not-close g c = unclosed refl c.if-not-close.ensures
-
-pub returns : goal.returns
-returns g c = closed (ap Ok c.end_of.ensures) c.if-not-close.ensures

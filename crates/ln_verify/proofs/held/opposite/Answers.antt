@@ -1,8 +1,0 @@
--- Answers to the goals of `opposite` in src/held.rt.
-use Rattle.std.proofs.Common.{◌∙◌, ap}
-use Rattle.ln_poly.specs.Sparse.{Sparse, negated}
-use Rattle.ln_verify.proofs.Polynomials.Signs.{opposite-signed}
-use Rattle.ln_verify.proofs.held.opposite.Goals as goal
-
-pub returns : goal.returns
-returns c = opposite-signed c.f.inside.minus c.f.inside.poly.value ∙ ap (λ (z : Sparse). negated z) c.f.view_is
