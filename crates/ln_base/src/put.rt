@@ -40,7 +40,8 @@ pub fn put_signed(out: &mut Vec<u8>, z: i128) -> Result<(), NoMemory>
     put_word(out, buffer.format(z).as_bytes())
 }
 
-fn put_digits(out: &mut Vec<u8>, n: u128) -> Result<(), NoMemory>
+/// Appends a number.
+pub fn put_digits(out: &mut Vec<u8>, n: u128) -> Result<(), NoMemory>
     ensures { IfOk result (λ x. out.new.items ≡ out.old.items ++ decimal n) }
 {
     let mut buffer = Buffer::new();

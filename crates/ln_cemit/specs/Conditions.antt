@@ -42,14 +42,14 @@ AreFree names name top = (n : ℕ) → n < top → is_free names (name n) ≡ tr
 
 -- the conditions on one function among functions with these names, that its names are NAMEs and its numbers NUMBERs, and that it is
 -- on one line
-pub record Stands (names : List (List ℕ)) (f : Fun) : Type 0 where
+pub record MeetsConditions (names : List (List ℕ)) (f : Fun) : Type 0 where
   pub keeps : fun_keeps names f ≡ true
   pub words : fun_words f ≡ true
   pub flat : flat_fun f ≡ f
 
 -- the function that is emitted for these lines, with its own name and error, keeps these conditions
 abbrev pub Kept : List (List ℕ) → (ℕ → List ℕ) → List ℕ → ℕ → List (Line Way) → Type 0
-Kept names name own e xs = Stands names (fun_of name own e xs)
+Kept names name own e xs = MeetsConditions names (fun_of name own e xs)
 
 -- the function that is emitted for lines keeps the conditions, where its names are free and differ and the numbers in it are small
 abbrev pub FunsKeep : Type 0

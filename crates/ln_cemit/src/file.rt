@@ -16,7 +16,7 @@ ghost use Rattle.ln_cemit.specs.Whole.{block_body, call_body, filter_body, part_
 
 use crate::body::{put_block_fun, put_filter_fun, put_may_touch_index, put_two_head};
 use crate::title::{block_title, call_title, filter_title};
-use crate::walk::{name_of, put_try, put_walked};
+use crate::walk::{Prefix, name_of, put_try, put_walked};
 use ln_base::NoMemory;
 use ln_code::{Block, FilterBlock, Program, Programs};
 use ln_csyn::layout::lay_fun;
@@ -124,7 +124,13 @@ fn put_all_sites(alloc: Global, out: &mut Vec<u8>, p: &Program, sites: u8) -> Re
 {
     let orders = all_orders(alloc, sites)?;
     let all = Order::of_arguments(sites);
-    put_walked(alloc, out, p, orders.as_slice(), sites, &[], all.places())
+    let at = Prefix {
+        program: p,
+        orders: orders.as_slice(),
+        front: &[],
+        left: all.places(),
+    };
+    put_walked(alloc, out, &at, sites)
 }
 
 // The body of the function with two parameters.

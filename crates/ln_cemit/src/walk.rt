@@ -179,30 +179,36 @@ fn segment_at<'a>(p: &'a Program, orders: &[Order], front: &[u8]) -> &'a [u32]
     &[]
 }
 
-/// Appends the statements from a prefix on, with these sites left, of which there are at most d: the blocks of the prefix are called, and
+/// A prefix of the orders of a program's sites: the sites that it places, and those that are left.
+#[derive(Clone, Copy)]
+pub(crate) struct Prefix<'a> {
+    pub(crate) program: &'a Program,
+    pub(crate) orders: &'a [Order],
+    pub(crate) front: &'a [u8],
+    pub(crate) left: &'a [u8],
+}
+
+/// Appends the statements from a prefix on, of whose remaining sites at most d are placed: the blocks of the prefix are called, and
 /// where all are 0 the next site is found.
 #[cycle(walk)]
 pub(crate) fn put_walked(
     alloc: Global,
     out: &mut Vec<u8>,
-    p: &Program,
-    orders: &[Order],
+    at: &Prefix,
     d: u8,
-    front: &[u8],
-    left: &[u8],
 ) -> Result<(), NoMemory>
-    requires { map order_places orders.now ≡ orders_of p.now.shape.sites }
-    ensures { IfOk result (λ x. Puts out.old.items out.new.items
-        (spell_body (walked (block_name (part_name p.now)) answer_name (segment_of p.now) d front.now left.now))) }
+    requires { map order_places at.now.orders.now ≡ orders_of at.now.program.now.shape.sites }
+    ensures { IfOk result (λ x. Puts out.old.items out.new.items (spell_body (walked (block_name (part_name at.now.program.now)) answer_name
+        (segment_of at.now.program.now) d at.now.front.now at.now.left.now))) }
 {
-    let name = name_of(p);
-    let segment = segment_at(p, orders, front);
+    let name = name_of(at.program);
+    let segment = segment_at(at.program, at.orders, at.front);
     put_tries(alloc, out, name, segment)?;
     if d == 0 {
         put_nothing(out)?;
         return Ok(());
     }
-    put_picks(alloc, out, p, orders, d - 1, front, left)?;
+    put_picks(alloc, out, at, d - 1)?;
     Ok(())
 }
 
@@ -216,26 +222,17 @@ fn behind(left: &[u8], k: usize) -> &[u8]
 
 // Appends the statements of the site with the least index, of the remaining ones.
 #[cycle(walk)]
-fn put_picks(
-    alloc: Global,
-    out: &mut Vec<u8>,
-    p: &Program,
-    orders: &[Order],
-    d: u8,
-    front: &[u8],
-    left: &[u8],
-) -> Result<(), NoMemory>
-    requires { map order_places orders.now ≡ orders_of p.now.shape.sites }
-    ensures { IfOk result (λ x. Puts out.old.items out.new.items
-        (spell_body (picks (λ i. walked (block_name (part_name p.now)) answer_name (segment_of p.now) d (front.now ++ i ∷ [])
-        (without i left.now)) left.now))) }
+fn put_picks(alloc: Global, out: &mut Vec<u8>, at: &Prefix, d: u8) -> Result<(), NoMemory>
+    requires { map order_places at.now.orders.now ≡ orders_of at.now.program.now.shape.sites }
+    ensures { IfOk result (λ x. Puts out.old.items out.new.items (spell_body (picks (λ i. walked (block_name (part_name at.now.program.now)) answer_name
+        (segment_of at.now.program.now) d (at.now.front.now ++ i ∷ []) (without i at.now.left.now)) at.now.left.now))) }
 {
-    if left.is_empty() {
+    if at.left.is_empty() {
         return put_nothing(out);
     }
-    'left: for (k, place) in left.iter().enumerate() {
-        let others = behind(left, k);
-        put_pick(alloc, out, p, orders, d, front, left, *place, others)?;
+    'left: for (k, place) in at.left.iter().enumerate() {
+        let others = behind(at.left, k);
+        put_pick(alloc, out, at, d, *place, others)?;
     }
     Ok(())
 }
@@ -245,24 +242,26 @@ fn put_picks(
 fn put_pick(
     alloc: Global,
     out: &mut Vec<u8>,
-    p: &Program,
-    orders: &[Order],
+    at: &Prefix,
     d: u8,
-    front: &[u8],
-    left: &[u8],
     place: u8,
     others: &[u8],
 ) -> Result<(), NoMemory>
-    requires { map order_places orders.now ≡ orders_of p.now.shape.sites }
-    ensures { IfOk result (λ x. Puts out.old.items out.new.items
-        (λ r. open_guards place others.now
-        (spell_body (walked (block_name (part_name p.now)) answer_name (segment_of p.now) d (front.now ++ place ∷ [])
-        (without place left.now)) (close_braces (length others.now) r)))) }
+    requires { map order_places at.now.orders.now ≡ orders_of at.now.program.now.shape.sites }
+    ensures { IfOk result (λ x. Puts out.old.items out.new.items (λ r. open_guards place others.now
+        (spell_body (walked (block_name (part_name at.now.program.now)) answer_name (segment_of at.now.program.now) d (at.now.front.now ++ place ∷ [])
+        (without place at.now.left.now)) (close_braces (length others.now) r)))) }
 {
-    let next = longer(alloc, front, place)?;
-    let rest = without(alloc, place, left)?;
+    let front = longer(alloc, at.front, place)?;
+    let left = without(alloc, place, at.left)?;
+    let next = Prefix {
+        program: at.program,
+        orders: at.orders,
+        front: front.as_slice(),
+        left: left.as_slice(),
+    };
     put_guards(out, place, others)?;
-    put_walked(alloc, out, p, orders, d, next.as_slice(), rest.as_slice())?;
+    put_walked(alloc, out, &next, d)?;
     put_ends(out, others.len())?;
     Ok(())
 }

@@ -5,7 +5,7 @@ ghost use Rattle.ln_csyn.specs.Meaning as m;
 ghost use Rattle.ln_csyn.specs.Tree.{Body, Decl};
 ghost use Rattle.ln_csyn.specs.View.{expr_tree, body_tree, stmt_front};
 ghost use Rattle.ln_cmean.specs.Answered.{goes_on, goes_with, ended, fault_line, tally};
-ghost use Rattle.ln_cmean.specs.Room.{HasRoom, IsNoSmaller, IsSame, IsFront, slots_in};
+ghost use Rattle.ln_cmean.specs.Room.{HasRoom, IsNoSmaller, IsSame, IsPrefix, slots_in};
 ghost use Rattle.ln_cmean.specs.Slots.{seen};
 ghost use Rattle.ln_cmean.specs.Scene.{scene_of};
 
@@ -33,56 +33,59 @@ fn line_at(line: u32, fault: Fault) -> u32
     }
 }
 
-// A number of the type that is wanted, at a statement of this line.
+// The expression of a statement: the line of the statement, and the type that is wanted.
+#[derive(Clone, Copy)]
+struct Wanted<'e> {
+    line: u32,
+    kind: CType,
+    expr: &'e CExpr,
+}
+
 fn wanted_value<'a, C: Calls>(
     calls: &C,
     inputs: &Inputs<'a, '_>,
-    line: u32,
-    kind: CType,
-    e: &CExpr,
+    of: &Wanted,
     s: &mut Stack<'a>,
     counts: &mut Counts,
 ) -> Result<i128, u32>
     requires { HasRoom s.old (C.slots calls.now inputs.now) }
     ensures meaning { (go : ℤ → m.Counts → Outcome) →
-        wanted line kind (value_of (scene_of (C.given calls.now) inputs.now) (seen s.old) (expr_tree e.now) (tally counts.old)) go
+        wanted of.now.line of.now.kind (value_of (scene_of (C.given calls.now) inputs.now) (seen s.old) (expr_tree of.now.expr.now) (tally counts.old)) go
         ≡ goes_with result (tally counts.new) go }
-    ensures within { IfOk result (λ z. has kind z ≡ true) }
+    ensures within { IfOk result (λ z. has of.now.kind z ≡ true) }
     ensures capacity { IsNoSmaller s.old s.new }
     ensures same { OnOk result (IsSame s.old s.new) }
 {
-    match value(calls, inputs, e, s, counts) {
+    match value(calls, inputs, of.expr, s, counts) {
         Ok(n) => {
-            if same_kind(n.kind, kind) {
+            if same_kind(n.kind, of.kind) {
                 Ok(n.number)
             } else {
-                Err(line)
+                Err(of.line)
             }
         }
-        Err(f) => Err(line_at(line, f)),
+        Err(f) => Err(line_at(of.line, f)),
     }
 }
 
 fn declare<'a, C: Calls>(
     calls: &C,
     inputs: &Inputs<'a, '_>,
-    line: u32,
-    kind: CType,
     name: &'a [u8],
-    e: &CExpr,
+    of: &Wanted,
     s: &mut Stack<'a>,
     counts: &mut Counts,
 ) -> Result<Flow, u32>
     requires { HasRoom s.old (1 + C.slots calls.now inputs.now) }
     ensures meaning { (rest : Body) → runs (scene_of (C.given calls.now) inputs.now) (seen s.old)
-        (Decl line kind name.now (expr_tree e.now) rest) (tally counts.old) ≡ goes_on result (tally counts.new)
+        (Decl of.now.line of.now.kind name.now (expr_tree of.now.expr.now) rest) (tally counts.old) ≡ goes_on result (tally counts.new)
         (λ k. runs (scene_of (C.given calls.now) inputs.now) (seen s.new) rest k) }
     ensures capacity { IsNoSmaller s.old s.new }
-    ensures front { OnOk result (IsFront s.old s.new) }
+    ensures front { OnOk result (IsPrefix s.old s.new) }
     ensures room { OnOk result (length s.new.slots.items ≡ length s.old.slots.items + 1) }
 {
-    open(s, kind, name);
-    match wanted_value(calls, inputs, line, kind, e, s, counts) {
+    open(s, of.kind, name);
+    match wanted_value(calls, inputs, of, s, counts) {
         Ok(number) => {
             settle(s, number);
             Ok(Flow::Went)
@@ -142,43 +145,36 @@ fn step<'a, C: Calls>(
         (tally counts.old) ≡ goes_on result (tally counts.new)
         (λ k. runs (scene_of (C.given calls.now) inputs.now) (seen s.new) rest k) }
     ensures capacity { IsNoSmaller s.old s.new }
-    ensures front { OnOk result (IsFront s.old s.new) }
+    ensures front { OnOk result (IsPrefix s.old s.new) }
     ensures room { OnOk result ((rest : Body) →
         length s.new.slots.items + slots_in rest ≤ length s.old.slots.items + slots_in (stmt_front stmt.now rest)) }
 {
+    let line = stmt.line;
+    let kind = CType::Int;
     match &stmt.form {
-        CForm::Decl(kind, name, e) => declare(
-            calls,
-            inputs,
-            stmt.line,
-            *kind,
-            name.as_slice(),
-            e,
-            s,
-            counts,
-        ),
+        CForm::Decl(kind, name, expr) => {
+            let kind = *kind;
+            let of = Wanted { line, kind, expr };
+            declare(calls, inputs, name.as_slice(), &of, s, counts)
+        }
         CForm::Group(body) => run(calls, inputs, body.as_slice(), s, counts),
-        CForm::If(e, body) => match wanted_value(
-            calls,
-            inputs,
-            stmt.line,
-            CType::Int,
-            e,
-            s,
-            counts,
-        ) {
-            Ok(number) => {
-                if number == 0 {
-                    Ok(Flow::Went)
-                } else {
-                    run(calls, inputs, body.as_slice(), s, counts)
+        CForm::If(expr, body) => {
+            match wanted_value(calls, inputs, &Wanted { line, kind, expr }, s, counts) {
+                Ok(number) => {
+                    if number == 0 {
+                        Ok(Flow::Went)
+                    } else {
+                        run(calls, inputs, body.as_slice(), s, counts)
+                    }
                 }
+                Err(l) => Err(l),
             }
-            Err(l) => Err(l),
-        },
-        CForm::Return(e) => match wanted_value(calls, inputs, stmt.line, CType::Int, e, s, counts) {
-            Ok(number) => Ok(said(number)),
-            Err(l) => Err(l),
-        },
+        }
+        CForm::Return(expr) => {
+            match wanted_value(calls, inputs, &Wanted { line, kind, expr }, s, counts) {
+                Ok(number) => Ok(said(number)),
+                Err(l) => Err(l),
+            }
+        }
     }
 }

@@ -2,6 +2,5 @@
 pub mod Calls
 pub mod Sums
 pub mod Stages
-pub mod Differ
 pub mod Prefixed
 pub mod Machine

@@ -29,6 +29,12 @@ pub record Line (B : Type 0) : Type 0 where
   pub op : Op
   pub bound : B
 
+-- the sum, the difference or the product at this width
+abbrev pub op_of : Two → Width → Op
+op_of Plus w = Add w
+op_of Minus w = Sub w
+op_of Times w = Mul w
+
 -- a, where the test holds
 abbrev pub when : {A : Type 0} → Bool → A → Option A
 when true a = Some a

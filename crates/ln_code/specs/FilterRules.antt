@@ -17,7 +17,7 @@ use Rattle.ln_code.specs.Engine.{Engine, when, next}
 use Rattle.ln_code.specs.Numbers.{with_local}
 
 -- the truncated number h stands for the value v: it is at most H, and v is within e * 2^k of h * 2^k
-pub record Stands (a : Triple) (h v : ℤ) : Type 0 where
+pub record Approximates (a : Triple) (h v : ℤ) : Type 0 where
   pub small : unsigned_abs h ≤ a.h
   pub near : unsigned_abs (v -ℤ h *ℤ pos (2 ^ a.k)) ≤ a.e * 2 ^ a.k
 

@@ -7,7 +7,7 @@ use Rattle.ln_bound.specs.Value.{value, values}
 use Rattle.ln_bound.specs.Widths.{limit}
 use Rattle.ln_code.specs.Exact.{Held}
 use Rattle.ln_code.specs.Rules.{Known}
-use Rattle.ln_code.specs.FilterRules.{FilterKnown, Stands}
+use Rattle.ln_code.specs.FilterRules.{FilterKnown, Approximates}
 use Rattle.ln_code.specs.Part.{Code, FilterCode, block_value, filter_value, known_of, filter_known_of}
 use Rattle.ln_code.specs.Kept.{FollowsRules, FollowsFilterRules}
 
@@ -30,7 +30,7 @@ pub record FilterMeans (vars : List VarInfo) (zs : List ℤ) (f : FilterCode) : 
   pub known : filter_known_of vars f ≡ Some what
   pub left : Held
   pub answer : filter_value zs f ≡ Some left
-  pub stands : Stands what.triple left.number (value (values zs) [] what.tree)
+  pub stands : Approximates what.triple left.number (value (values zs) [] what.tree)
   pub error : left.error ≡ what.triple.e
   pub plus : left.error < unsigned_abs left.number → pos 0 <ℤ left.number → pos 0 <ℤ value (values zs) [] what.tree
   pub minus : left.error < unsigned_abs left.number → left.number <ℤ pos 0 → value (values zs) [] what.tree <ℤ pos 0

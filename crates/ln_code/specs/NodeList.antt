@@ -43,10 +43,10 @@ abbrev pub all_nodes : List Typed → Typed → List Sized
 all_nodes lets t = nodes_in_lets [] lets ++ nodes_in (inlined_after [] (map untyped lets)) t
 
 -- this expression is in the list at this width
-abbrev pub Stands : List Sized → Tree → Width → Type 0
-Stands [] e w = ⊥
-Stands (x ∷ xs) e w = ((e ≡ x.tree) × (w ≡ x.width)) ⊎ Stands xs e w
+abbrev pub IsAmong : List Sized → Tree → Width → Type 0
+IsAmong [] e w = ⊥
+IsAmong (x ∷ xs) e w = ((e ≡ x.tree) × (w ≡ x.width)) ⊎ IsAmong xs e w
 
 -- a node of the tree or of its lets is just a member of the list
 abbrev pub NodesAreListed : Type 0
-NodesAreListed = (lets : List Typed) (t : Typed) (e : Tree) (w : Width) → IsNodeOf lets t e w ↔ Stands (all_nodes lets t) e w
+NodesAreListed = (lets : List Typed) (t : Typed) (e : Tree) (w : Width) → IsNodeOf lets t e w ↔ IsAmong (all_nodes lets t) e w

@@ -8,6 +8,7 @@
 
 pub(crate) mod arithmetic;
 pub mod block;
+pub mod exps;
 pub mod filter_block;
 pub mod halving;
 pub mod laws;
@@ -22,12 +23,13 @@ pub mod verdict;
 
 pub use arithmetic::cut;
 pub use block::Block;
+pub use exps::{are_below, are_of_sites, exps_of};
 pub use filter_block::FilterBlock;
 pub use halving::{error_after, shifted};
 pub use op::{Op, Triple};
 pub use program::Program;
 pub use programs::Programs;
 pub use row::Row;
-pub use run::{block_value, decided, run_row};
+pub use run::{block_value, decided, run_row, sign_of};
 pub use scratch::Scratch;
 pub use verdict::{By, Verdict};

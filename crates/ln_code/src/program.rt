@@ -8,7 +8,7 @@ ghost use Rattle.ln_code.specs.Lists.{segment_of};
 use crate::block::Block;
 use crate::filter_block::FilterBlock;
 use ln_base::Seq;
-use ln_order::{Order, prefix_number};
+use ln_order::{Order, at_prefix};
 use ln_tree::Shape;
 use std::marker::Model;
 
@@ -93,6 +93,6 @@ impl Program {
         ensures value { result.now ≡ segment_of self.now (take j (order_places o.now)) }
         ensures named { All (λ n. n < length self.now.blocks) result.now }
     {
-        self.segments.as_slice()[prefix_number(o, j) as usize].as_slice()
+        at_prefix(self.segments.as_slice(), o, j)
     }
 }

@@ -32,7 +32,8 @@ pub(crate) struct Met {
     pub(crate) calls: u32,
 }
 
-fn sign_of(z: i128) -> Sign
+/// The sign of a value.
+pub fn sign_of(z: i128) -> Sign
     ensures { result ≡ sign_of z }
 {
     if z > 0 {

@@ -1,5 +1,4 @@
 -- The block of a scaled derivative.
-pub mod Fewest
 pub mod Deriving
 pub mod NodesIn
 pub mod LeanNodes

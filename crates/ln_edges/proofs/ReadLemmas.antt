@@ -16,7 +16,8 @@ use Rattle.ln_rows.specs.declared.numbers.NumberStop.{NumberStop}
 use Rattle.ln_edges.specs.declared.point.Point.{Point}
 use Rattle.ln_edges.specs.Points.{PointOf, point_of}
 use Rattle.ln_rows.specs.Left.{Records}
-use Rattle.ln_edges.specs.Read.{ArePointsOf, IsNoPoint, IsNextPoint, IsPointFault, SayPoints, Stands, fine, faulty}
+use Rattle.ln_rows.proofs.Fields.RowLemmas.{zeros}
+use Rattle.ln_edges.specs.Read.{ArePointsOf, IsNoPoint, IsNextPoint, IsPointFault, SayPoints, AreReadAs, fine, faulty}
 use Rattle.ln_edges.specs.Read.{both, numbers_in, pointed, point_in}
 
 -- the point past the end of a list
@@ -51,11 +52,6 @@ pub record ReadTo (cs : List CoordOf) (fs : List (List ℕ)) (k : ℕ) (values :
   pub room : length values ≡ 32
   pub numbers : numbers_in cs fs ≡ ahead (take k values) (numbers_in (drop k cs) (drop k fs))
   pub zero : (m : ℕ) → k ≤ m → get_or values m (pos 0) ≡ pos 0
-
-zeros : (n m : ℕ) → get_or (replicate n (pos 0)) m (pos 0) ≡ pos 0
-zeros zero m = refl
-zeros (suc n) zero = refl
-zeros (suc n) (suc m) = zeros n m
 
 -- the beginning of the loop in `point_over`: no coordinate is read, and all places are 0
 pub read_none : (cs : List CoordOf) (fs : List (List ℕ)) (values : List ℤ) → values ≡ replicate 32 (pos 0)
@@ -193,14 +189,14 @@ say_push cs (x ∷ rs) [] r p s e = absurd s
 say_push cs (x ∷ rs) (q ∷ ps) r p s e = (s.0, say_push cs rs ps r p s.1 e)
 
 -- the empty list of records is the empty list of points
-pub stands_none : (cs : List CoordOf) → Stands cs [] [] None
+pub stands_none : (cs : List CoordOf) → AreReadAs cs [] [] None
 stands_none cs = fine (record { say = tt; differ = λ i j d h k. absurd (omega (arith, k)) })
 
 -- a point more
 pub stands_point : (cs : List CoordOf) (done : Records) (ps : List PointOf) (r : List (List ℕ)) (p : PointOf)
     → point_in cs r ≡ Some p
     → (Contains (map (λ q. q.index) ps) p.index → ⊥) → ArePointsOf cs done ps
-    → Stands cs (done ++ r ∷ []) (ps ++ p ∷ []) None
+    → AreReadAs cs (done ++ r ∷ []) (ps ++ p ∷ []) None
 stands_point cs done ps r p e n a = fine (record {
   say = say_push cs done ps r p a.say e;
   differ = all_pairs_push (λ x y. x.index ≢ y.index) ps p a.differ (λ k d h q. n (index_there ps k d p h q));
@@ -216,7 +212,7 @@ stands_point cs done ps r p e n a = fine (record {
 
 -- the first that is none
 pub stands_fault : (cs : List CoordOf) (done : Records) (ps qs : List PointOf) (r : List (List ℕ)) (n : ℕ)
-    → n ≡ length done + 1 → IsNoPoint cs ps r → ArePointsOf cs done ps → Stands cs (done ++ r ∷ []) qs (Some n)
+    → n ≡ length done + 1 → IsNoPoint cs ps r → ArePointsOf cs done ps → AreReadAs cs (done ++ r ∷ []) qs (Some n)
 stands_fault cs done ps qs r n e h a =
     faulty n (record {
       before = done;
@@ -233,7 +229,7 @@ stands_fault cs done ps qs r n e h a =
 -- and whatever follows it
 pub stands_still : (cs : List CoordOf) (done : Records) (ps qs : List PointOf) (r : List (List ℕ)) (n : ℕ)
     → IsPointFault cs done n
-    → Stands cs (done ++ r ∷ []) qs (Some n)
+    → AreReadAs cs (done ++ r ∷ []) qs (Some n)
 stands_still cs done ps qs r n f =
     faulty n (record {
       before = f.before;
@@ -249,18 +245,18 @@ stands_still cs done ps qs r n f =
 -- the same from what the records were before
 pub stood_point : (cs : List CoordOf) (done : Records) (ps : List PointOf) (r : List (List ℕ)) (p : PointOf)
     → IsNextPoint cs ps r p
-    → Stands cs done ps None → Stands cs (done ++ r ∷ []) (ps ++ p ∷ []) None
+    → AreReadAs cs done ps None → AreReadAs cs (done ++ r ∷ []) (ps ++ p ∷ []) None
 stood_point cs done ps r p n (fine a) = stands_point cs done ps r p n.says n.new a
 
 -- after points, a record that is no point is the first that is none
 pub stood_fault : (cs : List CoordOf) (done : Records) (ps : List PointOf) (r : List (List ℕ)) (n : ℕ)
-    → n ≡ length done + 1 → IsNoPoint cs ps r → Stands cs done ps None → Stands cs (done ++ r ∷ []) ps (Some n)
+    → n ≡ length done + 1 → IsNoPoint cs ps r → AreReadAs cs done ps None → AreReadAs cs (done ++ r ∷ []) ps (Some n)
 stood_fault cs done ps r n e h (fine a) = stands_fault cs done ps ps r n e h a
 
 -- where a record that is no point was found, it stays the first, whatever follows
 pub stood_still : (cs : List CoordOf) (done : Records) (ps : List PointOf) (r : List (List ℕ)) (o : Option ℕ)
     → (o ≡ None → ⊥)
-    → Stands cs done ps o → Stands cs (done ++ r ∷ []) ps o
+    → AreReadAs cs done ps o → AreReadAs cs (done ++ r ∷ []) ps o
 stood_still cs done ps r None h s = absurd (h refl)
 stood_still cs done ps r (Some n) h (faulty m f) = stands_still cs done ps ps r n f
 
@@ -271,7 +267,7 @@ pub record Reading (cs : List CoordOf) (all left : Records) (ps : List PointOf) 
     pub parts : all ≡ done ++ left
     pub count : number ≡ length done
     pub few : number ≤ 256
-    pub stands : Stands cs done ps fault
+    pub stands : AreReadAs cs done ps fault
 
 -- ---- an index among the first points
 -- none of the first i points has the index z, and there are at least i points
@@ -314,7 +310,7 @@ reading_none cs all = record { done = []; parts = refl; count = refl; few = omeg
 pub reading_more : (cs : List CoordOf) (all old new : Records) (ps qs : List PointOf) (r : List (List ℕ))
     (o p : Option ℕ)
     (n : ℕ) → old ≡ r ∷ new
-    → n ≢ 256 → ((done : Records) → n + 1 ≡ length done + 1 → Stands cs done ps o → Stands cs (done ++ r ∷ []) qs p)
+    → n ≢ 256 → ((done : Records) → n + 1 ≡ length done + 1 → AreReadAs cs done ps o → AreReadAs cs (done ++ r ∷ []) qs p)
     → Reading cs all old ps o n
     → Reading cs all new qs p (n + 1)
 reading_more cs all old new ps qs r o p n e ne f w = record {

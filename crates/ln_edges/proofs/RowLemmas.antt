@@ -20,12 +20,13 @@ use Rattle.ln_code.specs.declared.row.Row as code
 use Rattle.ln_code.specs.RowOf.{row_of}
 use Rattle.ln_base.specs.declared.sign.Sign.TheVariants.{Plus}
 use Rattle.ln_tree.specs.Row as tree
+use Rattle.ln_parse.proofs.Building.LaidOut.{site_length}
 use Rattle.ln_code.specs.declared.verdict.Verdict.{Verdict}
 use Rattle.ln_code.specs.Part.{Part}
 use Rattle.ln_code.specs.Verdict.{IsVerdict}
 use Rattle.ln_code.proofs.Verdicts.Machine.{verdict-unique}
 use Rattle.ln_edges.specs.declared.point.Point.{Point}
-use Rattle.ln_edges.specs.Points.{AreCoords, Holds, IsPoint, PointOf, no_point, point_of, row_with}
+use Rattle.ln_edges.specs.Points.{Holds, IsPoint, PointOf, no_point, point_of, row_with}
 use Rattle.ln_edges.specs.Edges.{AreFor, ArePoints, IsPlusOn, point_at, points_in, three_of, width}
 
 -- ---- a point is written into a row
@@ -73,27 +74,23 @@ holds_more n place before p old new zs e h i l w a b = record {
 }
 
 -- ---- three sites of one type
-site_size : (k s c : ℕ) (cs : List CoordOf) → length (site_vars k s c cs) ≡ length cs
-site_size k s c [] = refl
-site_size k s c (x ∷ xs) = ap suc (site_size k s (suc c) xs)
-
 three_size : (cs : List CoordOf) → length (three_of cs) ≡ 3 * length cs
 three_size cs =
     length-append (site_vars 0 0 0 cs) (site_vars 1 1 0 cs ++ (site_vars 2 2 0 cs ++ []))
     ∙ rw (
       length-append (site_vars 1 1 0 cs) (site_vars 2 2 0 cs ++ []),
       append-nil (site_vars 2 2 0 cs),
-      site_size 0 0 0 cs,
-      site_size 1 1 0 cs,
-      site_size 2 2 0 cs,
+      site_length 0 0 0 cs,
+      site_length 1 1 0 cs,
+      site_length 2 2 0 cs,
     ) (omega arith)
 
 -- each of three sites of one type has as many variables as the type has coordinates
 pub three_width : (cs : List CoordOf) → width (three_of cs) ≡ length cs
 three_width cs = ap (λ (n : ℕ). n / 3) (three_size cs) ∙ mul-div_cancel_left (length cs) (omega arith)
 
--- a site's variables and the coordinates of a point
-within_site : (k s c : ℕ) (cs : List CoordOf) (zs : List ℤ) → AreCoords cs zs → AreWithin (site_vars k s c cs) zs
+-- values in range for a first site of a type are in range for another one of it
+within_site : (k s c : ℕ) (cs : List CoordOf) (zs : List ℤ) → AreWithin (site_vars 0 0 c cs) zs → AreWithin (site_vars k s c cs) zs
 within_site k s c [] [] h = tt
 within_site k s c [] (z ∷ zs) h = absurd h
 within_site k s c (x ∷ xs) [] h = absurd h
@@ -111,7 +108,7 @@ three_within : (cs : List CoordOf) (a b c : PointOf) → IsPoint cs a → IsPoin
 three_within cs a b c x y z =
     within_both (site_vars 0 0 0 cs) (site_vars 1 1 0 cs ++ (site_vars 2 2 0 cs ++ [])) a.coords
     (b.coords ++ (c.coords ++ []))
-    (within_site 0 0 0 cs a.coords x.within)
+    x.within
     (within_both (site_vars 1 1 0 cs) (site_vars 2 2 0 cs ++ []) b.coords (c.coords ++ [])
     (within_site 1 1 0 cs b.coords y.within)
     (within_both (site_vars 2 2 0 cs) [] c.coords [] (within_site 2 2 0 cs c.coords z.within) tt))

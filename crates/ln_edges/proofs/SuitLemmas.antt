@@ -1,5 +1,5 @@
 -- Points that were read are in range.
-use Rattle.std.proofs.Common.{◌≡◌, ℕ, ◌^◌, ◌-◌, Bool, true, false, ◌&&◌, List, [], ◌∷◌, length, map, ℤ, pos, ◌≤ℤ◌}
+use Rattle.std.proofs.Common.{◌≡◌, ℕ, suc, ◌^◌, ◌-◌, Bool, true, false, ◌&&◌, List, [], ◌∷◌, length, map, ℤ, pos, ◌≤ℤ◌}
 use Rattle.std.proofs.Common.{Option, Some, None, Result, Ok, Err}
 use Rattle.std.proofs.Common.{refl, ap, sym, ◌∙◌, subst, arith}
 use Rattle.std.specs.Prelude.{int_le, if◌then◌else◌, All}
@@ -8,12 +8,14 @@ use Rattle.std.proofs.lemmas.Bool.Decides.{nat_tests}
 use Rattle.std.proofs.lemmas.Int.{ints}
 use Rattle.std.proofs.lemmas.List.Elements.{All-nil, All-cons}
 use Rattle.ln_base.specs.Decimal.{integer_value}
+use Rattle.ln_tree.specs.Row.{AreWithin}
 use Rattle.ln_tree.specs.Table.{CoordOf}
+use Rattle.ln_tree.specs.Whole.{site_vars}
 use Rattle.ln_rows.specs.Left.{Records}
 use Rattle.ln_rows.specs.Number.{within, number_in}
 use Rattle.ln_rows.specs.declared.numbers.NumberStop.{NumberStop}
 use Rattle.ln_rows.specs.declared.numbers.NumberStop.TheVariants.{Range}
-use Rattle.ln_edges.specs.Points.{AreCoords, IsPoint, PointOf, point_of}
+use Rattle.ln_edges.specs.Points.{IsPoint, PointOf, point_of}
 use Rattle.ln_edges.specs.Edges.{ArePoints, width}
 use Rattle.ln_edges.specs.Law.{PointsSuit}
 use Rattle.ln_edges.specs.Read.{SayPoints, both, numbers_in, pointed, point_in}
@@ -39,15 +41,15 @@ both_parts (Err e) o zs h = absurd (cc)
 both_parts (Ok z) None zs h = absurd (cc)
 both_parts (Ok z) (Some ys) zs h = (z, ys, refl, refl, cc)
 
-coords_within : (cs : List CoordOf) (fs : List (List ℕ)) (zs : List ℤ) → numbers_in cs fs ≡ Some zs → AreCoords cs zs
-coords_within [] [] [] h = tt
-coords_within [] [] (z ∷ zs) h = absurd (cc)
-coords_within [] (f ∷ fs) zs h = absurd (cc)
-coords_within (c ∷ cs) [] zs h = absurd (cc)
-coords_within (c ∷ cs) (f ∷ fs) zs h =
+coords_within : (k : ℕ) (cs : List CoordOf) (fs : List (List ℕ)) (zs : List ℤ) → numbers_in cs fs ≡ Some zs → AreWithin (site_vars 0 0 k cs) zs
+coords_within k [] [] [] h = tt
+coords_within k [] [] (z ∷ zs) h = absurd (cc)
+coords_within k [] (f ∷ fs) zs h = absurd (cc)
+coords_within k (c ∷ cs) [] zs h = absurd (cc)
+coords_within k (c ∷ cs) (f ∷ fs) zs h =
     let p = both_parts (number_in c.lo c.hi f) (numbers_in cs fs) zs h in
     let e = within_ends c.lo c.hi p.0 (integer_value f) p.2 in
-    subst (AreCoords (c ∷ cs)) (sym p.4) (e.0, e.1, coords_within cs fs p.1 p.3)
+    subst (AreWithin (site_vars 0 0 k (c ∷ cs))) (sym p.4) (e.0, e.1, coords_within (suc k) cs fs p.1 p.3)
 
 pointed_parts : (r : Result ℤ NumberStop) (o : Option (List ℤ)) (p : PointOf) → pointed r o ≡ Some p
     → (r ≡ Ok p.index) × (o ≡ Some p.coords)
@@ -62,7 +64,7 @@ is_point cs [] p h = absurd (cc)
 is_point cs (f ∷ fs) p h =
     let q = pointed_parts (number_in (pos 0) (pos (2 ^ 63 - 1)) f) (numbers_in cs fs) p h in
     let e = within_ends (pos 0) (pos (2 ^ 63 - 1)) p.index (integer_value f) q.0 in
-    record { low = e.0; high = e.1; within = coords_within cs fs p.coords q.1 }
+    record { low = e.0; high = e.1; within = coords_within 0 cs fs p.coords q.1 }
 
 all_points : (cs : List CoordOf) (rs : Records) (ps : List PointOf) → SayPoints cs rs ps → All (IsPoint cs) ps
 all_points cs [] [] s = All-nil (IsPoint cs)

@@ -9,7 +9,8 @@ use Rattle.ln_parse.specs.ReadsBack.{Every}
 use Rattle.ln_edges.specs.Edges.{three_of}
 use Rattle.ln_edges.specs.Three.{TablesGiveThree}
 
-every_at : {A : Type 0} (P : A → Type 0) (xs : List A) (i : ℕ) (x : A) → slice_get xs i ≡ Some x → Every P xs → P x
+-- what holds of each element holds of the one at a place
+pub every_at : {A : Type 0} (P : A → Type 0) (xs : List A) (i : ℕ) (x : A) → slice_get xs i ≡ Some x → Every P xs → P x
 every_at P [] i x e h = absurd (cc)
 every_at P (y ∷ ys) zero x e h = let q : y ≡ x = cc in subst P q h.0
 every_at P (y ∷ ys) (suc i) x e h = every_at P ys i x e h.1

@@ -1,8 +1,9 @@
 -- Points of a site type, and rows of points.
-use Rattle.std.specs.Prelude.{◌≡◌, ℕ, ◌*◌, ◌^◌, ◌-◌, ◌≤◌, ℤ, pos, ◌≤ℤ◌, List, [], ◌∷◌, length, map, flat_map, take}
+use Rattle.std.specs.Prelude.{◌≡◌, ℕ, ◌*◌, ◌^◌, ◌-◌, ◌≤◌, ℤ, pos, ◌≤ℤ◌, List, [], length, map, flat_map, take}
 use Rattle.std.specs.Prelude.{slice_index_or}
-use Rattle.ln_tree.specs.Row.{Row}
+use Rattle.ln_tree.specs.Row.{AreWithin, Row}
 use Rattle.ln_tree.specs.Table.{CoordOf}
+use Rattle.ln_tree.specs.Whole.{site_vars}
 use Rattle.ln_code.specs.declared.row.Row as code
 use Rattle.ln_edges.specs.declared.point.Point.{Point}
 
@@ -23,18 +24,11 @@ IsZeroAfter n p = (k : ℕ) → n ≤ k → slice_index_or p.values k (pos 0) �
 abbrev pub no_point : PointOf
 no_point = record { index = pos 0; coords = [] }
 
--- each number is in its coordinate's range
-abbrev pub AreCoords : List CoordOf → List ℤ → Type 0
-AreCoords [] [] = Unit {0}
-AreCoords [] (z ∷ zs) = ⊥
-AreCoords (c ∷ cs) [] = ⊥
-AreCoords (c ∷ cs) (z ∷ zs) = (c.lo ≤ℤ z) × (z ≤ℤ c.hi) × AreCoords cs zs
-
--- a point of the type with these coordinates: its index is from 0 to 2^63 - 1, each coordinate in its range
+-- a point of the type with these coordinates: its index is from 0 to 2^63 - 1, each coordinate in its range, as in the variables of a site
 pub record IsPoint (cs : List CoordOf) (p : PointOf) : Type 0 where
   pub low : pos 0 ≤ℤ p.index
   pub high : p.index ≤ℤ pos (2 ^ 63 - 1)
-  pub within : AreCoords cs p.coords
+  pub within : AreWithin (site_vars 0 0 0 cs) p.coords
 
 -- the row of these points, one for each site
 abbrev pub row_with : List PointOf → Row

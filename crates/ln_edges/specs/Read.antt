@@ -84,9 +84,9 @@ pub record IsNextPoint (cs : List CoordOf) (ps : List PointOf) (fields : List (L
   pub new : Contains (map (λ q. q.index) ps) p.index → ⊥
 
 -- what the records are that have been read: all of them points, or this one the first that is none
-pub data Stands (cs : List CoordOf) (done : Records) (ps : List PointOf) : Option ℕ → Type 0 where
-  fine : ArePointsOf cs done ps → Stands cs done ps None
-  faulty : (n : ℕ) → IsPointFault cs done n → Stands cs done ps (Some n)
+pub data AreReadAs (cs : List CoordOf) (done : Records) (ps : List PointOf) : Option ℕ → Type 0 where
+  fine : ArePointsOf cs done ps → AreReadAs cs done ps None
+  faulty : (n : ℕ) → IsPointFault cs done n → AreReadAs cs done ps (Some n)
 
 -- what the records after the header are
 abbrev pub IsFound : List CoordOf → Records → Found → Type 0

@@ -3,7 +3,7 @@ ghost use Rattle.std.specs.Prelude.{◌≡◌, ◌↔◌, ◌+◌, ◌≤◌, �
 ghost use Rattle.std.specs.Prelude.{[], slice_index_or, MatchOption, IsErr, Ok, IfOk, IfSome, IsTrue, Contains};
 ghost use Rattle.csv.specs.Records.{fields_of};
 ghost use Rattle.ln_edges.specs.Points.{IsZeroAfter, point_of};
-ghost use Rattle.ln_edges.specs.Read.{IsFound, IsNextPoint, IsNoPoint, Stands};
+ghost use Rattle.ln_edges.specs.Read.{IsFound, IsNextPoint, IsNoPoint, AreReadAs};
 ghost use Rattle.ln_edges.specs.Read.{coords_of, point_for, point_in, points_for};
 ghost use Rattle.ln_rows.specs.Left.{Records};
 ghost use Rattle.ln_rows.specs.Number.{number_in};
@@ -12,19 +12,9 @@ ghost use Rattle.ln_tree.specs.Table.{CoordOf, coord_of};
 use crate::point::Point;
 use csv::ByteRecord;
 use ln_base::NoMemory;
-use ln_rows::{Rows, number};
+use ln_rows::{Rows, field, number};
 use ln_tree::{Coord, Site};
 use std::alloc::Global;
-
-// The field at a place, empty past the last one.
-fn field(fields: &ByteRecord, at: usize) -> &[u8]
-    ensures { result.now ≡ slice_index_or (fields_of fields.now) at [] }
-{
-    match fields.get(at) {
-        Some(bytes) => bytes,
-        None => &[],
-    }
-}
 
 // The number of a field in the range of a coordinate.
 fn coordinate(fields: &ByteRecord, at: usize, coord: &Coord) -> Option<i64>
@@ -131,8 +121,8 @@ fn take_record(
     requires { length site.now.coords ≤ 32 }
     ensures { IfOk result (λ o. (done : Records) → (all : List (List ℕ))
         → fields_of fields.now ≡ take (length (coords_of site.now) + 2) all → number ≡ length done + 1
-        → Stands (coords_of site.now) done (points_for site.now points.old.items) fault
-        → Stands (coords_of site.now) (done ++ all ∷ []) (points_for site.now points.new.items) o) }
+        → AreReadAs (coords_of site.now) done (points_for site.now points.old.items) fault
+        → AreReadAs (coords_of site.now) (done ++ all ∷ []) (points_for site.now points.new.items) o) }
 {
     if fault.is_some() {
         return Ok(fault);
@@ -149,7 +139,7 @@ fn take_record(
 // Returns what was found, where there are at most 256 records.
 fn make_found(points: Vec<Point>, fault: Option<u32>) -> Found
     ensures { (cs : List CoordOf) (records : Records) → length records ≤ 256
-        → Stands cs records (map (point_of (length cs)) points.items) fault → IsFound cs records result }
+        → AreReadAs cs records (map (point_of (length cs)) points.items) fault → IsFound cs records result }
 {
     match fault {
         Some(number) => Found::NoPoint(number),

@@ -26,6 +26,7 @@ use Rattle.std.proofs.Common.{
 use Rattle.std.specs.Prelude.{None, slice_get}
 use Rattle.std.proofs.lemmas.Bool.{cases_eq, cases_lt}
 use Rattle.std.proofs.Math.ListN.{length-set}
+use Rattle.std.proofs.lemmas.Option.{slice_get-get_or}
 use Rattle.ln_tree.specs.Row.{InRange}
 use Rattle.ln_code.specs.Memory.{MadeFor}
 use Rattle.ln_code.specs.Part.{Part}
@@ -37,12 +38,6 @@ use Rattle.ln_code.specs.declared.verdict.Verdict.{Verdict}
 use Rattle.ln_factor.specs.Factors.{AreMadeFor, AreVerdicts, IsFactor, IsRowOfFactors}
 
 -- ---- lists
--- at a place within a list there is an element, which is the one that is read with any default
-pub there-at : {A : Type 0} (xs : List A) (k : ℕ) (d : A) → k < length xs → slice_get xs k ≡ Some (get_or xs k d)
-there-at [] k d h = absurd (omega arith)
-there-at (x ∷ xs) zero d h = refl
-there-at (x ∷ xs) (suc k) d h = there-at xs k d (omega arith)
-
 set-same : {A : Type 0} (xs : List A) (k : ℕ) (x : A) → k < length xs → slice_get (set xs k x) k ≡ Some x
 set-same [] k x h = absurd (omega arith)
 set-same (y ∷ xs) zero x h = refl
@@ -59,18 +54,18 @@ set-other (y ∷ xs) (suc k) (suc j) x d = set-other xs k j x (λ e. d (ap suc e
 module _ (ps : List Part) (which : List ℕ) (r : Row) (k : ℕ) (h : k < length which) where
   -- the program at the place that is named
   pub factor-here : (p : Part) → slice_get ps (get_or which k 0) ≡ Some p → IsFactor ps which k p
-  factor-here p e = record { place = get_or which k 0; named = there-at which k 0 h; there = e }
+  factor-here p e = record { place = get_or which k 0; named = slice_get-get_or which k 0 h; there = e }
 
   place-here : (p : Part) → IsFactor ps which k p → slice_get ps (get_or which k 0) ≡ Some p
   place-here p f =
-      let n : Some f.place ≡ Some (get_or which k 0) = sym f.named ∙ there-at which k 0 h in
+      let n : Some f.place ≡ Some (get_or which k 0) = sym f.named ∙ slice_get-get_or which k 0 h in
       let q : f.place ≡ get_or which k 0 = cc in
       rw (← q) f.there
 
   -- the scratch of the factor at hand is made for it
   pub made-here : (ss : List Scratch) (s : Scratch) → AreMadeFor ps which ss → (p : Part) → slice_get ps (get_or which k 0) ≡ Some p
       → MadeFor p (get_or ss k s)
-  made-here ss s m p e = m.made k p (get_or ss k s) (factor-here p e) (there-at ss k s (omega (arith, h, m.size)))
+  made-here ss s m p e = m.made k p (get_or ss k s) (factor-here p e) (slice_get-get_or ss k s (omega (arith, h, m.size)))
 
   -- the row is in range for the factor at hand
   pub range-here : IsRowOfFactors ps which r → (p : Part) → slice_get ps (get_or which k 0) ≡ Some p

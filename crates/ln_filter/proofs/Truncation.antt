@@ -1,5 +1,5 @@
 -- Truncated numbers and what they stand for.
 pub mod Bits
 pub mod Steady
-pub mod Stands
+pub mod Approximating
 pub mod Powers

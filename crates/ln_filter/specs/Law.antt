@@ -5,7 +5,7 @@ use Rattle.ln_tree.specs.declared.shape.VarInfo.{VarInfo}
 use Rattle.ln_tree.specs.Row.{AreWithin}
 use Rattle.ln_bound.specs.Value.{value, values}
 use Rattle.ln_bound.specs.Light.{let_values}
-use Rattle.ln_code.specs.FilterRules.{Stands}
+use Rattle.ln_code.specs.FilterRules.{Approximates}
 use Rattle.ln_code.specs.Verdict.{sign_of}
 use Rattle.ln_filter.specs.Truncated.{root_triple, root_number, Decides}
 
@@ -16,7 +16,7 @@ plain_value zs lets root = value (values zs) (let_values (values zs) [] lets) ro
 -- the truncated number stands for the plain value
 abbrev pub NumbersStand : Type 0
 NumbersStand = (vars : List VarInfo) (zs : List ℤ) (lets : List Tree) (root : Tree) → AreWithin vars zs →
-    Stands (root_triple vars lets root) (root_number vars zs lets root) (plain_value zs lets root)
+    Approximates (root_triple vars lets root) (root_number vars zs lets root) (plain_value zs lets root)
 
 -- where the filter decides, the plain value isn't 0 and has the truncated number's sign
 abbrev pub NeverWrong : Type 0

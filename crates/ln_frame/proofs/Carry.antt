@@ -12,7 +12,7 @@ use Rattle.ln_frame.specs.declared.status.Early.TheVariants.{Write}
 use Rattle.ln_frame.specs.declared.stop.Stop.{Stop}
 use Rattle.ln_frame.specs.declared.stop.Stop.TheVariants as stop
 use Rattle.ln_frame.specs.declared.stop.Why.{Why}
-use Rattle.ln_frame.specs.Said.{Said, Count, Rises, whole, put_both, IsFront}
+use Rattle.ln_frame.specs.Said.{Said, Count, Rises, whole, put_both, IsPrefix}
 use Rattle.ln_frame.specs.Stop.{said_of}
 use Rattle.ln_frame.specs.Given.{Outcome, stops, missing}
 use Rattle.ln_frame.specs.Carried as c
@@ -89,7 +89,7 @@ text_carried owes part lacks reads puts end text result was now o (c.cut front p
     c.cut p (c.of_owed (whole end text) front [] o i (record { rest = []; is = refl }) e) r
 
 -- the first n bytes of a text are a prefix of it
-pub front_of : (n : ℕ) (text : List ℕ) → IsFront text (take n text)
+pub front_of : (n : ℕ) (text : List ℕ) → IsPrefix text (take n text)
 front_of n text = record { rest = drop n text; is = sym (take-append-drop n text) }
 
 -- a text that is written to Out alone is on both streams that text and nothing
@@ -111,7 +111,7 @@ pub line_cut : (s : Stop) (text : List ℕ) (puts : Count) (was now : Option Sho
     → ((n : ℕ) × (n ≤ length text) × (now ≡ appended ErrPort (take n text) was)) → Rises puts
     → Says s puts (Err Write) was now
 line_cut s text puts was now e m h p =
-    c.cut (take h.0 text) p m (subst (λ t. IsFront t (take h.0 text)) e (front_of h.0 text))
+    c.cut (take h.0 text) p m (subst (λ t. IsPrefix t (take h.0 text)) e (front_of h.0 text))
     (h.2 ∙ err_alone (take h.0 text) was) refl
 
 -- The line of a stop that is required was written.

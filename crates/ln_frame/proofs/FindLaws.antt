@@ -9,6 +9,7 @@ use Rattle.std.proofs.lemmas.Bool.Decides.{nat_tests}
 use Rattle.ln_tree.specs.declared.pred.Pred.{Pred}
 use Rattle.ln_tree.specs.Names.{name_bytes}
 use Rattle.ln_tree.specs.Table.{PredOf, pred_of}
+use Rattle.ln_parse.proofs.ReadBack.InputsThere.{at_place}
 use Rattle.ln_compile.specs.Compiled.{number_of}
 use Rattle.ln_frame.specs.Given.{named}
 use Rattle.ln_frame.proofs.Likeness.{named_in, named_like}
@@ -56,17 +57,11 @@ number_named name ps i p e f =
     let test = λ (q : Pred). bytes_eq (name_bytes q.name) name in
     found_by test ps ∙ ap (slice_get ps) (sym (some_position test ps i e).0) ∙ f
 
--- a place below the length of a list has an element
-pub there_at : {A : Type 0} (xs : List A) (i : ℕ) → i < length xs → (x : A) × (slice_get xs i ≡ Some x)
-there_at [] i l = absurd (omega (arith, l))
-there_at (x ∷ xs) zero l = (x, refl)
-there_at (x ∷ xs) (suc i) l = there_at xs i (omega (arith, l))
-
 -- a number that was found is that of the predicate with the name
 pub found_at : (name : List ℕ) (ps : List Pred) (i : ℕ) → number_of name ps ≡ Some i
     → (p : PredOf) × (slice_get (map pred_of ps) i ≡ Some p) × (named name (map pred_of ps) ≡ Some p)
 found_at name ps i e =
-    let p = there_at ps i (some_position (λ p. bytes_eq (name_bytes p.name) name) ps i e).1 in (
+    let p = at_place ps i (some_position (λ p. bytes_eq (name_bytes p.name) name) ps i e).1 in (
       pred_of p.0,
       slice_get-map pred_of ps i ∙ ap (option_map pred_of) p.1,
       sym (named_like name ps) ∙ ap (option_map pred_of) (number_named name ps i p.0 e p.1),

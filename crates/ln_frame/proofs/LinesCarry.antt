@@ -5,7 +5,7 @@ use Rattle.std.specs.Prelude.{Result}
 use Rattle.ln_frame.specs.declared.status.End.{End}
 use Rattle.ln_frame.specs.declared.status.Early.{Early}
 use Rattle.ln_frame.specs.declared.status.Early.TheVariants.{Write}
-use Rattle.ln_frame.specs.Said.{Said, put_both, IsFront}
+use Rattle.ln_frame.specs.Said.{Said, put_both, IsPrefix}
 use Rattle.ln_frame.specs.Carried as c
 use Rattle.ln_frame.specs.Carried.{CarriesOut, ended, of_owed, of_part}
 use Rattle.ln_frame.specs.Lines as l
@@ -79,8 +79,8 @@ early_carried {t = t} {was = was} {now = now} b (l.cut done left out err m e d q
     let w = fronts_wider out err (behind.out ++ t.last_out behind.left) (behind.err ++ t.last_err behind.left) was.shown now.shown f in
     c.cut q (of_owed (with_last t (out ++ behind.out) (err ++ behind.err) behind.left) w.o w.e
     (b.whole (out ++ behind.out) (err ++ behind.err) behind.left (lines_behind t behind e d))
-    (subst (λ o. IsFront o w.o) (sym (append_assoc out behind.out (t.last_out behind.left))) w.of_out)
-    (subst (λ o. IsFront o w.e) (sym (append_assoc err behind.err (t.last_err behind.left))) w.of_err) w.shown) (early_as x)
+    (subst (λ o. IsPrefix o w.o) (sym (append_assoc out behind.out (t.last_out behind.left))) w.of_out)
+    (subst (λ o. IsPrefix o w.e) (sym (append_assoc err behind.err (t.last_err behind.left))) w.of_err) w.shown) (early_as x)
 early_carried {t = t} b (l.short done left out err m v e d f x) =
     let behind = lines_have t.work.step b.has m left in
     c.short v (of_part (with_last t (out ++ behind.out) (err ++ behind.err) behind.left) out err

@@ -9,7 +9,7 @@ use Rattle.ln_base.proofs.Kept.{appended-nothing}
 use Rattle.ln_frame.specs.declared.status.Early.{Early}
 use Rattle.ln_frame.specs.declared.status.Early.TheVariants.{Write, Memory}
 use Rattle.ln_frame.specs.declared.status.Early.TheVariants as early
-use Rattle.ln_frame.specs.Said.{Count, count, Rises, IsCalm, put_both, IsFront}
+use Rattle.ln_frame.specs.Said.{Count, count, Rises, IsCalm, put_both, IsPrefix}
 use Rattle.ln_frame.proofs.Outcomes.{true_false}
 use Rattle.ln_frame.proofs.Carry.{front_of, out_alone}
 use Rattle.ln_frame.specs.Lines as l
@@ -43,15 +43,15 @@ IsOkHere (Err y) = ⊥
 pub ok_err : {T E : Type 0} {P : Type 0} {a : T} {b : E} → (let r : Result T E = Ok a in r ≡ Err b) → P
 ok_err e = absurd (subst IsOkHere e tt)
 
-front_all : (text : List ℕ) → IsFront text text
+front_all : (text : List ℕ) → IsPrefix text text
 front_all text = record { rest = []; is = sym (append-nil text) }
 
 -- more after a text, and more before one
-pub front_wider : (text next front : List ℕ) → IsFront text front → IsFront (text ++ next) front
+pub front_wider : (text next front : List ℕ) → IsPrefix text front → IsPrefix (text ++ next) front
 front_wider text next front f = record { rest = f.rest ++ next; is = ap (λ t. t ++ next) f.is ∙ append_assoc front f.rest next }
 
 -- a prefix stays one where the same bytes come before it and before the whole text
-pub front_behind : (before text front : List ℕ) → IsFront text front → IsFront (before ++ text) (before ++ front)
+pub front_behind : (before text front : List ℕ) → IsPrefix text front → IsPrefix (before ++ text) (before ++ front)
 front_behind before text front f = record { rest = f.rest; is = ap (λ t. before ++ t) f.is ∙ sym (append_assoc before front f.rest) }
 
 -- prefixes after what was written

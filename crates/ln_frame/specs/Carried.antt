@@ -7,7 +7,7 @@ use Rattle.ln_frame.specs.declared.status.Early.TheVariants.{Read, Write, Memory
 use Rattle.ln_frame.specs.declared.stop.Why.{Why}
 use Rattle.ln_frame.specs.declared.stop.Stop.{Stop}
 use Rattle.ln_frame.specs.declared.stop.Stop.TheVariants as stop
-use Rattle.ln_frame.specs.Said.{Said, Count, Rises, IsCalm, line, put_both, IsFront}
+use Rattle.ln_frame.specs.Said.{Said, Count, Rises, IsCalm, line, put_both, IsPrefix}
 use Rattle.ln_frame.specs.Stop.{why_end, why_text}
 use Rattle.ln_frame.specs.Given.{Outcome, stops, missing}
 
@@ -18,14 +18,14 @@ read_line = line (codes "error read")
 -- a fault of writing leaves on each stream a prefix of what is required; or, where a file wasn't read, on Err a prefix
 -- of the line that says so, and on Out nothing
 pub data LeavesFronts (owes : Said → Type 0) (unread : Type 0) (was now : Option Shown) : Type 0 where
-  of_owed : (said : Said) (out err : List ℕ) → owes said → IsFront said.out out → IsFront said.err err
+  of_owed : (said : Said) (out err : List ℕ) → owes said → IsPrefix said.out out → IsPrefix said.err err
       → now ≡ put_both out err was → LeavesFronts owes unread was now
-  of_read : (err : List ℕ) → unread → IsFront read_line err → now ≡ put_both [] err was → LeavesFronts owes unread was now
+  of_read : (err : List ℕ) → unread → IsPrefix read_line err → now ≡ put_both [] err was → LeavesFronts owes unread was now
 
 -- where memory runs out, nothing is written; or a part that may be written, which is a prefix of what is required
 pub data LeavesPart (owes : Said → Type 0) (part : List ℕ → List ℕ → Type 0) (was now : Option Shown) : Type 0 where
   nothing : now ≡ was → LeavesPart owes part was now
-  of_part : (said : Said) (out err : List ℕ) → part out err → owes said → IsFront said.out out → IsFront said.err err
+  of_part : (said : Said) (out err : List ℕ) → part out err → owes said → IsPrefix said.out out → IsPrefix said.err err
       → now ≡ put_both out err was → LeavesPart owes part was now
 
 -- what this may say was said; or a file is missing or its count of faults rose; or the console's count rose; or memory ran out
@@ -65,12 +65,12 @@ stop_result (stop.Memory m) = Err (Memory m)
 -- the line of a stop was written; or a fault of writing cut it short; or an allocation failed, and nothing was written
 pub data Says (s : Stop) (puts : Count) (result : Result End Early) (was now : Option Shown) : Type 0 where
   all : IsCalm puts → result ≡ stop_result s → now ≡ put_both [] (stop_line s) was → Says s puts result was now
-  cut : (front : List ℕ) → Rises puts → s ≢ stop.Memory refused → IsFront (stop_line s) front → now ≡ put_both [] front was
+  cut : (front : List ℕ) → Rises puts → s ≢ stop.Memory refused → IsPrefix (stop_line s) front → now ≡ put_both [] front was
       → result ≡ Err Write → Says s puts result was now
   short : IsCalm puts → s ≢ stop.Read → result ≡ Err (Memory refused) → now ≡ was → Says s puts result was now
 
 -- a whole text was written to Out, or cut off
 pub data PutsText (text : List ℕ) (end : End) (puts : Count) (result : Result End Early) (was now : Option Shown) : Type 0 where
   all : IsCalm puts → result ≡ Ok end → now ≡ put_both text [] was → PutsText text end puts result was now
-  cut : (front : List ℕ) → Rises puts → IsFront text front → now ≡ put_both front [] was → result ≡ Err Write
+  cut : (front : List ℕ) → Rises puts → IsPrefix text front → now ≡ put_both front [] was → result ≡ Err Write
       → PutsText text end puts result was now

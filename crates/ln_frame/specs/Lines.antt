@@ -8,7 +8,7 @@ use Rattle.ln_base.specs.declared.outside.Port.TheVariants.{Out, Err as ErrPort}
 use Rattle.ln_frame.specs.declared.status.End.{End}
 use Rattle.ln_frame.specs.declared.status.Early.{Early}
 use Rattle.ln_frame.specs.declared.status.Early.TheVariants.{Write, Memory}
-use Rattle.ln_frame.specs.Said.{Count, Rises, IsCalm, put_both, IsFront}
+use Rattle.ln_frame.specs.Said.{Count, Rises, IsCalm, put_both, IsPrefix}
 
 -- a step: from the state before a record, such as its watchers, to what it writes to Out and to Err and to the state after it
 abbrev pub Step : Type 0 → Type 0 → Type 1
@@ -29,8 +29,8 @@ all_good good (r ∷ rest) = good r && all_good good rest
 pub record PutsFronts (out err : List ℕ) (was now : Option Shown) : Type 0 where
   pub o : List ℕ
   pub e : List ℕ
-  pub of_out : IsFront out o
-  pub of_err : IsFront err e
+  pub of_out : IsPrefix out o
+  pub of_err : IsPrefix err e
   pub shown : now ≡ put_both o e was
 
 -- these were written to both streams, or cut off by a fault of writing

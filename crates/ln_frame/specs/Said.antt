@@ -32,7 +32,7 @@ abbrev pub put_both : List ℕ → List ℕ → Option Shown → Option Shown
 put_both out err was = appended ErrPort err (appended Out out was)
 
 -- the first bytes of a text, or all of them
-pub record IsFront (text front : List ℕ) : Type 0 where
+pub record IsPrefix (text front : List ℕ) : Type 0 where
   pub rest : List ℕ
   pub is : text ≡ front ++ rest
 

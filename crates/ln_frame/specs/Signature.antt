@@ -1,9 +1,11 @@
 -- Defines the signature of a command: its first word, how many names and files follow, and what it asks of its named predicates together, after
 -- they are found and before the further files are read. Names no command.
-use Rattle.std.specs.Prelude.{ℕ, List}
+use Rattle.std.specs.Prelude.{◌≡◌, ℕ, List}
 use Rattle.ln_tree.specs.Table.{PredOf}
 use Rattle.ln_frame.specs.declared.stop.Why.{Why}
 use Rattle.ln_frame.specs.declared.stop.Why.TheVariants.{Shape}
+use Rattle.ln_frame.specs.declared.stop.Stop.{Stop}
+use Rattle.ln_frame.specs.declared.stop.Stop.TheVariants.{Memory, Read, Tell}
 
 -- after the source file come the names of predicates, this many at least and at most, and then this many further files
 pub record Form : Type 0 where
@@ -23,6 +25,12 @@ asks_nothing = record { asks = λ preds. Unit {0}; objection = λ bytes preds. S
 -- it asks this, and else stops with `shape`
 abbrev pub asks_shape : (List PredOf → Type 0) → Asked
 asks_shape asks = record { asks = asks; objection = λ bytes preds. Shape }
+
+-- why it stops at this step: its predicates don't suit it, and this is its objection; where memory runs out, nothing more is known
+abbrev pub Refuses : Asked → List ℕ → List PredOf → Stop → Type 0
+Refuses a bytes preds (Tell why) = (why ≡ a.objection bytes preds) × (a.asks preds → ⊥)
+Refuses a bytes preds Read = ⊥
+Refuses a bytes preds (Memory _) = Unit {0}
 
 -- what the words of a command and the steps before its work go by
 pub record Signature : Type 1 where

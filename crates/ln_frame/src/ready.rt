@@ -7,6 +7,7 @@ ghost use Rattle.ln_frame.specs.Given.{Given, most_file};
 ghost use Rattle.ln_stage.specs.Sound.{AreSound};
 ghost use Rattle.ln_frame.specs.Ready.{HasStanding, StandsFor};
 
+use ln_code::Program;
 use ln_compile::Checked;
 use ln_tree::{Pred, Table};
 
@@ -17,6 +18,8 @@ pub struct Ready {
     pub compiled: Checked,
     /// The numbers of the named predicates, in order.
     pub numbers: Vec<usize>,
+    /// The program by which the named predicates were seen to suit the command, where there is one.
+    pub kept: Option<Program>,
     /// The further files, in order.
     pub texts: Vec<Vec<u8>>,
 }

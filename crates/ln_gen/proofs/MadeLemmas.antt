@@ -1,5 +1,5 @@
 -- Making a row from the left, a word for each column.
-use Rattle.std.proofs.Common.{◌≡◌, ◌≢◌, ℕ, zero, suc, ◌+◌, ◌-◌, ◌<◌, ◌≤◌, true, false, List, []}
+use Rattle.std.proofs.Common.{◌≡◌, ◌≢◌, ℕ, suc, ◌+◌, ◌-◌, ◌<◌, ◌≤◌, true, false, List, []}
 use Rattle.std.proofs.Common.{◌∷◌, ◌++◌, length, get_or, take, drop, set, ℤ, pos, refl, ap, ◌∙◌, arith}
 use Rattle.std.proofs.Common.{add-one, append_assoc, get_or-set_other, replicate}
 use Rattle.std.proofs.lemmas.List.{take_more_set, length-set, length-drop}
@@ -8,7 +8,7 @@ use Rattle.rand_pcg.specs.Pcg.{pcg64}
 use Rattle.ln_tree.specs.declared.shape.VarInfo.{VarInfo}
 use Rattle.ln_tree.specs.Variables.{starts_site}
 use Rattle.ln_rows.specs.Record.{Column, SiteIndex, Variable, columns}
-use Rattle.ln_rows.proofs.Fields.RowLemmas.{at_other, at_site, columns_at_least, var_at}
+use Rattle.ln_rows.proofs.Fields.RowLemmas.{at_other, at_site, columns_at_least, var_at, zeros}
 use Rattle.ln_gen.specs.GenRow.{words, past, index_by, variable_by, indices_by, values_by}
 
 -- the words of these columns, from this generator on
@@ -72,12 +72,6 @@ pub record IsValue (n : ℕ) (var : VarInfo) (g : Lcg) (value : ℤ) (after : Lc
 pub record AreFew (vars : List VarInfo) : Type 0 where
   pub vars_fit : length vars ≤ 168
   pub sites_fit : length (columns vars) ≤ length vars + 5
-
--- zeros alone
-zeros : (n k : ℕ) → get_or (replicate n (pos 0)) k (pos 0) ≡ pos 0
-zeros zero k = refl
-zeros (suc n) zero = refl
-zeros (suc n) (suc k) = zeros n k
 
 -- before any variable
 pub filled_none : (n : ℕ) (vars : List VarInfo) (first : Lcg) → Filled (record { number = n; vars = vars; first = first }) (record {

@@ -1,8 +1,8 @@
 -- A row that is made of words is in range.
 use Rattle.std.proofs.Common.{◌≡◌, ◌≢◌, ℕ, zero, suc, ◌+◌, ◌-◌, ◌*◌, ◌%◌, ◌^◌, ◌<◌, ◌≤◌}
-use Rattle.std.proofs.Common.{Bool, true, false, ◌&&◌, List, [], ◌∷◌, length, take, ℤ, pos, neg_ℤ, ◌+ℤ◌}
+use Rattle.std.proofs.Common.{Bool, true, false, List, [], ◌∷◌, length, take, ℤ, pos, neg_ℤ, ◌+ℤ◌}
 use Rattle.std.proofs.Common.{◌-ℤ◌, ◌≤ℤ◌, refl, ap, arith}
-use Rattle.std.specs.Prelude.{int_le, int_lt, not, unsigned_abs, ◌<ℤ◌, if◌then◌else◌, All, AllPairs, count_by, ◌==◌, nat_le}
+use Rattle.std.specs.Prelude.{int_le, int_lt, not, unsigned_abs, ◌<ℤ◌, if◌then◌else◌, All, AllPairs, ◌==◌}
 use Rattle.std.specs.List.{list_all}
 use Rattle.std.proofs.lemmas.Bool.{and_parts}
 use Rattle.std.proofs.lemmas.Int.{ints}
@@ -14,12 +14,13 @@ use Rattle.std.proofs.lemmas.List.Kept.{AllPairs-cons}
 use Rattle.rand_pcg.specs.Lcg.{Lcg}
 use Rattle.rand_pcg.specs.Pcg.{pcg64}
 use Rattle.ln_tree.specs.declared.shape.VarInfo.{VarInfo}
-use Rattle.ln_tree.specs.Variables.{starts_site, no_var, in_order, has_range, is_param, is_laid_out}
+use Rattle.ln_tree.specs.Variables.{starts_site, has_range, is_laid_out}
 use Rattle.ln_tree.specs.Row.{AreWithin, InRange}
+use Rattle.ln_tree.proofs.KeptLemmas.{within_length, laid_out}
 use Rattle.ln_code.specs.declared.row.Row as code
 use Rattle.ln_code.specs.RowOf.{row_of, IsZeroPast}
 use Rattle.ln_rows.specs.Record.{Column, SiteIndex, Variable, columns}
-use Rattle.ln_rows.proofs.Fields.RangeLemmas.{sizes, columns_length, shape_columns}
+use Rattle.ln_rows.proofs.Fields.RangeLemmas.{columns_length, shape_columns}
 use Rattle.ln_gen.specs.GenRow.{words, index_by, value_by, low_part, high_part, is_narrowed, low_end, high_end, variable_by}
 use Rattle.ln_gen.specs.GenRow.{indices_by, values_by, row_by, IsMade}
 
@@ -146,12 +147,6 @@ values_within_at : (n : ℕ) (vars : List VarInfo) → list_all has_range vars �
 unfolding Within
 values_within_at n vars r ws size = values_within n vars r ws size
 
-within_length : (vars : List VarInfo) (zs : List ℤ) → AreWithin vars zs → length zs ≡ length vars
-within_length [] [] h = refl
-within_length [] (z ∷ zs) h = absurd h
-within_length (i ∷ is) [] h = absurd h
-within_length (i ∷ is) (z ∷ zs) h = ap suc (within_length is zs h.2)
-
 -- each column has an index or a value
 all_made : (n j : ℕ) (cs : List Column) (ws : List ℕ) → length ws ≡ length cs
     → length (indices_by j cs ws) + length (values_by n cs ws) ≡ length cs
@@ -202,23 +197,12 @@ indices_differ j (SiteIndex ∷ cs) (w ∷ ws) h =
     (later_differ j w (suc j) cs ws (omega arith) (omega (arith, h))) (indices_differ (suc j) cs ws (omega (arith, h)))
 indices_differ j (Variable i ∷ cs) (w ∷ ws) h = indices_differ j cs ws h
 
--- the ranges of a shape are in order
-pub ranges : (sites : ℕ) (vars : List VarInfo) → is_laid_out sites vars ≡ true → list_all has_range vars ≡ true
-ranges sites vars h =
-    let a = and_parts (in_order 0 0 no_var vars && list_all has_range vars && (count_by starts_site vars == sites) && nat_le sites 5
-    && nat_le (count_by is_param vars) 8) (nat_le (length vars) 168) h in
-    let b = and_parts (in_order 0 0 no_var vars && list_all has_range vars && (count_by starts_site vars == sites) && nat_le sites
-    5) (nat_le (count_by is_param vars) 8) a.0 in
-    let c = and_parts (in_order 0 0 no_var vars && list_all has_range vars && (count_by starts_site vars == sites)) (nat_le sites 5) b.0 in
-    let d = and_parts (in_order 0 0 no_var vars && list_all has_range vars) (count_by starts_site vars == sites) c.0 in
-    (and_parts (in_order 0 0 no_var vars) (list_all has_range vars) d.0).1
-
 -- a row by words is in range
 pub words_in_range : (n sites : ℕ) (vars : List VarInfo) (ws : List ℕ) → is_laid_out sites vars ≡ true
     → length ws ≡ length (columns vars) → InRange sites vars (row_by n vars ws)
 words_in_range n sites vars ws laid size =
-    let s = sizes sites vars laid in
-    let w = values_within_at n vars (ranges sites vars laid) ws size in
+    let s = laid_out sites vars laid in
+    let w = values_within_at n vars (laid_out sites vars laid).ranges ws size in
     let count : length (indices_by 0 (columns vars) ws)
     ≡ sites = omega (
       arith,

@@ -1,8 +1,6 @@
 -- `audit`: what it requires is carried out by a whole text; a trace is agreed or has one first line that is wrong, and where it ends.
-use Rattle.std.proofs.Common.{◌≡◌, ℕ, zero, suc, map, List, [], ◌∷◌, length, refl, ap, sym, ◌∙◌, subst, Option, Some, Result}
+use Rattle.std.proofs.Common.{◌≡◌, ℕ, List, [], ◌∷◌, length, refl, ap, sym, ◌∙◌, subst, Option, Some, Result}
 use Rattle.std.specs.Prelude.{slice_get, slice_index_or}
-use Rattle.std.proofs.lemmas.Option.{none-some, same_Some}
-use Rattle.ln_stage.specs.Sound.{AreSound, IsSound}
 use Rattle.ln_base.specs.Outside.{Shown}
 use Rattle.ln_algebra.specs.Tree.{InputsBelow, Tree}
 use Rattle.ln_compile.specs.Accepted.{root_of}
@@ -262,9 +260,3 @@ pub puts_text : (text wanted : List ℕ) (end : End) (puts : Count) (result : Re
     → PutsText text end puts result was now → PutsOrStops wanted end puts result was now
 puts_text text wanted end puts result was now e s =
     puts_it (subst (λ (x : List ℕ). PutsText x end puts result was now) e s)
-
--- each predicate of an accepted source has no fault
-pub sound_in : (ps : List Pred) (k : ℕ) (p : Pred) → AreSound (map pred_of ps) → slice_get ps k ≡ Some p → IsSound (pred_of p)
-sound_in [] k p a e = absurd (none-some p e)
-sound_in (q ∷ ps) zero p a e = subst (λ (r : Pred). IsSound (pred_of r)) (same_Some q p e) a.0
-sound_in (q ∷ ps) (suc k) p a e = sound_in ps k p a.1 e

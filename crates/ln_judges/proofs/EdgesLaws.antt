@@ -1,5 +1,5 @@
 -- `edges`: its points file comes to one thing; what it requires is one and is carried out by a whole text, and where it ends.
-use Rattle.std.proofs.Common.{◌≡◌, ℕ, zero, suc, ◌<◌, ◌≤◌, true, List, [], ◌∷◌, length, map, Some, Option}
+use Rattle.std.proofs.Common.{◌≡◌, ℕ, ◌<◌, ◌≤◌, true, List, [], ◌∷◌, length, map, Some, Option}
 use Rattle.std.proofs.Common.{refl, ap, sym, ◌∙◌, subst, arith, true≢false, get_or, option_map}
 use Rattle.std.specs.Prelude.{Result, slice_get, slice_index_or, nat_eq, nat_lt}
 use Rattle.std.specs.List.{list_all}
@@ -16,7 +16,6 @@ use Rattle.ln_tree.specs.declared.shape.VarInfo.{VarInfo}
 use Rattle.ln_tree.specs.declared.table.Table.{Table}
 use Rattle.ln_tree.specs.Table.{ArgOf, ParamArg, PredOf, SiteArg, SiteOf, TableOf, arg_of, coord_of, pred_of, site_of}
 use Rattle.ln_tree.specs.Whole.{is_one_of, is_whole}
-use Rattle.ln_parse.specs.ReadsBack.{Every}
 use Rattle.ln_parse.proofs.Wholes.TestLemmas.{below}
 use Rattle.ln_parse.proofs.Wholes.WholeParts.{PredParts, SiteParts, table_parts}
 use Rattle.ln_compile.specs.Accepted.{root_of}
@@ -38,7 +37,7 @@ use Rattle.ln_edges.proofs.OneLemmas.{fault-one, points-faultless, points-one}
 use Rattle.ln_edges.proofs.PairLemmas.{lines-one}
 use Rattle.ln_edges.proofs.RowLemmas.{three_width}
 use Rattle.ln_edges.proofs.SuitLemmas.{points_fit}
-use Rattle.ln_edges.proofs.ThreeLemmas.{tables_three}
+use Rattle.ln_edges.proofs.ThreeLemmas.{tables_three, every_at}
 use Rattle.ln_frame.specs.declared.ready.Ready.{Ready}
 use Rattle.ln_frame.specs.declared.status.End.{End}
 use Rattle.ln_frame.specs.declared.status.End.TheVariants.{Done}
@@ -365,12 +364,6 @@ pub asked_three : (ps : List Pred) (numbers : List ℕ) (preds : List PredOf) (p
     → length numbers ≡ 1 → slice_get ps (slice_index_or numbers 0 0) ≡ Some p → edges_signature.suits.asks preds
     → is_three (map arg_of p.args) ≡ true
 asked_three ps numbers preds p h l e a = subst edges_signature.suits.asks (prepared.one_numbered ps numbers preds p h l e) a
-
--- the table has the type
-every_at : {A : Type 0} (P : A → Type 0) (xs : List A) (i : ℕ) (x : A) → slice_get xs i ≡ Some x → Every P xs → P x
-every_at P [] i x e h = absurd (cc)
-every_at P (y ∷ xs) zero x e h = subst P (same_Some y x e) h.0
-every_at P (y ∷ xs) (suc i) x e h = every_at P xs i x e h.1
 
 first_within : (sites params k : ℕ) (a b c : List ℕ)
     → list_all (is_one_of sites params) (SiteArg a k ∷ SiteArg b k ∷ SiteArg c k ∷ []) ≡ true → k < sites

@@ -4,7 +4,7 @@ use Rattle.std.proofs.Common.{subst, arith, append_assoc, append-nil}
 use Rattle.ln_base.specs.Exponents.{Each}
 use Rattle.ln_base.specs.Lines.{lines}
 use Rattle.ln_base.proofs.Texts.Lists.{head, rest}
-use Rattle.ln_lines.specs.Fault.{IsFaultOf, IsFrontOf}
+use Rattle.ln_lines.specs.Fault.{IsFaultOf, IsPrefixOf}
 use Rattle.ln_lines.specs.Form.{AreSound, IsWhole, RefusesText, Rules, goes, text_of, texts_of}
 use Rattle.ln_lines.proofs.Walk.{each_append, goes_append, map_append, one_line, some_next}
 
@@ -31,7 +31,7 @@ module _ {L : Type 0} (f : L → List ℕ) where
 
 module _ {S L : Type 0} (R : Rules S L) (sound : AreSound R) where
   -- lines that lead from the start to some state are the first of a text of the form
-  front : (ls : List L) (s : S) → Each R.IsLine ls → goes R (Some R.start) ls ≡ Some s → IsFrontOf (IsWhole R) (texts_of R ls)
+  front : (ls : List L) (s : S) → Each R.IsLine ls → goes R (Some R.start) ls ≡ Some s → IsPrefixOf (IsWhole R) (texts_of R ls)
   front ls s p e =
       let f = sound.finish s in (
         map (text_of R) f.last,
@@ -99,7 +99,7 @@ module _ {S L : Type 0} (R : Rules S L) (sound : AreSound R) where
         before = suc (length done);
         number = omega arith;
         within = omega arith;
-        front = subst (λ (x : List (List ℕ)). IsFrontOf (IsWhole R) x)
+        front = subst (λ (x : List (List ℕ)). IsPrefixOf (IsWhole R) x)
             (sym (ap (take (suc (length done))) w ∙ ap (λ (x : List (List ℕ)). R.first ∷ x) (take_some (text_of R) done (t ∷ ts)))) (front done s p e);
         refused = λ _ g. let r : take at (lines bytes) ≡ texts_of R done ++ (t ∷ []) =
             ap (λ (i : ℕ). take i (lines bytes)) m ∙ ap (take (suc (suc (length done)))) w
@@ -120,7 +120,7 @@ module _ {S L : Type 0} (R : Rules S L) (sound : AreSound R) where
         before = suc (length done);
         number = omega arith;
         within = omega arith;
-        front = subst (λ (y : List (List ℕ)). IsFrontOf (IsWhole R) y)
+        front = subst (λ (y : List (List ℕ)). IsPrefixOf (IsWhole R) y)
             (sym (ap (take (suc (length done))) x ∙ ap (λ (y : List (List ℕ)). R.first ∷ y) (take_some (text_of R) done []))) (front done s p e);
         refused = λ h. absurd (omega arith);
         unfinished = λ h g. unfinished done s p e n (subst (λ (y : List (List ℕ)). IsWhole R y) w g);

@@ -2,10 +2,10 @@
 use Rattle.std.proofs.Common.{◌≡◌, ℕ, ◌≤◌, ◌<◌, suc, List, [], ◌∷◌, ◌++◌, length, take, drop, ◌⊎◌, inl, inr, refl, sym, ap, ◌∙◌, subst, arith, append_assoc}
 use Rattle.ln_base.specs.Lines.{lines}
 use Rattle.ln_base.proofs.Texts.Lines.{nat_split, shorter, take_drop, three}
-use Rattle.ln_lines.specs.Fault.{IsFaultOf, IsFrontOf}
+use Rattle.ln_lines.specs.Fault.{IsFaultOf, IsPrefixOf}
 
 module _ (P : List (List ℕ) → Type 0) where
-  fewer : (m n : ℕ) (ts : List (List ℕ)) → m ≤ n → IsFrontOf P (take n ts) → IsFrontOf P (take m ts)
+  fewer : (m n : ℕ) (ts : List (List ℕ)) → m ≤ n → IsPrefixOf P (take n ts) → IsPrefixOf P (take m ts)
   fewer m n ts h f = (
     drop m (take n ts) ++ f.0,
     subst (λ (z : List (List ℕ)). P z) (ap (λ z. z ++ f.0) (shorter m n ts h) ∙ append_assoc (take m ts) (drop m (take n ts)) f.0) f.1,
@@ -34,7 +34,7 @@ module _ (P : List (List ℕ) → Type 0) where
       by (inr h) = f.unfinished h w
 
   -- where no text of the form begins with the first line, or there is none, the fault is at line 1
-  pub fault_first : (bytes : List ℕ) → IsFrontOf P [] → (P [] → ⊥)
+  pub fault_first : (bytes : List ℕ) → IsPrefixOf P [] → (P [] → ⊥)
       → ((t : List ℕ) (ts more : List (List ℕ)) → lines bytes ≡ t ∷ ts → P (t ∷ more) → ⊥) → IsFaultOf P bytes 1
   fault_first bytes all none f = by (lines bytes) refl
     where

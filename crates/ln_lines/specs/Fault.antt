@@ -3,8 +3,8 @@ use Rattle.std.specs.Prelude.{◌≡◌, ℕ, ◌+◌, ◌<◌, ◌≤◌, List,
 use Rattle.ln_base.specs.Lines.{lines}
 
 -- these lines are the first of a text of the form
-abbrev pub IsFrontOf : (List (List ℕ) → Type 0) → List (List ℕ) → Type 0
-IsFrontOf IsWhole texts = (more : List (List ℕ)) × IsWhole (texts ++ more)
+abbrev pub IsPrefixOf : (List (List ℕ) → Type 0) → List (List ℕ) → Type 0
+IsPrefixOf IsWhole texts = (more : List (List ℕ)) × IsWhole (texts ++ more)
 
 -- line `at`, from 1, is the first at which the lines so far are no prefix of a text of the form; where all lines are one and the bytes are
 -- no such text, it is one more than there are lines
@@ -12,6 +12,6 @@ pub record IsFaultOf (IsWhole : List (List ℕ) → Type 0) (bytes : List ℕ) (
   pub before : ℕ
   pub number : at ≡ before + 1
   pub within : before ≤ length (lines bytes)
-  pub front : IsFrontOf IsWhole (take before (lines bytes))
-  pub refused : before < length (lines bytes) → IsFrontOf IsWhole (take at (lines bytes)) → ⊥
+  pub front : IsPrefixOf IsWhole (take before (lines bytes))
+  pub refused : before < length (lines bytes) → IsPrefixOf IsWhole (take at (lines bytes)) → ⊥
   pub unfinished : before ≡ length (lines bytes) → IsWhole (lines bytes) → ⊥

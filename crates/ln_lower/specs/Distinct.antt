@@ -12,20 +12,20 @@ abbrev pub key : KeyOp → Range → Width → Key
 key o p w = record { op = o; low = p.low; high = p.high; width = w }
 
 -- number k is this tree
-abbrev pub Stands : List Key → ℕ → Typed → Type 0
-Stands ks k (TNum c p w) = slice_get ks k ≡ Some (key (Number c) p w)
-Stands ks k (TInput v p w) = slice_get ks k ≡ Some (key (Variable v) p w)
-Stands ks k (TLet j p w) = slice_get ks k ≡ Some (key (Name j) p w)
-Stands ks k (TNeg t p w) = (a : ℕ) × (slice_get ks k ≡ Some (key (Opposite a) p w)) × Stands ks a t
-Stands ks k (TTwo o s t p w) = (a : ℕ) × (b : ℕ) × (slice_get ks k ≡ Some (key (Both o a b) p w)) × Stands ks a s × Stands ks b t
-Stands ks k (TPow t n p w) = (a : ℕ) × (slice_get ks k ≡ Some (key (Raised a n) p w)) × Stands ks a t
+abbrev pub IsNumberOf : List Key → ℕ → Typed → Type 0
+IsNumberOf ks k (TNum c p w) = slice_get ks k ≡ Some (key (Number c) p w)
+IsNumberOf ks k (TInput v p w) = slice_get ks k ≡ Some (key (Variable v) p w)
+IsNumberOf ks k (TLet j p w) = slice_get ks k ≡ Some (key (Name j) p w)
+IsNumberOf ks k (TNeg t p w) = (a : ℕ) × (slice_get ks k ≡ Some (key (Opposite a) p w)) × IsNumberOf ks a t
+IsNumberOf ks k (TTwo o s t p w) = (a : ℕ) × (b : ℕ) × (slice_get ks k ≡ Some (key (Both o a b) p w)) × IsNumberOf ks a s × IsNumberOf ks b t
+IsNumberOf ks k (TPow t n p w) = (a : ℕ) × (slice_get ks k ≡ Some (key (Raised a n) p w)) × IsNumberOf ks a t
 
 -- these numbers are these trees, one by one
-abbrev pub AllStand : List Key → List ℕ → List Typed → Type 0
-AllStand ks [] [] = Unit {0}
-AllStand ks [] (t ∷ ts) = ⊥
-AllStand ks (n ∷ ns) [] = ⊥
-AllStand ks (n ∷ ns) (t ∷ ts) = Stands ks n t × AllStand ks ns ts
+abbrev pub AreNumbersOf : List Key → List ℕ → List Typed → Type 0
+AreNumbersOf ks [] [] = Unit {0}
+AreNumbersOf ks [] (t ∷ ts) = ⊥
+AreNumbersOf ks (n ∷ ns) [] = ⊥
+AreNumbersOf ks (n ∷ ns) (t ∷ ts) = IsNumberOf ks n t × AreNumbersOf ks ns ts
 
 -- the second list has what the first has, at the same numbers
 abbrev pub Extends : List Key → List Key → Type 0
@@ -38,7 +38,7 @@ pub record Added (ks ls : List Key) (k : ℕ) (x : Key) : Type 0 where
 
 -- number k is this tree, and the numbers so far are kept
 pub record Numbered (ks ls : List Key) (k : ℕ) (t : Typed) : Type 0 where
-  pub stands : Stands ls k t
+  pub stands : IsNumberOf ls k t
   pub more : Extends ks ls
 
 -- the operand, of two the left one

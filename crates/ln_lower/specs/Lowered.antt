@@ -2,23 +2,15 @@
 use Rattle.std.specs.Prelude.{ℕ, zero, suc, ◌≤◌, List, [], ◌∷◌}
 use Rattle.ln_interval.specs.Range.{Range, magnitude, most, power}
 use Rattle.ln_bound.specs.declared.fitted.Width.{Width}
-use Rattle.ln_bound.specs.declared.fitted.Two.{Two}
-use Rattle.ln_bound.specs.declared.fitted.Two.TheVariants.{Plus, Minus, Times}
 use Rattle.ln_bound.specs.Typed.{Typed, TNum, TInput, TLet, TNeg, TTwo, TPow, pair}
 use Rattle.ln_code.specs.declared.op.Op.{Op}
-use Rattle.ln_code.specs.declared.op.Op.TheVariants.{Get, Set, Add, Sub, Mul}
+use Rattle.ln_code.specs.declared.op.Op.TheVariants.{Get, Set, Mul}
 use Rattle.ln_code.specs.Engine.{Line}
 pub use Rattle.ln_code.specs.Kept.{nothing}
 
 -- an operation with the range that it carries
 abbrev pub line : Op → Range → Line Range
 line o p = record { op = o; bound = p }
-
--- the sum, the difference or the product at this width
-abbrev pub op_of : Two → Width → Op
-op_of Plus w = Add w
-op_of Minus w = Sub w
-op_of Times w = Mul w
 
 -- n more factors, from the power m on; local 64 has the base, with the range p
 abbrev pub factors : Range → Width → ℕ → ℕ → List (Line Range)

@@ -5,8 +5,8 @@ use Rattle.ln_bound.specs.declared.fitted.Width.{Width}
 use Rattle.ln_bound.specs.declared.fitted.Two.{Two}
 use Rattle.ln_bound.specs.Typed.{Typed, TNum, TInput, TLet, TNeg, TTwo, TPow, pair}
 use Rattle.ln_code.specs.declared.op.Op.TheVariants.{Push, Input, Get, Set, Neg}
-use Rattle.ln_code.specs.Engine.{Line}
-use Rattle.ln_lower.specs.Lowered.{line, nothing, op_of, power_of}
+use Rattle.ln_code.specs.Engine.{Line, op_of}
+use Rattle.ln_lower.specs.Lowered.{line, nothing, power_of}
 use Rattle.ln_lower.specs.Written.{keeping}
 
 -- the operations of a tree. The trees of the first list are in the locals from 65 on, in order; those of the second are stored after

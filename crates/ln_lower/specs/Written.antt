@@ -5,10 +5,10 @@ use Rattle.ln_bound.specs.declared.fitted.Width.{Width}
 use Rattle.ln_bound.specs.declared.fitted.Two.{Two}
 use Rattle.ln_bound.specs.Typed.{Typed, TNum, TInput, TLet, TNeg, TTwo, TPow, pair}
 use Rattle.ln_code.specs.declared.op.Op.TheVariants.{Push, Input, Get, Set, Neg}
-use Rattle.ln_code.specs.Engine.{Line}
+use Rattle.ln_code.specs.Engine.{Line, op_of}
 use Rattle.ln_lower.specs.declared.distinct.Key.{Key}
-use Rattle.ln_lower.specs.Distinct.{Stands}
-use Rattle.ln_lower.specs.Lowered.{line, nothing, op_of, power_of}
+use Rattle.ln_lower.specs.Distinct.{IsNumberOf}
+use Rattle.ln_lower.specs.Lowered.{line, nothing, power_of}
 
 -- from a value on the stack to the same in local j and on the stack
 abbrev pub keeping : ℕ → Range → List (Line Range)
@@ -21,7 +21,7 @@ pub data Written (ks : List Key) : List ℕ → Typed → List (Line Range) → 
   variable : {kept : List ℕ} (v : ℕ) (p : Range) (w : Width) → Written ks kept (TInput v p w) (line (Input v) p ∷ []) [] 2
   name : {kept : List ℕ} (j : ℕ) (p : Range) (w : Width) → Written ks kept (TLet j p w) (line (Get j) p ∷ []) [] 2
   -- a tree that is kept
-  again : {kept : List ℕ} {t : Typed} (i k : ℕ) → slice_get kept i ≡ Some k → Stands ks k t →
+  again : {kept : List ℕ} {t : Typed} (i k : ℕ) → slice_get kept i ≡ Some k → IsNumberOf ks k t →
       Written ks kept t (line (Get (65 + i)) (pair t) ∷ []) [] 0
   opposite : {kept more : List ℕ} {t : Typed} {lines : List (Line Range)} {s : ℕ} (p : Range) (w : Width) →
       Written ks kept t lines more s → Written ks kept (TNeg t p w) (lines ++ (line (Neg w) p ∷ [])) more 2
@@ -32,7 +32,7 @@ pub data Written (ks : List Key) : List ℕ → Typed → List (Line Range) → 
   raised : {kept more : List ℕ} {t : Typed} {lines : List (Line Range)} {s : ℕ} (n : ℕ) (p : Range) (w : Width) →
       Written ks kept t lines more s → Written ks kept (TPow t (suc n) p w) (lines ++ power_of (pair t) w n) more 2
   -- a tree that is kept from here on
-  keep : {kept more : List ℕ} {t : Typed} {lines : List (Line Range)} (k : ℕ) → Stands ks k t → Written ks kept t lines more 2 →
+  keep : {kept more : List ℕ} {t : Typed} {lines : List (Line Range)} (k : ℕ) → IsNumberOf ks k t → Written ks kept t lines more 2 →
       Written ks kept t (lines ++ keeping (65 + length (kept ++ more)) (pair t)) (more ++ (k ∷ [])) 0
 
 -- the operations of lets, each into the local of its number

@@ -15,9 +15,10 @@ ghost use Rattle.ln_code.specs.Kept.{AreOfSites, FollowsRules, IsBlock};
 ghost use Rattle.ln_code.specs.Nodes.{IsNodeOf};
 ghost use Rattle.ln_lower.specs.Nodes.{KeepsLets, PushNodes, pushed_by};
 ghost use Rattle.ln_lower.specs.StackCode.{IsCodeOf};
-ghost use Rattle.ln_lower.specs.Lowered.{factors, line, op_of, power_of, PowersFit};
+ghost use Rattle.ln_lower.specs.Lowered.{factors, line, power_of, PowersFit};
+ghost use Rattle.ln_code.specs.Engine.{op_of};
 ghost use Rattle.ln_lower.specs.declared.distinct.Key.{Key};
-ghost use Rattle.ln_lower.specs.Distinct.{AllStand, Stands};
+ghost use Rattle.ln_lower.specs.Distinct.{AreNumbersOf, IsNumberOf};
 ghost use Rattle.ln_lower.specs.Wrote.{Drafted, MayKeep, Puts, PutsLast, PutsLet, PutsLets, Wrote};
 
 use crate::distinct::{Distinct, number};
@@ -116,7 +117,7 @@ fn op_of(t: &Fitted) -> Op
 // The operations of a tree, whose number is k.
 fn put_tree(draft: &mut Draft, distinct: &Distinct, t: &Fitted, k: usize) -> Result<(), NoMemory>
     requires powers { PowersFit (typed t.now) }
-    requires stands { Stands distinct.now.keys k (typed t.now) }
+    requires stands { IsNumberOf distinct.now.keys k (typed t.now) }
     ensures { OnOk result (Puts distinct.now.keys draft.old draft.new (typed t.now)) }
 {
     if let Some(j) = local_of(draft, distinct, k) {
@@ -153,7 +154,7 @@ fn number_all(
     distinct: &mut Distinct,
     trees: &[Fitted],
 ) -> Result<Seq<usize>, NoMemory>
-    ensures { IfOk result (λ ns. AllStand distinct.new.keys ns (map typed trees.now)) }
+    ensures { IfOk result (λ ns. AreNumbersOf distinct.new.keys ns (map typed trees.now)) }
 {
     let mut numbers = Seq::new(alloc);
     'trees: for t in trees {
@@ -173,7 +174,7 @@ fn put_let(
     j: u8,
 ) -> Result<(), NoMemory>
     requires powers { PowersFit (typed u.now) }
-    requires stands { Stands distinct.now.keys k (typed u.now) }
+    requires stands { IsNumberOf distinct.now.keys k (typed u.now) }
     ensures { OnOk result (PutsLet distinct.now.keys draft.old draft.new (typed u.now) j) }
 {
     put_tree(draft, distinct, u, k)?;
@@ -189,7 +190,7 @@ fn put_lets(
 ) -> Result<(), NoMemory>
     requires few { length lets.now ≤ 64 }
     requires powers { All (λ u. PowersFit (typed u)) lets.now }
-    requires stand { AllStand distinct.now.keys numbers.now (map typed lets.now) }
+    requires stand { AreNumbersOf distinct.now.keys numbers.now (map typed lets.now) }
     requires ops { draft.now.ops ≡ [] }
     requires pairs { draft.now.pairs ≡ [] }
     requires kept { draft.now.kept ≡ [] }
@@ -212,9 +213,9 @@ fn put_all(
 ) -> Result<(), NoMemory>
     requires few { length lets.now ≤ 64 }
     requires powers { All (λ u. PowersFit (typed u)) lets.now }
-    requires stand { AllStand distinct.now.keys numbers.now (map typed lets.now) }
+    requires stand { AreNumbersOf distinct.now.keys numbers.now (map typed lets.now) }
     requires root { PowersFit (typed t.now) }
-    requires stands { Stands distinct.now.keys k (typed t.now) }
+    requires stands { IsNumberOf distinct.now.keys k (typed t.now) }
     requires ops { draft.now.ops ≡ [] }
     requires pairs { draft.now.pairs ≡ [] }
     requires kept { draft.now.kept ≡ [] }
@@ -234,7 +235,7 @@ fn drafted(
 ) -> Result<Draft, NoMemory>
     requires few { length lets.now ≤ 64 }
     requires powers { All (λ u. PowersFit (typed u)) lets.now }
-    requires stand { AllStand distinct.old.keys numbers.now (map typed lets.now) }
+    requires stand { AreNumbersOf distinct.old.keys numbers.now (map typed lets.now) }
     requires root { PowersFit (typed t.now) }
     ensures { IfOk result (λ d. Drafted distinct.new.keys (map typed lets.now) (typed t.now) d) }
 {

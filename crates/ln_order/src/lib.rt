@@ -20,7 +20,7 @@ pub use infinitesimals::{earlier, front_ranking, orders_are_those_of_rows, ranki
 pub use order::Order;
 pub use orders::{all_orders, orders_are_all};
 pub use prefix::{
-    all_prefixes, fronts_are_prefixes, fronts_follow, prefix_number, prefixes_are_all,
+    all_prefixes, at_prefix, fronts_are_prefixes, fronts_follow, prefix_number, prefixes_are_all,
 };
 pub use rank::order_of;
 pub use rows::{

@@ -3,7 +3,7 @@ ghost use Rattle.std.specs.Prelude.{◌≡◌, ◌<◌, ◌≤◌, ◌∷◌, []
 ghost use Rattle.ln_order.specs.Fronts.{front_places};
 ghost use Rattle.ln_order.specs.Orders.{behind, firsts};
 ghost use Rattle.ln_order.specs.Places.{order_places};
-ghost use Rattle.ln_order.specs.Prefixes.{FrontsArePrefixes, FrontsFollow, PrefixesAreAll, prefixes_of, tree_size};
+ghost use Rattle.ln_order.specs.Prefixes.{FrontsArePrefixes, FrontsFollow, PrefixesAreAll, beside, prefixes_of, tree_size};
 
 use crate::front::Front;
 use crate::order::Order;
@@ -83,6 +83,16 @@ pub fn prefix_number(o: &Order, j: u8) -> u32
         number += 1 + smaller(places[i], others) as u32 * tree_size(others.len());
     }
     number
+}
+
+/// The list of the first j places, from 0, of lists for all prefixes of orders of as many sites, in the order of `all_prefixes`. It allocates
+/// nothing.
+pub fn at_prefix<'a>(lists: &'a [Seq<u32>], o: &Order, j: u8) -> &'a [u32]
+    requires size { length lists.now ≡ length (prefixes_of (length (order_places o.now))) }
+    requires within { j ≤ length (order_places o.now) }
+    ensures { result.now ≡ beside (prefixes_of (length (order_places o.now))) lists.now (take j (order_places o.now)) }
+{
+    lists[prefix_number(o, j) as usize].as_slice()
 }
 
 /// The prefixes are the first places of the orders, each once, sorted as lists, each before its extensions.

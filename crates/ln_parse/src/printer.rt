@@ -1,5 +1,5 @@
 //! The canonical text of tables.
-ghost use Rattle.std.specs.Prelude.{◌≡◌, ◌++◌, [], ℕ, List, map, slice_get, unwrap_or, decimal, IfOk};
+ghost use Rattle.std.specs.Prelude.{◌≡◌, ◌++◌, [], ℕ, List, map, slice_get, unwrap_or, IfOk};
 ghost use Rattle.ln_tree.specs.Names.{name_bytes};
 ghost use Rattle.ln_tree.specs.Formula.{formula};
 ghost use Rattle.ln_tree.specs.Table.{TableOf, table_of, site_of, coord_of, param_of, arg_of, pred_of};
@@ -12,8 +12,8 @@ ghost use Rattle.ln_parse.specs.Spanless.{IsTextUpToSpans, table_spanless};
 ghost use Rattle.ln_parse.specs.Text.{TextOf};
 ghost use Rattle.ln_parse.specs.WholeTable.{IsWhole};
 
-use itoa::Buffer;
 use ln_base::NoMemory;
+use ln_base::put::{put, put_digits};
 use ln_tree::{Arg, Coord, Expr, Name, Node, Param, Pred, Site, Table, Var};
 use std::alloc::Global;
 
@@ -64,27 +64,13 @@ pub fn printed_text_has_one_table()
     ensures { (bytes : List ℕ) (t u : TableOf) → IsTextUpToSpans bytes t → TextOf bytes u → table_spanless u ≡ table_spanless t }
 {}
 
-fn put(out: &mut Vec<u8>, text: &[u8]) -> Result<(), NoMemory>
-    ensures { IfOk result (λ x. out.new.items ≡ out.old.items ++ text.now) }
-{
-    out.extend_from_slice(text)?;
-    Ok(())
-}
-
-fn put_number(out: &mut Vec<u8>, n: u128) -> Result<(), NoMemory>
-    ensures { IfOk result (λ x. out.new.items ≡ out.old.items ++ decimal n) }
-{
-    let mut buffer = Buffer::new();
-    put(out, buffer.format(n).as_bytes())
-}
-
 fn put_signed(out: &mut Vec<u8>, z: i64) -> Result<(), NoMemory>
     ensures { IfOk result (λ x. Puts out.old.items out.new.items (signed z)) }
 {
     if z < 0 {
         put(out, b"-")?;
     }
-    put_number(out, u128::from(z.unsigned_abs()))
+    put_digits(out, u128::from(z.unsigned_abs()))
 }
 
 fn put_sites(out: &mut Vec<u8>, sites: &[Site]) -> Result<(), NoMemory>
@@ -344,7 +330,7 @@ fn put_expr(out: &mut Vec<u8>, t: &Table, p: &Pred, room: Room, e: &Expr) -> Res
     let plain = stands(room, e);
     open(out, plain)?;
     match &e.node {
-        Node::Num(c) => put_number(out, c.unsigned_abs())?,
+        Node::Num(c) => put_digits(out, c.unsigned_abs())?,
         Node::Input(v) => put_input(out, t, p, *v)?,
         Node::Name(j) => put(out, let_name(p, *j))?,
         Node::Neg(x) => {
@@ -369,7 +355,7 @@ fn put_expr(out: &mut Vec<u8>, t: &Table, p: &Pred, room: Room, e: &Expr) -> Res
         Node::Pow(x, n) => {
             put_expr(out, t, p, Room::OfAtom, x)?;
             put(out, b"^")?;
-            put_number(out, u128::from(*n))?;
+            put_digits(out, u128::from(*n))?;
         }
     }
     close(out, plain)

@@ -1,4 +1,5 @@
 -- Monomials as numbers.
+pub mod Words
 pub mod Numbers
 pub mod Merges
 pub mod Rows

@@ -8,5 +8,5 @@ pub mod Counting
 pub mod Negating
 pub mod Walks
 pub mod Turned
-pub mod Halves
 pub mod Exponents
+pub mod Fewest

@@ -1,5 +1,5 @@
 -- Terms whose monomials are numbers, and their sums and products.
-use Rattle.std.specs.Prelude.{◌≡◌, ◌≢◌, ◌⊎◌, ℕ, ◌+◌, ◌*◌, ◌<◌, ◌≤◌, ℤ, pos, ◌+ℤ◌, ◌*ℤ◌, unsigned_abs, Bool, List, [], ◌∷◌, length, map, take, ◌-◌}
+use Rattle.std.specs.Prelude.{◌≡◌, ◌≢◌, ◌⊎◌, ℕ, ◌+◌, ◌*◌, ◌^◌, ◌<◌, ◌≤◌, ℤ, All, pos, ◌+ℤ◌, ◌*ℤ◌, unsigned_abs, Bool, List, [], ◌∷◌, length, map, take, ◌-◌}
 use Rattle.std.specs.Prelude.{if◌then◌else◌}
 use Rattle.ln_algebra.specs.Vector.{sum_over}
 
@@ -30,6 +30,15 @@ AreAscending (t ∷ f) = AreOver t.0 f × AreAscending f
 abbrev pub HaveFactors : Keyed → Type 0
 HaveFactors [] = Unit {0}
 HaveFactors (t ∷ f) = (t.1 ≢ pos 0) × HaveFactors f
+
+-- no number of a product of f with g reaches twice `left` and no size 2 ^ 127; no factor is 0, and the numbers of g rise
+pub record ProductsFit (left : ℕ) (f g : Keyed) : Type 0 where
+  pub low : All (λ t. t.0 < left) f
+  pub low_all : All (λ t. t.0 < left) g
+  pub room : weight_of f * weight_of g < 2 ^ 127
+  pub factors : HaveFactors f
+  pub right : HaveFactors g
+  pub ascending : AreAscending g
 
 -- k is the number of a term
 abbrev pub Has : Keyed → ℕ → Type 0

@@ -11,6 +11,7 @@ pub mod Expansion
 pub mod Within
 pub mod Keyed
 pub mod Packed
+pub mod Words
 pub mod Stop
 pub mod Ready
 pub mod OfPred

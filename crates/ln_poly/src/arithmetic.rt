@@ -1,16 +1,14 @@
-//! Sums and products of polynomials.
+//! Sums and differences of polynomials, and products of one term with a polynomial.
 ghost use Rattle.std.specs.Prelude.{◌≡◌, ℕ, List, [], ◌∷◌, ◌+◌, ◌*◌, ◌<◌, ◌≤◌, ◌^◌, ◌++◌, ◌+ℤ◌, ◌-ℤ◌, ◌*ℤ◌, All, IfOk, OnOk, length, unsigned_abs};
-ghost use Rattle.std.specs.Prelude.{◌-◌, ◌≢◌, drop, pos, take};
-ghost use Rattle.ln_algebra.specs.Coefficient.{product};
+ghost use Rattle.std.specs.Prelude.{◌≢◌, pos};
 ghost use Rattle.ln_tree.specs.Exps.{exponent};
 ghost use Rattle.ln_poly.specs.Sparse.{IsFactor, IsPoly, AreBelow, coefficient_at, negated, size_of};
-ghost use Rattle.ln_poly.specs.Rows.{IsProductPut, IsRow, IsRows, PowersFit};
+ghost use Rattle.ln_poly.specs.Rows.{IsProductPut, IsRow, PowersFit};
 
-use crate::merge::merge;
 use crate::poly::Poly;
 use crate::sums::sum;
 use crate::terms::push;
-use crate::times::times;
+use crate::times::put_times;
 use ln_base::{NoMemory, Seq};
 use ln_tree::Exps;
 use std::alloc::Global;
@@ -91,8 +89,9 @@ fn put_product(
     requires room { unsigned_abs (s.now.1 *ℤ t.now.1) < 2 ^ 127 }
     ensures { OnOk result (IsProductPut out.new.items out.old.items s.now t.now) }
 {
-    let exps = times(alloc, &s.0, &t.0)?;
-    push_product(out, exps, s.1, t.1)?;
+    let k = out.len();
+    push_product(out, Exps::new(alloc), s.1, t.1)?;
+    put_times(&mut out[k].0, &s.0, &t.0)?;
     Ok(())
 }
 
@@ -114,7 +113,7 @@ fn put_row(
 }
 
 // The product of one term and a polynomial, whose terms are in the order of those of g.
-fn walk(alloc: Global, s: &(Exps, i128), g: &[(Exps, i128)]) -> Result<Poly, NoMemory>
+pub(crate) fn walk(alloc: Global, s: &(Exps, i128), g: &[(Exps, i128)]) -> Result<Poly, NoMemory>
     requires room { unsigned_abs s.now.1 * size_of g.now < 2 ^ 127 }
     requires powers { PowersFit s.now g.now }
     requires factor { s.now.1 ≢ pos 0 }
@@ -125,72 +124,4 @@ fn walk(alloc: Global, s: &(Exps, i128), g: &[(Exps, i128)]) -> Result<Poly, NoM
     let mut out = Vec::with_capacity(alloc, g.len())?;
     put_row(alloc, &mut out, s, g)?;
     Ok(Poly::seal(Seq::from_vec(out)))
-}
-
-// Some terms of a polynomial.
-pub(crate) fn between(f: &[(Exps, i128)], i: usize, j: usize) -> &[(Exps, i128)]
-    requires order { i ≤ j }
-    requires within { j ≤ length f.now }
-    ensures { result.now ≡ take (j - i) (drop i f.now) }
-{
-    &f[i..j]
-}
-
-// The products of the terms of f with those of g: a row for each term of f, and the rows merged, two halves at a time.
-pub(crate) fn products(
-    alloc: Global,
-    f: &[(Exps, i128)],
-    g: &[(Exps, i128)],
-) -> Result<Poly, NoMemory>
-    requires room { size_of f.now * size_of g.now < 2 ^ 127 }
-    requires powers { All (λ s. PowersFit s g.now) f.now }
-    requires factors { All (λ s. IsFactor s.1) f.now }
-    requires form { IsPoly g.now }
-    ensures rows { IfOk result (λ h. IsRows h f.now g.now (length f.now)) }
-    ensures form { IfOk result IsPoly }
-{
-    if f.is_empty() {
-        return Ok(Poly::seal(Seq::new(alloc)));
-    }
-    if f.len() == 1 {
-        let s = &f[0];
-        let h = walk(alloc, s, g)?;
-        return Ok(h);
-    }
-    let k = f.len() / 2;
-    let low = products(alloc, between(f, 0, k), g)?;
-    let high = products(alloc, between(f, k, f.len()), g)?;
-    let h = merge(alloc, low.into_terms(), high.into_terms())?;
-    Ok(h)
-}
-
-// The product of two polynomials, with a row for each term of the one that has fewer.
-fn rows_of(alloc: Global, f: &Poly, g: &Poly) -> Result<Poly, NoMemory>
-    requires room { size_of f.now * size_of g.now < 2 ^ 127 }
-    requires powers { All (λ s. PowersFit s g.now) f.now }
-    ensures rows { IfOk result (λ h. IsRows h f.now g.now (length f.now)) }
-    ensures form { IfOk result IsPoly }
-{
-    let f = f.terms();
-    let g = g.terms();
-    if g.len() < f.len() {
-        let h = products(alloc, g, f)?;
-        return Ok(h);
-    }
-    let h = products(alloc, f, g)?;
-    Ok(h)
-}
-
-/// The product of two polynomials.
-pub fn mul(alloc: Global, f: &Poly, g: &Poly) -> Result<Poly, NoMemory>
-    requires room { size_of f.now * size_of g.now < 2 ^ 127 }
-    requires powers { All (λ s. PowersFit s g.now) f.now }
-    ensures coefficients { IfOk result (λ h. (n : ℕ) (m : List ℕ) → length m ≡ n →
-        coefficient_at n h m ≡ product (coefficient_at n f.now) (coefficient_at n g.now) m) }
-    ensures size { IfOk result (λ h. size_of h ≤ size_of f.now * size_of g.now) }
-    ensures form { IfOk result IsPoly }
-    ensures below { IfOk result (λ h. (n : ℕ) → AreBelow n f.now → AreBelow n g.now → AreBelow n h) }
-{
-    let h = rows_of(alloc, f, g)?;
-    Ok(h)
 }

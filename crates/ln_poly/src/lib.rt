@@ -2,10 +2,9 @@
 //! order, so sums and products of polynomials are merges, and nothing sorts terms.
 //!
 //! What the crates above use: `normal` is the normal polynomial of a predicate's root, or the first node that has more
-//! than 1,024 terms. `add`, `sum`, `sub` and `mul` have the coefficients of the sum, the difference and the product, `derive`
-//! those of the scaled derivative by one variable, `derive_by` by several; `value_at` is the value of a scaled derivative on a row,
-//! without forming it. `weight` and `heft` are weighted sums. `mul_within` is `mul` where the product has no more terms than are
-//! wanted, or none where it has more.
+//! than 1,024 terms. `add`, `sum` and `sub` have the coefficients of the sum and the difference, `mul_within` those of the product, or
+//! none where it has more terms than are wanted; `derive` has those of the scaled derivative by one variable, `derive_by` by several;
+//! `value_at` is the value of a scaled derivative on a row, without forming it. `weight` and `heft` are weighted sums.
 #![tactic(auto)]
 
 pub mod arithmetic;
@@ -13,6 +12,7 @@ pub mod binomials;
 pub mod derivatives;
 pub mod expansion;
 pub mod fields;
+pub mod key;
 pub mod leaf;
 pub mod merge;
 pub mod packed;
@@ -25,7 +25,7 @@ pub mod values;
 pub mod weights;
 pub mod within;
 
-pub use arithmetic::{add, mul, negated, sub};
+pub use arithmetic::{add, negated, sub};
 pub use binomials::Binomials;
 pub use derivatives::{derive, derive_by};
 pub use expansion::{PolyStop, normal};

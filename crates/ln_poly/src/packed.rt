@@ -1,89 +1,117 @@
 //! Products of polynomials by the numbers of their monomials, in memory that is kept from product to product.
-ghost use Rattle.std.specs.Prelude.{◌≡◌, ℕ, ◌+◌, ◌-◌, ◌*◌, ◌<◌, ◌≤◌, ◌^◌, ◌++◌, ◌+ℤ◌, ◌*ℤ◌, take, drop, length, min, All, unsigned_abs};
+ghost use Rattle.std.specs.Prelude.{◌≡◌, ◌+◌, ◌-◌, ◌*◌, ◌/◌, ◌<◌, ◌≤◌, ◌^◌, ◌++◌, ◌+ℤ◌, ◌*ℤ◌, take, drop, length, min, All, unsigned_abs};
 ghost use Rattle.std.specs.Prelude.{IfNone, IfOk, IfSome, OnOk};
-ghost use Rattle.ln_poly.specs.Keyed.{AreAllProducts, AreAscending, HaveFactors, IsGivenUp, IsMerge, Keyed, row, weight_of};
+ghost use Rattle.ln_poly.specs.Keyed.{AreAllProducts, IsGivenUp, IsMerge, Keyed, ProductsFit, row, weight_of};
 ghost use Rattle.ln_poly.specs.Packed.{ArePackable, weights};
 ghost use Rattle.ln_poly.specs.Rows.{IsRows};
 ghost use Rattle.ln_poly.specs.Sparse.{IsPoly, size_of};
 ghost use Rattle.ln_poly.specs.Within.{TakesMore};
+ghost use Rattle.ln_poly.specs.Words.{half};
 
 use crate::fields::Fields;
+use crate::key::Key;
 use crate::poly::Poly;
 use crate::within::{ROWS, are_too_many, end_of};
 use ln_base::{NoMemory, Seq};
 use std::alloc::Global;
 
-/// The memory for the rows that are merged at once. It grows to what the largest product needs.
+/// The memory for the rows that are merged at once, with numbers of N words. It grows to what the largest product needs.
+#[derive(Drop)]
+pub(crate) struct Buffers<const N: usize> {
+    out: Vec<(Key<N>, i128)>,
+    aside: Vec<(Key<N>, i128)>,
+}
+
+impl<const N: usize> Buffers<N> {
+    // No memory yet.
+    fn new(alloc: Global) -> Buffers<N> {
+        Buffers {
+            out: Vec::new(alloc),
+            aside: Vec::new(alloc),
+        }
+    }
+
+    // Grows to so many times as many terms as g has.
+    fn grow(&mut self, alloc: Global, times: usize, g: &[(Key<N>, i128)]) -> Result<(), NoMemory>
+        requires { times * length g.now < 2 ^ 64 }
+        ensures out { OnOk result (times * length g.now ≤ length self.new.out.items) }
+        ensures aside { OnOk result (times * length g.now ≤ length self.new.aside.items) }
+    {
+        grow(alloc, &mut self.out, times * g.len())?;
+        grow(alloc, &mut self.aside, times * g.len())?;
+        Ok(())
+    }
+}
+
+/// The memory for products of each width, which grows where one is made.
 #[derive(Drop)]
 pub(crate) struct Room {
-    out: Vec<(u128, i128)>,
-    aside: Vec<(u128, i128)>,
+    pub(crate) one: Buffers<1>,
+    pub(crate) three: Buffers<3>,
+    pub(crate) ten: Buffers<10>,
+    pub(crate) fifteen: Buffers<15>,
 }
 
 impl Room {
     /// No memory yet.
     pub(crate) fn new(alloc: Global) -> Room {
         Room {
-            out: Vec::new(alloc),
-            aside: Vec::new(alloc),
+            one: Buffers::new(alloc),
+            three: Buffers::new(alloc),
+            ten: Buffers::new(alloc),
+            fifteen: Buffers::new(alloc),
         }
-    }
-
-    // Grows to as many terms.
-    fn grow(&mut self, alloc: Global, size: usize) -> Result<(), NoMemory>
-        ensures out { OnOk result (size ≤ length self.new.out.items) }
-        ensures aside { OnOk result (size ≤ length self.new.aside.items) }
-    {
-        grow(alloc, &mut self.out, size)?;
-        grow(alloc, &mut self.aside, size)?;
-        Ok(())
     }
 }
 
 // Grows a list to as many terms.
-fn grow(alloc: Global, list: &mut Vec<(u128, i128)>, size: usize) -> Result<(), NoMemory>
+fn grow<const N: usize>(
+    alloc: Global,
+    list: &mut Vec<(Key<N>, i128)>,
+    size: usize,
+) -> Result<(), NoMemory>
     ensures { OnOk result (size ≤ length list.new.items) }
 {
     if size <= list.len() {
         return Ok(());
     }
-    *list = vec![in alloc; (0u128, 0i128); size]?;
+    *list = vec![in alloc; (Key::zero(), 0i128); size]?;
     Ok(())
 }
 
 // The sum of the factors of two terms.
-fn sum_of(s: (u128, i128), t: (u128, i128)) -> i128
-    requires { unsigned_abs s.1 + unsigned_abs t.1 < 2 ^ 127 }
-    ensures { result ≡ s.1 +ℤ t.1 }
+fn sum_of<const N: usize>(s: &(Key<N>, i128), t: &(Key<N>, i128)) -> i128
+    requires { unsigned_abs s.now.1 + unsigned_abs t.now.1 < 2 ^ 127 }
+    ensures { result ≡ s.now.1 +ℤ t.now.1 }
 {
     s.1 + t.1
 }
 
 // Their product.
-fn product_of(s: (u128, i128), t: (u128, i128)) -> i128
-    requires { unsigned_abs (s.1 *ℤ t.1) < 2 ^ 127 }
-    ensures { result ≡ s.1 *ℤ t.1 }
+fn product_of<const N: usize>(s: &(Key<N>, i128), t: &(Key<N>, i128)) -> i128
+    requires { unsigned_abs (s.now.1 *ℤ t.now.1) < 2 ^ 127 }
+    ensures { result ≡ s.now.1 *ℤ t.now.1 }
 {
     s.1 * t.1
 }
 
 // Writes the products of s with the terms of g, in their order.
-fn put_row(out: &mut [(u128, i128)], s: (u128, i128), g: &[(u128, i128)])
+fn put_row<const N: usize>(out: &mut [(Key<N>, i128)], s: &(Key<N>, i128), g: &[(Key<N>, i128)])
     requires long { length g.now ≤ length out.old }
-    requires low { s.0 < 2 ^ 127 }
-    requires low_all { All (λ t. t.0 < 2 ^ 127) g.now }
-    requires room { unsigned_abs s.1 * weight_of g.now < 2 ^ 127 }
-    ensures row { take (length g.now) out.new ≡ row s g.now }
+    requires low { s.now.0 < half N }
+    requires low_all { All (λ t. t.0 < half N) g.now }
+    requires room { unsigned_abs s.now.1 * weight_of g.now < 2 ^ 127 }
+    ensures row { take (length g.now) out.new ≡ row s.now g.now }
     ensures long { length out.new ≡ length out.old }
 {
     'terms: for i in 0..g.len() {
-        let t = g[i];
-        out[i] = (s.0 + t.0, product_of(s, t));
+        let t = &g[i];
+        out[i] = (s.0.sum(&t.0), product_of(s, t));
     }
 }
 
 // Writes the terms of a list from a place on.
-fn put_rest(out: &mut [(u128, i128)], at: usize, f: &[(u128, i128)])
+fn put_rest<const N: usize>(out: &mut [(Key<N>, i128)], at: usize, f: &[(Key<N>, i128)])
     requires { at + length f.now ≤ length out.old }
     ensures rest { take (at + length f.now) out.new ≡ take at out.old ++ f.now }
     ensures long { length out.new ≡ length out.old }
@@ -92,7 +120,11 @@ fn put_rest(out: &mut [(u128, i128)], at: usize, f: &[(u128, i128)])
 }
 
 // Writes the terms of two lists in order, merged: like ones are added, zeros are left out. Returns how many there are.
-fn merge(out: &mut [(u128, i128)], f: &[(u128, i128)], g: &[(u128, i128)]) -> usize
+fn merge<const N: usize>(
+    out: &mut [(Key<N>, i128)],
+    f: &[(Key<N>, i128)],
+    g: &[(Key<N>, i128)],
+) -> usize
     requires long { length f.now + length g.now ≤ length out.old }
     requires room { weight_of f.now + weight_of g.now < 2 ^ 127 }
     ensures merge { IsMerge f.now g.now (take result out.new) }
@@ -105,19 +137,19 @@ fn merge(out: &mut [(u128, i128)], f: &[(u128, i128)], g: &[(u128, i128)]) -> us
     'both: while i < f.len() && j < g.len() {
         let s = f[i];
         let t = g[j];
-        if s.0 < t.0 {
+        if s.0.is_below(&t.0) {
             out[k] = s;
             k += 1;
             i += 1;
             continue;
         }
-        if t.0 < s.0 {
+        if t.0.is_below(&s.0) {
             out[k] = t;
             k += 1;
             j += 1;
             continue;
         }
-        let c = sum_of(s, t);
+        let c = sum_of(&s, &t);
         i += 1;
         j += 1;
         if c != 0 {
@@ -131,72 +163,98 @@ fn merge(out: &mut [(u128, i128)], f: &[(u128, i128)], g: &[(u128, i128)]) -> us
     k + n + (g.len() - j)
 }
 
+// Writes the products of at most one term with those of g. Returns how many there are.
+fn one_row<const N: usize>(
+    out: &mut [(Key<N>, i128)],
+    f: &[(Key<N>, i128)],
+    g: &[(Key<N>, i128)],
+) -> usize
+    requires short { length f.now < 2 }
+    requires long { length f.now * length g.now ≤ length out.old }
+    requires fit { ProductsFit (half N) f.now g.now }
+    ensures products { AreAllProducts (take result out.new) f.now g.now }
+    ensures few { result ≤ length f.now * length g.now }
+    ensures long { length out.new ≡ length out.old }
+{
+    if f.is_empty() {
+        return 0;
+    }
+    put_row(out, &f[0], g);
+    g.len()
+}
+
+// Both halves of the terms of f, and how many products the first has with the terms of g.
+fn halves<'a, const N: usize>(
+    f: &'a [(Key<N>, i128)],
+    g: &[(Key<N>, i128)],
+) -> (&'a [(Key<N>, i128)], &'a [(Key<N>, i128)], usize)
+    requires several { 2 ≤ length f.now }
+    requires long { length f.now * length g.now < 2 ^ 64 }
+    requires fit { ProductsFit (half N) f.now g.now }
+    ensures whole { f.now ≡ result.0.now ++ result.1.now }
+    ensures first_shorter { length result.0.now < length f.now }
+    ensures second_shorter { length result.1.now < length f.now }
+    ensures first_fit { ProductsFit (half N) result.0.now g.now }
+    ensures second_fit { ProductsFit (half N) result.1.now g.now }
+    ensures split { result.2 ≡ length result.0.now * length g.now }
+    ensures rows { length f.now * length g.now ≡ result.2 + length result.1.now * length g.now }
+{
+    let k = f.len() / 2;
+    (&f[..k], &f[k..], k * g.len())
+}
+
 // Writes the products of the terms of f with those of g: a row for each term of f, and the rows merged, two halves at a time. Returns how
 // many there are.
-fn products(
-    out: &mut [(u128, i128)],
-    aside: &mut [(u128, i128)],
-    f: &[(u128, i128)],
-    g: &[(u128, i128)],
+fn products<const N: usize>(
+    out: &mut [(Key<N>, i128)],
+    aside: &mut [(Key<N>, i128)],
+    f: &[(Key<N>, i128)],
+    g: &[(Key<N>, i128)],
 ) -> usize
     requires long { length f.now * length g.now ≤ length out.old }
     requires long_aside { length f.now * length g.now ≤ length aside.old }
-    requires low { All (λ t. t.0 < 2 ^ 127) f.now }
-    requires low_all { All (λ t. t.0 < 2 ^ 127) g.now }
-    requires room { weight_of f.now * weight_of g.now < 2 ^ 127 }
-    requires factors { HaveFactors f.now }
-    requires right { HaveFactors g.now }
-    requires ascending { AreAscending g.now }
+    requires fit { ProductsFit (half N) f.now g.now }
     ensures products { AreAllProducts (take result out.new) f.now g.now }
     ensures few { result ≤ length f.now * length g.now }
     ensures long { length out.new ≡ length out.old }
     ensures long_aside { length aside.new ≡ length aside.old }
 {
-    if f.is_empty() {
-        return 0;
+    if f.len() < 2 {
+        return one_row(out, f, g);
     }
-    if f.len() == 1 {
-        put_row(out, f[0], g);
-        return g.len();
-    }
-    let k = f.len() / 2;
-    let half = k * g.len();
-    let (low, high) = aside.split_at_mut(half);
-    let (front, back) = out.split_at_mut(half);
-    let n = products(low, front, &f[..k], g);
-    let m = products(high, back, &f[k..], g);
+    let (first, second, split) = halves(f, g);
+    let (low, high) = aside.split_at_mut(split);
+    let (front, back) = out.split_at_mut(split);
+    let n = products(low, front, first, g);
+    let m = products(high, back, second, g);
     merge(out, &low[..n], &high[..m])
 }
 
 // What there is of the first rows, with the next ones.
-fn with_rows(
+fn with_rows<const N: usize>(
     alloc: Global,
-    room: &mut Room,
-    done: &[(u128, i128)],
-    f: &[(u128, i128)],
-    g: &[(u128, i128)],
-) -> Result<Vec<(u128, i128)>, NoMemory>
+    room: &mut Buffers<N>,
+    done: &[(Key<N>, i128)],
+    f: &[(Key<N>, i128)],
+    g: &[(Key<N>, i128)],
+) -> Result<Vec<(Key<N>, i128)>, NoMemory>
     requires long { length f.now * length g.now ≤ length room.old.out.items }
     requires long_aside { length f.now * length g.now ≤ length room.old.aside.items }
-    requires low { All (λ t. t.0 < 2 ^ 127) f.now }
-    requires low_all { All (λ t. t.0 < 2 ^ 127) g.now }
+    requires fit { ProductsFit (half N) f.now g.now }
     requires room { weight_of done.now + weight_of f.now * weight_of g.now < 2 ^ 127 }
-    requires factors { HaveFactors f.now }
-    requires right { HaveFactors g.now }
-    requires ascending { AreAscending g.now }
     ensures rows { IfOk result (λ h. (e : Keyed) → AreAllProducts done.now e g.now → AreAllProducts h.items (e ++ f.now) g.now) }
     ensures long { length room.new.out.items ≡ length room.old.out.items }
     ensures long_aside { length room.new.aside.items ≡ length room.old.aside.items }
 {
     let n = products(&mut room.out, &mut room.aside, f, g);
-    let mut out = vec![in alloc; (0u128, 0i128); done.len() + n]?;
+    let mut out = vec![in alloc; (Key::zero(), 0i128); done.len() + n]?;
     let k = merge(&mut out, done, &room.out[..n]);
     out.truncate(k);
     Ok(out)
 }
 
 // Some terms of a list.
-fn between(f: &[(u128, i128)], i: usize, j: usize) -> &[(u128, i128)]
+fn between<const N: usize>(f: &[(Key<N>, i128)], i: usize, j: usize) -> &[(Key<N>, i128)]
     requires order { i ≤ j }
     requires within { j ≤ length f.now }
     ensures { result.now ≡ take (j - i) (drop i f.now) }
@@ -205,24 +263,20 @@ fn between(f: &[(u128, i128)], i: usize, j: usize) -> &[(u128, i128)]
 }
 
 // The products of the terms of f with those of g, 64 terms of f at a time, where there are at most `most`.
-fn parts_of(
+fn parts_of<const N: usize>(
     alloc: Global,
-    room: &mut Room,
-    f: &[(u128, i128)],
-    g: &[(u128, i128)],
+    room: &mut Buffers<N>,
+    f: &[(Key<N>, i128)],
+    g: &[(Key<N>, i128)],
     most: usize,
-) -> Result<Option<Vec<(u128, i128)>>, NoMemory>
-    requires low { All (λ t. t.0 < 2 ^ 127) f.now }
-    requires low_all { All (λ t. t.0 < 2 ^ 127) g.now }
-    requires room { weight_of f.now * weight_of g.now < 2 ^ 127 }
-    requires factors { HaveFactors f.now }
-    requires right { HaveFactors g.now }
-    requires ascending { AreAscending g.now }
+) -> Result<Option<Vec<(Key<N>, i128)>>, NoMemory>
+    requires short { length g.now * 32 < 2 ^ 63 }
+    requires fit { ProductsFit (half N) f.now g.now }
     ensures products { IfOk result (λ o. IfSome o (λ h. AreAllProducts h.items f.now g.now)) }
     ensures few { IfOk result (λ o. IfSome o (λ h. length h.items ≤ most)) }
     ensures none { IfOk result (λ o. IfNone o (IsGivenUp f.now g.now most)) }
 {
-    room.grow(alloc, f.len().min(ROWS) * g.len())?;
+    room.grow(alloc, f.len().min(ROWS), g)?;
     let mut done = Vec::new(alloc);
     let mut i = 0;
     'parts: while i < f.len() {
@@ -238,16 +292,16 @@ fn parts_of(
 }
 
 /// The product of two polynomials in these fields, with a row for each term of the first, where it has at most `most` terms.
-pub(crate) fn product(
+pub(crate) fn product<const N: usize>(
     alloc: Global,
-    room: &mut Room,
-    fields: &Fields,
+    room: &mut Buffers<N>,
+    fields: &Fields<N>,
     f: &Poly,
     g: &Poly,
     most: usize,
 ) -> Result<Option<Poly>, NoMemory>
     requires room { size_of f.now * size_of g.now < 2 ^ 127 }
-    requires fields { ArePackable (weights fields.now.shifts) (2 ^ 127) f.now g.now }
+    requires fields { ArePackable (weights fields.now.shifts) (half N) f.now g.now }
     ensures rows { IfOk result (λ o. IfSome o (λ h. IsRows h f.now g.now (length f.now))) }
     ensures form { IfOk result (λ o. IfSome o IsPoly) }
     ensures few { IfOk result (λ o. IfSome o (λ h. length h ≤ most)) }

@@ -1,11 +1,10 @@
 //! Computes the exponents of the product of two monomials.
-ghost use Rattle.std.specs.Prelude.{◌≡◌, ℕ, ◌+◌, ◌++◌, ◌<◌, IfOk, length, slice_index_or, true};
+ghost use Rattle.std.specs.Prelude.{◌≡◌, ℕ, ◌+◌, ◌++◌, ◌<◌, [], OnOk, length, slice_index_or, true};
 ghost use Rattle.ln_tree.specs.Exps.{IsRising, exponent};
 ghost use Rattle.ln_poly.specs.Times.{AreLow, IsPicked, MayPick};
 
 use ln_base::NoMemory;
 use ln_tree::Exps;
-use std::alloc::Global;
 
 // The pair of the lowest variable, and the places after it in two lists.
 #[derive(Clone, Copy)]
@@ -76,28 +75,32 @@ fn are_low(a: &[(u8, u8)], b: &[(u8, u8)]) -> bool
     a[n - 1].0 < b[0].0
 }
 
-// The pairs of the second after those of the first.
-fn behind(a: &Exps, b: &[(u8, u8)]) -> Result<Exps, NoMemory>
+// Writes the pairs of the second after those of the first.
+fn behind(out: &mut Exps, a: &Exps, b: &[(u8, u8)]) -> Result<(), NoMemory>
+    requires empty { out.old ≡ [] }
     requires low { AreLow a.now b.now }
     requires rising { IsRising b.now }
-    ensures { IfOk result (λ e. e ≡ a.now ++ b.now) }
+    ensures pairs { OnOk result (out.new ≡ a.now ++ b.now) }
+    ensures rising { OnOk result (IsRising out.new) }
 {
-    let mut out = a.copy()?;
+    out.append(a.pairs())?;
     'pairs: for p in b {
         out.push(p.0, p.1)?;
     }
-    Ok(out)
+    // The contract of `pairs` states that they rise.
+    let _pairs = out.pairs();
+    Ok(())
 }
 
-// The pairs of both, merged.
-fn merged(alloc: Global, a: &[(u8, u8)], b: &[(u8, u8)]) -> Result<Exps, NoMemory>
+// Writes the pairs of both, merged.
+fn merged(out: &mut Exps, a: &[(u8, u8)], b: &[(u8, u8)]) -> Result<(), NoMemory>
+    requires empty { out.old ≡ [] }
     requires left { IsRising a.now }
     requires right { IsRising b.now }
     requires small { (v : ℕ) → exponent v a.now + exponent v b.now < 128 }
-    ensures exponents { IfOk result (λ e. (v : ℕ) → exponent v e ≡ exponent v a.now + exponent v b.now) }
-    ensures rising { IfOk result IsRising }
+    ensures exponents { OnOk result ((v : ℕ) → exponent v out.new ≡ exponent v a.now + exponent v b.now) }
+    ensures rising { OnOk result (IsRising out.new) }
 {
-    let mut out = Exps::new(alloc);
     let mut i = 0;
     let mut j = 0;
     'pairs: while i < a.len() || j < b.len() {
@@ -106,26 +109,26 @@ fn merged(alloc: Global, a: &[(u8, u8)], b: &[(u8, u8)]) -> Result<Exps, NoMemor
         i = p.i;
         j = p.j;
     }
-    Ok(out)
+    Ok(())
 }
 
-/// The exponents of the product of two monomials. Where the variables of one are all below those of the other, it is a copy with the other's
-/// pairs appended.
-pub fn times(alloc: Global, a: &Exps, b: &Exps) -> Result<Exps, NoMemory>
-    requires { (v : ℕ) → exponent v a.now + exponent v b.now < 128 }
-    ensures exponents { IfOk result (λ e. (v : ℕ) → exponent v e ≡ exponent v a.now + exponent v b.now) }
-    ensures rising { IfOk result IsRising }
+/// Writes the exponents of the product of two monomials where none are: in place, since a list that is moved after its bytes are written takes
+/// half the time again. Where the variables of one are all below those of the other, they are a copy with the other's pairs appended.
+pub fn put_times(out: &mut Exps, a: &Exps, b: &Exps) -> Result<(), NoMemory>
+    requires empty { out.old ≡ [] }
+    requires small { (v : ℕ) → exponent v a.now + exponent v b.now < 128 }
+    ensures exponents { OnOk result ((v : ℕ) → exponent v out.new ≡ exponent v a.now + exponent v b.now) }
+    ensures rising { OnOk result (IsRising out.new) }
 {
     let first = a.pairs();
     let second = b.pairs();
     if are_low(first, second) {
-        let out = behind(a, second)?;
-        return Ok(out);
+        behind(out, a, second)?;
+        return Ok(());
     }
     if are_low(second, first) {
-        let out = behind(b, first)?;
-        return Ok(out);
+        behind(out, b, first)?;
+        return Ok(());
     }
-    let out = merged(alloc, first, second)?;
-    Ok(out)
+    merged(out, first, second)
 }

@@ -2,17 +2,15 @@
 ghost use Rattle.std.specs.Prelude.{◌≡◌, ℕ, List, ◌+◌, ◌-◌, ◌*◌, ◌<◌, ◌≤◌, ◌^◌, ◌↔◌};
 ghost use Rattle.std.specs.Prelude.{All, IfOk, IfSome, IfNone, IsTrue, length};
 ghost use Rattle.ln_algebra.specs.Coefficient.{product};
-ghost use Rattle.ln_poly.specs.Sparse.{IsFactor, IsPoly, AreBelow, coefficient_at, size_of};
+ghost use Rattle.ln_poly.specs.Sparse.{IsPoly, AreBelow, coefficient_at, size_of};
 ghost use Rattle.ln_poly.specs.Rows.{IsRows, PowersFit};
 ghost use Rattle.ln_poly.specs.Within.{TakesMore};
 
-use crate::arithmetic::{between, products};
+use crate::arithmetic::walk;
 use crate::fields::{Fields, largest};
-use crate::packed::{Room, product as packed_product};
+use crate::packed::{Room, product as product_in};
 use crate::poly::Poly;
-use crate::sums::sum;
-use ln_base::{NoMemory, Seq};
-use ln_tree::Exps;
+use ln_base::NoMemory;
 use std::alloc::Global;
 
 // As many terms of the first polynomial are multiplied at once.
@@ -31,33 +29,6 @@ pub(crate) fn end_of(i: usize, n: usize) -> usize
     i + ROWS
 }
 
-// What there is of the first i rows, with the rows from there up to j.
-fn with_rows(
-    alloc: Global,
-    done: Poly,
-    f: &[(Exps, i128)],
-    g: &[(Exps, i128)],
-    i: usize,
-    j: usize,
-) -> Result<Poly, NoMemory>
-    requires room { size_of f.now * size_of g.now < 2 ^ 127 }
-    requires powers { All (λ s. PowersFit s g.now) f.now }
-    requires factors { All (λ s. IsFactor s.1) f.now }
-    requires form { IsPoly g.now }
-    requires order { i ≤ j }
-    requires within { j ≤ length f.now }
-    requires done { IsRows done f.now g.now i }
-    ensures { IfOk result (λ h. IsRows h f.now g.now j) }
-{
-    let rows = between(f, i, j);
-    let more = products(alloc, rows, g)?;
-    if done.is_zero() {
-        return Ok(more);
-    }
-    let h = sum(alloc, done, &more)?;
-    Ok(h)
-}
-
 // Do more than `most` of the terms stay, whatever the remaining rows take away? Each row has `width` terms.
 pub(crate) fn are_too_many(terms: usize, left: usize, width: usize, most: usize) -> bool
     ensures { IsTrue result ↔ (most + left * width < terms) }
@@ -65,8 +36,9 @@ pub(crate) fn are_too_many(terms: usize, left: usize, width: usize, most: usize)
     terms.saturating_sub(most) > left.saturating_mul(width)
 }
 
-// The product of two polynomials, with a row for each term of the first, where it has at most `most` terms.
-fn parts_of(alloc: Global, f: &Poly, g: &Poly, most: usize) -> Result<Option<Poly>, NoMemory>
+// The product of a polynomial of one term and another, where it has at most `most` terms.
+fn row_within(alloc: Global, f: &Poly, g: &Poly, most: usize) -> Result<Option<Poly>, NoMemory>
+    requires one { length f.now ≡ 1 }
     requires room { size_of f.now * size_of g.now < 2 ^ 127 }
     requires powers { All (λ s. PowersFit s g.now) f.now }
     ensures rows { IfOk result (λ o. IfSome o (λ h. IsRows h f.now g.now (length f.now))) }
@@ -74,28 +46,15 @@ fn parts_of(alloc: Global, f: &Poly, g: &Poly, most: usize) -> Result<Option<Pol
     ensures few { IfOk result (λ o. IfSome o (λ h. length h ≤ most)) }
     ensures none { IfOk result (λ o. IfNone o (TakesMore f.now g.now most)) }
 {
-    let f = f.terms();
-    let g = g.terms();
-    let mut done = Poly::seal(Seq::new(alloc));
-    let mut i = 0;
-    'parts: while i < f.len() {
-        let j = end_of(i, f.len());
-        let next = with_rows(alloc, done, f, g, i, j)?;
-        done = next;
-        i = j;
-        if are_too_many(done.terms().len(), f.len() - i, g.len(), most) {
-            return Ok(None);
-        }
+    let h = walk(alloc, &f.terms()[0], g.terms())?;
+    if h.terms().len() > most {
+        return Ok(None);
     }
-    Ok(Some(done))
+    Ok(Some(h))
 }
 
-// Are there as many products of two terms that packing takes less time than it saves?
-fn are_worth_it(n: usize, k: usize) -> bool {
-    n > 2 && k > 2 && n.saturating_mul(k) >= 32
-}
-
-// The same by the numbers of monomials, where they pay and fit.
+// The product of two polynomials, with a row for each term of the first, where it has at most `most` terms: by numbers of as few words as
+// fit, unless the first has one term.
 fn rows_within(
     alloc: Global,
     room: &mut Room,
@@ -110,16 +69,24 @@ fn rows_within(
     ensures few { IfOk result (λ o. IfSome o (λ h. length h ≤ most)) }
     ensures none { IfOk result (λ o. IfNone o (TakesMore f.now g.now most)) }
 {
-    if are_worth_it(f.terms().len(), g.terms().len()) {
-        let a = largest(f.terms());
-        let b = largest(g.terms());
-        if let Some(fields) = Fields::of(&a, &b) {
-            let h = packed_product(alloc, room, &fields, f, g, most)?;
-            return Ok(h);
-        }
+    if f.terms().len() == 1 {
+        return row_within(alloc, f, g, most);
     }
-    let h = parts_of(alloc, f, g, most)?;
-    Ok(h)
+    let a = largest(f.terms());
+    let b = largest(g.terms());
+    if let Some(fields) = Fields::<1>::of(&a, &b) {
+        return product_in(alloc, &mut room.one, &fields, f, g, most);
+    }
+    if let Some(fields) = Fields::<3>::of(&a, &b) {
+        return product_in(alloc, &mut room.three, &fields, f, g, most);
+    }
+    if let Some(fields) = Fields::<10>::of(&a, &b) {
+        return product_in(alloc, &mut room.ten, &fields, f, g, most);
+    }
+    match Fields::<15>::of(&a, &b) {
+        Some(fields) => product_in(alloc, &mut room.fifteen, &fields, f, g, most),
+        None => unreachable!(),
+    }
 }
 
 // The same, with a row for each term of the one that has fewer.
@@ -169,10 +136,10 @@ pub(crate) fn mul_in(
 
 /// The product of two polynomials, where it has at most `most` terms; None where it has more.
 ///
-/// The terms of the polynomial with fewer are multiplied 64 at a time. Each product of two terms that is still to come takes away at
-/// most one term of what there is; so None is returned as soon as there are more terms than `most` and those products. Beside the
-/// products of 64 terms, whose rows are merged two halves at a time, at most about half of all products of two terms are held at
-/// once. It takes the time of `mul`, and that of a sum for each 64 terms; a tenth of it where numbers stand for monomials.
+/// The terms of the polynomial with fewer are multiplied 64 at a time, as numbers that stand for monomials. Each product of two terms
+/// that is still to come takes away at most one term of what there is; so None is returned as soon as there are more terms than `most`
+/// and those products. Beside the products of 64 terms, whose rows are merged two halves at a time, at most about half of all products of
+/// two terms are held at once.
 pub fn mul_within(alloc: Global, f: &Poly, g: &Poly, most: usize) -> Result<Option<Poly>, NoMemory>
     requires room { size_of f.now * size_of g.now < 2 ^ 127 }
     requires powers { All (λ s. PowersFit s g.now) f.now }

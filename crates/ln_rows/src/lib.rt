@@ -15,5 +15,5 @@ pub mod rows;
 
 pub use names::{column, header};
 pub use numbers::{NumberStop, number};
-pub use record::{RowStop, fill_row, row};
+pub use record::{RowStop, field, fill_row, row};
 pub use rows::Rows;

@@ -28,8 +28,8 @@ pub enum RowStop {
     Index(u8),
 }
 
-// The field at a place, empty past the last one.
-fn field(fields: &ByteRecord, at: usize) -> &[u8]
+/// The field at a place, empty past the last one.
+pub fn field(fields: &ByteRecord, at: usize) -> &[u8]
     ensures { result.now ≡ slice_index_or (fields_of fields.now) at [] }
 {
     match fields.get(at) {

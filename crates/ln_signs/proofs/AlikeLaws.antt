@@ -7,10 +7,11 @@ use Rattle.std.proofs.lemmas.List.{drop_all}
 use Rattle.ln_tree.specs.declared.items.Arg.{Arg}
 use Rattle.ln_tree.specs.declared.pred.Pred.{Pred}
 use Rattle.ln_tree.specs.Table.{PredOf, arg_of, pred_of}
+use Rattle.ln_parse.proofs.ReadBack.InputsThere.{at_place}
 use Rattle.ln_signs.specs.Alike.{like_first, same_arg, same_args}
 use Rattle.ln_frame.specs.Ready.{AreNumbered}
 use Rattle.ln_frame.proofs.Outcomes.{some_same}
-use Rattle.ln_frame.proofs.FindLaws.{there_at, within_at, same_at}
+use Rattle.ln_frame.proofs.FindLaws.{within_at, same_at}
 
 and_none : (a b : Bool) → b ≡ false → false ≡ (a && b)
 and_none true b e = sym e
@@ -82,7 +83,7 @@ test_is preds (n ∷ ns) (p0 ∷ rest) i args r num f h l =
     let p = f.pred in
     let pi = f.pred_is in
     let t = numbered_at (map pred_of preds) (n ∷ ns) (p0 ∷ rest) i num l in
-    let q = there_at preds (slice_index_or (n ∷ ns) i 0) (within_at preds (slice_index_or (n ∷ ns) i 0) t.0 t.1) in
+    let q = at_place preds (slice_index_or (n ∷ ns) i 0) (within_at preds (slice_index_or (n ∷ ns) i 0) t.0 t.1) in
     let d : t.0 ≡ pred_of q.0 = same_at preds (slice_index_or (n ∷ ns) i 0) q.0 t.0 q.1 t.1 in
     let is : slice_get (map pred_of preds) first ≡ Some p0 = subst (λ m. slice_get (map pred_of preds) m ≡ Some p0)
     (sym (some_same first n f.number_is)) num.0 in

@@ -8,13 +8,14 @@ use Rattle.std.proofs.Math.Nat.{min-eq_left}
 use Rattle.std.specs.Prelude.{remove}
 use Rattle.ln_base.specs.Outside.{Shown, appended}
 use Rattle.ln_base.specs.declared.outside.Port.{Port}
+use Rattle.ln_base.proofs.Kept.{appended-twice}
 use Rattle.ln_code.specs.declared.verdict.Verdict.{Verdict}
 use Rattle.ln_watch.specs.declared.watch.Keep.{Keep}
 use Rattle.ln_watch.specs.declared.watch.Keep.TheVariants.{Stay, Done}
 use Rattle.ln_watch.specs.Fold.{tally_after, keep_after, watch_text}
 use Rattle.ln_watch.specs.Panel.{State, states_of, state_after, answer, feed, line_of, left_of, said_of, left_after, lines_at}
 use Rattle.ln_watch.specs.Panel.{last_lines, FailsAfter, StopsAt}
-use Rattle.ln_signs.proofs.PutLemmas.{appended_twice, fails_first, fails_behind}
+use Rattle.ln_signs.proofs.PutLemmas.{fails_first, fails_behind}
 use Rattle.ln_frame.proofs.Loops.{Streams}
 
 -- the states of one list of watchers followed by another are those of both
@@ -181,7 +182,7 @@ leaves {w = w} {d = d} {from = from} {now = now} {next = next} {i = i} k s t p c
       split = rw back (with-one w (states_in w from.items) k.seen s.place k.split);
       left = rw (front, left-append, none, append-nil) k.left;
       puts =
-          p ∙ rw (taken-line s t, k.puts, lines-append, one) (appended_twice d.port (lines_at d.row d.verdict k.seen)
+          p ∙ rw (taken-line s t, k.puts, lines-append, one) (appended-twice d.port (lines_at d.row d.verdict k.seen)
           (line_of (state_after d.row d.verdict st)) from.streams.shown);
       fine = c ∙ k.fine;
       within = omega (arith, ap length parts, length-append (take i items) (drop (i + 1) items), size);
@@ -228,7 +229,7 @@ closes {w = w} {port = port} {items = items} {here = here} {was = was} k p n =
       seen = k.seen ++ st ∷ [];
       split = with-one w (states_in w items) k.seen p k.split;
       puts =
-          n.0 ∙ ap (appended port (line_of st)) k.puts ∙ appended_twice port (last_lines k.seen) (line_of st) was.shown
+          n.0 ∙ ap (appended port (line_of st)) k.puts ∙ appended-twice port (last_lines k.seen) (line_of st) was.shown
           ∙ ap (λ q. appended port q was.shown) (sym (last-one k.seen st));
       fine = n.1 ∙ k.fine;
     }

@@ -31,8 +31,10 @@ use Rattle.ln_poly.proofs.Expansions.Existing.{tree-normal}
 use Rattle.ln_poly.specs.Expansion.{IsNormal}
 use Rattle.ln_poly.specs.Sparse.{AreRising, Sparse, terms_of}
 use Rattle.ln_stage.proofs.Monomials.MonomialLemmas.{vector-small}
-use Rattle.ln_stage.proofs.Walks.PairsLemmas.{above-pairs, pairs-above, vector-pairs_of}
-use Rattle.ln_stage.specs.Tally.{pairs_from, pairs_of}
+use Rattle.ln_poly.specs.Packed.{pairs_from}
+use Rattle.ln_poly.proofs.TermLists.Vectors.{pairs-all-above}
+use Rattle.ln_stage.proofs.Walks.PairsLemmas.{above-pairs, vector-pairs_of}
+use Rattle.ln_stage.specs.Tally.{pairs_of}
 use Rattle.ln_code.specs.Carried as carried
 use Rattle.ln_code.specs.Lists.{IsListOf, list_of}
 use Rattle.ln_code.specs.Part.{Part}
@@ -84,7 +86,7 @@ in-small n (t ∷ f) m v r (inr i) = in-small n f m v (All-tail (λ u. IsRising 
 rising-from : (v : ℕ) (p : List ℕ) → ((w : ℕ) → get_or p w 0 < 128) → IsRising (pairs_from v p)
 rising-from v [] h = tt
 rising-from v (zero ∷ p) h = rising-from (suc v) p (λ w. h (suc w))
-rising-from v (suc e ∷ p) h = (omega arith, h 0, pairs-above v (suc v) p (omega arith), rising-from (suc v) p (λ w. h (suc w)))
+rising-from v (suc e ∷ p) h = (omega arith, h 0, pairs-all-above v (suc v) p (omega arith), rising-from (suc v) p (λ w. h (suc w)))
 
 -- ---- lines
 -- a vector is in a line by these pairs

@@ -6,7 +6,7 @@ use Rattle.std.proofs.lemmas.Bool.{and_parts}
 use Rattle.std.proofs.lemmas.Bool.Decides.{nat_tests}
 use Rattle.std.proofs.lemmas.List.{length-map}
 use Rattle.std.proofs.lemmas.List.Elements.{All-nil, All-cons, All-head, All-tail}
-use Rattle.std.proofs.lemmas.Option.{none-some}
+use Rattle.std.proofs.lemmas.Option.{none-some, slice_get_within}
 use Rattle.std.proofs.lemmas.Slice.Eq.{bytes_eq-Decides}
 use Rattle.ln_tree.specs.declared.pred.Pred.{Pred}
 use Rattle.ln_tree.specs.declared.shape.VarInfo.{VarInfo}
@@ -18,6 +18,8 @@ use Rattle.ln_tree.specs.Row.{InRange, Row}
 use Rattle.ln_parse.specs.ReadsBack.{Every}
 use Rattle.ln_parse.proofs.ReadBack.NamePlaces.{Differ, NoneIs, same_bytes}
 use Rattle.ln_parse.proofs.Wholes.WholeParts.{PredParts, differing, every, table_parts}
+use Rattle.ln_parse.proofs.Expressions.Found.{get_longer}
+use Rattle.ln_parse.proofs.ReadBack.InputsThere.{every_at, at_place}
 use Rattle.ln_code.specs.declared.scratch.Scratch.{Scratch}
 use Rattle.ln_code.specs.Kept.{IsProgram}
 use Rattle.ln_code.specs.Memory.{MadeFor}
@@ -33,25 +35,10 @@ use Rattle.ln_frame.specs.Ready.{AreNumbered}
 use Rattle.ln_frame.specs.Source.{view}
 use Rattle.ln_frame.specs.Given.{Given}
 use Rattle.ln_frame.proofs.Outcomes.{some_same}
-use Rattle.ln_frame.proofs.FindLaws.{same_at, there_at}
+use Rattle.ln_frame.proofs.FindLaws.{same_at}
 use Rattle.ln_frame.proofs.Likeness.{columns_like}
 
 -- ---- lists
-there_below : {A : Type 0} (xs : List A) (k : ℕ) (x : A) → slice_get xs k ≡ Some x → k < length xs
-there_below [] k x e = absurd (none-some x e)
-there_below (y ∷ ys) zero x e = omega arith
-there_below (y ∷ ys) (suc k) x e = omega (arith, there_below ys k x e)
-
-there_before : {A : Type 0} (xs ys : List A) (k : ℕ) (x : A) → slice_get xs k ≡ Some x → slice_get (xs ++ ys) k ≡ Some x
-there_before [] ys k x e = absurd (none-some x e)
-there_before (y ∷ xs) ys zero x e = e
-there_before (y ∷ xs) ys (suc k) x e = there_before xs ys k x e
-
-every_at : {A : Type 0} (P : A → Type 0) (xs : List A) (k : ℕ) (x : A) → Every P xs → slice_get xs k ≡ Some x → P x
-every_at P [] k x h e = absurd (none-some x e)
-every_at P (y ∷ ys) zero x h e = subst P (some_same y x e) h.0
-every_at P (y ∷ ys) (suc k) x h e = every_at P ys k x h.1 e
-
 take_next : (xs : List ℕ) (n : ℕ) → n < length xs → take (suc n) xs ≡ take n xs ++ slice_index_or xs n 0 ∷ []
 take_next [] n l = absurd (omega (arith, l))
 take_next (x ∷ xs) zero l = refl
@@ -70,7 +57,7 @@ pub stand_grown : (ns ms ks is : List ℕ) → StandAt ns ks is → StandAt (ns 
 stand_grown ns ms [] [] s = tt
 stand_grown ns ms [] (j ∷ is) s = absurd s
 stand_grown ns ms (l ∷ ks) [] s = absurd s
-stand_grown ns ms (l ∷ ks) (j ∷ is) s = (there_before ns ms l j s.0, stand_grown ns ms ks is s.1)
+stand_grown ns ms (l ∷ ks) (j ∷ is) s = (get_longer ns ms l j s.0, stand_grown ns ms ks is s.1)
 
 -- one more number of those that are wanted, at a place of as many numbers or more
 pub stand_next : (old new ks more wanted : List ℕ) (n k : ℕ) → StandAt old ks (take n wanted) → Grows old new
@@ -125,7 +112,7 @@ made_length table (j ∷ ns) (d ∷ cs) a = ap (λ (n : ℕ). suc n) (made_lengt
 pub new_made : (preds : List Pred) (i : ℕ) (c : Part) → i < length preds → IsProgramAt (map pred_of preds) i c → IsProgram c
     → IsMadeOf (map pred_of preds) i c
 new_made preds i c l h k =
-    let t = there_at (map pred_of preds) i (subst (λ (n : ℕ). i < n) (sym (length-map preds pred_of)) l) in
+    let t = at_place (map pred_of preds) i (subst (λ (n : ℕ). i < n) (sym (length-map preds pred_of)) l) in
     record { pred = t.0; there = t.1; carries = h t.0 t.1; kept = k }
 
 places_within : (table : List PredOf) (ns : List ℕ) (cs : List Part) (ks is : List ℕ) → AreMade table ns cs → StandAt ns ks is
@@ -134,7 +121,7 @@ places_within table ns cs [] [] a s = All-nil (λ k. k < length cs)
 places_within table ns cs [] (i ∷ is) a s = absurd s
 places_within table ns cs (k ∷ ks) [] a s = absurd s
 places_within table ns cs (k ∷ ks) (i ∷ is) a s =
-    All-cons (λ (n : ℕ). n < length cs) k ks (subst (λ (n : ℕ). k < n) (made_length table ns cs a) (there_below ns k i s.0))
+    All-cons (λ (n : ℕ). n < length cs) k ks (subst (λ (n : ℕ). k < n) (made_length table ns cs a) (slice_get_within ns k i s.0))
     (places_within table ns cs ks is a s.1)
 
 -- they are those of the predicates with these numbers

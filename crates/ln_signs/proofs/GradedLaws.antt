@@ -1,7 +1,7 @@
 -- `graded`: a predicate with few stages by total degree has a program in that order, with its verdicts.
 use Rattle.std.proofs.Common.{◌≡◌, inl, inr, ℕ, ◌≤◌, ◌<◌, List, [], ◌∷◌, length, map, option_map, refl, ap, sym, ◌∙◌, subst, arith}
-use Rattle.std.proofs.Common.{Some}
-use Rattle.std.specs.Prelude.{IfSome, slice_get, slice_index_or}
+use Rattle.std.proofs.Common.{Some, Ok, Err, None, Result}
+use Rattle.std.specs.Prelude.{IfErr, IfOk, IfSome, slice_get, slice_index_or}
 use Rattle.std.proofs.lemmas.Option.{none-some, same_Some, slice_get-map}
 use Rattle.ln_algebra.specs.Orders.{ByDegree}
 use Rattle.ln_algebra.specs.Terms.{IsNormalOf}
@@ -9,110 +9,103 @@ use Rattle.ln_tree.specs.declared.pred.Pred.{Pred}
 use Rattle.ln_tree.specs.declared.shape.Shape.{Shape}
 use Rattle.ln_tree.specs.declared.shape.VarInfo.{VarInfo}
 use Rattle.ln_tree.specs.Table.{PredOf, pred_of}
+use Rattle.ln_parse.proofs.ReadBack.InputsThere.{at_place}
 use Rattle.ln_poly.specs.Sparse.{Sparse, terms_of}
-use Rattle.ln_stage.specs.Graded.{AreGradedStagesOf}
 use Rattle.ln_stage.specs.Lists.{AreStageListsIn, Passes, stage_count, stage_weight}
-use Rattle.ln_stage.specs.Staged.{Staged, vectors_of}
 use Rattle.ln_stage.proofs.Sights.Members.{lists-one}
-use Rattle.ln_code.specs.Carried.{Carries, CarriesDerivative, CarriesWhole}
+use Rattle.ln_code.specs.Carried.{Carries, CarriesDerivative, CarriesWhole, vectors}
+use Rattle.ln_code.specs.Lists.{lists_of}
 use Rattle.ln_code.specs.Part.{Part}
 use Rattle.ln_compile.specs.Accepted.{root_of}
 use Rattle.ln_compile.specs.Compiled.{IsFilterOf, IsProgramAt, IsProgramOf}
 use Rattle.ln_compile.specs.Filtered.{AnswersFor}
 use Rattle.ln_compile.specs.Polynomial.{IsPolynomialAt, IsPolynomialOf}
-use Rattle.ln_graded.specs.Graded.{Begins, IsGradable, IsGraded}
+use Rattle.ln_graded.specs.Graded.{Begins, IsGradable, IsGraded, IsWithin, StopsFor}
+use Rattle.ln_graded.specs.declared.stop.GradedStop.{GradedStop}
+use Rattle.ln_graded.specs.declared.stop.GradedStop.TheVariants.{NoMemory, Stages}
 use Rattle.ln_graded.proofs.Joining.{all-at}
 use Rattle.ln_verify.proofs.Polynomials.SamePoly.{one-normal}
+use Rattle.ln_frame.specs.declared.stop.Stop.TheVariants.{Tell}
 use Rattle.ln_frame.specs.declared.stop.Why.TheVariants as why
-use Rattle.ln_signs.specs.Graded.{FirstHasFew, HasFewGraded, many_stages}
+use Rattle.ln_signs.specs.Graded.{FirstHasFew, HasFewGraded, KeepsGraded}
+use Rattle.ln_signs.specs.Run.{graded_signature}
 use Rattle.ln_frame.specs.Ready.{AreNumbered}
+use Rattle.ln_frame.specs.Signature.{Refuses}
 use Rattle.ln_frame.specs.Source.{place_at}
-use Rattle.ln_frame.proofs.FindLaws.{same_at, there_at}
+use Rattle.ln_frame.proofs.FindLaws.{same_at}
 
--- ---- few stages
--- lists within both limits pass none, and there are no others
-pub within_none : (s : Shape) (f : Sparse) (st : Staged) → AreGradedStagesOf s.sites s.vars f st
-    → stage_count (vectors_of (length s.vars) st) ≤ 262144 → stage_weight (length s.vars) f (vectors_of (length s.vars) st) ≤ 131072
-    → (lists : List (List (List ℕ))) → AreStageListsIn ByDegree s.sites s.vars f lists → Passes (length s.vars) f 262144 131072 lists → ⊥
-within_none s f st a count heavy lists l p = by_limit p
-  where
-    same : lists ≡ vectors_of (length s.vars) st
-    same = lists-one ByDegree s.sites s.vars f lists (vectors_of (length s.vars) st) s.kept l a.lists
+-- ---- the first of the named predicates
+-- a predicate by its number has few stages, and this program by total degree
+abbrev pub IsFewBy : List PredOf → ℕ → Part → Type 0
+IsFewBy table i q = (p : PredOf) → slice_get table i ≡ Some p → HasFewGraded p × AnswersFor ByDegree p q
 
-    by_limit : Passes (length s.vars) f 262144 131072 lists → ⊥
-    by_limit (inl m) = absurd (omega (arith, m, count, ap stage_count same))
-    by_limit (inr m) = absurd (omega (arith, m, heavy, ap (stage_weight (length s.vars) f) same))
+-- a predicate by its number has too many stages
+abbrev pub IsMany : List PredOf → ℕ → Type 0
+IsMany table i = (p : PredOf) → slice_get table i ≡ Some p → HasFewGraded p → ⊥
 
-few_is : (p : PredOf) (f : Sparse) → IsPolynomialOf p f
-    → ((lists : List (List (List ℕ))) → AreStageListsIn ByDegree p.sites p.vars f lists → Passes (length p.vars) f 262144 131072 lists → ⊥)
-    → HasFewGraded p
-few_is p f o h z =
-    let same : z.poly ≡ f = one-normal (length p.vars) (root_of p) z.poly f z.normal o.normal in
-    h z.lists (subst (λ (g : Sparse). AreStageListsIn ByDegree p.sites p.vars g z.lists) same z.are_lists)
-    (subst (λ (g : Sparse). Passes (length p.vars) g 262144 131072 z.lists) same z.passes)
+-- where none is named, nothing is asked
+pub none_first : (table : List PredOf) (numbers : List ℕ) (preds : List PredOf) → None ≡ slice_get numbers 0
+    → AreNumbered table numbers preds → FirstHasFew preds
+none_first table [] [] e n = tt
+none_first table [] (p ∷ ps) e n = absurd n
+none_first table (j ∷ js) preds e n = absurd (none-some j e)
 
-many_is : (p : PredOf) (f : Sparse) → IsPolynomialOf p f
-    → ((lists : List (List (List ℕ))) × AreStageListsIn ByDegree p.sites p.vars f lists × Passes (length p.vars) f 262144 131072 lists)
-    → HasFewGraded p → ⊥
-many_is p f o s h = h (record { poly = f; normal = o.normal; lists = s.0; are_lists = s.1; passes = s.2 })
-
--- the predicate in memory with this number
-module _ (preds : List Pred) (i : ℕ) (q : Pred) (f : Sparse) (at : slice_get preds i ≡ Some q) (o : IsPolynomialAt (map pred_of preds) i f) where
-  here : slice_get (map pred_of preds) i ≡ Some (pred_of q)
-  here = slice_get-map pred_of preds i ∙ ap (option_map pred_of) at
-
-  -- the polynomial of the predicate with this number is that of the predicate found there
-  pub polynomial_here : IsPolynomialOf (pred_of q) f
-  polynomial_here = o (pred_of q) here
-
-  same : (p : PredOf) → slice_get (map pred_of preds) i ≡ Some p → pred_of q ≡ p
-  same p e = same_Some (pred_of q) p (sym here ∙ e)
-
-  -- where its stage lists by total degree pass no limit, the predicate with this number has few stages
-  pub few_at : ((lists : List (List (List ℕ))) → AreStageListsIn ByDegree q.shape.sites q.shape.vars f lists
-      → Passes (length q.shape.vars) f 262144 131072 lists → ⊥) → (p : PredOf) → slice_get (map pred_of preds) i ≡ Some p → HasFewGraded p
-  few_at h p e = subst HasFewGraded (same p e) (few_is (pred_of q) f polynomial_here h)
-
-  -- where its stage lists by total degree pass a limit, the predicate with this number has too many stages
-  pub many_at : ((lists : List (List (List ℕ))) × AreStageListsIn ByDegree q.shape.sites q.shape.vars f lists
-      × Passes (length q.shape.vars) f 262144 131072 lists) → (p : PredOf) → slice_get (map pred_of preds) i ≡ Some p → HasFewGraded p → ⊥
-  many_at s p e h = many_is (pred_of q) f polynomial_here s (subst HasFewGraded (sym (same p e)) h)
-
--- the first of the named predicates
-some_is : (i j : ℕ) → Some i ≡ Some j → i ≡ j
-some_is i j e = same_Some i j e
+-- and nothing is kept
+pub none_kept : (table : List PredOf) (numbers : List ℕ) → None ≡ slice_get numbers 0 → KeepsGraded table numbers None
+none_kept table [] e = tt
+none_kept table (j ∷ js) e = absurd (none-some j e)
 
 -- where the predicate with the first number has few stages, the first named one has
-pub first_few : (table : List PredOf) (numbers : List ℕ) (i : ℕ) (preds : List PredOf) → Some i ≡ slice_get numbers 0
-    → ((p : PredOf) → slice_get table i ≡ Some p → HasFewGraded p) → AreNumbered table numbers preds → FirstHasFew preds
-first_few table [] i preds e h n = absurd (none-some i (sym e))
-first_few table (j ∷ js) i [] e h n = absurd n
-first_few table (j ∷ js) i (p ∷ ps) e h n = h p (subst (λ k. slice_get table k ≡ Some p) (sym (some_is i j e)) n.0)
+pub few_first : (table : List PredOf) (numbers : List ℕ) (i : ℕ) (q : Part) (preds : List PredOf) → Some i ≡ slice_get numbers 0
+    → IsFewBy table i q → AreNumbered table numbers preds → FirstHasFew preds
+few_first table [] i q preds e h n = absurd (none-some i (sym e))
+few_first table (j ∷ js) i q [] e h n = absurd n
+few_first table (j ∷ js) i q (p ∷ ps) e h n = (h p (subst (λ k. slice_get table k ≡ Some p) (sym (same_Some i j e)) n.0)).0
 
--- where the predicate with the first number has too many stages, the first named one has
-pub first_many : (table : List PredOf) (numbers : List ℕ) (i : ℕ) (preds : List PredOf) → Some i ≡ slice_get numbers 0
-    → ((p : PredOf) → slice_get table i ≡ Some p → HasFewGraded p → ⊥) → AreNumbered table numbers preds → FirstHasFew preds → ⊥
-first_many table [] i preds e h n f = absurd (none-some i (sym e))
-first_many table (j ∷ js) i [] e h n f = absurd n
-first_many table (j ∷ js) i (p ∷ ps) e h n f = h p (subst (λ k. slice_get table k ≡ Some p) (sym (some_is i j e)) n.0) f
+-- and its program is kept
+pub first_kept : (table : List PredOf) (numbers : List ℕ) (i : ℕ) (q : Part) → Some i ≡ slice_get numbers 0 → IsFewBy table i q
+    → KeepsGraded table numbers (Some q)
+first_kept table [] i q e h = absurd (none-some i (sym e))
+first_kept table (j ∷ js) i q e h = λ p a. (h p (subst (λ k. slice_get table k ≡ Some p) (sym (same_Some i j e)) a)).1
 
--- the one named predicate has few stages
-pub few_named : (table : List PredOf) (numbers : List ℕ) (preds : List PredOf) → AreNumbered table numbers preds → 1 ≤ length numbers
-    → FirstHasFew preds → (p : PredOf) → slice_get table (slice_index_or numbers 0 0) ≡ Some p → HasFewGraded p
-few_named table [] preds n l h p e = absurd (omega (arith, l))
-few_named table (i ∷ is) [] n l h p e = absurd n
-few_named table (i ∷ is) (q ∷ qs) n l h p e = subst HasFewGraded (same_Some q p (sym n.0 ∙ e)) h
-
--- ---- the objection
--- the objection of `graded` is at the place of the first predicate that is named
-pub objection_at : (preds : List Pred) (numbers : List ℕ) (i : ℕ) (q : Pred) (bytes : List ℕ) (ps : List PredOf) → Some i ≡ slice_get numbers 0
-    → slice_get preds i ≡ Some q → AreNumbered (map pred_of preds) numbers ps → why.Stages (place_at bytes q.at) ≡ many_stages bytes ps
-objection_at preds [] i q bytes ps e a n = absurd (none-some i (sym e))
-objection_at preds (j ∷ js) i q bytes [] e a n = absurd n
-objection_at preds (j ∷ js) i q bytes (p ∷ ps) e a n =
-    let there : slice_get (map pred_of preds) i ≡ Some p = subst (λ k. slice_get (map pred_of preds) k ≡ Some p) (sym (some_is i j e)) n.0 in
+-- where the predicate with the first number has too many stages, the objection is at the place of the first named one
+pub many_first : (preds : List Pred) (numbers : List ℕ) (i : ℕ) (q : Pred) (bytes : List ℕ) (ps : List PredOf) → Some i ≡ slice_get numbers 0
+    → slice_get preds i ≡ Some q → IsMany (map pred_of preds) i → AreNumbered (map pred_of preds) numbers ps
+    → Refuses graded_signature.suits bytes ps (Tell (why.Stages (place_at bytes q.at)))
+many_first preds [] i q bytes ps e a h n = absurd (none-some i (sym e))
+many_first preds (j ∷ js) i q bytes [] e a h n = absurd n
+many_first preds (j ∷ js) i q bytes (p ∷ ps) e a h n =
+    let there : slice_get (map pred_of preds) i ≡ Some p =
+    subst (λ k. slice_get (map pred_of preds) k ≡ Some p) (sym (same_Some i j e)) n.0 in
     let s : p ≡ pred_of q = same_at preds i q p a there in
-    ap (λ (x : PredOf). why.Stages (place_at bytes x.at)) (sym s)
+    (ap (λ (x : PredOf). why.Stages (place_at bytes x.at)) (sym s), h p there)
+
+-- where a predicate is named, the program that is kept is that of the first number
+pub kept_named : (table : List PredOf) (numbers : List ℕ) (q : Part) → 1 ≤ length numbers → KeepsGraded table numbers (Some q)
+    → (p : PredOf) → slice_get table (slice_index_or numbers 0 0) ≡ Some p → AnswersFor ByDegree p q
+kept_named table [] q l h p e = absurd (omega (arith, l))
+kept_named table (i ∷ is) q l h p e = h p e
+
+-- and there is one
+pub is_kept : (table : List PredOf) (numbers : List ℕ) → 1 ≤ length numbers → KeepsGraded table numbers None → ⊥
+is_kept table [] l h = omega (arith, l)
+is_kept table (i ∷ is) l h = h
+
+-- ---- few stages
+-- stage lists that pass a limit
+abbrev Many : ℕ → List VarInfo → Sparse → Type 0
+Many k vars f = (lists : List (List (List ℕ))) × AreStageListsIn ByDegree k vars f lists × Passes (length vars) f 262144 131072 lists
+
+-- where the lists of a program are within both limits, there are no others that pass one
+within_none : (s : Shape) (f : Sparse) (p q : Part) → IsGraded s f p q → IsWithin s f 262144 131072 q → Many s.sites s.vars f → ⊥
+within_none s f p q g w m = by_limit m.2
+  where
+    same : m.0 ≡ map (vectors q) (lists_of q)
+    same = lists-one ByDegree s.sites s.vars f m.0 (map (vectors q) (lists_of q)) s.kept m.1 g.lists
+
+    by_limit : Passes (length s.vars) f 262144 131072 m.0 → ⊥
+    by_limit (inl l) = absurd (omega (arith, l, w.count, ap stage_count same))
+    by_limit (inr l) = absurd (omega (arith, l, w.weight, ap (stage_weight (length s.vars) f) same))
 
 -- ---- the program
 module _ (p : PredOf) (f : Sparse) (part : Part) (poly : IsPolynomialOf p f) (o : IsProgramOf p part) where
@@ -147,17 +140,20 @@ module _ (p : PredOf) (f : Sparse) (part : Part) (poly : IsPolynomialOf p f) (o 
     short = o.begins.short;
   }
 
-  -- where the predicate has few stages, its lists by total degree pass no limit, over the program's shape as well
-  pub no_passes : HasFewGraded p → (lists : List (List (List ℕ))) → AreStageListsIn ByDegree part.shape.sites part.shape.vars f lists
-      → Passes (length part.shape.vars) f 262144 131072 lists → ⊥
-  no_passes h lists l z = h (record {
-    poly = f;
-    normal = poly.normal;
-    lists = lists;
-    are_lists = subst (λ (vs : List VarInfo). AreStageListsIn ByDegree p.sites vs f lists) o.vars
-        (subst (λ k. AreStageListsIn ByDegree k part.shape.vars f lists) o.sites l);
-    passes = subst (λ (vs : List VarInfo). Passes (length vs) f 262144 131072 lists) o.vars z;
-  })
+  -- lists that pass a limit over the program's shape do so over the predicate's variables
+  many : Many part.shape.sites part.shape.vars f → HasFewGraded p → ⊥
+  many m h =
+      let t : Many p.sites p.vars f =
+      subst (λ k. Many k p.vars f) o.sites (subst (λ (vs : List VarInfo). Many part.shape.sites vs f) o.vars m) in
+      h (record { poly = f; normal = poly.normal; lists = t.0; are_lists = t.1; passes = t.2 })
+
+  -- where the lists of a program by total degree are within both limits, the predicate has few stages
+  few : (q : Part) → IsGraded part.shape f part q → IsWithin part.shape f 262144 131072 q → HasFewGraded p
+  few q g w z =
+      let same : z.poly ≡ f = one-normal (length p.vars) (root_of p) z.poly f z.normal poly.normal in
+      let t : Many p.sites p.vars f = subst (λ (h : Sparse). Many p.sites p.vars h) same (z.lists, z.are_lists, z.passes) in
+      within_none part.shape f part q g w
+      (subst (λ (vs : List VarInfo). Many part.shape.sites vs f) (sym o.vars) (subst (λ k. Many k p.vars f) (sym o.sites) t))
 
   -- a program by total degree that is made from the predicate's program implements the predicate in that order of infinitesimals
   pub answers : (q : Part) → IsGraded part.shape f part q → AnswersFor ByDegree p q
@@ -175,22 +171,26 @@ module _ (p : PredOf) (f : Sparse) (part : Part) (poly : IsPolynomialOf p f) (o 
 module _ (preds : List Pred) (i : ℕ) (l : i < length preds) (f : Sparse) (part : Part) (poly : IsPolynomialAt (map pred_of preds) i f)
     (o : IsProgramAt (map pred_of preds) i part) where
   some_pred : (p : PredOf) × (slice_get (map pred_of preds) i ≡ Some p)
-  some_pred = let q = there_at preds i l in (pred_of q.0, slice_get-map pred_of preds i ∙ ap (option_map pred_of) q.1)
+  some_pred = let q = at_place preds i l in (pred_of q.0, slice_get-map pred_of preds i ∙ ap (option_map pred_of) q.1)
 
   -- the polynomial of the predicate with this number is one that a program by total degree can be made of
   pub gradable_at : IsGradable part.shape.vars f
   gradable_at = gradable some_pred.0 f part (poly some_pred.0 some_pred.1) (o some_pred.0 some_pred.1)
 
-  -- where the predicate with this number has few stages, its lists by total degree pass no limit
-  pub passes_none : ((p : PredOf) → slice_get (map pred_of preds) i ≡ Some p → HasFewGraded p)
-      → (lists : List (List (List ℕ))) → AreStageListsIn ByDegree part.shape.sites part.shape.vars f lists
-      → Passes (length part.shape.vars) f 262144 131072 lists → ⊥
-  passes_none h = no_passes some_pred.0 f part (poly some_pred.0 some_pred.1) (o some_pred.0 some_pred.1) (h some_pred.0 some_pred.1)
-
   -- block 0 of the program of the predicate with this number has no exponents and computes the polynomial
   pub begins_at : Begins part.shape f part
   begins_at = begins some_pred.0 f part (poly some_pred.0 some_pred.1) (o some_pred.0 some_pred.1)
 
-  -- a program by total degree made from that of the predicate with this number implements it in that order of infinitesimals
-  pub answers_at : (q : Part) → IsGraded part.shape f part q → (p : PredOf) → slice_get (map pred_of preds) i ≡ Some p → AnswersFor ByDegree p q
-  answers_at q g p e = answers p f part (poly p e) (o p e) q g
+  -- a program by total degree made from that of the predicate with this number implements it in that order of infinitesimals, and where its
+  -- lists are within both limits, the predicate has few stages
+  pub programs_at : (r : Result Part GradedStop) → IfOk r (IsGraded part.shape f part) → IfOk r (IsWithin part.shape f 262144 131072)
+      → IfOk r (IsFewBy (map pred_of preds) i)
+  programs_at (Ok q) g w = λ p e. (few p f part (poly p e) (o p e) q g w, answers p f part (poly p e) (o p e) q g)
+  programs_at (Err s) g w = tt
+
+  -- where there is none, the predicate with this number has too many stages
+  pub stops_at : (r : Result Part GradedStop) → IfErr r (StopsFor part.shape f 262144 131072)
+      → IfErr r (λ s. s ≡ Stages → IsMany (map pred_of preds) i)
+  stops_at (Ok q) h = tt
+  stops_at (Err Stages) h = λ k p e. many p f part (poly p e) (o p e) h
+  stops_at (Err (NoMemory m)) h = λ k. cc

@@ -1,7 +1,5 @@
 -- A record of a product requires one line.
 use Rattle.std.proofs.Common.{◌≡◌, ℕ, List, [], ◌∷◌, ◌++◌, Result, Err, refl, ap, sym, ◌∙◌, subst, Option}
-use Rattle.ln_base.specs.declared.sign.Sign.{Sign}
-use Rattle.ln_base.specs.declared.sign.Sign.TheVariants.{Minus, Zero, Plus}
 use Rattle.ln_algebra.specs.Product.{multiplied_numbers}
 use Rattle.ln_tree.specs.declared.pred.Pred.{Pred}
 use Rattle.ln_tree.specs.declared.shape.Shape.{Shape}
@@ -11,6 +9,7 @@ use Rattle.ln_parse.specs.ReadsBack.{Every}
 use Rattle.ln_code.specs.declared.verdict.Verdict.{Verdict}
 use Rattle.ln_due.specs.Due.{sign_number}
 use Rattle.ln_due.specs.DueLaw.{Agree}
+use Rattle.ln_due.proofs.Verdicts.UniqueLemmas.{sign-number-same}
 use Rattle.ln_factor.specs.Factors.{numbers_of}
 use Rattle.ln_compile.proofs.Listing.FilteredLemmas.{one_due}
 use Rattle.ln_rows.specs.Record.{read_row}
@@ -21,18 +20,6 @@ use Rattle.ln_frame.specs.Said.{line}
 use Rattle.ln_signs.specs.Product.{AreDue, Multiplied, SaysProduct, due, refused_, deciders_after, product_text, ProductLine}
 use Rattle.ln_signs.proofs.FactorsLaws.{IsOver, range_as}
 use Rattle.ln_signs.proofs.OneLine.{same_row, same_stop, not_both}
-
--- signs with one number are one
-pub sign_same : (s t : Sign) → sign_number s ≡ sign_number t → s ≡ t
-sign_same Minus Minus e = refl
-sign_same Minus Zero e = cc
-sign_same Minus Plus e = cc
-sign_same Zero Minus e = cc
-sign_same Zero Zero e = refl
-sign_same Zero Plus e = cc
-sign_same Plus Minus e = cc
-sign_same Plus Zero e = cc
-sign_same Plus Plus e = refl
 
 -- verdicts that the factors owe a row have the same signs and deciders
 pub record AreAlike (vs ws : List Verdict) : Type 0 where
@@ -63,7 +50,7 @@ module _ (q : Pred) (ps : List PredOf) (over : Every (IsOver q.shape.sites q.sha
       let same : s ≡ r = same_row s r (read_row q.shape.sites q.shape.vars fields) f e in
       let a = agree_all q.shape r (row_in_range q.shape.sites q.shape.vars fields r q.shape.kept e) ps m.verdicts n.verdicts over d
       (subst (λ (z : Row). AreDue ps z n.verdicts) same g) in
-      let sign : m.sign ≡ n.sign = sign_same m.sign n.sign (k ∙ ap multiplied_numbers a.numbers ∙ sym l) in
+      let sign : m.sign ≡ n.sign = sign-number-same m.sign n.sign (k ∙ ap multiplied_numbers a.numbers ∙ sym l) in
       ap (λ x. sign_text x ++ deciders_after 32 m.verdicts) sign ∙ ap (λ t. sign_text n.sign ++ t) (a.deciders 32)
   says_one fields (due r m e d k) (refused_ s f) = absurd (not_both r s (read_row q.shape.sites q.shape.vars fields) e f)
   says_one fields (refused_ s f) (due r m e d k) = absurd (not_both r s (read_row q.shape.sites q.shape.vars fields) e f)

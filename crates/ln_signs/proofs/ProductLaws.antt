@@ -15,7 +15,6 @@ use Rattle.ln_frame.specs.Given.{Given}
 use Rattle.ln_signs.specs.Run.{HasRecords}
 use Rattle.ln_signs.specs.Factors.{AreFactors, AreGivenBy, AreProgramsAt, FactorsOf, IsInRangeOf}
 use Rattle.ln_signs.specs.Product.{AreDue, ProductSaid, due, refused_, product_work, ProductLine}
-use Rattle.ln_frame.proofs.FindLaws.{there_at}
 use Rattle.ln_frame.proofs.Laws.{IsLawful, shape_objects}
 use Rattle.ln_frame.proofs.Grounded.{IsGrounded, each_found, in_memory}
 use Rattle.ln_signs.proofs.OneProduct.{one_product}
@@ -36,6 +35,7 @@ use Rattle.ln_rows.specs.declared.record.RowStop.{RowStop}
 use Rattle.ln_rows.proofs.Fields.RangeLemmas.{row_in_range}
 use Rattle.ln_parse.specs.ReadsBack.{Every}
 use Rattle.ln_parse.proofs.Wholes.WholeParts.{PredParts, table_parts}
+use Rattle.ln_parse.proofs.ReadBack.InputsThere.{at_place}
 use Rattle.ln_signs.proofs.RunLaws as run_laws
 use Rattle.ln_signs.proofs.FactorsLaws.{range_as, IsOver, alike_over}
 use Rattle.ln_frame.specs.Signature.{asks_shape}
@@ -60,7 +60,7 @@ module _ (sites : ℕ) (vars : List VarInfo) (programs : List Part)
   due_all r (k ∷ ks) [] vs o ve range pl a = absurd a
   due_all r (k ∷ ks) (p ∷ ps) [] o ve range pl a = absurd (omega (arith, ve.size))
   due_all r (k ∷ ks) (p ∷ ps) (v ∷ vs) o ve range pl a =
-      let here = there_at programs k (All-head (λ (i : ℕ). i < length programs) k ks pl) in
+      let here = at_place programs k (All-head (λ (i : ℕ). i < length programs) k ks pl) in
       let f : IsFactor programs (k ∷ ks) 0 here.0 = record { place = k; named = refl; there = here.1 } in
       let same = o 0 here.0 f in
       let carries : IsProgramOf p here.0 = a.0 here.0 here.1 in
@@ -80,7 +80,7 @@ module _ (sites : ℕ) (vars : List VarInfo) (programs : List Part)
   owed_all row [] (p ∷ ps) o range pl a = absurd a
   owed_all row (k ∷ ks) [] o range pl a = absurd a
   owed_all row (k ∷ ks) (p ∷ ps) o range pl a =
-      let here = there_at programs k (All-head (λ (i : ℕ). i < length programs) k ks pl) in
+      let here = at_place programs k (All-head (λ (i : ℕ). i < length programs) k ks pl) in
       let f : IsFactor programs (k ∷ ks) 0 here.0 = record { place = k; named = refl; there = here.1 } in
       let same = o 0 here.0 f in
       let carries : IsProgramOf p here.0 = a.0 here.0 here.1 in

@@ -1,20 +1,12 @@
 -- Proves facts of writes, one after the other, and of where one of them fails.
 use Rattle.std.proofs.Common.{◌≡◌, ℕ, ◌+◌, ◌≤◌, List, ◌++◌, length, take, refl, ◌∙◌, arith, Option}
-use Rattle.std.proofs.Common.{Some, None, Result, Ok, Err, OnErr, OnOk, append_assoc, length-append}
+use Rattle.std.proofs.Common.{Result, Ok, Err, OnErr, OnOk, length-append}
 use Rattle.std.proofs.lemmas.List.{take-append-le}
 use Rattle.std.proofs.Math.Seq.{take-append-add}
 use Rattle.ln_base.specs.Outside.{Shown, appended}
 use Rattle.ln_base.specs.declared.outside.Port.{Port}
-use Rattle.ln_base.specs.declared.outside.Port.TheVariants.{Out, Err as ErrPort}
+use Rattle.ln_base.proofs.Kept.{appended-twice}
 use Rattle.ln_watch.specs.Panel.{FailsAfter}
-
--- two writes are one of all their bytes
-pub appended_twice : (port : Port) (xs ys : List ℕ) (s : Option Shown)
-    → appended port ys (appended port xs s) ≡ appended port (xs ++ ys) s
-appended_twice Out xs ys None = refl
-appended_twice Out xs ys (Some s) = rw append_assoc refl
-appended_twice ErrPort xs ys None = refl
-appended_twice ErrPort xs ys (Some s) = rw append_assoc refl
 
 -- the first of two writes fails
 pub fails_first : (port : Port) (xs ys : List ℕ) (was now : Option Shown) → FailsAfter port xs was now
@@ -29,13 +21,13 @@ fails_behind port xs ys was between now e f =
     record {
       n = length xs + f.n;
       within = omega (arith, length-append xs ys, f.within);
-      shown = f.shown ∙ rw (e, appended_twice, ← take-append-add xs ys f.n) refl;
+      shown = f.shown ∙ rw (e, appended-twice, ← take-append-add xs ys f.n) refl;
     }
 
 -- where the second of two writes succeeds, the bytes of both are written
 pub puts_second : {T E : Type 0} (r : Result T E) (port : Port) (xs ys : List ℕ) (was between now : Option Shown)
     → between ≡ appended port xs was → OnOk r (now ≡ appended port ys between) → OnOk r (now ≡ appended port (xs ++ ys) was)
-puts_second (Ok x) port xs ys was between now e f = f ∙ rw (e, appended_twice) refl
+puts_second (Ok x) port xs ys was between now e f = f ∙ rw (e, appended-twice) refl
 puts_second (Err x) port xs ys was between now e f = tt
 
 -- what the contract of `put` says of a failure, as a fact of what was written

@@ -1,11 +1,13 @@
 -- Defines what `graded` asks of its predicate: few stages by total degree.
-use Rattle.std.specs.Prelude.{ℕ, List, [], ◌∷◌, length}
+use Rattle.std.specs.Prelude.{◌≡◌, ℕ, List, [], ◌∷◌, length, slice_get, IsSomeAnd, Option, Some}
 use Rattle.ln_algebra.specs.Orders.{ByDegree}
 use Rattle.ln_tree.specs.Table.{PredOf}
 use Rattle.ln_poly.specs.Expansion.{IsNormal}
 use Rattle.ln_poly.specs.Sparse.{Sparse}
 use Rattle.ln_stage.specs.Lists.{AreStageListsIn, Passes}
+use Rattle.ln_code.specs.Part.{Part}
 use Rattle.ln_compile.specs.Accepted.{root_of}
+use Rattle.ln_compile.specs.Filtered.{AnswersFor}
 use Rattle.ln_frame.specs.declared.stop.Why.{Why}
 use Rattle.ln_frame.specs.declared.stop.Why.TheVariants.{Shape, Stages}
 use Rattle.ln_frame.specs.Source.{place_at}
@@ -27,6 +29,11 @@ HasFewGraded p = HasManyGraded p → ⊥
 abbrev pub FirstHasFew : List PredOf → Type 0
 FirstHasFew [] = Unit {0}
 FirstHasFew (p ∷ ps) = HasFewGraded p
+
+-- a program of the predicate with the first of these numbers in that order is kept
+abbrev pub KeepsGraded : List PredOf → List ℕ → Option Part → Type 0
+KeepsGraded table [] kept = Unit {0}
+KeepsGraded table (i ∷ is) kept = IsSomeAnd kept (λ q. (p : PredOf) → slice_get table i ≡ Some p → AnswersFor ByDegree p q)
 
 -- a predicate with too many stops the command with `stages` at its name's place in the source
 abbrev pub many_stages : List ℕ → List PredOf → Why

@@ -3,17 +3,16 @@ ghost use Rattle.std.specs.Prelude.{◌≡◌, ◌<◌, length, map, slice_get, 
 ghost use Rattle.std.specs.Prelude.{Ok};
 ghost use Rattle.ln_code.specs.Memory.{MadeFor};
 ghost use Rattle.ln_algebra.specs.Orders.{ByDegree, BySmallest};
-ghost use Rattle.ln_compile.specs.Filtered.{IsDueIn};
+ghost use Rattle.ln_compile.specs.Filtered.{AnswersFor, IsDueIn};
 ghost use Rattle.ln_tree.specs.Table.{PredOf, pred_of};
 ghost use Rattle.ln_frame.specs.Columns.{names_of, HeaderIs};
-ghost use Rattle.ln_signs.specs.Graded.{HasFewGraded};
+ghost use Rattle.ln_signs.specs.Graded.{KeepsGraded};
 ghost use Rattle.ln_signs.specs.Target.{Belongs, IsInRange, pred_in, row_in, IsGivenBy};
 ghost use Rattle.ln_frame.specs.Source.{view};
 ghost use Rattle.ln_frame.specs.Given.{Given};
 ghost use Rattle.ln_signs.specs.Run.{graded_signature};
 ghost use Rattle.ln_frame.specs.Ready.{HasStanding, IsReadyFor, StandsFor};
 
-use crate::graded::graded_program;
 use ln_base::NoMemory;
 use ln_code::{Program, Row, Scratch, Verdict, run_row};
 use ln_compile::Checked;
@@ -21,6 +20,7 @@ use ln_frame::ready::Ready;
 use ln_rows::Rows;
 use ln_tree::{Pred, Table};
 use std::alloc::Global;
+use std::borrow::Cow;
 use std::marker::Model;
 
 /// The order of infinitesimals in which a predicate is run.
@@ -38,12 +38,13 @@ pub enum Order {
 pub struct Target<'a> {
     table: &'a Table,
     pred: &'a Pred,
-    program: Program,
+    program: Cow<'a, Program>,
     order: Order,
 }
 
 impl<'a> Model for Target<'a> {
     ghost use Rattle.std.specs.Coded.{codes};
+    ghost use Rattle.std.specs.Cow.{cow_value};
     ghost use Rattle.ln_tree.specs.contracts.expr.Node as node;
     ghost use Rattle.ln_frame.specs.Columns.{names_of};
     ghost use Rattle.ln_signs.specs.Target.{Belongs, TargetOf, rank_of};
@@ -56,10 +57,10 @@ impl<'a> Model for Target<'a> {
       rank = rank_of t.order;
       pred = t.pred.now;
       names = names_of t.table.now t.pred.now;
-      program = t.program;
+      program = cow_value t.program;
     } };
 
-    ghost invariant = { λ t. Belongs (rank_of t.order) t.pred.now t.program };
+    ghost invariant = { λ t. Belongs (rank_of t.order) t.pred.now (cow_value t.program) };
 }
 
 impl<'a> Target<'a> {
@@ -76,29 +77,27 @@ impl<'a> Target<'a> {
         Ok(Target {
             table: c.table(),
             pred: &c.table().preds.as_slice()[i],
-            program,
+            program: Cow::Owned(program),
             order: Order::Smallest,
         })
     }
 
-    /// The predicate of a source with this number, from 0, and its program by total degree first, which is made here: its lists are
-    /// within both limits.
-    pub fn graded(alloc: Global, c: &'a Checked, i: usize) -> Result<Target<'a>, NoMemory>
+    /// The predicate of a source with this number, from 0, and this program of it by total degree first.
+    pub fn graded(c: &'a Checked, i: usize, program: &'a Program) -> Target<'a>
         requires within { i < length c.now.table.preds }
-        requires few { (p : PredOf) → slice_get (map pred_of c.now.table.preds) i ≡ Some p → HasFewGraded p }
-        ensures pred { IfOk result (λ t. slice_get c.now.table.preds i ≡ Some t.pred) }
-        ensures names { IfOk result (λ t. t.names ≡ names_of c.now.table t.pred) }
-        ensures rank { IfOk result (λ t. t.rank ≡ ByDegree) }
+        requires answers { (p : PredOf) → slice_get (map pred_of c.now.table.preds) i ≡ Some p → AnswersFor ByDegree p program.now }
+        ensures pred { slice_get c.now.table.preds i ≡ Some result.pred }
+        ensures names { result.names ≡ names_of c.now.table result.pred }
+        ensures rank { result.rank ≡ ByDegree }
     {
-        let program = graded_program(alloc, c, i)?;
         // The contract of `blocks` states that the program follows the rules.
         let _blocks = program.blocks();
-        Ok(Target {
+        Target {
             table: c.table(),
             pred: &c.table().preds.as_slice()[i],
-            program,
+            program: Cow::Borrowed(program),
             order: Order::Degree,
-        })
+        }
     }
 
     /// The predicate.
@@ -161,12 +160,15 @@ pub fn one_target(alloc: Global, ready: &Ready) -> Result<Target<'_>, NoMemory>
     Ok(target)
 }
 
-/// The one named predicate, with its program by total degree.
-pub fn degree_target(alloc: Global, ready: &Ready) -> Result<Target<'_>, NoMemory>
-    requires { IsReadyFor graded_signature ready.now }
-    ensures given { IfOk result (λ t. (g : Given) → StandsFor ready.now g → IsGivenBy g t) }
-    ensures rank { IfOk result (λ t. t.rank ≡ ByDegree) }
+/// The one named predicate, with its program by total degree, which is ready.
+pub fn degree_target(ready: &Ready) -> Target<'_>
+    requires ready { IsReadyFor graded_signature ready.now }
+    requires kept { KeepsGraded (map pred_of ready.now.compiled.table.preds) ready.now.numbers.items ready.now.kept }
+    ensures given { (g : Given) → StandsFor ready.now g → IsGivenBy g result }
+    ensures rank { result.rank ≡ ByDegree }
 {
-    let target = Target::graded(alloc, &ready.compiled, ready.numbers.as_slice()[0])?;
-    Ok(target)
+    match &ready.kept {
+        Some(program) => { Target::graded(&ready.compiled, ready.numbers.as_slice()[0], program) }
+        None => unreachable!(),
+    }
 }

@@ -1,8 +1,8 @@
 -- What is kept while stages are listed.
 use Rattle.std.specs.Prelude.{ℕ, ◌+◌, ◌<◌, ◌⊎◌, ◌==◌, List, [], ◌∷◌, ◌++◌, length, if◌then◌else◌}
-use Rattle.std.proofs.Common.{zero, suc}
 use Rattle.std.specs.List.{position_or_len}
 use Rattle.ln_tree.specs.Exps.{Pairs, same_pairs}
+use Rattle.ln_poly.specs.Packed.{pairs_from}
 use Rattle.ln_poly.specs.Sparse.{Sparse}
 use Rattle.ln_stage.specs.Lists.{covering}
 use Rattle.ln_stage.specs.declared.stop.StageStop.{StageStop}
@@ -41,12 +41,6 @@ see cover t a = record {
 -- the count exceeds its limit, or the weight does
 abbrev pub IsOver : Tallied → Type 0
 IsOver t = (t.most < t.count) ⊎ (t.heavy < t.weight)
-
--- the pairs of a vector whose variables are numbered from v on
-abbrev pub pairs_from : ℕ → List ℕ → Pairs
-pairs_from v [] = []
-pairs_from v (zero ∷ a) = pairs_from (suc v) a
-pairs_from v (suc e ∷ a) = (v, suc e) ∷ pairs_from (suc v) a
 
 -- the pairs of a vector: its variables with an exponent that isn't 0
 abbrev pub pairs_of : List ℕ → Pairs

@@ -7,7 +7,7 @@ ghost use Rattle.ln_stage.specs.Staged.{count_numbers, lists_in, segment_of};
 
 use indexmap::IndexMap;
 use ln_base::Seq;
-use ln_order::{Order, prefix_number};
+use ln_order::{Order, at_prefix};
 use ln_tree::Exps;
 use std::marker::Model;
 
@@ -93,7 +93,7 @@ impl Stages {
         requires within { j ≤ length (order_places o.now) }
         ensures { result.now ≡ segment_of self.now (take j (order_places o.now)) }
     {
-        self.segments.as_slice()[prefix_number(o, j) as usize].as_slice()
+        at_prefix(self.segments.as_slice(), o, j)
     }
 
     /// The segments of all prefixes, in the order of `all_prefixes`. It allocates nothing.

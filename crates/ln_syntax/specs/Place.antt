@@ -11,14 +11,14 @@ abbrev pub IsText : List Token → Type 0
 IsText ts = (xs : List Item) × Spelt ts xs
 
 -- the tokens are a prefix of a file
-abbrev pub IsFront : List Token → Type 0
-IsFront ts = (us : List Token) × IsText (ts ++ us)
+abbrev pub IsPrefix : List Token → Type 0
+IsPrefix ts = (us : List Token) × IsText (ts ++ us)
 
 -- the first token such that the tokens up to it and with it are no prefix of a file; the end, where all are a prefix and no file
 pub record IsSyntaxFault (ts : List Token) (at : ℕ) : Type 0 where
   pub within : at ≤ length ts
-  pub front : IsFront (take at ts)
-  pub refused : at < length ts → IsFront (take (suc at) ts) → ⊥
+  pub front : IsPrefix (take at ts)
+  pub refused : at < length ts → IsPrefix (take (suc at) ts) → ⊥
   pub unfinished : at ≡ length ts → IsText ts → ⊥
 
 -- ( adds one to the depth and ) takes one off, never below 0

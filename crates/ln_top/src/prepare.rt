@@ -1,26 +1,28 @@
 //! The steps before the work: the source is read and compiled, the names are looked for, their predicates suit the command,
 //! the further files are read.
-ghost use Rattle.std.specs.Prelude.{◌≡◌, ◌≢◌, ◌≤◌, ◌<◌, All, Err, List, map, length, IfOk, IfErr, OnOk, Ok, string_bytes};
+ghost use Rattle.std.specs.Prelude.{◌≡◌, ◌≢◌, ◌≤◌, ◌<◌, All, Err, List, map, length, IfOk, IfErr, OnOk, string_bytes};
 ghost use Rattle.std.specs.Prelude.{true, false};
 ghost use Rattle.ln_base.specs.Outside.{Rose};
 ghost use Rattle.ln_tree.specs.Table.{PredOf, pred_of};
 ghost use Rattle.ln_top.specs.Plan.{with_bytes};
-ghost use Rattle.ln_top.specs.Signature.{Asks, objection};
-ghost use Rattle.ln_top.specs.Steps.{Each, Finds, Prepares, Reads, Suits};
+ghost use Rattle.ln_top.specs.Signature.{Asks, signature_of};
+ghost use Rattle.ln_top.specs.Steps.{Each, Finds, Prepares, Reads};
 ghost use Rattle.ln_frame.specs.Given.{gives, most_file};
 ghost use Rattle.ln_frame.specs.Carried.{Halts};
 ghost use Rattle.ln_frame.specs.Ready.{AreNumbered};
-ghost use Rattle.ln_top.specs.Ready.{HasNumbers, IsReady};
+ghost use Rattle.ln_frame.specs.Signature.{Refuses};
+ghost use Rattle.ln_top.specs.Ready.{HasNumbers, IsReady, KeepsFor};
 
 use crate::source::compiled;
 use crate::words::{Command, Plan};
-use ln_base::{Files, NoMemory, ReadStop, read_whole};
+use ln_base::{Files, ReadStop, read_whole};
+use ln_code::Program;
 use ln_compile::Checked;
 use ln_frame::ready::Ready;
 use ln_frame::stop::{Stop, Why};
 use ln_judges::three::one_of_three;
 use ln_signs::alike::alike;
-use ln_signs::graded::{few_first, graded_objection};
+use ln_signs::graded::graded_first;
 use std::alloc::Global;
 
 /// The most bytes of a source file.
@@ -83,55 +85,40 @@ fn texts<F: Files>(alloc: Global, files: &mut F, names: &[String]) -> Result<Vec
     Ok(texts)
 }
 
-// Returns whether the named predicates suit the command.
-fn suits(alloc: Global, command: Command, c: &Checked, numbers: &[usize]) -> Result<bool, NoMemory>
-    requires { All (λ i. i < length c.now.table.preds) numbers.now }
-    ensures yes { result ≡ Ok true → (preds : List PredOf) → AreNumbered (map pred_of c.now.table.preds) numbers.now preds
-        → Asks command preds }
-    ensures no { result ≡ Ok false → (preds : List PredOf) → AreNumbered (map pred_of c.now.table.preds) numbers.now preds
-        → Asks command preds → ⊥ }
+// Goes on where the named predicates suit the command, or stops with `shape`; no program is kept.
+fn shaped(suits: bool) -> Result<Option<Program>, Stop>
+    ensures ok { OnOk result (suits ≡ true) }
+    ensures err { IfErr result (λ s. (s ≡ Stop.Tell Why.Shape) × (suits ≡ false)) }
 {
-    match command {
-        Command::Product => Ok(alike(c.table().preds.as_slice(), numbers)),
-        Command::Edges => Ok(one_of_three(c.table().preds.as_slice(), numbers)),
-        Command::Graded => few_first(alloc, c, numbers),
-        _ => Ok(true),
+    if suits {
+        Ok(None)
+    } else {
+        Err(Stop::Tell(Why::Shape))
     }
 }
 
-// Returns why the named predicates don't suit the command.
-fn objection(command: Command, bytes: &[u8], c: &Checked, numbers: &[usize]) -> Why
-    requires within { All (λ i. i < length c.now.table.preds) numbers.now }
-    requires short { length bytes.now ≤ 1048576 }
-    ensures { (preds : List PredOf) → AreNumbered (map pred_of c.now.table.preds) numbers.now preds
-        → result ≡ objection command bytes.now preds }
-{
-    match command {
-        Command::Graded => graded_objection(bytes, c, numbers),
-        _ => Why::Shape,
-    }
-}
-
-// Takes the step at which a command looks at its named predicates together.
+// Takes the step at which a command looks at its named predicates together, and returns the program that is kept for its work.
 fn suited(
     alloc: Global,
     command: Command,
     bytes: &[u8],
     c: &Checked,
     numbers: &[usize],
-) -> Result<(), Stop>
+) -> Result<Option<Program>, Stop>
     requires within { All (λ i. i < length c.now.table.preds) numbers.now }
     requires short { length bytes.now ≤ 1048576 }
     ensures ok { OnOk result ((preds : List PredOf) → AreNumbered (map pred_of c.now.table.preds) numbers.now preds
         → Asks command preds) }
+    ensures kept { IfOk result (KeepsFor command (map pred_of c.now.table.preds) numbers.now) }
     ensures err { IfErr result (λ s. (preds : List PredOf) → AreNumbered (map pred_of c.now.table.preds) numbers.now preds
-        → Halts (Suits command bytes.now preds) ⊥ s) }
+        → Refuses (signature_of command).suits bytes.now preds s) }
     ensures quiet { result ≢ Err Stop.Read }
 {
-    match suits(alloc, command, c, numbers) {
-        Ok(true) => Ok(()),
-        Ok(false) => Err(Stop::Tell(objection(command, bytes, c, numbers))),
-        Err(e) => Err(Stop::Memory(e)),
+    match command {
+        Command::Product => shaped(alike(c.table().preds.as_slice(), numbers)),
+        Command::Edges => shaped(one_of_three(c.table().preds.as_slice(), numbers)),
+        Command::Graded => graded_first(alloc, bytes, c, numbers),
+        _ => Ok(None),
     }
 }
 
@@ -140,6 +127,7 @@ pub fn prepare<F: Files>(alloc: Global, files: &mut F, plan: Plan<'_>) -> Result
     ensures ok { IfOk result (λ r. IsReady (with_bytes plan.entry) (F.told files.old) r) }
     ensures err { IfErr result (Halts (Prepares (with_bytes plan.entry) (F.told files.old))
         (Rose (F.faults files.old) (F.faults files.new))) }
+    ensures kept { IfOk result (λ r. KeepsFor plan.entry.command (map pred_of r.compiled.table.preds) r.numbers.items r.kept) }
     ensures numbers { IfOk result (λ r. length r.numbers.items ≡ length plan.entry.names.now) }
     ensures texts { IfOk result (λ r. length r.texts.items ≡ length plan.entry.files.now) }
     ensures quiet { result ≢ Err Stop.Read → F.faults files.new ≡ F.faults files.old }
@@ -156,14 +144,15 @@ pub fn prepare<F: Files>(alloc: Global, files: &mut F, plan: Plan<'_>) -> Result
         Ok(numbers) => numbers,
         Err(stop) => return Err(stop),
     };
-    let _suited = match suited(alloc, plan.command, &bytes, &compiled, &numbers) {
-        Ok(suited) => suited,
+    let kept = match suited(alloc, plan.command, &bytes, &compiled, &numbers) {
+        Ok(kept) => kept,
         Err(stop) => return Err(stop),
     };
     match texts(alloc, files, plan.files) {
         Ok(texts) => Ok(Ready {
             compiled,
             numbers,
+            kept,
             texts,
         }),
         Err(stop) => Err(stop),

@@ -1,6 +1,5 @@
 -- Proves that what the blocks of a program tell of a row is what is explained of it.
-use Rattle.std.proofs.Common.{◌≡◌, ◌≢◌, ℕ, ◌<◌, zero, suc, List, [], ◌∷◌, ◌++◌, length, refl, sym, ◌∙◌, ap, subst, true, get_or, map}
-use Rattle.std.specs.Prelude.{Option, Some, None, slice_get}
+use Rattle.std.proofs.Common.{◌≡◌, ◌≢◌, ℕ, ◌<◌, zero, suc, List, [], ◌∷◌, ◌++◌, length, refl, sym, ◌∙◌, ap, subst, get_or, map}
 use Rattle.std.proofs.Math.IntN.{ℤ, pos, negsuc}
 use Rattle.std.proofs.lemmas.List.{get_or-map}
 use Rattle.std.proofs.lemmas.Option.{get_or_from_slice_get, slice_get_within}
@@ -12,17 +11,18 @@ use Rattle.ln_algebra.specs.Sign.{or_else, perturbed, sign_along}
 use Rattle.ln_algebra.specs.Sign as signs
 use Rattle.ln_algebra.specs.Tree.{Tree}
 use Rattle.ln_tree.specs.declared.shape.VarInfo.{VarInfo}
-use Rattle.ln_tree.specs.Exps.{IsAbove, Pairs, vector}
+use Rattle.ln_tree.specs.Exps.{Pairs, vector}
 use Rattle.ln_tree.specs.Row.{values}
 use Rattle.ln_order.proofs.Signs.RowSigns.{row-stages}
 use Rattle.ln_order.specs.Rows.{RowStages}
 use Rattle.ln_order.specs.Sites.{row_sites}
 use Rattle.ln_code.proofs.Verdicts.Machine.{list-within, no_code}
 use Rattle.ln_code.specs.Carried.{stage_at, vectors}
-use Rattle.ln_code.specs.Kept.{AreOfSites, is_of_site}
 use Rattle.ln_code.specs.Part.{Code, Part, block_value}
 use Rattle.ln_code.specs.Verdict.{sign_of}
+use Rattle.ln_code.proofs.Exponents.{sites-above}
 use Rattle.ln_due.proofs.Parts.BlockLemmas.{Computes, list-computes, some-same}
+use Rattle.ln_due.proofs.Verdicts.DueLemmas.{sign-same}
 use Rattle.ln_due.specs.Due.{sign_number}
 use Rattle.ln_due.specs.DueLaw.{HasValue}
 use Rattle.ln_trace.specs.declared.line.TraceLine.{TraceLine}
@@ -30,21 +30,6 @@ use Rattle.ln_trace.specs.declared.line.TraceLine.TheVariants as line
 use Rattle.ln_trace.specs.Explain.{BlockTells, BlocksAreExplained, Tell, it_decides, it_is_zero, none_left}
 use Rattle.ln_trace.specs.Signs.{AreOf, Explains, a_row, at_lines}
 use Rattle.ln_trace.specs.Told.{stop_at, up_to_first}
-
--- exponents of coordinates of sites are of variables that there are
-there-is : (vars : List VarInfo) (v : ℕ) (o : Option VarInfo) → slice_get vars v ≡ o → is_of_site o ≡ true → v < length vars
-there-is vars v None e h = cc
-there-is vars v (Some i) e h = slice_get_within vars v i e
-
-above : (vars : List VarInfo) (ps : Pairs) → AreOfSites vars ps → IsAbove ps (length vars)
-above vars [] h = tt
-above vars (p ∷ ps) h = (there-is vars p.0 (slice_get vars p.0) refl h.0, above vars ps h.1)
-
--- signs, as the machine and as the subject tells them
-sign-number : (z : ℤ) → sign_number (sign_of z) ≡ signs.sign_of z
-sign-number (pos zero) = refl
-sign-number (pos (suc n)) = refl
-sign-number (negsuc n) = refl
 
 behind-nonzero : (z t : ℤ) → z ≢ pos 0 → or_else (signs.sign_of z) t ≡ signs.sign_of z
 behind-nonzero (pos zero) t h = absurd (h refl)
@@ -94,8 +79,8 @@ module _ (p : Part) (e : Tree) (zs : List ℤ) (sites : Sites) where
         pairs = (exps, z) ∷ [];
         sign = sign_of z;
         all = refl;
-        are = (t.rising, above vars exps t.of_sites, s.0, s.1, subst (AreOf vars []) (sym (stop-nonzero P rest m)) tt);
-        right = sign-number z ∙ ap signs.sign_of s.1 ∙ sym (behind-nonzero P (sign_along sites x e (vectors p ks)) m);
+        are = (t.rising, sites-above vars exps t.of_sites, s.0, s.1, subst (AreOf vars []) (sym (stop-nonzero P rest m)) tt);
+        right = sign-same z ∙ ap signs.sign_of s.1 ∙ sym (behind-nonzero P (sign_along sites x e (vectors p ks)) m);
       }
   along (it_is_zero k ks exps more t behind) c =
       let s = at-stage k exps (pos 0) c.0 t in
@@ -105,7 +90,7 @@ module _ (p : Part) (e : Tree) (zs : List ℤ) (sites : Sites) where
         pairs = (exps, pos 0) ∷ ih.pairs;
         sign = ih.sign;
         all = ap (λ (l : List TraceLine). line.At exps (pos 0) ∷ l) ih.all;
-        are = (t.rising, above vars exps t.of_sites, s.0, s.1, subst (λ y. AreOf vars ih.pairs (stop_at y rest)) s.1 ih.are);
+        are = (t.rising, sites-above vars exps t.of_sites, s.0, s.1, subst (λ y. AreOf vars ih.pairs (stop_at y rest)) s.1 ih.are);
         right = subst (λ y. sign_number ih.sign ≡ or_else (signs.sign_of y) (sign_along sites x e (vectors p ks))) s.1 ih.right;
       }
 

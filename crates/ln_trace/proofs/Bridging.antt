@@ -16,7 +16,7 @@ use Rattle.ln_order.specs.Sites.{row_sites, sites_of}
 use Rattle.ln_order.proofs.Signs.RowsLemmas.{orders-rows}
 use Rattle.ln_algebra.specs.Vector.{In}
 use Rattle.ln_trace.specs.Told.{IsNext, LastIsEarlier, Stood, vectors_in}
-use Rattle.ln_trace.specs.Stand.{MayStand}
+use Rattle.ln_trace.specs.Next.{MayBeNext}
 
 module _ (s : Shape) (row : Row) (places : List ℕ) (range : InRange s.sites s.vars row) (ord : IsOrder row.index places) (e : Tree) (stood : Stood) where
   same : (a b : List ℕ) → Earlier (row_sites s.vars row.index) a b ↔ Earlier (sites_of s.vars places) a b
@@ -46,7 +46,7 @@ module _ (s : Shape) (row : Row) (places : List ℕ) (range : InRange s.sites s.
   Next zs a z = IsNext (length s.vars) (row_sites s.vars row.index) (values zs) e stood a z
 
   -- what may stand by the row's own indices may by the order
-  pub next-may : (zs : List ℤ) (a : List ℕ) (z : ℤ) → Next zs a z → MayStand (length s.vars) (sites_of s.vars places) e stood a
+  pub next-may : (zs : List ℤ) (a : List ℕ) (z : ℤ) → Next zs a z → MayBeNext (length s.vars) (sites_of s.vars places) e stood a
   next-may zs a z n = record { zeros = n.zeros; later = last-to stood a n.later; members = λ b k l. n.members b (stage-from b k) ((same b a).1 l) }
 
   -- where each stage by the row's own indices stood, each stage by the order did
@@ -61,7 +61,7 @@ module _ (s : Shape) (row : Row) (places : List ℕ) (range : InRange s.sites s.
 
   -- what may not stand by the order fails
   pub not-next : (zs : List ℤ) (a : List ℕ) (z : ℤ) (r : Bool) → r ≡ false
-      → (IsTrue r ↔ MayStand (length s.vars) (sites_of s.vars places) e stood a) → IsTrue false ↔ Next zs a z
+      → (IsTrue r ↔ MayBeNext (length s.vars) (sites_of s.vars places) e stood a) → IsTrue false ↔ Next zs a z
   not-next zs a z r f h = (
     λ t. cc,
     λ n. absurd (true-false r
@@ -83,7 +83,7 @@ module _ (s : Shape) (row : Row) (places : List ℕ) (range : InRange s.sites s.
   -- and the right one goes on
   pub is-next : (zs : List ℤ) (f : List Term) (a : List ℕ) (v z : ℤ) (r : Bool) → InputsBelow (length s.vars) e
       → IsNormalOf (length s.vars) e f → IsOver (length s.vars) (row_sites s.vars row.index) a → v ≡ value (values zs) (derived a f) → v ≡ z
-      → r ≡ true → (IsTrue r ↔ MayStand (length s.vars) (sites_of s.vars places) e stood a) → IsTrue true ↔ Next zs a z
+      → r ≡ true → (IsTrue r ↔ MayBeNext (length s.vars) (sites_of s.vars places) e stood a) → IsTrue true ↔ Next zs a z
   is-next zs f a v z r below h o q d t k =
       let m = k.0 t in (
         λ u. record {

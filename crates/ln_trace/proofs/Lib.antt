@@ -11,7 +11,7 @@ pub mod Premises
 pub mod Reading
 pub mod Segmented
 pub mod SmallValues
-pub mod Standing
+pub mod Following
 pub mod Steps
 pub mod Telling
 pub mod Walking

@@ -40,7 +40,7 @@ none-left (x ∷ xs) (suc i) e l = omega (arith, none-left xs i e (omega (arith,
 
 -- ---- the loop
 -- the first lines lead to a place that the state of the judge stands for
-pub record Stands (s : Shape) (e : Tree) (st : Staged) (records : Records) (ls : List TraceLine) (rows : Records) (d : Progress) (at : ℕ) : Type 0 where
+pub record IsReached (s : Shape) (e : Tree) (st : Staged) (records : Records) (ls : List TraceLine) (rows : Records) (d : Progress) (at : ℕ) : Type 0 where
   pub here : Place
   pub come : Go (subject_of s e) (Between 0 records) (take at ls) here
   pub is : IsHere s e st rows d here
@@ -50,13 +50,13 @@ bool-apart x y z = cc
 
 module _ (s : Shape) (e : Tree) (f : Sparse) (st : Staged) (records : Records) (ls : List TraceLine) (d : Progress) where
   -- with no row open and no record seen, what is held is for the place before the first line
-  pub stands-first : d.inside ≡ false → d.seen ≡ 0 → Stands s e st records ls records d 0
+  pub stands-first : d.inside ≡ false → d.seen ≡ 0 → IsReached s e st records ls records d 0
   stands-first a b = record { here = Between 0 records; come = refl; is = (a, b, refl) }
 
-  module _ (rows : Records) (p : HasPoly s e f) (at : ℕ) (m : Stands s e st records ls rows d at) where
+  module _ (rows : Records) (p : HasPoly s e f) (at : ℕ) (m : IsReached s e st records ls rows d at) where
     -- the line at hand leads on
     pub stands-more : (l : TraceLine) (left : Records) (new : Progress) → at < length ls → l ≡ get_or ls at l
-        → Step s f st rows d l true left new → Stands s e st records ls left new (at + 1)
+        → Step s f st rows d l true left new → IsReached s e st records ls left new (at + 1)
     stands-more l left new less is h =
         let k : suc at ≡ at + 1 = omega arith in
         let r = h.gone e m.here p m.is in
@@ -107,7 +107,7 @@ pub record Midway (s : Shape) (e : Tree) (st : Staged) (records : Records) (ls :
   pub number : u.line ≡ at + 2
   pub within : at ≤ length ls
   pub left : AreLeft u (drop at ls)
-  pub stands : Stands s e st records ls rows d at
+  pub stands : IsReached s e st records ls rows d at
 
 module _ (s : Shape) (e : Tree) (f : Sparse) (st : Staged) (records : Records) (ls : List TraceLine) (d : Progress) where
   -- at the start no row is open, no record was seen, and all lines from line 2 of the file on remain

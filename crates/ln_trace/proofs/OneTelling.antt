@@ -9,10 +9,10 @@ use Rattle.ln_algebra.specs.Orders.{BySmallest}
 use Rattle.ln_order.specs.Rows.{RowStages}
 use Rattle.ln_algebra.specs.Sign.{sign_along}
 use Rattle.ln_order.specs.Sites.{row_sites}
+use Rattle.ln_poly.proofs.Sorting.Collected.{vectors-same}
 use Rattle.ln_due.specs.Due.{sign_number}
 use Rattle.ln_rows.specs.Record.{read_row}
 use Rattle.ln_rows.specs.declared.record.RowStop.{RowStop}
-use Rattle.ln_stage.proofs.Walks.PairsLemmas.{same-pairs}
 use Rattle.ln_trace.specs.declared.line.TraceLine.{TraceLine}
 use Rattle.ln_due.proofs.Verdicts.UniqueLemmas.{sign-number-same}
 use Rattle.ln_trace.specs.declared.line.TraceLine.TheVariants as line
@@ -28,7 +28,7 @@ pairs-one vars [] (q ∷ qs) (t ∷ ts) h k = absurd h
 pairs-one vars (p ∷ ps) qs [] h k = absurd h
 pairs-one vars (p ∷ ps) [] (t ∷ ts) h k = absurd k
 pairs-one vars ((a, y) ∷ ps) ((b, z) ∷ qs) (t ∷ ts) (r, u, v, w, h) (r2, u2, v2, w2, k) =
-    let e : a ≡ b = same-pairs (length vars) a b r r2 u u2 (v ∙ sym v2) in
+    let e : a ≡ b = vectors-same (length vars) a b r r2 u u2 (v ∙ sym v2) in
     let f : y ≡ z = w ∙ sym w2 in
     ap (λ (c : Pairs). (c, y) ∷ ps) e ∙ ap (λ (x : ℤ). (b, x) ∷ ps) f ∙ ap (λ xs. (b, z) ∷ xs) (pairs-one vars ps qs ts h k)
 

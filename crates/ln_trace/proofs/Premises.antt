@@ -1,25 +1,24 @@
 -- Proves what the judge knows by the stages of a polynomial and the exponents of a line.
-use Rattle.std.proofs.Common.{◌≡◌, ℕ, ◌<◌, ◌≤◌, zero, suc, Bool, true, false, List, [], ◌∷◌, length, map, get_or, refl, sym, ◌∙◌, ap, arith}
+use Rattle.std.proofs.Common.{◌≡◌, ℕ, ◌<◌, ◌≤◌, zero, suc, true, List, [], ◌∷◌, length, map, get_or, refl, sym, ◌∙◌, ap, arith}
 use Rattle.std.proofs.Common.{subst, ◌⊎◌, inl, inr, Some, None}
-use Rattle.std.specs.Prelude.{All, Contains, if◌then◌else◌, slice_get}
+use Rattle.std.specs.Prelude.{All, Contains, slice_get}
 use Rattle.std.specs.Option.{option_map}
 use Rattle.std.proofs.Math.IntN.{ℤ}
 use Rattle.std.proofs.lemmas.Bool.{cases_lt}
 use Rattle.std.proofs.lemmas.List.{get_or-map, get_or_past, length-map}
-use Rattle.std.proofs.lemmas.List.Elements.{All-nil, All-tail}
 use Rattle.std.proofs.lemmas.Option.{get_or_from_slice_get, slice_get-get_or, slice_get-map, slice_get_within}
 use Rattle.ln_algebra.specs.Earlier.{IsOver}
 use Rattle.ln_algebra.specs.Stage.{IsStageList}
 use Rattle.ln_algebra.specs.Tree.{Tree}
-use Rattle.ln_algebra.specs.Vector.{same_vector}
 use Rattle.ln_tree.specs.declared.shape.Shape.{Shape}
 use Rattle.ln_tree.specs.declared.shape.VarInfo.{VarInfo}
 use Rattle.ln_tree.specs.Exps.{IsAbove, Pairs, exponent, vector}
 use Rattle.ln_tree.proofs.Powers.{power-apart, vector-get, vector-length}
 use Rattle.ln_order.specs.Orders.{IsOrderOf, orders_of}
-use Rattle.ln_order.specs.Prefixes.{beside, prefixes_of, segments_from}
+use Rattle.ln_order.specs.Prefixes.{prefixes_of, segments_from}
 use Rattle.ln_order.specs.Sites.{row_sites, site_of, sites_of}
 use Rattle.ln_order.proofs.Listing.OrdersLemmas.{is-member}
+use Rattle.ln_order.proofs.Listing.PrefixLemmas.{beside-all}
 use Rattle.ln_poly.specs.Sparse.{Sparse}
 use Rattle.ln_stage.specs.StageList.{IsStageListOf}
 use Rattle.ln_stage.specs.Staged.{Staged, block_vector, segment_of}
@@ -34,14 +33,6 @@ use Rattle.ln_trace.specs.ToldLaw.{IsLeft}
 use Rattle.ln_trace.proofs.Telling.{all-left}
 
 -- ---- numbers of blocks
-beside-all : (P : ℕ → Type 0) (ps ss : List (List ℕ)) (p : List ℕ) → All (λ l. All P l) ss → All P (beside ps ss p)
-beside-all P [] ss p h = All-nil P
-beside-all P (q ∷ ps) [] p h = All-nil P
-beside-all P (q ∷ ps) (s ∷ ss) p h = go (same_vector q p) (beside-all P ps ss p (All-tail (λ l. All P l) s ss h)) where
-  go : (b : Bool) → All P (beside ps ss p) → All P (if b then s else beside ps ss p)
-  go true r = h 0 s (omega arith)
-  go false r = r
-
 -- the numbers in each segment are those of stages
 pub case-numbers : (s : Shape) (f : Sparse) (st : Staged) → IsCase s f st → (q : List ℕ) → All (λ i. i < length st.exps) (segment_of st q)
 case-numbers s f st h q = beside-all (λ i. i < length st.exps) (prefixes_of st.sites) st.segments q h.stages.segments.numbers
@@ -110,16 +101,6 @@ module _ (s : Shape) (f : Sparse) (st : Staged) (h : IsCase s f st) (o : List �
   spot-first = record { sites = omega arith; at = omega arith }
 
 -- ---- exponents of coordinates of sites
-site-within : (vars : List VarInfo) (v : ℕ) → is_of_site (slice_get vars v) ≡ true → v < length vars
-site-within [] v h = cc
-site-within (x ∷ vars) zero h = omega arith
-site-within (x ∷ vars) (suc v) h = omega (arith, site-within vars v h)
-
--- coordinates of sites are below the number of variables
-pub sites-above : (vars : List VarInfo) (a : Pairs) → AreOfSites vars a → IsAbove a (length vars)
-sites-above vars [] h = tt
-sites-above vars (x ∷ a) h = (site-within vars x.0 h.0, sites-above vars a h.1)
-
 site-some : (vars : List VarInfo) (v : ℕ) → is_of_site (slice_get vars v) ≡ true → site_of vars v ≡ None → ⊥
 site-some [] v h e = cc
 site-some (x ∷ vars) zero h e = cc

@@ -37,7 +37,7 @@ use Rattle.ln_trace.specs.declared.line.TraceLine.TheVariants as line
 use Rattle.ln_trace.specs.declared.pointer.Spot.{Spot}
 use Rattle.ln_trace.specs.Here.{PlaceStep, HasPoly, IsAtRow, IsCase, IsHere, IsInRow, IsNextOf, Step, subject_of}
 use Rattle.ln_trace.specs.Left.{IsSpot, left_at}
-use Rattle.ln_trace.specs.Stand.{IsLastOf, MayStand}
+use Rattle.ln_trace.specs.Next.{IsLastOf, MayBeNext}
 use Rattle.ln_trace.specs.Told.{IsNext, Stood}
 use Rattle.ln_trace.specs.ToldLaw.{IsLeft}
 use Rattle.ln_trace.specs.Trace.{Between, Place, RowNext, Rule, Within}
@@ -250,7 +250,7 @@ module _ (s : Shape) (f : Sparse) (st : Staged) (old : Records) (d : Progress) w
   abbrev pub Passes : Pairs → Spot → Type 0
   Passes a spot = (e : Tree) (stood : Stood) (z : ℤ) → IndicesDiffer (sites_of s.vars (order_places d.order)) →
       IsOver (length s.vars) (sites_of s.vars (order_places d.order)) (vector (length s.vars) a) →
-      MayStand (length s.vars) (sites_of s.vars (order_places d.order)) e stood (vector (length s.vars) a) →
+      MayBeNext (length s.vars) (sites_of s.vars (order_places d.order)) e stood (vector (length s.vars) a) →
       IsLeft (length s.vars) (sites_of s.vars (order_places d.order)) e stood
       (map (vector (length s.vars)) (left_at st (order_places d.order) d.spot)) →
       IsLeft (length s.vars) (sites_of s.vars (order_places d.order)) e ((vector (length s.vars) a, z) ∷ stood)
@@ -279,7 +279,7 @@ module _ (s : Shape) (f : Sparse) (st : Staged) (old : Records) (d : Progress) w
           let order : IsOrder row.index (order_places d.order) = subst (λ (w : Row). IsOrder w.index (order_places d.order)) i.3.held at.order in
           let over : IsOver (length s.vars) (sites_of s.vars (order_places d.order)) (vector (length s.vars) a) =
           record { size = goes.over.size; of_sites = goes.over.of_sites } in
-          let may : MayStand (length s.vars) (sites_of s.vars (order_places d.order)) e stood (vector (length s.vars) a) =
+          let may : MayBeNext (length s.vars) (sites_of s.vars (order_places d.order)) e stood (vector (length s.vars) a) =
           next-may s row (order_places d.order) range order e stood row.values (vector (length s.vars) a) z goes in (
             Within seen left row ((vector (length s.vars) a, z) ∷ stood),
             record { rising = rising; of_sites = sites; next = goes; to = refl },

@@ -1,5 +1,5 @@
 -- The places that what the judge holds stands for, and what a line does to it.
-use Rattle.std.specs.Prelude.{◌≡◌, ◌≤◌, ◌<◌, ℕ, Bool, true, false, List, [], ◌∷◌, length, map, Ok, Err, slice_get}
+use Rattle.std.specs.Prelude.{◌≡◌, ◌≤◌, ℕ, Bool, true, false, List, [], ◌∷◌, length, map, Ok, Err}
 use Rattle.ln_base.specs.declared.sign.Sign.{Sign}
 use Rattle.ln_algebra.specs.Sign.{sign_of}
 use Rattle.ln_algebra.specs.Terms.{IsNormalOf}
@@ -9,7 +9,7 @@ use Rattle.ln_bound.specs.Light.{most}
 use Rattle.ln_bound.specs.Value.{weights}
 use Rattle.ln_tree.specs.declared.shape.Shape.{Shape}
 use Rattle.ln_tree.specs.declared.shape.VarInfo.{VarInfo}
-use Rattle.ln_tree.specs.Exps.{IsAbove, Pairs, vector}
+use Rattle.ln_tree.specs.Exps.{vector}
 use Rattle.ln_tree.specs.Row.{InRange, Row}
 use Rattle.ln_order.specs.Order.{IsOrder}
 use Rattle.ln_order.specs.Places.{order_places}
@@ -17,7 +17,6 @@ use Rattle.ln_order.specs.Sites.{sites_of}
 use Rattle.ln_poly.specs.Sparse.{AreBelow, Sparse, terms_of}
 use Rattle.ln_stage.specs.Staged.{AreStagesOf, Staged}
 use Rattle.ln_code.specs.declared.row.Row as code
-use Rattle.ln_code.specs.Kept.{is_of_site}
 use Rattle.ln_code.specs.RowOf.{row_of}
 use Rattle.ln_due.specs.Due.{sign_number}
 use Rattle.ln_rows.specs.Left.{Records}
@@ -28,7 +27,7 @@ use Rattle.ln_trace.specs.declared.progress.Next.{Next}
 use Rattle.ln_trace.specs.declared.progress.Next.TheVariants as next
 use Rattle.ln_trace.specs.declared.line.TraceLine.{TraceLine}
 use Rattle.ln_trace.specs.Left.{IsSpot, left_at}
-use Rattle.ln_trace.specs.Stand.{IsLastOf}
+use Rattle.ln_trace.specs.Next.{IsLastOf}
 use Rattle.ln_trace.specs.Told.{Stood}
 use Rattle.ln_trace.specs.ToldLaw.{IsLeft}
 use Rattle.ln_trace.specs.Trace.{Between, Place, Rule, Subject, Within}
@@ -99,11 +98,3 @@ IsNextOf sites vars next.Fault old rows r =
     (fields : List (List ℕ)) × (old ≡ fields ∷ rows) × (stop : RowStop) × (read_row sites vars fields ≡ Err stop)
 IsNextOf sites vars next.Read old rows r = (fields : List (List ℕ)) × (old ≡ fields ∷ rows)
     × (read_row sites vars fields ≡ Ok (row_of sites vars r)) × InRange sites vars (row_of sites vars r)
-
--- ---- exponents
--- a pair may follow these: it has an exponent from 1 to 127, and its variable is a coordinate of a site and above theirs
-pub record MayFollow (vars : List VarInfo) (ps : Pairs) (p : ℕ × ℕ) : Type 0 where
-  pub some : 0 < p.1
-  pub small : p.1 < 128
-  pub of_site : is_of_site (slice_get vars p.0) ≡ true
-  pub above : IsAbove ps p.0

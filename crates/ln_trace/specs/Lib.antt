@@ -5,7 +5,7 @@ pub mod Judge
 pub mod Signs
 pub mod WalkLaw
 pub mod Left
-pub mod Stand
+pub mod Next
 pub mod Text
 pub mod Form
 pub mod FormLaw

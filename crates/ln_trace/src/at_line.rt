@@ -16,49 +16,41 @@ ghost use Rattle.ln_stage.specs.Staged.{segment_of};
 ghost use Rattle.ln_trace.specs.Told.{IsNext, Stood};
 ghost use Rattle.ln_trace.specs.ToldLaw.{IsLeft};
 ghost use Rattle.ln_trace.specs.Left.{IsSpot, left_at};
-ghost use Rattle.ln_trace.specs.Stand.{IsLastOf};
+ghost use Rattle.ln_trace.specs.Next.{IsLastOf};
 
-use crate::pointer::Spot;
-use crate::stand::{Last, may_stand};
-use ln_order::Order;
-use ln_poly::{Binomials, Poly, value_at};
-use ln_stage::Stages;
-use ln_tree::{Exps, Shape};
+use crate::case::Case;
+use crate::next::may_be_next;
+use crate::progress::Progress;
+use ln_poly::value_at;
+use ln_tree::Exps;
 
 /// May a with the value z stand next in the row with these values, by the rule of an `at` line? Allocates nothing.
-pub fn is_next_at(
-    b: &Binomials,
-    f: &Poly,
-    st: &Stages,
-    s: &Shape,
-    o: &Order,
-    last: &Last,
-    spot: Spot,
-    a: &Exps,
-    z: i128,
-    row: &[i64],
-) -> bool
-    requires sites { length (order_places o.now) ≡ s.now.sites }
-    requires order { length (order_places o.now) ≡ st.now.sites }
-    requires spot { IsSpot st.now (order_places o.now) spot }
-    requires numbers { (q : List ℕ) → All (λ i. i < length st.now.exps) (segment_of st.now q) }
-    requires above { IsAbove a.now (length s.now.vars) }
-    requires below { AreBelow (length s.now.vars) f.now }
-    requires light { weighted_sum (weights s.now.vars) (terms_of (length s.now.vars) f.now) ≤ most }
-    requires row { AreWithin s.now.vars row.now }
-    ensures { (e : Tree) (stood : Stood) (r : Row) → r.values ≡ row.now → InRange s.now.sites s.now.vars r →
-        IsOrder r.index (order_places o.now) → IndicesDiffer (sites_of s.now.vars (order_places o.now)) →
-        InputsBelow (length s.now.vars) e → IsNormalOf (length s.now.vars) e (terms_of (length s.now.vars) f.now) →
-        IsOver (length s.now.vars) (row_sites s.now.vars r.index) (vector (length s.now.vars) a.now) →
-        IsLastOf (length s.now.vars) last.now.exps last.now.zero stood →
-        IsLeft (length s.now.vars) (sites_of s.now.vars (order_places o.now)) e stood
-        (map (vector (length s.now.vars)) (left_at st.now (order_places o.now) spot)) →
-        IsTrue result ↔ IsNext (length s.now.vars) (row_sites s.now.vars r.index) (values row.now) e stood (vector (length s.now.vars) a.now) z }
+pub fn is_next_at(case: &Case, state: &Progress, a: &Exps, z: i128, row: &[i64]) -> bool
+    requires sites { length (order_places state.now.order) ≡ case.now.pred.now.shape.sites }
+    requires order { length (order_places state.now.order) ≡ case.now.stages.now.sites }
+    requires spot { IsSpot case.now.stages.now (order_places state.now.order) state.now.spot }
+    requires numbers { (q : List ℕ) → All (λ i. i < length case.now.stages.now.exps) (segment_of case.now.stages.now q) }
+    requires above { IsAbove a.now (length case.now.pred.now.shape.vars) }
+    requires below { AreBelow (length case.now.pred.now.shape.vars) case.now.poly.now }
+    requires light { weighted_sum (weights case.now.pred.now.shape.vars) (terms_of (length case.now.pred.now.shape.vars) case.now.poly.now) ≤ most }
+    requires row { AreWithin case.now.pred.now.shape.vars row.now }
+    ensures { (e : Tree) (stood : Stood) (r : Row) → r.values ≡ row.now → InRange case.now.pred.now.shape.sites case.now.pred.now.shape.vars r →
+        IsOrder r.index (order_places state.now.order) → IndicesDiffer (sites_of case.now.pred.now.shape.vars (order_places state.now.order)) →
+        InputsBelow (length case.now.pred.now.shape.vars) e →
+        IsNormalOf (length case.now.pred.now.shape.vars) e (terms_of (length case.now.pred.now.shape.vars) case.now.poly.now) →
+        IsOver (length case.now.pred.now.shape.vars) (row_sites case.now.pred.now.shape.vars r.index)
+        (vector (length case.now.pred.now.shape.vars) a.now) →
+        IsLastOf (length case.now.pred.now.shape.vars) state.now.last.exps state.now.last.zero stood →
+        IsLeft (length case.now.pred.now.shape.vars) (sites_of case.now.pred.now.shape.vars (order_places state.now.order)) e stood
+        (map (vector (length case.now.pred.now.shape.vars)) (left_at case.now.stages.now (order_places state.now.order) state.now.spot)) →
+        IsTrue result ↔ IsNext (length case.now.pred.now.shape.vars) (row_sites case.now.pred.now.shape.vars r.index) (values row.now) e stood
+        (vector (length case.now.pred.now.shape.vars) a.now) z }
 {
-    if !may_stand(st, o, s, last, spot, a) {
+    let s = &case.pred.shape;
+    if !may_be_next(case.stages, &state.order, s, &state.last, state.spot, a) {
         return false;
     }
-    let value = value_at(b, f, s, a.pairs(), row);
+    let value = value_at(case.binomials, case.poly, s, a.pairs(), row);
     if value != z {
         return false;
     }

@@ -9,6 +9,7 @@ ghost use Rattle.ln_trace.specs.Judged.{IsJudged, fault_of};
 ghost use Rattle.ln_trace.specs.Signs.{AreRight, signs_in};
 ghost use Rattle.ln_trace.specs.Unread.{AreLeft};
 
+use crate::case::Case;
 use crate::judged::Judged;
 use crate::line::TraceLine;
 use crate::lines::TraceLines;
@@ -25,23 +26,21 @@ use std::alloc::Global;
 // A line at its place.
 fn line(
     alloc: Global,
-    b: &Binomials,
-    p: &Pred,
-    f: &Poly,
-    st: &Stages,
+    case: &Case,
     rows: &mut Rows<'_>,
     state: &mut Progress,
     line: &TraceLine,
 ) -> Result<bool, NoMemory>
-    requires case { IsCase p.now.shape f.now st.now }
-    requires holds { Holds p.now.shape st.now state.old }
-    ensures { IfOk result (λ ok. Step p.now.shape f.now st.now rows.old state.old line.now ok rows.new state.new) }
+    requires case { IsCase case.now.pred.now.shape case.now.poly.now case.now.stages.now }
+    requires holds { Holds case.now.pred.now.shape case.now.stages.now state.old }
+    ensures { IfOk result (λ ok. Step case.now.pred.now.shape case.now.poly.now case.now.stages.now rows.old state.old line.now ok rows.new
+        state.new) }
 {
     match line {
-        TraceLine::Refused(n) => refused(p, rows, state, *n),
-        TraceLine::Row(n) => row(p, rows, state, *n),
-        TraceLine::At(a, z) => at(alloc, b, f, st, &p.shape, state, a.as_slice(), *z),
-        TraceLine::Sign(t) => Ok(sign(f, st, &p.shape, state, *t)),
+        TraceLine::Refused(n) => refused(case.pred, rows, state, *n),
+        TraceLine::Row(n) => row(case.pred, rows, state, *n),
+        TraceLine::At(a, z) => at(alloc, case, state, a.as_slice(), *z),
+        TraceLine::Sign(t) => Ok(sign(case, state, *t)),
     }
 }
 
@@ -60,29 +59,26 @@ fn is_over(p: &Pred, rows: &mut Rows<'_>, state: &mut Progress) -> Result<bool, 
 // Returns what the remaining lines are judged, where none has stood.
 fn over_lines(
     alloc: Global,
-    b: &Binomials,
-    p: &Pred,
-    f: &Poly,
-    st: &Stages,
+    case: &Case,
     rows: &mut Rows<'_>,
     lines: &mut TraceLines<'_>,
     state: &mut Progress,
 ) -> Result<Judged, NoMemory>
-    requires case { IsCase p.now.shape f.now st.now }
+    requires case { IsCase case.now.pred.now.shape case.now.poly.now case.now.stages.now }
     requires second { lines.old.line ≡ 2 }
     requires inside { state.old.inside ≡ false }
     requires none { state.old.seen ≡ 0 }
-    ensures { IfOk result (λ j. (e : Tree) (ls : List AnyLine) → HasPoly p.now.shape e f.now → AreLeft lines.old ls →
-        IsJudged (subject_of p.now.shape e) rows.old ls j) }
+    ensures { IfOk result (λ j. (e : Tree) (ls : List AnyLine) → HasPoly case.now.pred.now.shape e case.now.poly.now → AreLeft lines.old ls →
+        IsJudged (subject_of case.now.pred.now.shape e) rows.old ls j) }
 {
     'lines: while let Some(l) = lines.next(alloc)? {
-        let good = line(alloc, b, p, f, st, rows, state, &l);
+        let good = line(alloc, case, rows, state, &l);
         drop(l);
         if !good? {
             return Ok(Judged::Wrong(lines.number() - 1));
         }
     }
-    if !is_over(p, rows, state)? {
+    if !is_over(case.pred, rows, state)? {
         return Ok(Judged::Wrong(lines.number()));
     }
     Ok(Judged::Agreed(state.seen))
@@ -109,34 +105,38 @@ pub fn judge_lines(
         j ≡ Agreed n → AreRight (subject_of p.now.shape e) rows.old (signs_in ls)) }
 {
     let b = Binomials::new(alloc)?;
+    let case = Case {
+        pred: p,
+        poly: f,
+        stages: st,
+        binomials: &b,
+    };
     let mut state = fresh_progress();
-    let j = over_lines(alloc, &b, p, f, st, rows, lines, &mut state)?;
+    let j = over_lines(alloc, &case, rows, lines, &mut state)?;
     Ok(j)
 }
 
 // Returns what these lines are judged, where none has stood.
 fn over_trace(
     alloc: Global,
-    b: &Binomials,
-    p: &Pred,
-    f: &Poly,
-    st: &Stages,
+    case: &Case,
     rows: &mut Rows<'_>,
     read: &[TraceLine],
     state: &mut Progress,
 ) -> Result<Judged, NoMemory>
-    requires case { IsCase p.now.shape f.now st.now }
+    requires case { IsCase case.now.pred.now.shape case.now.poly.now case.now.stages.now }
     requires few { length read.now < 4294967294 }
     requires inside { state.old.inside ≡ false }
     requires none { state.old.seen ≡ 0 }
-    ensures { IfOk result (λ j. (e : Tree) → HasPoly p.now.shape e f.now → IsJudged (subject_of p.now.shape e) rows.old read.now j) }
+    ensures { IfOk result (λ j. (e : Tree) → HasPoly case.now.pred.now.shape e case.now.poly.now →
+        IsJudged (subject_of case.now.pred.now.shape e) rows.old read.now j) }
 {
     'lines: for (i, l) in read.iter().enumerate() {
-        if !line(alloc, b, p, f, st, rows, state, l)? {
+        if !line(alloc, case, rows, state, l)? {
             return Ok(Judged::Wrong(i as u32 + 2));
         }
     }
-    if !is_over(p, rows, state)? {
+    if !is_over(case.pred, rows, state)? {
         return Ok(Judged::Wrong(read.len() as u32 + 2));
     }
     Ok(Judged::Agreed(state.seen))
@@ -169,7 +169,13 @@ pub fn judge(
         AreRight (subject_of p.now.shape e) rows.old (signs_in t.now)) }
 {
     let b = Binomials::new(alloc)?;
+    let case = Case {
+        pred: p,
+        poly: f,
+        stages: st,
+        binomials: &b,
+    };
     let mut state = fresh_progress();
-    let j = over_trace(alloc, &b, p, f, st, rows, t.lines(), &mut state)?;
+    let j = over_trace(alloc, &case, rows, t.lines(), &mut state)?;
     Ok(fault_of(j))
 }

@@ -5,6 +5,7 @@
 #![tactic(auto)]
 
 pub mod at_line;
+pub mod case;
 pub mod explain;
 pub mod exps;
 pub mod form_laws;
@@ -14,12 +15,12 @@ pub mod kinds;
 pub mod laws;
 pub mod line;
 pub mod lines;
+pub mod next;
 pub mod pointer;
 pub mod progress;
 pub mod put;
 pub mod read;
 pub mod rules;
-pub mod stand;
 pub mod state;
 pub mod trace;
 pub mod words;

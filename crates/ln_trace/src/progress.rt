@@ -2,8 +2,8 @@
 ghost use Rattle.std.specs.Prelude.{◌≡◌, ◌↔◌, ◌+◌, false, IfOk, IsTrue};
 ghost use Rattle.ln_trace.specs.Here.{IsNextOf};
 
+use crate::next::Last;
 use crate::pointer::Spot;
-use crate::stand::Last;
 use ln_base::{NoMemory, Sign};
 use ln_code::Row;
 use ln_order::Order;

@@ -17,14 +17,14 @@ ghost use Rattle.ln_trace.specs.Here.{Holds, IsAtRow, IsCase, Step};
 ghost use Rattle.ln_trace.specs.Left.{IsSpot, left_at};
 
 use crate::at_line::is_next_at;
+use crate::case::Case;
 use crate::exps::exps_of;
+use crate::next::{Last, passed};
 use crate::pointer::{Spot, first_left};
 use crate::progress::{Next, Progress, is, is_next, taken};
-use crate::stand::{Last, passed};
 use ln_base::{NoMemory, Sign};
-use ln_code::Row;
+use ln_code::{Row, sign_of};
 use ln_order::{Order, order_of};
-use ln_poly::{Binomials, Poly};
 use ln_rows::Rows;
 use ln_stage::Stages;
 use ln_tree::{Exps, Pred, Shape};
@@ -108,19 +108,6 @@ fn values_of<'a>(s: &Shape, row: &'a Row) -> &'a [i64]
     &row.values[..s.vars.len()]
 }
 
-// The sign of a value.
-fn sign_of(z: i128) -> Sign
-    ensures { sign_number result ≡ sign_of z }
-{
-    if z > 0 {
-        Sign::Plus
-    } else if z < 0 {
-        Sign::Minus
-    } else {
-        Sign::Zero
-    }
-}
-
 fn is_sign(t: Sign, u: Sign) -> bool
     ensures { IsTrue result ↔ (t ≡ u) }
 {
@@ -152,38 +139,21 @@ fn stood(state: &mut Progress, spot: Spot, a: Exps, z: i128)
 }
 
 // Lets a with the value z stand, or refuses it.
-fn stands(
-    b: &Binomials,
-    f: &Poly,
-    st: &Stages,
-    s: &Shape,
-    state: &mut Progress,
-    a: Exps,
-    z: i128,
-) -> bool
-    requires case { IsCase s.now f.now st.now }
-    requires at { IsAtRow s.now st.now state.old }
+fn stands(case: &Case, state: &mut Progress, a: Exps, z: i128) -> bool
+    requires case { IsCase case.now.pred.now.shape case.now.poly.now case.now.stages.now }
+    requires at { IsAtRow case.now.pred.now.shape case.now.stages.now state.old }
     requires inside { state.old.inside ≡ true }
     requires rising { IsRising a }
-    requires of_sites { AreOfSites s.now.vars a }
-    ensures { (rows : Records) → Step s.now f.now st.now rows state.old (line.At a z) result rows state.new }
+    requires of_sites { AreOfSites case.now.pred.now.shape.vars a }
+    ensures { (rows : Records) →
+        Step case.now.pred.now.shape case.now.poly.now case.now.stages.now rows state.old (line.At a z) result rows state.new }
 {
+    let s = &case.pred.shape;
     let row = values_of(s, &state.row);
-    if !is_next_at(
-        b,
-        f,
-        st,
-        s,
-        &state.order,
-        &state.last,
-        state.spot,
-        &a,
-        z,
-        row,
-    ) {
+    if !is_next_at(case, state, &a, z, row) {
         return false;
     }
-    let spot = passed(st, &state.order, s, state.spot, &a);
+    let spot = passed(case.stages, &state.order, s, state.spot, &a);
     stood(state, spot, a, z);
     true
 }
@@ -191,25 +161,23 @@ fn stands(
 /// `at`.
 pub fn at(
     alloc: Global,
-    b: &Binomials,
-    f: &Poly,
-    st: &Stages,
-    s: &Shape,
+    case: &Case,
     state: &mut Progress,
     a: &[(u8, u8)],
     z: i128,
 ) -> Result<bool, NoMemory>
-    requires case { IsCase s.now f.now st.now }
-    requires holds { Holds s.now st.now state.old }
-    ensures { IfOk result (λ ok. (rows : Records) → Step s.now f.now st.now rows state.old (line.At a.now z) ok rows state.new) }
+    requires case { IsCase case.now.pred.now.shape case.now.poly.now case.now.stages.now }
+    requires holds { Holds case.now.pred.now.shape case.now.stages.now state.old }
+    ensures { IfOk result (λ ok. (rows : Records) →
+        Step case.now.pred.now.shape case.now.poly.now case.now.stages.now rows state.old (line.At a.now z) ok rows state.new) }
 {
     if !state.inside {
         return Ok(false);
     }
-    let Some(e) = exps_of(alloc, s.vars.as_slice(), a)? else {
+    let Some(e) = exps_of(alloc, case.pred.shape.vars.as_slice(), a)? else {
         return Ok(false);
     };
-    let ok = stands(b, f, st, s, state, e, z);
+    let ok = stands(case, state, e, z);
     Ok(ok)
 }
 
@@ -247,10 +215,11 @@ fn is_whole(st: &Stages, state: &Progress) -> bool
 }
 
 /// `sign`.
-pub fn sign(f: &Poly, st: &Stages, s: &Shape, state: &mut Progress, t: Sign) -> bool
-    requires case { IsCase s.now f.now st.now }
-    requires holds { Holds s.now st.now state.old }
-    ensures { (rows : Records) → Step s.now f.now st.now rows state.old (line.Sign t) result rows state.new }
+pub fn sign(case: &Case, state: &mut Progress, t: Sign) -> bool
+    requires case { IsCase case.now.pred.now.shape case.now.poly.now case.now.stages.now }
+    requires holds { Holds case.now.pred.now.shape case.now.stages.now state.old }
+    ensures { (rows : Records) →
+        Step case.now.pred.now.shape case.now.poly.now case.now.stages.now rows state.old (line.Sign t) result rows state.new }
 {
     if !state.inside {
         return false;
@@ -258,7 +227,7 @@ pub fn sign(f: &Poly, st: &Stages, s: &Shape, state: &mut Progress, t: Sign) -> 
     if !is_said(state, t) {
         return false;
     }
-    if !is_whole(st, state) {
+    if !is_whole(case.stages, state) {
         return false;
     }
     state.inside = false;

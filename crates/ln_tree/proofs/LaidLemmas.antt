@@ -1,14 +1,15 @@
 -- Variables in order are those of arguments.
 use Rattle.std.proofs.Common.{◌≡◌, ◌⊎◌, inl, inr, ℕ, ◌+◌, ◌*◌, ◌<◌, ◌≤◌, zero, suc, List, [], ◌∷◌, ◌++◌, length, length-append, refl, sym}
 use Rattle.std.proofs.Common.{◌∙◌, ap, arith, Bool, true, false, cond}
-use Rattle.std.specs.Prelude.{◌==◌, ◌&&◌, ◌||◌, Option, Some, None, count_by, is_some, is_none, nat_le, nat_lt}
+use Rattle.std.specs.Prelude.{◌==◌, ◌&&◌, ◌||◌, Option, Some, None, count_by, is_some, is_none, nat_lt}
 use Rattle.std.specs.List.{list_all}
 use Rattle.std.proofs.lemmas.List.Sums.{sum_by-cons}
-use Rattle.std.proofs.lemmas.Bool.{and_parts, eqb-true, eq-eqb, leb-true, le-leb, ltb-true, lt-ltb, ne_eqb}
+use Rattle.std.proofs.lemmas.Bool.{and_parts, eqb-true, eq-eqb, le-leb, ltb-true, lt-ltb, ne_eqb}
 use Rattle.ln_tree.specs.declared.shape.VarInfo.{VarInfo}
 use Rattle.ln_tree.specs.Laid.{AParam, ASite, AreNarrow, AreOfArguments, Argument, Ends, VariablesAreOfArguments, coordinates_behind}
 use Rattle.ln_tree.specs.Laid.{first_of, is_a_param, is_a_site, next_of, variables_from}
 use Rattle.ln_tree.specs.Variables.{begins, goes_on, has_range, in_order, is_laid_out, is_param, no_var, same_site, sites_behind, starts_site}
+use Rattle.ln_tree.proofs.KeptLemmas.{laid_out}
 
 -- further coordinates after b: there are none, or b is of a site and has room for them
 abbrev Fits : VarInfo → List Ends → Type 0
@@ -26,7 +27,8 @@ record Split (a s : ℕ) (b : VarInfo) (vars : List VarInfo) : Type 0 where
 itself : (n : ℕ) → (n == n) ≡ true
 itself n = eq-eqb n n refl
 
-same-site : (o p : Option ℕ) → same_site o p ≡ true → o ≡ p
+-- sites that are the same by the test are equal
+pub same-site : (o p : Option ℕ) → same_site o p ≡ true → o ≡ p
 same-site None None h = refl
 same-site None (Some t) h = cc
 same-site (Some s) None h = cc
@@ -202,14 +204,8 @@ few (AParam r ∷ args) a s n =
 -- ---- both ways
 to : (sites : ℕ) (vars : List VarInfo) → is_laid_out sites vars ≡ true → AreOfArguments sites vars
 to sites vars h =
-    let p = and_parts (in_order 0 0 no_var vars && list_all has_range vars && (count_by starts_site vars == sites) && nat_le sites 5
-    && nat_le (count_by is_param vars) 8) (nat_le (length vars) 168) h in
-    let q = and_parts (in_order 0 0 no_var vars && list_all has_range vars && (count_by starts_site vars == sites) && nat_le sites 5)
-    (nat_le (count_by is_param vars) 8) p.0 in
-    let r = and_parts (in_order 0 0 no_var vars && list_all has_range vars && (count_by starts_site vars == sites)) (nat_le sites 5) q.0 in
-    let u = and_parts (in_order 0 0 no_var vars && list_all has_range vars) (count_by starts_site vars == sites) r.0 in
-    let w = and_parts (in_order 0 0 no_var vars) (list_all has_range vars) u.0 in
-    made (split 0 0 no_var vars w.0) w.1 (eqb-true (count_by starts_site vars) sites u.1) (leb-true sites 5 r.1) (leb-true (count_by is_param vars) 8 q.1) where
+    let p = laid_out sites vars h in
+    made (split 0 0 no_var vars p.order) p.ranges p.counted p.few_sites p.few_params where
       none_behind : (rest : List Ends) → Fits no_var rest → rest ≡ []
       none_behind rest (inl e) = e
       none_behind rest (inr (e, l)) = absurd (let f : false ≡ true = e in cc)

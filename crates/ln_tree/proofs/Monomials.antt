@@ -9,16 +9,17 @@ use Rattle.ln_tree.specs.Exps.{AllAbove, IsBefore, IsRising, Pairs, exponent, pa
 use Rattle.ln_tree.proofs.Powers.{all_above-none, power, power-here}
 
 -- ---- what it compares
-above-lower : (v w : ℕ) (ps : Pairs) → v < w → AllAbove w ps → AllAbove v ps
+-- what is above w is above what is below w
+pub above-lower : (v w : ℕ) (ps : Pairs) → v < w → AllAbove w ps → AllAbove v ps
 above-lower v w [] h a = tt
 above-lower v w (p ∷ ps) h a = (omega (arith, a.0), above-lower v w ps h a.1)
 
 -- a variable below the first has none
-none-before : (v : ℕ) (p : ℕ × ℕ) (ps : Pairs) → v < p.0 → AllAbove p.0 ps → exponent v (p ∷ ps) ≡ 0
+pub none-before : (v : ℕ) (p : ℕ × ℕ) (ps : Pairs) → v < p.0 → AllAbove p.0 ps → exponent v (p ∷ ps) ≡ 0
 none-before v p ps l a = all_above-none v (p ∷ ps) (l, above-lower v p.0 ps l a)
 
 -- the exponent of the first
-first-here : (p : ℕ × ℕ) (ps : Pairs) → AllAbove p.0 ps → exponent p.0 (p ∷ ps) ≡ p.1
+pub first-here : (p : ℕ × ℕ) (ps : Pairs) → AllAbove p.0 ps → exponent p.0 (p ∷ ps) ≡ p.1
 first-here p ps a = omega (arith, power-here p.0 p refl, all_above-none p.0 ps a)
 
 before-more : (p q : ℕ × ℕ) (a b : Pairs) → p.0 ≡ q.0 → p.1 ≡ q.1 → IsBefore a b → IsBefore (p ∷ a) (q ∷ b)

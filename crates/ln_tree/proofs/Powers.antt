@@ -2,7 +2,7 @@
 use Rattle.std.proofs.Common.{◌≡◌, ℕ, ◌+◌, ◌<◌, zero, suc, refl, ◌∙◌, ap, subst, arith, [], ◌∷◌, length, take, get_or, true, false, eqb}
 use Rattle.std.proofs.Common.{eq-eqb, add-one, if◌then◌else◌}
 use Rattle.std.proofs.lemmas.Bool.Decides.{nat_tests}
-use Rattle.ln_tree.specs.Exps.{AllAbove, IsRising, Pairs, exponent, exponents_from, vector}
+use Rattle.ln_tree.specs.Exps.{AllAbove, IsRising, Pairs, exponent, exponents_from, vector, IsAbove}
 
 -- what one pair adds to the exponent of v
 abbrev pub power : ℕ → ℕ × ℕ → ℕ
@@ -32,6 +32,12 @@ pub above-at : (w : ℕ) (ps : Pairs) (i : ℕ) → i < length ps → AllAbove w
 above-at w [] i h a = absurd (omega arith)
 above-at w (p ∷ ps) zero h a = a.0
 above-at w (p ∷ ps) (suc i) h a = above-at w ps i (omega arith) a.1
+
+-- the variables before a place are below the one at the place, where the pairs rise
+pub above-take : (ps : Pairs) (i : ℕ) → IsRising ps → i < length ps → IsAbove (take i ps) (get_or ps i (0, 0)).0
+above-take [] i r h = absurd (omega arith)
+above-take (p ∷ ps) zero r h = tt
+above-take (p ∷ ps) (suc i) r h = (above-at p.0 ps i (omega arith) r.2, above-take ps i r.3 (omega arith))
 
 -- a variable below all pairs has none
 pub all_above-none : (v : ℕ) (ps : Pairs) → AllAbove v ps → exponent v ps ≡ 0

@@ -1,6 +1,6 @@
 //! Defines the exponents of a monomial, as pairs of a variable and its exponent, and their order.
 ghost use Rattle.std.specs.Prelude.{◌≡◌, ◌<◌, ◌++◌, [], ◌∷◌, IfOk, OnOk, OnErr};
-ghost use Rattle.ln_tree.specs.Exps.{IsRising, exponent, pair_cmp, pairs_cmp};
+ghost use Rattle.ln_tree.specs.Exps.{IsRising, exponent, pair_cmp, pairs_cmp, same_pairs};
 
 use ln_base::NoMemory;
 use smallvec::SmallVec;
@@ -49,6 +49,16 @@ impl Exps {
         ensures err { OnErr result (self.new ≡ self.old) }
     {
         self.pairs.push((v, e))?;
+        Ok(())
+    }
+
+    /// Appends pairs of further variables. A refusal changes nothing.
+    pub fn append(&mut self, pairs: &[(u8, u8)]) -> Result<(), NoMemory>
+        requires { IsRising (self.old ++ pairs.now) }
+        ensures ok { OnOk result (self.new ≡ self.old ++ pairs.now) }
+        ensures err { OnErr result (self.new ≡ self.old) }
+    {
+        self.pairs.extend_from_slice(pairs)?;
         Ok(())
     }
 
@@ -105,6 +115,20 @@ fn cmp_pairs(a: &[(u8, u8)], b: &[(u8, u8)]) -> Ordering
     a.len().cmp(&b.len())
 }
 
+// Are two lists of pairs the same? Where they are of one length all pairs are compared, which takes less time than a branch at each.
+fn are_same(a: &[(u8, u8)], b: &[(u8, u8)]) -> bool
+    ensures { result ≡ same_pairs a.now b.now }
+{
+    if a.len() != b.len() {
+        return false;
+    }
+    let mut same = true;
+    'pairs: for i in 0..a.len() {
+        same &= a[i].0 == b[i].0 && a[i].1 == b[i].1;
+    }
+    same
+}
+
 impl PartialEq for Exps {
     ghost use Rattle.std.proofs.Common.{rules};
     ghost use Rattle.std.specs.Cmp.Rules.{comparing};
@@ -115,7 +139,7 @@ impl PartialEq for Exps {
     ghost laws = { Prim.search (comparing, rules) };
 
     fn eq(&self, other: &Exps) -> bool {
-        self.pairs.as_slice() == other.pairs.as_slice()
+        are_same(self.pairs.as_slice(), other.pairs.as_slice())
     }
 }
 

@@ -7,7 +7,7 @@ ghost use Rattle.ln_poly.specs.Sparse.{AreBelow, terms_of};
 
 use crate::sources::{poly_of, table};
 use ln_base::NoMemory;
-use ln_poly::{Poly, PolyStop, add, derive, heft, mul, mul_within, number, power, weight};
+use ln_poly::{Poly, PolyStop, add, derive, heft, mul_within, number, power, weight};
 use ln_tree::{Pred, Shape};
 use std::alloc::Global;
 
@@ -38,8 +38,10 @@ fn are_twice(sum: &Poly, square: &Poly) -> bool {
 fn twice(alloc: Global) -> Result<bool, NoMemory> {
     let x = power(alloc, 0, 1, 1)?;
     let sum = add(alloc, &x, &x)?;
-    let square = mul(alloc, &x, &x)?;
-    Ok(are_twice(&sum, &square))
+    match mul_within(alloc, &x, &x, 1)? {
+        Some(square) => Ok(are_twice(&sum, &square)),
+        None => Ok(false),
+    }
 }
 
 #[test]

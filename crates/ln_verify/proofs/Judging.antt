@@ -1,5 +1,4 @@
 -- Lines, subjects and lists of a listing, one after the other.
-pub mod Readings
 pub mod OrderLines
 pub mod Places
 pub mod Put

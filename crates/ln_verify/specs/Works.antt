@@ -3,11 +3,7 @@ use Rattle.std.specs.Prelude.{ℕ, Bool, List, length, Option}
 use Rattle.ln_algebra.specs.Tree.{Tree}
 use Rattle.ln_interval.specs.Range.{Range}
 use Rattle.ln_tree.specs.declared.shape.VarInfo.{VarInfo}
-use Rattle.ln_bound.specs.declared.fitted.Two.{Two}
-use Rattle.ln_bound.specs.declared.fitted.Two.TheVariants.{Plus, Minus, Times}
-use Rattle.ln_bound.specs.declared.fitted.Width.{Width}
 use Rattle.ln_code.specs.declared.op.Op.{Op}
-use Rattle.ln_code.specs.declared.op.Op.TheVariants.{Add, Sub, Mul}
 use Rattle.ln_code.specs.declared.op.Triple.{Triple}
 use Rattle.ln_code.specs.Engine.{Engine, State}
 use Rattle.ln_code.specs.FilterRules.{FilterKnown}
@@ -19,12 +15,6 @@ use Rattle.ln_verify.specs.Values.{Came, IsFor, IsState}
 use Rattle.ln_verify.specs.declared.ranged.Ranged.{Ranged}
 use Rattle.ln_verify.specs.declared.stacks.Stack.{Stack}
 use Rattle.ln_verify.specs.declared.value.Value.{Value}
-
--- the operation of this kind
-abbrev pub op_of : Two → Width → Op
-op_of Plus w = Add w
-op_of Minus w = Sub w
-op_of Times w = Mul w
 
 -- an operation leads each state that the old stack is for to one that the new one is for, or nowhere
 abbrev pub StackStep : {L B K : Type 0} → (L → Tree → ℕ → K) → (K → Tree) → (Version → List VarInfo → Engine B K (ℕ → Option K)) → Version →

@@ -9,21 +9,10 @@ ghost use Rattle.ln_verify.specs.Here.{IsCase};
 
 use crate::case::Case;
 use ln_base::NoMemory;
+use ln_code::are_below;
 use ln_poly::{Poly, derive_by};
 use ln_tree::Exps;
 use std::alloc::Global;
-
-/// Is each variable below n?
-pub fn are_below(a: &[(u8, u8)], n: usize) -> bool
-    ensures { IsTrue result ↔ IsAbove a.now n }
-{
-    'pairs: for p in a {
-        if usize::from(p.0) >= n {
-            return false;
-        }
-    }
-    true
-}
 
 /// Is the polynomial the scaled derivative of the predicate's by these exponents?
 pub fn is_derivative(alloc: Global, case: &Case, a: &Exps, g: &Poly) -> Result<bool, NoMemory>

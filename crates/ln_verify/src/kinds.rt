@@ -14,7 +14,6 @@ ghost use Rattle.ln_cert.specs.declared.part.Part.TheVariants.{NoFilter, Filter,
 use crate::case::Case;
 use crate::derived::{is_derivative, is_whole};
 use crate::form::{Form, is_form};
-use crate::heads::{are_of_sites, exps_of};
 use crate::orders::is_next;
 use crate::progress::{At, Progress, before, is_at};
 use crate::ranged::{BlockStack, pair_of_bound, pair_of_ends};
@@ -22,7 +21,7 @@ use crate::stacks::empty;
 use crate::steps::operate;
 use crate::triple::FilterStack;
 use ln_base::{NoMemory, Seq};
-use ln_code::{Op, Triple};
+use ln_code::{Op, Triple, are_of_sites, exps_of};
 use ln_tree::Exps;
 use std::alloc::Global;
 

@@ -10,7 +10,6 @@ pub mod cases;
 pub mod derived;
 pub mod fits;
 pub mod form;
-pub mod heads;
 pub mod joined;
 pub mod judge;
 pub mod kinds;

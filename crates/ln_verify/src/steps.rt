@@ -6,7 +6,8 @@ ghost use Rattle.ln_tree.specs.declared.shape.VarInfo.{VarInfo as Info};
 ghost use Rattle.ln_code.specs.declared.op.Op.TheVariants.{Push, Input, Get, Set, Neg, Cut};
 ghost use Rattle.ln_verify.specs.BlockRules.{Version};
 ghost use Rattle.ln_verify.specs.Versions.{version_of};
-ghost use Rattle.ln_verify.specs.Works.{StackStep, op_of};
+ghost use Rattle.ln_verify.specs.Works.{StackStep};
+ghost use Rattle.ln_code.specs.Engine.{op_of};
 
 use crate::form::Form;
 use crate::limits::Limits;

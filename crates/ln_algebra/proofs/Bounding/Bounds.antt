@@ -39,7 +39,7 @@ value-abs x w (t ∷ f) h =
 
 -- ---- derivatives
 -- one term of (m + 1)^n is at most the whole
-binomial-power : (m n k : ℕ) → k ≤ n → binomial n k * m ^ (n - k) ≤ (m + 1) ^ n
+pub binomial-power : (m n k : ℕ) → k ≤ n → binomial n k * m ^ (n - k) ≤ (m + 1) ^ n
 binomial-power m zero zero h = omega (arith, pow-zero m, pow-zero (m + 1))
 binomial-power m zero (suc k) h = absurd (omega arith)
 binomial-power m (suc n) zero h =

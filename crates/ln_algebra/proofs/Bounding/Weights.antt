@@ -20,7 +20,7 @@ pub four_ℕ : (a b c d p q : ℕ) → p ≡ a * b → q ≡ c * d → p * q ≡
 four_ℕ a b c d p q e f = rw (e, f) (omega arith)
 
 -- the weight of a product of monomials is the product
-monomial_weight-plus : (w : ℕ → ℕ) (a b : List ℕ) → length a ≡ length b → monomial_weight w (plus a b) ≡ monomial_weight w a * monomial_weight w b
+pub monomial_weight-plus : (w : ℕ → ℕ) (a b : List ℕ) → length a ≡ length b → monomial_weight w (plus a b) ≡ monomial_weight w a * monomial_weight w b
 monomial_weight-plus w [] [] h = refl
 monomial_weight-plus w [] (k ∷ b) h = absurd (omega arith)
 monomial_weight-plus w (n ∷ a) [] h = absurd (omega arith)
@@ -143,12 +143,12 @@ weighted-least w (t ∷ f) g o h =
 
 -- ---- the normal polynomial weighs at most the tree
 -- where no term has the exponents the coefficient is 0
-Lacks-factor_at : (f : List Term) (m : List ℕ) → Lacks f m → factor_at f m ≡ pos 0
+pub Lacks-factor_at : (f : List Term) (m : List ℕ) → Lacks f m → factor_at f m ≡ pos 0
 Lacks-factor_at [] m l = refl
 Lacks-factor_at (t ∷ f) m l = rw l.0 (omega (arith, ints, Lacks-factor_at f m l.1))
 
 -- collected, said by coefficients
-IsCollected-Once : (f : List Term) → IsCollected f → Once f
+pub IsCollected-Once : (f : List Term) → IsCollected f → Once f
 IsCollected-Once [] c = tt
 IsCollected-Once (t ∷ f) c = (
   Lacks-factor_at f t.exponents c.0,

@@ -27,7 +27,7 @@ sum_splits-on (n ∷ a) f g h =
     (λ b c s. h (i ∷ b) (j ∷ c) (record { left = ap suc s.left; right = ap suc s.right; sum = ap (λ z. z ∷ plus b c) e ∙ ap (λ z. n ∷ z) s.sum })))
 
 -- the total degree of a sum is the sum of the total degrees
-degree-plus : (b c : List ℕ) → length b ≡ length c → total_degree (plus b c) ≡ total_degree b + total_degree c
+pub degree-plus : (b c : List ℕ) → length b ≡ length c → total_degree (plus b c) ≡ total_degree b + total_degree c
 degree-plus [] [] h = refl
 degree-plus [] (k ∷ c) h = absurd (omega arith)
 degree-plus (n ∷ b) [] h = absurd (omega arith)

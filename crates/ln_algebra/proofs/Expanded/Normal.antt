@@ -103,7 +103,7 @@ abbrev pub total : (List ℕ → ℤ) → List Term → ℤ
 total h f = sum_over (λ t. t.factor *ℤ h t.exponents) f
 
 -- they aren't more
-length-without : (m : List ℕ) (f : List Term) → length (without m f) ≤ length f
+pub length-without : (m : List ℕ) (f : List Term) → length (without m f) ≤ length f
 length-without m [] = omega arith
 length-without m (t ∷ f) = elim (same_vector t.exponents m) as (λ b. length (if b then without m f else (t ∷ without m f)) ≤ length (t ∷ f)) [
   | true ↦ omega (arith, length-without m f)

@@ -7,19 +7,13 @@ use Rattle.ln_algebra.proofs.Walking.Stages.{zeros-get}
 use Rattle.ln_algebra.specs.Earlier.{Earlier, IndicesDiffer, IsOver, Sites}
 use Rattle.ln_algebra.specs.Vector.{plus, total_degree, zeros}
 use Rattle.ln_algebra.specs.Orders.{Before, ByDegree, BySmallest, GradedEarlier, IsAdmissible, Rank}
+use Rattle.ln_algebra.proofs.Expanded.Degree.{degree-plus}
 
 -- ---- total degrees
 -- that of the vector of zeros
 pub degree-zeros : (n : ℕ) → total_degree (zeros n) ≡ 0
 degree-zeros zero = refl
 degree-zeros (suc n) = omega (arith, degree-zeros n)
-
--- that of a sum
-pub degree-plus : (b c : List ℕ) → length b ≡ length c → total_degree (plus b c) ≡ total_degree b + total_degree c
-degree-plus [] [] h = refl
-degree-plus [] (k ∷ c) h = absurd (omega arith)
-degree-plus (n ∷ b) [] h = absurd (omega arith)
-degree-plus (n ∷ b) (k ∷ c) h = omega (arith, degree-plus b c (omega arith))
 
 -- ---- sums
 -- the exponent of a sum is the sum of the exponents

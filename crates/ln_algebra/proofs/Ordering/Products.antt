@@ -5,9 +5,9 @@ use Rattle.std.proofs.lemmas.Int.{ints}
 use Rattle.std.proofs.lemmas.Bool.{cases_lt}
 use Rattle.std.proofs.Math.IntN.{ℤ, pos, negsuc, ◌*ℤ◌, neg_ℤ}
 use Rattle.std.proofs.Math.Nat.{mul-pos}
-use Rattle.ln_algebra.proofs.Ordering.Admissible.{cancels, degree-plus, get_or-plus}
+use Rattle.ln_algebra.proofs.Ordering.Admissible.{cancels, get_or-plus}
 use Rattle.ln_algebra.proofs.Walking.Cut.{of_sites}
-use Rattle.ln_algebra.proofs.Expanded.Degree.{coefficient-above, sum_splits-on}
+use Rattle.ln_algebra.proofs.Expanded.Degree.{coefficient-above, sum_splits-on, degree-plus}
 use Rattle.ln_algebra.proofs.Expanded.Expansion.{length-plus}
 use Rattle.ln_algebra.proofs.Ordering.First.{first-or-zero, no-first-zero}
 use Rattle.ln_algebra.proofs.Expanded.Normal.{same_vector-refl}
@@ -82,11 +82,11 @@ over-right n sites s u v o i = record { size = i.right ∙ o.size; of_sites = λ
 
 -- ---- numbers
 -- 0 times a number
-left-zero : (y z : ℤ) → y ≡ pos 0 → y *ℤ z ≡ pos 0
+pub left-zero : (y z : ℤ) → y ≡ pos 0 → y *ℤ z ≡ pos 0
 left-zero y z e = rw e (omega (arith, ints))
 
 -- a number times 0
-right-zero : (y z : ℤ) → z ≡ pos 0 → y *ℤ z ≡ pos 0
+pub right-zero : (y z : ℤ) → z ≡ pos 0 → y *ℤ z ≡ pos 0
 right-zero y z e = rw e (omega (arith, ints))
 
 -- the sign of a number above 0

@@ -28,7 +28,7 @@ minus-plus (n ∷ u) [] e = absurd (omega arith)
 minus-plus (n ∷ u) (k ∷ v) e = let d : (n + k) - n ≡ k = omega arith in ap (λ z. z ∷ minus (plus u v) u) d ∙ ap (λ z. k ∷ z) (minus-plus u v (omega arith))
 
 -- a difference has as many exponents
-length-minus : (m a : List ℕ) → length m ≡ length a → length (minus m a) ≡ length m
+pub length-minus : (m a : List ℕ) → length m ≡ length a → length (minus m a) ≡ length m
 length-minus [] a e = refl
 length-minus (n ∷ m) [] e = absurd (omega arith)
 length-minus (n ∷ m) (k ∷ a) e = ap suc (length-minus m a (omega arith))

@@ -326,7 +326,7 @@ module _ (v : ℕ) (vs : List ℕ) (fresh : Fresh v vs) (p : List ℕ) (inside_p
         rw z (by_stop (go (at_least v e ms) (set p v e)).1 refl (each e m (first_member (at_least v e ms) m l d)) y)
 
 -- what is kept stays below the bound
-below_at_least : (bound v e : ℕ) (ms : List (List ℕ)) → AllBelow bound ms → AllBelow bound (at_least v e ms)
+pub below_at_least : (bound v e : ℕ) (ms : List (List ℕ)) → AllBelow bound ms → AllBelow bound (at_least v e ms)
 below_at_least bound v e ms h m u i = h m u (at_least-in v e ms m i).0
 
 -- a vector with one exponent changed is as long

@@ -1,14 +1,15 @@
 -- The nodes of a predicate with their ranges, sizes and loads, one after the other.
 use Rattle.std.proofs.Common.{◌≡◌, ℕ, true, zero, suc, ◌<◌, List, [], ◌∷◌, ◌++◌, length, map, refl, ap, arith, ◌∙◌, append_assoc}
-use Rattle.std.specs.Prelude.{not, int_lt, nat_le, ◌&&◌, ◌==◌, ◌≤ℤ◌}
-use Rattle.std.specs.List.{count_by, list_all}
+use Rattle.std.specs.Prelude.{not, int_lt, ◌≤ℤ◌}
+use Rattle.std.specs.List.{list_all}
 use Rattle.std.proofs.lemmas.Bool.{and_parts}
 use Rattle.std.proofs.lemmas.Int.{ints}
 use Rattle.std.proofs.lemmas.List.{map-append}
 use Rattle.ln_base.specs.declared.span.Span.{Span}
 use Rattle.ln_tree.specs.declared.shape.VarInfo.{VarInfo}
 use Rattle.ln_tree.specs.Formula.{Formula, FNum, FInput, FName, FNeg, FAdd, FSub, FMul, FPow, tree}
-use Rattle.ln_tree.specs.Variables.{has_range, in_order, is_laid_out, is_param, no_var, starts_site}
+use Rattle.ln_tree.specs.Variables.{has_range, is_laid_out}
+use Rattle.ln_tree.proofs.KeptLemmas.{laid_out}
 use Rattle.ln_interval.specs.Range.{IsOrdered, Range}
 use Rattle.ln_bound.specs.declared.measure.Measure.{Measure}
 use Rattle.ln_bound.specs.declared.weigh.BoundStop.{BoundStop}
@@ -105,11 +106,4 @@ each_ordered (i ∷ vars) h (suc v) = each_ordered vars (and_parts (has_range i)
 
 -- the ranges of a shape's variables are in order
 pub ordered : (sites : ℕ) (vars v : List VarInfo) → is_laid_out sites vars ≡ true → v ≡ vars → (k : ℕ) → IsOrdered (ranges v k)
-ordered sites vars v h e =
-    let a = and_parts (in_order 0 0 no_var vars && list_all has_range vars && (count_by starts_site vars == sites) && nat_le sites 5
-    && nat_le (count_by is_param vars) 8) _ h in
-    let b = and_parts (in_order 0 0 no_var vars && list_all has_range vars && (count_by starts_site vars == sites) && nat_le sites 5) _ a.0 in
-    let c = and_parts (in_order 0 0 no_var vars && list_all has_range vars && (count_by starts_site vars == sites)) _ b.0 in
-    let d = and_parts (in_order 0 0 no_var vars && list_all has_range vars) _ c.0 in
-    let f = and_parts (in_order 0 0 no_var vars) _ d.0 in
-    rw e (each_ordered vars f.1)
+ordered sites vars v h e = rw e (each_ordered vars (laid_out sites vars h).ranges)

@@ -46,7 +46,8 @@ exact_range vars lets (TPow t n p w) h = h.1 ∙ ap (λ q. power q n) (exact_ran
 same_covers : (p q : Range) → p ≡ q → Covers p q
 same_covers p q e = rw e (covers_self q)
 
-two_ordered : (k : Two) (p q : Range) → IsOrdered p → IsOrdered q → IsOrdered (range_of k p q)
+-- a sum, a difference or a product of ordered ranges is ordered
+pub two_ordered : (k : Two) (p q : Range) → IsOrdered p → IsOrdered q → IsOrdered (range_of k p q)
 two_ordered Plus p q h g = sum_ordered p q h g
 two_ordered Minus p q h g = difference_ordered p q h g
 two_ordered Times p q h g = product_ordered p q

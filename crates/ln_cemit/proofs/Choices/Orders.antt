@@ -1,7 +1,7 @@
 -- The least indices, one after the other, are the order of the row.
 use Rattle.std.proofs.Common.{◌≡◌, ◌⊎◌, inl, inr, ℕ, zero, suc, ◌+◌, ◌<◌, ◌≤◌, Bool, true, false, cond, ◌&&◌, List, [], ◌∷◌, ◌++◌}
 use Rattle.std.proofs.Common.{append_assoc, length, map, get_or, take, refl, sym, ap, ◌∙◌, arith, add-one, eqb, eq-eqb, subst}
-use Rattle.std.specs.Prelude.{ℤ, pos, ◌<ℤ◌, int_lt, not, AllPairs, Contains}
+use Rattle.std.specs.Prelude.{ℤ, pos, ◌<ℤ◌, int_lt, not, AllPairs}
 use Rattle.std.specs.List.{range_with_len}
 use Rattle.std.proofs.lemmas.Bool.{and_parts, cases_eq, eqb-true}
 use Rattle.std.proofs.lemmas.Int.{ints}
@@ -11,6 +11,7 @@ use Rattle.ln_algebra.specs.Walk.{Member}
 use Rattle.ln_order.specs.Order.{IsOrder, index_at}
 use Rattle.ln_order.specs.Orders.{IsOrderOf}
 use Rattle.ln_order.proofs.Signs.SitesLemmas.{each-there}
+use Rattle.ln_order.proofs.Signs.RankingLemmas.{at-member}
 use Rattle.ln_csyn.specs.Meaning as meaning
 use Rattle.ln_cemit.specs.Choose.{IndexGives, first_of_signs}
 use Rattle.ln_cemit.specs.Walked.{walked, without}
@@ -158,11 +159,6 @@ member-at : (xs : List ℕ) (w : ℕ) → Member xs w → (k : ℕ) × (k < leng
 member-at [] w m = absurd m
 member-at (x ∷ xs) w (inl e) = (0, omega arith, λ d. sym e)
 member-at (x ∷ xs) w (inr m) = let r = member-at xs w m in (suc r.0, omega (arith, r.1), r.2)
-
-at-member : (xs : List ℕ) (w : ℕ) → Contains xs w → Member xs w
-at-member [] w c = absurd (omega (arith, c.1))
-at-member (x ∷ xs) w (zero, l, e) = inl (sym e)
-at-member (x ∷ xs) w (suc k, l, e) = inr (at-member xs w (k, omega (arith, l), e))
 
 rising-is : (at : ℕ → ℤ) (o : List ℕ) → AllPairs (λ j k. at j <ℤ at k) o → Rising at o
 rising-is at [] h = tt

@@ -1,8 +1,9 @@
 -- The conditions of the subset, on the functions of blocks and filters.
-use Rattle.std.proofs.Common.{◌≡◌, ℕ, zero, suc, ◌<◌, ◌≤◌, ◌/◌, ◌^◌, ◌&&◌, not, Bool, true, false, List, [], ◌∷◌, length, refl, sym, ap}
+use Rattle.std.proofs.Common.{◌≡◌, ℕ, suc, ◌≤◌, ◌/◌, ◌^◌, ◌&&◌, not, Bool, true, false, List, [], ◌∷◌, length, refl, sym, ap}
 use Rattle.std.proofs.Common.{arith, ℤ, pos, unsigned_abs}
 use Rattle.std.specs.Prelude.{Option, Some, nat_le, slice_get}
 use Rattle.std.proofs.lemmas.Bool.{le-leb, and_parts}
+use Rattle.std.proofs.lemmas.Option.{slice_get_within}
 use Rattle.ln_tree.specs.declared.shape.VarInfo.{VarInfo}
 use Rattle.ln_bound.specs.declared.fitted.Width.TheVariants.{W64, W128}
 use Rattle.ln_bound.specs.Value.{size_of}
@@ -137,17 +138,12 @@ fine_run {V = V} {L = L} g e h (x ∷ xs) s t q =
     let r = next_some (step e x.op x.bound s.locals s.stack) (λ (u : State V L). run e xs u) t q in
     rw (fine_step g e h x.op x.bound s.locals s.stack r.0 r.1, fine_run g e h xs r.0 t r.2) refl
 
-below_length : {A : Type 0} (xs : List A) (i : ℕ) (x : A) → slice_get xs i ≡ Some x → i < length xs
-below_length [] i x q = cc
-below_length (y ∷ ys) zero x q = omega arith
-below_length (y ∷ ys) (suc i) x q = let h = below_length ys i x q in omega (arith, h)
-
 strict_rules : (vars : List VarInfo) (depth : ℕ) → length vars ≤ most_number → IsStrict block_way (rules vars depth)
 strict_rules vars depth few = record {
   push = λ z p k q. let r = known_some (point z) p (least (magnitude p)) (unsigned_abs z) (tree.Num z) k q in
       short z p (holds_magnitude p z (covers_holds p (point z) z r.0 (number_held z))) r.1.1;
   input = λ i p k q. let r = next_some (slice_get vars i) (λ (v : VarInfo). known (declared v) p (least (magnitude p)) 1 (tree.Input i)) k q in
-      le-leb i most_number (omega (arith, below_length vars i r.0 r.1, few));
+      le-leb i most_number (omega (arith, slice_get_within vars i r.0 r.1, few));
 }
   where
     short : (z : ℤ) (p : Range) → unsigned_abs z ≤ magnitude p → magnitude p ≤ limit (least (magnitude p))
@@ -160,7 +156,7 @@ strict_filter : (vars : List VarInfo) (depth : ℕ) → length vars ≤ most_num
 strict_filter vars depth few = record {
   push = λ z a k q. let r = known_says a.k _ (push_error a.k) (unsigned_abs z) (tree.Num z) a k q in short z a r.enough_h r.narrow;
   input = λ i a k q. let r = next_some (slice_get vars i) (λ (v : VarInfo). filter_known 0 (size_of v) 0 1 (tree.Input i) a) k q in
-      le-leb i most_number (omega (arith, below_length vars i r.0 r.1, few));
+      le-leb i most_number (omega (arith, slice_get_within vars i r.0 r.1, few));
 }
   where
     short : (z : ℤ) (a : Triple) → unsigned_abs z / 2 ^ a.k ≤ a.h → a.h ≤ 9223372036854775807 → nat_le (unsigned_abs (cut_by a.k z)) (limit W128) ≡ true

@@ -1,7 +1,7 @@
 -- The emitted file keeps the conditions of the subset.
 use Rattle.std.proofs.Common.{◌≡◌, ◌≢◌, ℕ, zero, suc, ◌+◌, ◌<◌, ◌≤◌, ◌^◌, not, ◌&&◌, Bool, true, false, List, [], ◌∷◌, ◌++◌, length, map}
 use Rattle.std.proofs.Common.{get_or, refl, sym, ap, ◌∙◌, subst, arith, inl, inr, ℤ}
-use Rattle.std.specs.Prelude.{Option, Some, None, IfSome, All, if◌then◌else◌, nat_le, int_lt, count_by, ◌==◌, ◌≤ℤ◌}
+use Rattle.std.specs.Prelude.{Option, Some, None, IfSome, All, if◌then◌else◌, nat_le, int_lt, ◌≤ℤ◌}
 use Rattle.std.specs.List.{list_all}
 use Rattle.std.proofs.lemmas.Bool.{and_parts, le-leb}
 use Rattle.std.proofs.lemmas.Int.{ints}
@@ -10,12 +10,12 @@ use Rattle.ln_algebra.specs.Walk.{Member}
 use Rattle.ln_algebra.specs.Vector.{same_vector}
 use Rattle.ln_tree.specs.declared.shape.VarInfo.{VarInfo}
 use Rattle.ln_tree.specs.Row.{AreWithin}
-use Rattle.ln_tree.specs.Variables.{has_range, in_order, is_laid_out, is_param, no_var, starts_site}
+use Rattle.ln_tree.specs.Variables.{has_range, is_laid_out}
+use Rattle.ln_tree.proofs.KeptLemmas.{few_vars, laid_out}
 use Rattle.ln_code.specs.declared.op.Op.{Op}
 use Rattle.ln_code.specs.Kept.{FollowsFilterRules, FollowsRules, IsProgram}
 use Rattle.ln_code.specs.Lists.{segment_of}
 use Rattle.ln_code.specs.Part.{Code, FilterCode, Part, lines_of, ops_in_blocks, ops_in_filter}
-use Rattle.ln_code.proofs.Verdicts.Differ.{few_sites, few_vars}
 use Rattle.ln_order.specs.Prefixes.{beside, prefixes_of}
 use Rattle.ln_csyn.specs.Tree.{Body, End, Fun}
 use Rattle.ln_csyn.specs.Words.{among, is_c_name, most_number}
@@ -24,7 +24,7 @@ use Rattle.ln_csyn.specs.Text.{fun_words, has_words, is_file}
 use Rattle.ln_csyn.specs.Spelling.{flat}
 use Rattle.ln_cemit.specs.declared.slot.Way.{Way}
 use Rattle.ln_cemit.specs.Chosen.{AreNumbers}
-use Rattle.ln_cemit.specs.Conditions.{Stands}
+use Rattle.ln_cemit.specs.Conditions.{MeetsConditions}
 use Rattle.ln_cemit.specs.File.{AreAway, one_fun, one_funs, two_fun}
 use Rattle.ln_cemit.specs.Names.{all_begin, begins_with_l, call_name, decl_name, answer_name}
 use Rattle.ln_cemit.specs.Walked.{body_for}
@@ -82,19 +82,10 @@ lows_within (i ∷ is) h =
     let p = and_parts (has_range i) (list_all has_range is) h in
     (omega (arith, ints), in_range i p.0, lows_within is p.1)
 
-ranged : (sites : ℕ) (vars : List VarInfo) → is_laid_out sites vars ≡ true → list_all has_range vars ≡ true
-ranged sites vars h =
-    let a = and_parts (in_order 0 0 no_var vars && list_all has_range vars && (count_by starts_site vars == sites) && nat_le sites 5
-    && nat_le (count_by is_param vars) 8) _ h in
-    let b = and_parts (in_order 0 0 no_var vars && list_all has_range vars && (count_by starts_site vars == sites) && nat_le sites 5) _ a.0 in
-    let c = and_parts (in_order 0 0 no_var vars && list_all has_range vars && (count_by starts_site vars == sites)) _ b.0 in
-    let d = and_parts (in_order 0 0 no_var vars && list_all has_range vars) _ c.0 in
-    (and_parts (in_order 0 0 no_var vars) (list_all has_range vars) d.0).1
-
 -- ---- functions with one parameter
 -- whatever its name, the function with this body stands
 abbrev Serves : List (List ℕ) → Body → Type 0
-Serves names b = (own : List ℕ) → is_c_name own ≡ true → is_own own ≡ true → Stands names (one_fun own b)
+Serves names b = (own : List ℕ) → is_c_name own ≡ true → is_own own ≡ true → MeetsConditions names (one_fun own b)
 
 module _ (names : List (List ℕ)) (begin : all_begin names ≡ true) (sites : ℕ) (vars : List VarInfo) (laid : is_laid_out sites vars ≡ true) where
   few : length vars ≤ most_number
@@ -108,7 +99,7 @@ module _ (names : List (List ℕ)) (begin : all_begin names ≡ true) (sites : �
   filter_serves : (f : FilterCode) → length f.ops ≤ 2 ^ 63 → FollowsFilterRules vars f → Serves names (filter_body f)
   filter_serves f l r own w o =
       let n = names_serve names (length (filter_lines f)) (omega (arith, lines_short filter_way f.ops f.triples, l)) begin in
-      filters_keep names decl_name own vars (map (λ i. i.lo) vars) f (lows_within vars (ranged sites vars laid)) n.0 n.1 w o few r
+      filters_keep names decl_name own vars (map (λ i. i.lo) vars) f (lows_within vars (laid_out sites vars laid).ranges) n.0 n.1 w o few r
 
   blocks_serve : (cs : List Code) → ops_in_blocks cs ≤ 2 ^ 63 → All (FollowsRules vars) cs → (b : ℕ) → b < length (map block_body cs)
       → Serves names (get_or (map block_body cs) b End)
@@ -172,9 +163,9 @@ segment_numbers p h q =
     moved_numbers p.filter p.blocks (segment_of p q) (beside_numbers (length p.blocks) (prefixes_of p.shape.sites) p.segments q h.kept.named)
 
 -- ---- the function with two parameters
-call_stands : (names : List (List ℕ)) → all_begin names ≡ true → (p : Part) → Facts p → Stands names (two_fun (call_name (part_name p)) (call_body p))
+call_stands : (names : List (List ℕ)) → all_begin names ≡ true → (p : Part) → Facts p → MeetsConditions names (two_fun (call_name (part_name p)) (call_body p))
 call_stands names begin p h =
-    let few : p.shape.sites ≤ 5 = few_sites p.shape.sites p.shape.vars p.shape.kept in
+    let few : p.shape.sites ≤ 5 = (laid_out p.shape.sites p.shape.vars p.shape.kept).few_sites in
     let name : ℕ → List ℕ = numbered (part_name p) p.filter in
     let top : ℕ = length (bodies_of p.filter p.blocks) in
     let short = short_bodies p h in
@@ -274,7 +265,7 @@ file_distinct (p ∷ ps) h d =
 
 module _ (names : List (List ℕ)) (begin : all_begin names ≡ true) where
   one_stands : (p : Part) → Facts p → (j n : ℕ) → j ≡ 0 + n → n < length (bodies_of p.filter p.blocks)
-      → Stands names (one_fun (numbered (part_name p) p.filter j) (get_or (bodies_of p.filter p.blocks) n End))
+      → MeetsConditions names (one_fun (numbered (part_name p) p.filter j) (get_or (bodies_of p.filter p.blocks) n End))
   one_stands p h j n e l =
       let short = short_bodies p h in
       let passes = name_passes (part_name p) p.shape.name.named in

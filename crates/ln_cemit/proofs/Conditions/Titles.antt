@@ -1,5 +1,5 @@
 -- The names of functions: they are NAMEs, begin with l, and differ.
-use Rattle.std.proofs.Common.{◌≡◌, ◌≢◌, ℕ, zero, suc, ◌+◌, ◌<◌, ◌≤◌, ◌^◌, ◌==◌, ◌||◌, Bool, true, false, List, [], ◌∷◌, ◌++◌, length}
+use Rattle.std.proofs.Common.{◌≡◌, ◌≢◌, ℕ, zero, suc, ◌+◌, ◌<◌, ◌≤◌, ◌^◌, ◌==◌, Bool, true, false, List, [], ◌∷◌, ◌++◌, length}
 use Rattle.std.proofs.Common.{length-append, refl, sym, ap, ◌∙◌, subst, arith}
 use Rattle.std.specs.Prelude.{Option, Some, None, decimal, bytes_eq, if◌then◌else◌}
 use Rattle.std.specs.List.{list_all}
@@ -14,6 +14,8 @@ use Rattle.ln_code.specs.Part.{FilterCode}
 use Rattle.ln_csyn.specs.Tree.{Body, Fun}
 use Rattle.ln_csyn.specs.Words.{among, is_c_name}
 use Rattle.ln_csyn.specs.Keeps.{distinct, is_own, names_of}
+use Rattle.ln_csyn.proofs.Writing.Spells.{digits_every}
+use Rattle.ln_csyn.proofs.Writing.Laying.{every_digit_name}
 use Rattle.ln_cemit.specs.File.{AreAway, one_funs}
 use Rattle.ln_cemit.specs.Names.{all_begin, begins_with_l, block_name, call_name, filter_name, answer_name}
 use Rattle.ln_cemit.specs.Whole.{numbered}
@@ -31,25 +33,9 @@ name_passes (b ∷ bs) h =
     let l = and_parts (is_letter b) (every is_name_byte bs) w.0 in
     rw (l.0, l.1) refl
 
-digits_pass : (ds : List ℕ) → list_all is_ascii_digit ds ≡ true → every is_digit ds ≡ true
-digits_pass [] h = refl
-digits_pass (d ∷ ds) h =
-    let p = and_parts (is_ascii_digit d) (list_all is_ascii_digit ds) h in
-    let a : is_ascii_digit d ≡ true = p.0 in
-    let b : is_digit d ≡ true = grind (arith, nat_tests) in
-    rw (b, digits_pass ds p.1) refl
-
-or_right : (u v : Bool) → v ≡ true → (u || v) ≡ true
-or_right true v h = refl
-or_right false v h = h
-
-digit_names : (ds : List ℕ) → every is_digit ds ≡ true → every is_name_byte ds ≡ true
-digit_names [] h = refl
-digit_names (d ∷ ds) h = let p = and_parts (is_digit d) (every is_digit ds) h in rw (or_right (is_letter d) (is_digit d) p.0, digit_names ds p.1) refl
-
 -- a number up to 2^63 is written in digits
 pub number_digits : (n : ℕ) → n ≤ 2 ^ 63 → every is_digit (decimal n) ≡ true
-number_digits n h = digits_pass (decimal n) (and_parts (list_all is_ascii_digit (decimal n)) _ (text_is_digits n (omega (arith, h)))).0
+number_digits n h = digits_every (decimal n) (and_parts (list_all is_ascii_digit (decimal n)) _ (text_is_digits n (omega (arith, h)))).0
 
 -- ---- NAMEs
 filter_c_name : (x : List ℕ) → every is_name_byte x ≡ true → is_c_name (filter_name x) ≡ true
@@ -60,7 +46,7 @@ pub call_c_name : (x : List ℕ) → every is_name_byte x ≡ true → is_c_name
 call_c_name x h = rw h refl
 
 block_c_name : (x : List ℕ) (b : ℕ) → b ≤ 2 ^ 63 → every is_name_byte x ≡ true → is_c_name (block_name x b) ≡ true
-block_c_name x b l h = word (decimal b ++ 95 ∷ x) (every_more is_name_byte (decimal b) (95 ∷ x) (digit_names (decimal b) (number_digits b l)) h) where
+block_c_name x b l h = word (decimal b ++ 95 ∷ x) (every_more is_name_byte (decimal b) (95 ∷ x) (every_digit_name (decimal b) (number_digits b l)) h) where
   word : (ds : List ℕ) → every is_name_byte ds ≡ true → is_c_name (108 ∷ 98 ∷ ds) ≡ true
   word ds e = rw e refl
 

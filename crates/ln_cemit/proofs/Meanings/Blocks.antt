@@ -14,7 +14,7 @@ use Rattle.ln_code.specs.declared.op.Op.TheVariants.{Push, Input, Get, Set, Add,
 use Rattle.ln_code.specs.Engine.{State, Line, next, step, run, only, pushed, with_two}
 use Rattle.ln_code.specs.Numbers.{result_of, cut_by, with_local, no_locals}
 use Rattle.ln_code.proofs.Engines.Follow.{when_some}
-use Rattle.ln_code.proofs.Following.Known.{next_some, if_some}
+use Rattle.ln_code.proofs.Following.Known.{next_some, if_some, no_wider_limit}
 use Rattle.ln_csyn.specs.declared.tree.CType.{CType}
 use Rattle.ln_csyn.specs.declared.tree.CType.TheVariants.{Int, Int64}
 use Rattle.ln_csyn.specs.declared.tree.COp.{COp}
@@ -29,7 +29,7 @@ use Rattle.ln_cemit.specs.Emit.{type_of, constant, constant_wide, cut_expr, slot
 use Rattle.ln_cemit.specs.Emit.{put_two, put_neg, put_cut, put_op, put_sign, emitted, naming, unread, ops_of, wide_at, wide_op, wide_lines}
 use Rattle.ln_cemit.specs.Checked.{Sized, sized, checked, sign_of, sign_above, plus, Quiet, without, narrow, AreNames, EmittedMeans}
 use Rattle.ln_cemit.proofs.Conditions.Names.{name_self, name_false}
-use Rattle.ln_cemit.proofs.Meanings.Numbers.{lt_true, lt_from, lt_not, lt_false, within, room, larger, wider_than, no_wider_self, moved}
+use Rattle.ln_cemit.proofs.Meanings.Numbers.{lt_true, lt_from, lt_not, lt_false, within, room, wider_than, no_wider_self, moved}
 use Rattle.ln_cemit.proofs.Meanings.Numbers.{same_type, plus_add, counted_is, given_is, cast_is}
 use Rattle.ln_cemit.proofs.Writing.Constants.{two_is, inner_is, minus_is, constant_is}
 
@@ -166,7 +166,7 @@ module _ (name : ℕ → List ℕ) (top : ℕ) (differ : AreNames name top) wher
       → no_wider x.width w ≡ true → value_of s (hidden t (name n) ∷ ds) (operand name w q) k ≡ Gives (type_of w) x.number k
   operand_is s {ds} {n} {q} {x} w t k lt h e =
       let f = past ds n q.at (hidden t (name n)) k lt refl h.below ∙ h.found k in
-      let l : unsigned_abs x.number ≤ limit w = omega (arith, larger q.width w (moved q.width x.width w h.same e), h.small) in
+      let l : unsigned_abs x.number ≤ limit w = omega (arith, no_wider_limit q.width w (moved q.width x.width w h.same e), h.small) in
       rw f (cast_is w x.number k l)
 
   set_local : {ds : List Seen} {n : ℕ} (i : ℕ) {s : Slot} {x : Sized} {ss : ℕ → Option Slot} {xs : ℕ → Option Sized} → Holds ds n s x

@@ -43,13 +43,6 @@ room W64 (negsuc n) h = lt_true n (2 ^ 63) (omega arith)
 room W128 (pos n) h = lt_true n (2 ^ 127) (omega arith)
 room W128 (negsuc n) h = lt_true n (2 ^ 127) (omega arith)
 
--- a width that is no wider than another has no larger limit
-pub larger : (u w : Width) → no_wider u w ≡ true → limit u ≤ limit w
-larger W64 W64 h = omega arith
-larger W64 W128 h = omega arith
-larger W128 W128 h = omega arith
-larger W128 W64 h = cc
-
 -- a width is no wider than the wider one of it and another
 pub wider_than : (u w : Width) → no_wider u (wider u w) ≡ true
 wider_than W64 w = refl

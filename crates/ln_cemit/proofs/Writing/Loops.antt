@@ -5,10 +5,10 @@ use Rattle.std.specs.Prelude.{◌==◌, Option, Some, None, Contains, codes, rev
 use Rattle.std.specs.List.{range_with_len}
 use Rattle.std.proofs.Math.ListN.{replicate}
 use Rattle.std.proofs.Math.Path.{fun_ext}
-use Rattle.std.proofs.lemmas.List.{drop_all, length-map, get_or-map, reverse-append}
+use Rattle.std.proofs.lemmas.List.{drop_all, length-map, get_or-map, reverse-append, length-take-le}
 use Rattle.std.proofs.lemmas.Option.{slice_get-get_or}
-use Rattle.std.proofs.lemmas.Bool.{and_parts, eqb-true}
 use Rattle.ln_algebra.specs.Vector.{same_vector}
+use Rattle.ln_algebra.proofs.Expanded.Normal.{same_vector-is}
 use Rattle.ln_bound.specs.declared.fitted.Width.{Width}
 use Rattle.ln_code.specs.declared.op.Op.{Op}
 use Rattle.ln_code.specs.declared.op.Op.TheVariants.{Get, Push}
@@ -395,27 +395,13 @@ module _ {start cur : List ℕ} {all : List Fun} (name : List ℕ) (cs : List Co
   blocks_done l g = all_laid (subst (λ z. LaysRest start cur (one_funs (block_name name) k (map block_body z)) all) (drop_all k cs l) g)
 
 -- ---- segments
-same-is : (a b : List ℕ) → same_vector a b ≡ true → a ≡ b
-same-is [] [] h = refl
-same-is [] (y ∷ b) h = cc
-same-is (x ∷ a) [] h = cc
-same-is (x ∷ a) (y ∷ b) h =
-    let p = and_parts _ (same_vector a b) h in
-    let q : x ≡ y = eqb-true x y p.0 in
-    let r : a ≡ b = same-is a b p.1 in cc
-
 beside-none : (qs ss : List (List ℕ)) (p : List ℕ) → (Contains qs p → ⊥) → beside qs ss p ≡ []
 beside-none [] ss p h = refl
 beside-none (q ∷ qs) [] p h = refl
 beside-none (q ∷ qs) (s ∷ ss) p h = go (same_vector q p) refl (beside-none qs ss p (λ k. h (suc k.0, omega (arith, k.1), k.2))) where
   go : (b : Bool) → same_vector q p ≡ b → beside qs ss p ≡ [] → cond b s (beside qs ss p) ≡ []
-  go true e r = absurd (h (0, omega arith, same-is q p e))
+  go true e r = absurd (h (0, omega arith, same_vector-is q p e))
   go false e r = r
-
-take-length : (n : ℕ) (xs : List ℕ) → n ≤ length xs → length (take n xs) ≡ n
-take-length zero xs h = refl
-take-length (suc n) [] h = absurd (omega (arith, h))
-take-length (suc n) (x ∷ xs) h = ap suc (take-length n xs (omega (arith, h)))
 
 -- where no order begins with these, no segment stands there
 pub no_segment : (k : ℕ) (orders : List Order) (ss : List (List ℕ)) (front : List ℕ) → map order_places orders ≡ orders_of k
@@ -426,7 +412,7 @@ no_segment k orders ss front e h = beside-none (prefixes_of k) ss front never wh
       let small : m < length orders = omega (arith, l, length-map orders order_places) in
       let d : Order = get_or orders m (no_order orders small) in
       let same : order_places d ≡ x.order = sym (get_or-map order_places orders m (no_order orders small) x.order small) ∙ q in
-      let size : length front ≡ x.places = ap length x.front ∙ take-length x.places x.order (omega (arith, x.within, x.full.size)) in
+      let size : length front ≡ x.places = ap length x.front ∙ length-take-le x.places x.order (omega (arith, x.within, x.full.size)) in
       h m (no_order orders small) small (ap (λ z. take z (order_places d)) size ∙ ap (take x.places) same ∙ sym x.front)
     where
       no_order : {m : ℕ} (os : List Order) → m < length os → Order

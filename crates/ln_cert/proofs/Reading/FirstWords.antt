@@ -14,7 +14,7 @@ use Rattle.ln_cert.specs.Text.{block_word, filter_word, of_block, of_filter, wor
 use Rattle.ln_cert.specs.Reading.{block_kind, block_verbs, filter_kind, filter_verbs, found, good, kind_in, may}
 
 -- what `kind_in` returns for a kind that it finds
-pub record Stands (v : ℕ) (s : State) (w : List ℕ) (k : Kind) : Type 0 where
+pub record IsFirstWord (v : ℕ) (s : State) (w : List ℕ) (k : Kind) : Type 0 where
   pub word : w ≡ word_of k
   pub may : may v s k ≡ true
   pub good : good k ≡ true
@@ -42,8 +42,9 @@ mapped : {A B : Type 0} (f : A → B) (o : Option A) (k : B) → option_map f o 
 mapped f None k e = absurd (cc)
 mapped f (Some a) k e = (a, refl, some e)
 
-is_word : (v : ℕ) (s : State) (w : List ℕ) (j k : Kind) → may v s j ≡ true → good j ≡ true → bytes_eq w (word_of j) ≡ true → Some j ≡ Some k → Stands v s w k
-is_word v s w j k m g t e = subst (λ x. Stands v s w x) (some e) (record { word = equal_bytes w (word_of j) t; may = m; good = g })
+is_word : (v : ℕ) (s : State) (w : List ℕ) (j k : Kind) → may v s j ≡ true → good j ≡ true → bytes_eq w (word_of j) ≡ true → Some j ≡ Some k
+    → IsFirstWord v s w k
+is_word v s w j k m g t e = subst (λ x. IsFirstWord v s w x) (some e) (record { word = equal_bytes w (word_of j) t; may = m; good = g })
 
 block_kind_is : (v : ℕ) (x : Verb) → of_block x ≡ true
     → (word_of (block_kind v x) ≡ block_word x) × (may v InBlock (block_kind v x) ≡ true) × (good (block_kind v x) ≡ true)
@@ -55,36 +56,39 @@ block_kind_is v x g = by (v == 1) refl
     by false e = (refl, ap not e, g)
 
 -- a kind that `kind_in` finds has this word, and it is allowed in the state with its operation
-pub sound : (v : ℕ) (s : State) (w : List ℕ) (k : Kind) → kind_in v s w ≡ Some k → Stands v s w k
-sound v Top w k e = pick (Stands v Top w) (bytes_eq w (codes "predicate")) _ _ k (is_word v Top w kind.Predicate k refl refl) (none (Stands v Top w) k) e
+pub sound : (v : ℕ) (s : State) (w : List ℕ) (k : Kind) → kind_in v s w ≡ Some k → IsFirstWord v s w k
+sound v Top w k e = pick (IsFirstWord v Top w) (bytes_eq w (codes "predicate")) _ _ k (is_word v Top w kind.Predicate k refl refl)
+    (none (IsFirstWord v Top w) k) e
 sound v Opened w k e =
-    pick (Stands v Opened w) (bytes_eq w (codes "nofilter")) (Some kind.NoFilter)
+    pick (IsFirstWord v Opened w) (bytes_eq w (codes "nofilter")) (Some kind.NoFilter)
     (if bytes_eq w (codes "filter") then Some kind.Filter else None) k (is_word v Opened w kind.NoFilter k refl refl)
-    (pick (Stands v Opened w) (bytes_eq w (codes "filter")) (Some kind.Filter) None k (is_word v Opened w kind.Filter k refl refl)
-    (none (Stands v Opened w) k)) e
+    (pick (IsFirstWord v Opened w) (bytes_eq w (codes "filter")) (Some kind.Filter) None k (is_word v Opened w kind.Filter k refl refl)
+    (none (IsFirstWord v Opened w) k)) e
 sound v InFilter w k e =
-    pick (Stands v InFilter w) (bytes_eq w (codes "decide")) (Some kind.Decide) (option_map filter_kind (found filter_word w filter_verbs)) k
+    pick (IsFirstWord v InFilter w) (bytes_eq w (codes "decide")) (Some kind.Decide) (option_map filter_kind (found filter_word w filter_verbs)) k
     (is_word v InFilter w kind.Decide k refl refl)
     (λ q. let m = mapped filter_kind (found filter_word w filter_verbs) k q in
     let f = found_is (λ x. of_filter x ≡ true) filter_word w filter_verbs m.0 filters_good m.1 in
-    subst (λ x. Stands v InFilter w x) m.2 (record { word = f.0; may = refl; good = f.1 })) e
-sound v Planned w k e = pick (Stands v Planned w) (bytes_eq w (codes "block")) (Some kind.Block) None k
-    (is_word v Planned w kind.Block k refl refl) (none (Stands v Planned w) k) e
+    subst (λ x. IsFirstWord v InFilter w x) m.2 (record { word = f.0; may = refl; good = f.1 })) e
+sound v Planned w k e = pick (IsFirstWord v Planned w) (bytes_eq w (codes "block")) (Some kind.Block) None k
+    (is_word v Planned w kind.Block k refl refl) (none (IsFirstWord v Planned w) k) e
 sound v InBlock w k e =
-    pick (Stands v InBlock w) (bytes_eq w (codes "end")) (Some kind.End) (option_map (block_kind v) (found block_word w block_verbs)) k
+    pick (IsFirstWord v InBlock w) (bytes_eq w (codes "end")) (Some kind.End) (option_map (block_kind v) (found block_word w block_verbs)) k
     (is_word v InBlock w kind.End k refl refl)
     (λ q. let m = mapped (block_kind v) (found block_word w block_verbs) k q in
     let f = found_is (λ x. of_block x ≡ true) block_word w block_verbs m.0 blocks_good m.1 in
     let b = block_kind_is v m.0 f.1 in
-    subst (λ x. Stands v InBlock w x) m.2 (record { word = f.0 ∙ sym b.0; may = b.1; good = b.2 })) e
+    subst (λ x. IsFirstWord v InBlock w x) m.2 (record { word = f.0 ∙ sym b.0; may = b.1; good = b.2 })) e
 sound v Blocks w k e =
-    pick (Stands v Blocks w) (bytes_eq w (codes "block")) (Some kind.Block) (if bytes_eq w (codes "order") then Some kind.Order else None) k
+    pick (IsFirstWord v Blocks w) (bytes_eq w (codes "block")) (Some kind.Block) (if bytes_eq w (codes "order") then Some kind.Order else None) k
     (is_word v Blocks w kind.Block k refl refl)
-    (pick (Stands v Blocks w) (bytes_eq w (codes "order")) (Some kind.Order) None k (is_word v Blocks w kind.Order k refl refl) (none (Stands v Blocks w) k)) e
+    (pick (IsFirstWord v Blocks w) (bytes_eq w (codes "order")) (Some kind.Order) None k (is_word v Blocks w kind.Order k refl refl)
+    (none (IsFirstWord v Blocks w) k)) e
 sound v Orders w k e =
-    pick (Stands v Orders w) (bytes_eq w (codes "order")) (Some kind.Order) (if bytes_eq w (codes "done") then Some kind.Done else None) k
+    pick (IsFirstWord v Orders w) (bytes_eq w (codes "order")) (Some kind.Order) (if bytes_eq w (codes "done") then Some kind.Done else None) k
     (is_word v Orders w kind.Order k refl refl)
-    (pick (Stands v Orders w) (bytes_eq w (codes "done")) (Some kind.Done) None k (is_word v Orders w kind.Done k refl refl) (none (Stands v Orders w) k)) e
+    (pick (IsFirstWord v Orders w) (bytes_eq w (codes "done")) (Some kind.Done) None k (is_word v Orders w kind.Done k refl refl)
+    (none (IsFirstWord v Orders w) k)) e
 
 -- ---- and back
 filter_finds : (v : ℕ) (x : Verb) → of_filter x ≡ true → kind_in v InFilter (filter_word x) ≡ Some (kind.FilterOp x)

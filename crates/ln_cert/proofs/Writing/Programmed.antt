@@ -1,9 +1,8 @@
 -- Proves what a program's facts mean for its listing.
-use Rattle.std.proofs.Common.{◌≡◌, ℕ, suc, ◌+◌, ◌≤◌, ◌<◌, true, List, [], ◌∷◌, ◌++◌, length, get_or, drop, take, map, Option, Some, None}
+use Rattle.std.proofs.Common.{◌≡◌, ℕ, suc, ◌+◌, ◌≤◌, ◌<◌, List, [], ◌∷◌, ◌++◌, length, get_or, drop, take, map}
 use Rattle.std.proofs.Common.{inr, refl, sym, ap, ◌∙◌, subst, arith, append_assoc, append-nil, drop-cons}
-use Rattle.std.specs.Prelude.{All, decimal, slice_get}
+use Rattle.std.specs.Prelude.{All, decimal}
 use Rattle.std.proofs.lemmas.List.{drop_all, map-append, take_all, take_more}
-use Rattle.std.proofs.lemmas.Option.{slice_get_within}
 use Rattle.ln_tree.specs.declared.shape.VarInfo.{VarInfo}
 use Rattle.ln_tree.specs.Exps.{IsRising, Pairs}
 use Rattle.ln_tree.specs.Names.{name_bytes}
@@ -12,11 +11,12 @@ use Rattle.ln_order.specs.Order.{ArePlaces}
 use Rattle.ln_order.specs.Orders.{IsOrderOf, orders_of}
 use Rattle.ln_order.specs.Places.{order_places}
 use Rattle.ln_order.proofs.Listing.OrdersLemmas.{member-is}
-use Rattle.ln_code.specs.Kept.{AreOfSites, FollowsRules, IsBlock, IsFilter, IsList, IsProgram, is_of_site}
+use Rattle.ln_code.specs.Kept.{AreOfSites, FollowsRules, IsBlock, IsFilter, IsList, IsProgram}
 use Rattle.ln_code.specs.Lists.{list_from, list_of, segment_of}
 use Rattle.ln_code.specs.Part.{Code, FilterCode, lines_of}
 use Rattle.ln_code.specs.Part.{Part as Program}
 use Rattle.ln_code.proofs.Verdicts.Prefixed.{list_ends, list_goes}
+use Rattle.ln_code.proofs.Exponents.{site-within}
 use Rattle.ln_cert.specs.declared.part.Part.{Part}
 use Rattle.ln_cert.specs.declared.part.Part.TheVariants.{Predicate, Block, Order, Done}
 use Rattle.ln_cert.specs.Text.{Each, IsExponent, IsNumber, IsPlace}
@@ -36,13 +36,9 @@ all_each P [] a = tt
 all_each P (x ∷ xs) a = (a 0 x (omega arith), all_each P xs (λ k d h. a (suc k) d (omega arith)))
 
 -- ---- blocks
-below : (vars : List VarInfo) (v : ℕ) (o : Option VarInfo) → slice_get vars v ≡ o → is_of_site o ≡ true → v < length vars
-below vars v None e h = absurd (cc)
-below vars v (Some i) e h = slice_get_within vars v i e
-
 of_vars : (vars : List VarInfo) (ps : Pairs) → length vars ≤ 168 → AreOfSites vars ps → Each (λ p. p.0 ≤ 167) ps
 of_vars vars [] few s = tt
-of_vars vars (p ∷ ps) few s = let h = below vars p.0 (slice_get vars p.0) refl s.0 in (omega arith, of_vars vars ps few s.1)
+of_vars vars (p ∷ ps) few s = let h = site-within vars p.0 s.0 in (omega arith, of_vars vars ps few s.1)
 
 exponents : (ps : Pairs) → IsRising ps → Each (λ p. p.0 ≤ 167) ps → Each IsExponent ps
 exponents [] r v = tt

@@ -6,8 +6,8 @@ use Rattle.ln_bound.specs.declared.fitted.Width.{Width}
 use Rattle.ln_bound.specs.declared.fitted.Two.{Two}
 use Rattle.ln_bound.specs.declared.fitted.Two.TheVariants.{Plus, Minus, Times}
 use Rattle.ln_code.specs.declared.op.Op.{Op}
-use Rattle.ln_code.specs.declared.op.Op.TheVariants.{Push, Input, Get, Set, Add, Sub, Mul, Cut}
-use Rattle.ln_code.specs.Engine.{when, next, pushed, with_one, with_two, stored}
+use Rattle.ln_code.specs.declared.op.Op.TheVariants.{Push, Input, Get, Set, Cut}
+use Rattle.ln_code.specs.Engine.{op_of, when, next, pushed, with_one, with_two, stored}
 use Rattle.ln_code.specs.Numbers.{fits, result_of, cut_by}
 use Rattle.ln_code.specs.Bare.{bare}
 use Rattle.ln_code.specs.Memory.{seen, at, TwoReady, leads}
@@ -144,12 +144,6 @@ pub leads_get : (values buf locals : List ℤ) (top : ℕ) (op : Op) (k j : ℕ)
 leads_get values buf locals top op k j e h =
     let g : is_some (next (Some (at locals j)) (pushed (bare values (length buf)) (at locals) (seen buf top))) ≡ true = rw e at h in
     pushed_room values (length buf) (at locals) (Some (at locals j)) buf top g
-
--- the operation on two operands
-abbrev pub op_of : Two → Width → Op
-op_of Plus w = Add w
-op_of Minus w = Sub w
-op_of Times w = Mul w
 
 leads_with : (values buf locals : List ℤ) (top : ℕ) (t : Two) (w : Width) (k : ℕ)
     → leads (op_of t w) k values buf top locals ≡ with_two (bare values (length buf)) ((bare values (length buf)).two t w k) (at locals) (seen buf top)

@@ -22,7 +22,7 @@ use Rattle.ln_code.specs.declared.op.Triple.{Triple}
 use Rattle.ln_code.specs.Engine.{Engine, when, next}
 use Rattle.ln_code.specs.Numbers.{result_of, cut_by, fits, with_local}
 use Rattle.ln_code.specs.Exact.{Held, held, held_at, exact_filter}
-use Rattle.ln_code.specs.FilterRules.{Stands, FilterKnown, error_after, push_error, covers, filter_known, two_known, filter_rules}
+use Rattle.ln_code.specs.FilterRules.{Approximates, FilterKnown, error_after, push_error, covers, filter_known, two_known, filter_rules}
 use Rattle.ln_code.specs.Bare.{bare}
 use Rattle.ln_code.proofs.Engines.Follow.{Reaches, Follows, when_some}
 use Rattle.ln_code.proofs.Following.Known.{InSize, in_size, if_some, next_some}
@@ -34,7 +34,7 @@ at_triple k h e = record { k = k; h = h; e = e }
 
 -- z stands for the value of k's expression, and fits 64 bits
 pub record Holds (zs : List ℤ) (k : FilterKnown) (z : ℤ) : Type 0 where
-  pub stands : Stands k.triple z (value (values zs) [] k.tree)
+  pub stands : Approximates k.triple z (value (values zs) [] k.tree)
   pub narrow : k.triple.h ≤ 9223372036854775807
 
 -- so does a truncated number, with the error of its triple
@@ -43,7 +43,7 @@ pub record HoldsHeld (zs : List ℤ) (k : FilterKnown) (y : Held) : Type 0 where
   pub error : y.error ≡ k.triple.e
 
 -- a triple that covers another serves too
-weaker : (k h e : ℕ) (a : Triple) (z v : ℤ) → a.k ≡ k → h ≤ a.h → e ≤ a.e → Stands (at_triple k h e) z v → Stands a z v
+weaker : (k h e : ℕ) (a : Triple) (z v : ℤ) → a.k ≡ k → h ≤ a.h → e ≤ a.e → Approximates (at_triple k h e) z v → Approximates a z v
 weaker k h e a z v p q r s =
     let m : e * 2 ^ k ≤ a.e * 2 ^ k = mul-le-mul_right (2 ^ k) r in
     record { small = omega (arith, s.small, q); near = rw p (omega (arith, s.near, m)) }
@@ -76,7 +76,7 @@ known_says k h e size t a r q =
 
 -- what stands for a value within what the triple covers is what is known
 holds : (zs : List ℤ) (k h e size : ℕ) (t : Tree) (a : Triple) (r : FilterKnown) (z : ℤ)
-    → Stands (at_triple k h e) z (value (values zs) [] t) → filter_known k h e size t a ≡ Some r → Holds zs r z
+    → Approximates (at_triple k h e) z (value (values zs) [] t) → filter_known k h e size t a ≡ Some r → Holds zs r z
 holds zs k h e size t a r z s q =
     let w = known_says k h e size t a r q in
     rw (← w.is) (record { stands = weaker k h e a z (value (values zs) [] t) w.same_k w.enough_h w.enough_e s; narrow = w.narrow })
@@ -86,7 +86,7 @@ held_is a z h k = rw (le-leb (unsigned_abs z) a.h h, le-leb (unsigned_abs z) (li
 
 -- the machine keeps it
 inside : (zs : List ℤ) (k h e size : ℕ) (t : Tree) (a : Triple) (r : FilterKnown) (z : ℤ)
-    → Stands (at_triple k h e) z (value (values zs) [] t) → filter_known k h e size t a ≡ Some r → Reaches (HoldsHeld zs) r (held a z)
+    → Approximates (at_triple k h e) z (value (values zs) [] t) → filter_known k h e size t a ≡ Some r → Reaches (HoldsHeld zs) r (held a z)
 inside zs k h e size t a r z s q =
     let w = known_says k h e size t a r q in
     let g = holds zs k h e size t a r z s q in
@@ -96,7 +96,7 @@ inside zs k h e size t a r z s q =
     rw i (record { holds = g; error = j })
 
 -- a number that is divided by 2^k
-push_stands : (c : ℤ) (k : ℕ) → Stands (at_triple k (unsigned_abs c / 2 ^ k) (push_error k)) (cut_by k c) c
+push_stands : (c : ℤ) (k : ℕ) → Approximates (at_triple k (unsigned_abs c / 2 ^ k) (push_error k)) (cut_by k c) c
 push_stands c k = weaker (0 + k) (unsigned_abs c / 2 ^ k) (error_after k 0) (at_triple k (unsigned_abs c / 2 ^ k) (push_error k)) (cut_by k c) c
     (omega arith) (omega arith) (enough k) (cut_stands k (at_triple 0 (unsigned_abs c) 0) c c (exact_stands (unsigned_abs c) c (omega arith)))
   where
@@ -115,7 +115,7 @@ pub record TwoSays (zs : List ℤ) (a : Triple) (r : FilterKnown) (z : ℤ) : Ty
   pub reached : Reaches (HoldsHeld zs) r (held a z)
   pub held_there : Holds zs r z
 
-says : (zs : List ℤ) (k h e size : ℕ) (t : Tree) (a : Triple) (r : FilterKnown) (z : ℤ) → Stands (at_triple k h e) z (value (values zs) [] t)
+says : (zs : List ℤ) (k h e size : ℕ) (t : Tree) (a : Triple) (r : FilterKnown) (z : ℤ) → Approximates (at_triple k h e) z (value (values zs) [] t)
     → filter_known k h e size t a ≡ Some r → TwoSays zs a r z
 says zs k h e size t a r z s q = record { reached = inside zs k h e size t a r z s q; held_there = holds zs k h e size t a r z s q }
 
@@ -163,7 +163,7 @@ exact_minus zs w a m r y f q =
 
 -- ---- variables
 
-size_stands : (zs : List ℤ) (v : ℕ) (i : VarInfo) (s : InSize zs v i) → Stands (at_triple 0 (size_of i) 0) s.number (value (values zs) [] (tree.Input v))
+size_stands : (zs : List ℤ) (v : ℕ) (i : VarInfo) (s : InSize zs v i) → Approximates (at_triple 0 (size_of i) 0) s.number (value (values zs) [] (tree.Input v))
 size_stands zs v i s = rw (← s.same) (exact_stands (size_of i) s.number s.small)
 
 exact_input : (vars : List VarInfo) (zs : List ℤ) → AreWithin vars zs → (v : ℕ) (a : Triple) (r : FilterKnown)

@@ -10,7 +10,7 @@ use Rattle.std.specs.Int.RustNames.{int_rem}
 use Rattle.ln_algebra.proofs.Expanded.Ring.{mul_add, mul_assoc, mul_comm, mul_neg, four}
 use Rattle.ln_code.specs.declared.op.Triple.{Triple}
 use Rattle.ln_code.specs.Numbers.{cut_by}
-use Rattle.ln_code.specs.FilterRules.{Stands, error_after}
+use Rattle.ln_code.specs.FilterRules.{Approximates, error_after}
 use Rattle.ln_code.proofs.Following.Known.{abs_neg}
 use Rattle.ln_code.proofs.Filters.Cutting.{cut_abs, cut_none}
 
@@ -61,7 +61,7 @@ error_enough n k e =
     plain e c p q h = omega (arith, mul-le-mul_right q h)
 
 -- a truncated number that is divided by 2^n still stands for its value, by the triple after the division
-pub cut_stands : (n : ℕ) (a : Triple) (h v : ℤ) → Stands a h v → Stands (cut n a) (cut_by n h) v
+pub cut_stands : (n : ℕ) (a : Triple) (h v : ℤ) → Approximates a h v → Approximates (cut n a) (cut_by n h) v
 cut_stands n a h v s = record { small = rw cut_abs (div_le s.small); near = near n }
   where
     div_le : {i j : ℕ} → i ≤ j → i / 2 ^ n ≤ j / 2 ^ n
@@ -123,8 +123,8 @@ product_off v w h i p q =
     )
 
 -- the product of two truncated numbers stands for the product of their values
-pub product_stands : (a b : Triple) (h i v w : ℤ) → Stands a h v → Stands b i w
-    → Stands (record { k = a.k + b.k; h = a.h * b.h; e = a.h * b.e + b.h * a.e + a.e * b.e }) (h *ℤ i) (v *ℤ w)
+pub product_stands : (a b : Triple) (h i v w : ℤ) → Approximates a h v → Approximates b i w
+    → Approximates (record { k = a.k + b.k; h = a.h * b.h; e = a.h * b.e + b.h * a.e + a.e * b.e }) (h *ℤ i) (v *ℤ w)
 product_stands a b h i v w s t =
     let p : ℕ = 2 ^ a.k in
     let q : ℕ = 2 ^ b.k in
@@ -148,8 +148,8 @@ product_stands a b h i v w s t =
     spread H E J F p q = omega arith
 
 -- the sum of two truncated numbers of one k stands for the sum of their values
-pub sum_stands : (k h e i f : ℕ) (y z v w : ℤ) → Stands (record { k = k; h = h; e = e }) y v → Stands (record { k = k; h = i; e = f }) z w
-    → Stands (record { k = k; h = h + i; e = e + f }) (y +ℤ z) (v +ℤ w)
+pub sum_stands : (k h e i f : ℕ) (y z v w : ℤ) → Approximates (record { k = k; h = h; e = e }) y v → Approximates (record { k = k; h = i; e = f }) z w
+    → Approximates (record { k = k; h = h + i; e = e + f }) (y +ℤ z) (v +ℤ w)
 sum_stands k h e i f y z v w s t =
     let a = abs_sum (v -ℤ y *ℤ pos (2 ^ k)) (w -ℤ z *ℤ pos (2 ^ k)) (e * 2 ^ k) (f * 2 ^ k) s.near t.near in
     record { small = abs_sum y z h i s.small t.small; near = rw (sum_off v w y z (pos (2 ^ k))) (omega (arith, a)) }
@@ -158,20 +158,20 @@ abs_difference : (a b : ℤ) (m n : ℕ) → unsigned_abs a ≤ m → unsigned_a
 abs_difference a b m n h k = omega (arith, ints)
 
 -- and their difference for the difference
-pub difference_stands : (k h e i f : ℕ) (y z v w : ℤ) → Stands (record { k = k; h = h; e = e }) y v
-    → Stands (record { k = k; h = i; e = f }) z w → Stands (record { k = k; h = h + i; e = e + f }) (y -ℤ z) (v -ℤ w)
+pub difference_stands : (k h e i f : ℕ) (y z v w : ℤ) → Approximates (record { k = k; h = h; e = e }) y v
+    → Approximates (record { k = k; h = i; e = f }) z w → Approximates (record { k = k; h = h + i; e = e + f }) (y -ℤ z) (v -ℤ w)
 difference_stands k h e i f y z v w s t =
     let a = abs_difference (v -ℤ y *ℤ pos (2 ^ k)) (w -ℤ z *ℤ pos (2 ^ k)) (e * 2 ^ k) (f * 2 ^ k) s.near t.near in
     record { small = abs_difference y z h i s.small t.small; near = rw (diff_off v w y z (pos (2 ^ k))) (omega (arith, a)) }
 
 -- a number stands for itself, without an error
-pub exact_stands : (m : ℕ) (x : ℤ) → unsigned_abs x ≤ m → Stands (record { k = 0; h = m; e = 0 }) x x
+pub exact_stands : (m : ℕ) (x : ℤ) → unsigned_abs x ≤ m → Approximates (record { k = 0; h = m; e = 0 }) x x
 exact_stands m x h =
     let e : x -ℤ x *ℤ pos 1 ≡ pos 0 = omega (arith, ints) in
     record { small = h; near = rw pow-zero (rw e (omega arith)) }
 
 -- the negation of a truncated number stands for the negation of its value, by the same triple
-pub minus_stands : (a : Triple) (h v : ℤ) → Stands a h v → Stands a (neg_ℤ h) (neg_ℤ v)
+pub minus_stands : (a : Triple) (h v : ℤ) → Approximates a h v → Approximates a (neg_ℤ h) (neg_ℤ v)
 minus_stands a h v s =
     record {
       small = rw abs_neg s.small;
@@ -182,7 +182,7 @@ minus_stands a h v s =
     turned v h p = let e : neg_ℤ h *ℤ p ≡ neg_ℤ (h *ℤ p) = mul_comm (neg_ℤ h) p ∙ mul_neg p h ∙ ap neg_ℤ (mul_comm p h) in omega (arith, ints, e)
 
 -- ---- where the filter decides, it isn't wrong
-positive : (a : Triple) (h : ℕ) (v : ℤ) → a.e < suc h → Stands a (pos (suc h)) v → pos 0 <ℤ v
+positive : (a : Triple) (h : ℕ) (v : ℤ) → a.e < suc h → Approximates a (pos (suc h)) v → pos 0 <ℤ v
 positive a h v d s =
     let p : pos (suc h) *ℤ pos (2 ^ a.k) ≡ pos (suc h * 2 ^ a.k) = refl in
     let m : suc a.e * 2 ^ a.k ≤ suc h * 2 ^ a.k = mul-le-mul_right (2 ^ a.k) (omega arith) in
@@ -194,13 +194,13 @@ positive a h v d s =
     plain v m n h k = omega (arith, ints)
 
 -- a truncated number that is above 0 by more than its error stands for a value above 0
-pub decides_positive : (a : Triple) (h v : ℤ) → a.e < unsigned_abs h → pos 0 <ℤ h → Stands a h v → pos 0 <ℤ v
+pub decides_positive : (a : Triple) (h v : ℤ) → a.e < unsigned_abs h → pos 0 <ℤ h → Approximates a h v → pos 0 <ℤ v
 decides_positive a (pos zero) v d g s = omega (arith, ints)
 decides_positive a (pos (suc h)) v d g s = positive a h v d s
 decides_positive a (negsuc h) v d g s = absurd (omega (arith, ints, g))
 
 -- and one that is below 0 by more than its error for a value below 0
-pub decides_negative : (a : Triple) (h v : ℤ) → a.e < unsigned_abs h → h <ℤ pos 0 → Stands a h v → v <ℤ pos 0
+pub decides_negative : (a : Triple) (h v : ℤ) → a.e < unsigned_abs h → h <ℤ pos 0 → Approximates a h v → v <ℤ pos 0
 decides_negative a h v d g s =
     let n : pos 0 <ℤ neg_ℤ h = omega (arith, ints, g) in
     let e : unsigned_abs (neg_ℤ h) ≡ unsigned_abs h = abs_neg h in

@@ -1,5 +1,5 @@
 -- Expressions with one polynomial and one value.
-use Rattle.std.proofs.Common.{◌≡◌, ℕ, zero, suc, Bool, true, false, ◌&&◌, if◌then◌else◌, ℤ, pos, ◌+ℤ◌, ◌-ℤ◌, ◌*ℤ◌, neg_ℤ, List, [], ◌∷◌}
+use Rattle.std.proofs.Common.{◌≡◌, ℕ, zero, suc, Bool, true, false, ◌&&◌, if◌then◌else◌, ℤ, pos, ◌+ℤ◌, ◌-ℤ◌, ◌*ℤ◌, neg_ℤ, List, [], ◌∷◌, ap₂}
 use Rattle.std.proofs.Common.{refl, sym, ◌∙◌, ap, arith}
 use Rattle.std.proofs.lemmas.Int.{ints}
 use Rattle.ln_algebra.proofs.Expanded.Shift.{product_is}
@@ -68,22 +68,19 @@ same_then e f g s t = record { series = s.series ∙ t.series; values = λ x. s.
 pub same_neg : (e f : Tree) → Same e f → Same (Neg e) (Neg f)
 same_neg e f s = record { series = ap (λ (u : Series). (λ a. neg_ℤ (u a))) s.series; values = λ x. ap neg_ℤ (s.values x) }
 
-both : {A B C : Type 0} (h : A → B → C) (a b : A) (c d : B) → a ≡ b → c ≡ d → h a c ≡ h b d
-both h a b c d p q = ap (λ x. h x c) p ∙ ap (λ y. h b y) q
-
 -- and so are sums, differences and products of two pairs of them
 pub same_two : (k : Two) (e f g h : Tree) → Same e f → Same g h → Same (two_of k e g) (two_of k f h)
 same_two Plus e f g h s t = record {
-  series = both (λ (u v : Series). (λ a. u a +ℤ v a)) _ _ _ _ s.series t.series;
-  values = λ x. both ◌+ℤ◌ _ _ _ _ (s.values x) (t.values x);
+  series = ap₂ (λ (u v : Series). (λ a. u a +ℤ v a)) s.series t.series;
+  values = λ x. ap₂ ◌+ℤ◌ (s.values x) (t.values x);
 }
 same_two Minus e f g h s t = record {
-  series = both (λ (u v : Series). (λ a. u a -ℤ v a)) _ _ _ _ s.series t.series;
-  values = λ x. both ◌-ℤ◌ _ _ _ _ (s.values x) (t.values x);
+  series = ap₂ (λ (u v : Series). (λ a. u a -ℤ v a)) s.series t.series;
+  values = λ x. ap₂ ◌-ℤ◌ (s.values x) (t.values x);
 }
 same_two Times e f g h s t = record {
-  series = both product _ _ _ _ s.series t.series;
-  values = λ x. both ◌*ℤ◌ _ _ _ _ (s.values x) (t.values x);
+  series = ap₂ product s.series t.series;
+  values = λ x. ap₂ ◌*ℤ◌ (s.values x) (t.values x);
 }
 
 -- an expression is its first power
@@ -96,8 +93,8 @@ same_first e = record { series = λ i a. sym (one-product (normal_coefficient e)
 -- the next power
 pub same_next : (e f p : Tree) (m : ℕ) → Same f e → Same p (Pow e m) → Same (Mul p f) (Pow e (suc m))
 same_next e f p m s t = record {
-  series = both product _ _ _ _ t.series s.series;
-  values = λ x. both ◌*ℤ◌ _ _ _ _ (t.values x) (s.values x);
+  series = ap₂ product t.series s.series;
+  values = λ x. ap₂ ◌*ℤ◌ (t.values x) (s.values x);
 }
 
 -- the power 0 is the number 1

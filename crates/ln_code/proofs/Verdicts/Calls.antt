@@ -1,8 +1,9 @@
 -- A block and the filter of a program, on a row in range.
-use Rattle.std.proofs.Common.{◌≡◌, ℕ, ℤ, ◌≤◌, ◌<◌, List, [], ◌∷◌, length, refl, zero, suc, ap, arith, get_or, ◌∙◌, sym, subst}
+use Rattle.std.proofs.Common.{◌≡◌, ℕ, ℤ, ◌≤◌, ◌<◌, List, length, refl, ap, arith, get_or, ◌∙◌, sym, subst}
 use Rattle.std.specs.Prelude.{All, Contains, Option, Some, None, IsSome, slice_get, IfSome}
 use Rattle.std.specs.Vec.{with_items}
 use Rattle.std.proofs.lemmas.List.{with_items_is}
+use Rattle.std.proofs.lemmas.Option.{slice_get-get_or}
 use Rattle.ln_tree.specs.Row.{AreWithin}
 use Rattle.ln_code.specs.declared.op.Op.{Op}
 use Rattle.ln_code.specs.declared.op.Triple.{Triple}
@@ -12,12 +13,6 @@ use Rattle.ln_code.specs.Errors.{left_error}
 use Rattle.ln_code.specs.Kept.{FollowsRules, FollowsFilterRules, IsProgram}
 use Rattle.ln_code.specs.Memory.{MadeFor, at, plain, shifted, bare_value}
 use Rattle.ln_code.proofs.Engines.Runs.{Runs, block_runs, FilterRuns, filter_runs}
-
--- the block with this number
-pub there : {X : Type 0} (xs : List X) (k : ℕ) (d : X) → k < length xs → slice_get xs k ≡ Some (get_or xs k d)
-there [] k d h = absurd (omega arith)
-there (x ∷ xs) zero d h = refl
-there (x ∷ xs) (suc k) d h = there xs k d (omega arith)
 
 if_at : {X : Type 0} (P : X → Type 0) (o : Option X) (x : X) → IfSome o P → o ≡ Some x → P x
 if_at P None x h e = cc
@@ -75,7 +70,7 @@ pub the_block : (zs : List ℤ) (cs : List Code) (number : ℕ) (block : Code) (
     block_value zs block ≡ Some z →
     (c : Code) → slice_get cs number ≡ Some c → block_value zs c ≡ Some z
 the_block zs cs number block z h e v c q =
-    let t : slice_get cs number ≡ Some block = there cs number block h ∙ ap Some (sym e) in
+    let t : slice_get cs number ≡ Some block = slice_get-get_or cs number block h ∙ ap Some (sym e) in
     let u : Some c ≡ Some block = sym q ∙ t in
     let i : c ≡ block = cc in
     rw i v

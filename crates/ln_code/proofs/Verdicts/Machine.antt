@@ -1,21 +1,21 @@
 -- The machine of a part has exactly one verdict on every row in range.
-use Rattle.std.proofs.Common.{◌≡◌, ◌⊎◌, inl, inr, ℕ, ◌+◌, ◌-◌, ◌<◌, ◌≤◌, zero, suc, Bool, true, false, List, [], ◌∷◌, length, map, take}
+use Rattle.std.proofs.Common.{◌≡◌, ◌⊎◌, inl, inr, ℕ, ◌+◌, ◌-◌, ◌<◌, ◌≤◌, zero, suc, List, [], ◌∷◌, length, map, take}
 use Rattle.std.proofs.Common.{get_or, refl, sym, ◌∙◌, ap, arith, subst, unsigned_abs}
-use Rattle.std.specs.Prelude.{All, IfSome, Option, Some, None, slice_get, if◌then◌else◌}
+use Rattle.std.specs.Prelude.{All, IfSome, Option, Some, None, slice_get}
 use Rattle.std.specs.List.{range_with_len}
 use Rattle.std.proofs.Math.IntN.{ℤ, pos, negsuc}
 use Rattle.std.proofs.lemmas.Bool.{cases_lt}
 use Rattle.std.proofs.lemmas.List.{get_or-map, length-map}
-use Rattle.std.proofs.lemmas.List.Elements.{All-append, All-head, All-nil, All-tail, Contains-get_or}
+use Rattle.std.proofs.lemmas.List.Elements.{All-head, All-tail, Contains-get_or}
 use Rattle.std.proofs.lemmas.Option.{slice_get-get_or}
-use Rattle.ln_algebra.specs.Vector.{same_vector}
 use Rattle.ln_tree.specs.Row.{AreWithin}
 use Rattle.ln_order.specs.Orders.{IsOrderOf, orders_of}
-use Rattle.ln_order.specs.Prefixes.{beside, joined, prefixes_of}
+use Rattle.ln_order.specs.Prefixes.{prefixes_of}
 use Rattle.ln_order.specs.Rows.{OrderStages}
 use Rattle.ln_order.proofs.Listing.OrderExists.{order-exists}
 use Rattle.ln_order.proofs.Listing.OrderUnique.{order-unique}
 use Rattle.ln_order.proofs.Listing.OrdersLemmas.{member-is}
+use Rattle.ln_order.proofs.Listing.PrefixLemmas.{beside-all, joined-all}
 use Rattle.ln_order.proofs.Signs.RowsLemmas.{order-places}
 use Rattle.ln_code.specs.declared.verdict.Verdict.{Verdict}
 use Rattle.ln_code.specs.Carried.{Runs, vectors}
@@ -45,20 +45,6 @@ no_code = record { exps = []; ops = []; pairs = []; depth = 0 }
 -- what the rules say of the filter of a part
 pub filter-follows : (p : Part) (c : FilterCode) → Runs p → p.filter ≡ Some c → FollowsFilterRules p.shape.vars c
 filter-follows p c program here = subst (λ (o : Option FilterCode). IfSome o (FollowsFilterRules p.shape.vars)) here program.filter
-
--- ---- what holds of the numbers of all segments holds of those of a list
-module _ (P : ℕ → Type 0) where
-  beside-all : (qs ss : List (List ℕ)) (q : List ℕ) → All (λ s. All P s) ss → All P (beside qs ss q)
-  beside-all [] ss q h = All-nil P
-  beside-all (x ∷ qs) [] q h = All-nil P
-  beside-all (x ∷ qs) (s ∷ ss) q h = by_case (same_vector x q) (beside-all qs ss q (All-tail (λ t. All P t) s ss h)) where
-    by_case : (b : Bool) → All P (beside qs ss q) → All P (if b then s else beside qs ss q)
-    by_case true r = All-head (λ t. All P t) s ss h
-    by_case false r = r
-
-  joined-all : (f : ℕ → List ℕ) (ns : List ℕ) → ((n : ℕ) → All P (f n)) → All P (joined (map f ns))
-  joined-all f [] h = All-nil P
-  joined-all f (n ∷ ns) h = All-append P (f n) (joined (map f ns)) (h n) (joined-all f ns h)
 
 -- the numbers of a list of the part are those of blocks
 pub list-within : (p : Part) (places list : List ℕ) → Runs p → IsListOf p places list → All (λ k. k < length p.blocks) list

@@ -1,16 +1,14 @@
 -- One segment after the other.
 use Rattle.std.proofs.Common.{◌≡◌, ◌≢◌, ℕ, ℤ, suc, ◌+◌, ◌-◌, ◌<◌, ◌≤◌, ◌^◌, List, [], ◌∷◌, ◌++◌, length, map, take, drop, refl, sym, ◌∙◌}
-use Rattle.std.proofs.Common.{ap, subst, arith, pos, get_or}
-use Rattle.std.specs.Prelude.{Option, Some, slice_get, All, AllPairs}
+use Rattle.std.proofs.Common.{ap, subst, arith, pos}
+use Rattle.std.specs.Prelude.{Option, Some, slice_get, AllPairs}
 use Rattle.std.specs.List.{range_with_len}
 use Rattle.std.proofs.lemmas.List.{drop_all}
-use Rattle.std.proofs.lemmas.Option.{slice_get-get_or, slice_get_within}
 use Rattle.ln_order.specs.Order.{IsOrder}
 use Rattle.ln_order.specs.Orders.{IsOrderOf}
 use Rattle.ln_order.proofs.Listing.OrderExists.{order-exists}
 use Rattle.ln_order.proofs.Signs.RowsLemmas.{order-places}
-use Rattle.ln_order.specs.Prefixes.{joined, prefixes_of}
-use Rattle.ln_order.proofs.Listing.PrefixLemmas.{beside_at}
+use Rattle.ln_order.specs.Prefixes.{joined}
 use Rattle.ln_code.specs.declared.run.Met.{Met}
 use Rattle.ln_code.specs.declared.verdict.Verdict.{Verdict}
 use Rattle.ln_code.specs.declared.verdict.By.TheVariants.{Stage, Nothing}
@@ -22,32 +20,6 @@ use Rattle.ln_code.specs.Met.{HasMet, IsMet}
 use Rattle.ln_code.specs.Verdict.{along, settled, sign_of}
 use Rattle.ln_code.proofs.Verdicts.Stages.{Turn, rest_is, settled_other, block_there}
 use Rattle.ln_code.proofs.Verdicts.Sums.{list_few}
-
--- ---- the segment at a number
--- where there is one segment for each prefix, the number of a prefix is that of a segment
-pub number_within : (part : Part) (p : List ℕ) (k n : ℕ) → k ≡ part.shape.sites → length part.segments ≡ length (prefixes_of part.shape.sites)
-    → slice_get (prefixes_of k) n ≡ Some p → n < length part.segments
-number_within part p k n e size h =
-    let f : slice_get (prefixes_of part.shape.sites) n ≡ Some p = rw (← e) h in
-    omega (arith, slice_get_within (prefixes_of part.shape.sites) n p f, size)
-
--- the segment at the number of a prefix is that of the prefix
-pub segment_is : (part : Part) (p : List ℕ) (k n : ℕ) (s : List ℕ) → k ≡ part.shape.sites → part.shape.sites ≤ 5
-    → length part.segments ≡ length (prefixes_of part.shape.sites) → slice_get (prefixes_of k) n ≡ Some p → s ≡ get_or part.segments n s → s ≡ segment_of part p
-segment_is part p k n s e few size h i =
-    let f : slice_get (prefixes_of part.shape.sites) n ≡ Some p = rw (← e) h in
-    let l : n < length part.segments = omega (arith, slice_get_within (prefixes_of part.shape.sites) n p f, size) in
-    let g : slice_get part.segments n ≡ Some s = slice_get-get_or part.segments n s l ∙ ap (λ z. Some z) (sym i) in
-    sym (beside_at part.shape.sites part.segments p n s few f g)
-
--- and it names blocks that are there, where all segments do
-pub segment_named : (part : Part) (p : List ℕ) (k n : ℕ) (s : List ℕ) → k ≡ part.shape.sites
-    → length part.segments ≡ length (prefixes_of part.shape.sites) → slice_get (prefixes_of k) n ≡ Some p → s ≡ get_or part.segments n s
-    → All (λ t. All (λ m. m < length part.blocks) t) part.segments → All (λ m. m < length part.blocks) s
-segment_named part p k n s e size h i all =
-    let f : slice_get (prefixes_of part.shape.sites) n ≡ Some p = rw (← e) h in
-    let l : n < length part.segments = omega (arith, slice_get_within (prefixes_of part.shape.sites) n p f, size) in
-    subst (λ z. All (λ m. m < length part.blocks) z) (sym i) (all n s l)
 
 -- ---- one block after the other
 module _ (zs : List ℤ) (cs : List Code) (answer : Option Verdict) (segment rest : List ℕ) (i n : ℕ) (c : Code) (z : ℤ) (w place wide calls : ℕ)

@@ -1,11 +1,11 @@
 -- One block of a list.
 use Rattle.std.proofs.Common.{◌≡◌, ◌≢◌, ℕ, ℤ, ◌+◌, ◌<◌, List, ◌∷◌, length, drop, drop-cons, add-one, refl, zero, suc, ap, pos, negsuc, get_or, ◌∙◌, sym}
 use Rattle.std.specs.Prelude.{Option, Some, slice_get}
+use Rattle.std.proofs.lemmas.Option.{slice_get-get_or}
 use Rattle.ln_code.specs.declared.verdict.Verdict.{Verdict}
 use Rattle.ln_code.specs.declared.verdict.By.TheVariants.{Stage}
 use Rattle.ln_code.specs.Part.{Code, block_value, wide_in}
 use Rattle.ln_code.specs.Verdict.{sign_of, settled}
-use Rattle.ln_code.proofs.Verdicts.Calls.{there}
 
 -- a value that isn't 0 decides
 pub settled_other : (z : ℤ) (place wide calls : ℕ) (rest : Option Verdict) → z ≢ pos 0
@@ -25,7 +25,7 @@ pub record Turn (zs : List ℤ) (cs : List Code) (list : List ℕ) (i n : ℕ) (
 
 -- so the block with that number is c
 pub block_there : (zs : List ℤ) (cs : List Code) (list : List ℕ) (i n : ℕ) (c : Code) (z : ℤ) (w : ℕ) → Turn zs cs list i n c z w → slice_get cs n ≡ Some c
-block_there zs cs list i n c z w t = there cs n c t.within ∙ ap Some (sym t.block_is)
+block_there zs cs list i n c z w t = slice_get-get_or cs n c t.within ∙ ap Some (sym t.block_is)
 
 -- the list from place i on is its number there, and then the list from the next place on
 pub rest_is : (list : List ℕ) (i n : ℕ) → i < length list → n ≡ get_or list i 0 → drop i list ≡ n ∷ drop (i + 1) list

@@ -13,6 +13,7 @@ use Rattle.ln_algebra.specs.Terms.{IsNormalOf, Over, binomial, binomials, covers
 use Rattle.ln_algebra.specs.Tree.{Tree}
 use Rattle.ln_algebra.specs.Vector.{plus}
 use Rattle.ln_algebra.proofs.Vectors.Covering.{factor_at-derived}
+use Rattle.ln_algebra.proofs.Bounding.Weights.{IsCollected-Once}
 use Rattle.ln_tree.specs.declared.shape.VarInfo.{VarInfo}
 use Rattle.ln_tree.specs.Exps.{vector}
 use Rattle.ln_tree.specs.Table.{PredOf}
@@ -33,9 +34,9 @@ use Rattle.ln_stage.proofs.Sights.Members.{lists-one}
 use Rattle.ln_compile.specs.declared.refusal.Refusal.TheVariants.{Stages}
 use Rattle.ln_compile.specs.Accepted.{IsHeavyFault, IsSound, IsStagesFault, expanded_of, loaded_of, root_of}
 use Rattle.ln_compile.specs.Refused.{StopsPred, stages}
-use Rattle.ln_poly.proofs.Derivations.Combined.{everywhere, once, once-derived, over-derived}
+use Rattle.ln_poly.proofs.Derivations.Combined.{everywhere, once-derived, over-derived}
 use Rattle.ln_due.proofs.Derivatives.Deriving.{length-derived}
-use Rattle.ln_due.proofs.Derivatives.Fewest.{shortest}
+use Rattle.ln_poly.proofs.TermLists.Fewest.{shortest}
 
 -- the stage lists of one polynomial are those of another with the same expression
 moved : (n k : ℕ) (vars : List VarInfo) (e : Tree) (f g : Sparse) (ls : List (List (List ℕ))) → length vars ≡ n → IsNormal n e f
@@ -110,7 +111,7 @@ fewest n e f g p q a l =
     let same : (m : List ℕ) → factor_at (terms_of n f) m ≡ factor_at (terms_of n g) m =
     everywhere n (terms_of n f) (terms_of n g) (over-terms n f) (over-terms n g) (λ m k. p.normal.coefficients m k ∙ sym (q.normal.coefficients m k)) in
     shortest (derived a (terms_of n f)) (derived a (terms_of n g))
-    (once-derived a (terms_of n f) of (once (terms_of n f) (collected n f p.form p.below))) (no-zero n f p.form.factors a)
+    (once-derived a (terms_of n f) of (IsCollected-Once (terms_of n f) (collected n f p.form p.below))) (no-zero n f p.form.factors a)
     (everywhere (length a) (derived a (terms_of n f)) (derived a (terms_of n g)) (over-derived a (terms_of n f) of) (over-derived a (terms_of n g) og)
     (λ m k. factor_at-derived a (terms_of n f) m of k ∙ ap (λ c. c *ℤ pos (binomials (plus m a) a)) (same (plus m a))
     ∙ sym (factor_at-derived a (terms_of n g) m og k)))

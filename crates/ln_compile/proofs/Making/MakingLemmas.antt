@@ -17,7 +17,7 @@ use Rattle.ln_bound.specs.Typed.{Typed, polynomial, untyped}
 use Rattle.ln_bound.specs.View.{typed}
 use Rattle.ln_poly.specs.Expansion.{IsNormal}
 use Rattle.ln_poly.specs.Sparse.{Sparse, coefficient_at, terms_of}
-use Rattle.ln_poly.proofs.Expansions.Lets.{trees-of}
+use Rattle.ln_bound.proofs.Soundness.KeptLaws.{trees_of_formulas}
 use Rattle.ln_poly.proofs.TermLists.Products.{over-terms}
 use Rattle.ln_code.specs.Carried.{CarriesWhole}
 use Rattle.ln_code.specs.FilterRules.{FilterKnown}
@@ -65,7 +65,7 @@ pub own-made : (p : Pred) (lets : List Fitted) (root : Fitted) (c : Code) (a : P
 own-made p lets root c a z e l r x y n = record {
   plain = e ∙ z;
   lets = map typed lets;
-  of_lets = l ∙ sym (trees-of p.shape.vars p.lets);
+  of_lets = l ∙ sym (trees_of_formulas p.shape.vars p.lets);
   root = typed root;
   of_root = r;
   exact_lets = x;
@@ -84,7 +84,7 @@ own-carries p lets root c a f z e l r fr q h b o = record {
   exact = record { lets = o.lets; root = o.root; exact_lets = o.exact_lets; exact_root = o.exact_root; code = o.code; nested = λ n. absurd (n (e ∙ z)) };
 } where
   whole : (m : List ℕ) → polynomial (map typed lets) (typed root) m ≡ normal_coefficient (root_of (pred_of p)) m
-  whole m = ap (λ ts. normal_coefficient (inlined (inlined_after [] ts) (untyped (typed root))) m) (l ∙ sym (trees-of p.shape.vars p.lets))
+  whole m = ap (λ ts. normal_coefficient (inlined (inlined_after [] ts) (untyped (typed root))) m) (l ∙ sym (trees_of_formulas p.shape.vars p.lets))
       ∙ ap (λ t. normal_coefficient (inlined (inlined_after [] (map (tree p.shape.vars) (map formula p.lets))) t) m) r
 
   none : derived (vector (length p.shape.vars) c.exps) (terms_of (length p.shape.vars) f) ≡ terms_of (length p.shape.vars) f
@@ -101,7 +101,8 @@ own-carries p lets root c a f z e l r fr q h b o = record {
 sized-whole : (p : Pred) (lets : List Fitted) (root : Fitted) → map untyped (map typed lets) ≡ map (tree_of p.shape.vars) p.lets
     → untyped (typed root) ≡ tree_of p.shape.vars p.root
     → (m : List ℕ) → polynomial (map typed lets) (typed root) m ≡ normal_coefficient (root_of (pred_of p)) m
-sized-whole p lets root l r m = ap (λ ts. normal_coefficient (inlined (inlined_after [] ts) (untyped (typed root))) m) (l ∙ sym (trees-of p.shape.vars p.lets))
+sized-whole p lets root l r m =
+    ap (λ ts. normal_coefficient (inlined (inlined_after [] ts) (untyped (typed root))) m) (l ∙ sym (trees_of_formulas p.shape.vars p.lets))
     ∙ ap (λ t. normal_coefficient (inlined (inlined_after [] (map (tree p.shape.vars) (map formula p.lets))) t) m) r
 
 -- a filter that stands for the sized trees carries the whole
@@ -138,7 +139,7 @@ pub filter-of : (p : Pred) (lets : List Fitted) (root : Fitted) (o : Option Filt
       error = (root_triple p.shape.vars (map untyped (map typed lets)) (untyped (typed root))).e;
     })) → IsFilterOf (pred_of p) o
 filter-of p lets root o l r w v =
-    let ts : map untyped (map typed lets) ≡ lets_of (pred_of p) = l ∙ sym (trees-of p.shape.vars p.lets) in
+    let ts : map untyped (map typed lets) ≡ lets_of (pred_of p) = l ∙ sym (trees_of_formulas p.shape.vars p.lets) in
     let t : untyped (typed root) ≡ own_root (pred_of p) = r in
     filter-here (pred_of p) o (rw (sym ts, sym t) w) (rw (sym ts, sym t) v)
 

@@ -4,7 +4,7 @@ use Rattle.std.proofs.Common.{sym, subst, ◌∙◌, arith}
 use Rattle.std.proofs.lemmas.List.{drop_more, map-append, take-append-drop, take_more}
 use Rattle.ln_base.specs.declared.span.Span.{Span}
 use Rattle.ln_algebra.specs.Tree.{Tree}
-use Rattle.ln_algebra.proofs.Bounding.Weights.{weighted-least}
+use Rattle.ln_algebra.proofs.Bounding.Weights.{weighted-least, IsCollected-Once}
 use Rattle.ln_tree.specs.declared.expr.Expr.{Expr}
 use Rattle.ln_tree.specs.declared.expr.Node.{Node}
 use Rattle.ln_tree.specs.declared.expr.Node.TheVariants.{Num, Input, Name, Neg', Add', Sub', Mul', Pow'}
@@ -27,7 +27,7 @@ use Rattle.ln_compile.specs.declared.refusal.Refusal.TheVariants.{Bound, Terms, 
 use Rattle.ln_compile.specs.Accepted.{AreSound, IsHeavyFault, IsSound, expanded_of, loaded_of, root_of}
 use Rattle.ln_compile.specs.Refused.{IsPredFault, IsRefusal, StopsPred, StopsPreds, bound, heavy, of_pred, of_text, refusal_of, terms}
 use Rattle.ln_compile.specs.Refused.{token_of, zero as zero_root}
-use Rattle.ln_poly.proofs.Derivations.Combined.{everywhere, once}
+use Rattle.ln_poly.proofs.Derivations.Combined.{everywhere}
 
 -- one more
 sound-more : (ps : List PredOf) (p : PredOf) → AreSound ps → IsSound p → AreSound (ps ++ p ∷ [])
@@ -61,7 +61,7 @@ first_fault preds i p r h e s (inl f) =
 
 -- ---- weights of one expression's normal polynomials
 weigh-same : (w : ℕ → ℕ) (n : ℕ) (e : Tree) (f g : Sparse) → IsNormal n e f → IsNormal n e g → weighted_sum w (terms_of n f) ≤ weighted_sum w (terms_of n g)
-weigh-same w n e f g p q = weighted-least w (terms_of n f) (terms_of n g) (once (terms_of n f) (collected n f p.form p.below))
+weigh-same w n e f g p q = weighted-least w (terms_of n f) (terms_of n g) (IsCollected-Once (terms_of n f) (collected n f p.form p.below))
     (everywhere n (terms_of n f) (terms_of n g) (over-terms n f) (over-terms n g) (λ m l. p.normal.coefficients m l ∙ sym (q.normal.coefficients m l)))
 
 -- ---- the refusals of one predicate

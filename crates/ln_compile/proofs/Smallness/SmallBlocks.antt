@@ -13,7 +13,7 @@ use Rattle.ln_bound.specs.View.{typed}
 use Rattle.ln_poly.specs.Expansion.{HaveFewTerms, IsNormal, closed_lets, expanded, expanded_lets}
 use Rattle.ln_poly.specs.Sparse.{Sparse}
 use Rattle.ln_poly.proofs.TermLists.Counting.{many-terms}
-use Rattle.ln_poly.proofs.Expansions.Lets.{trees-of}
+use Rattle.ln_bound.proofs.Soundness.KeptLaws.{trees_of_formulas}
 use Rattle.ln_code.specs.Nodes.{IsNodeOf}
 use Rattle.ln_code.specs.Part.{Code, FilterCode}
 use Rattle.ln_due.specs.Small.{BlockPushesSmall, FilterPushesSmall}
@@ -57,11 +57,11 @@ module _ (p : Pred) (lets : List Fitted) (root : Fitted) (l : map untyped (map t
   -- what the source's own block pushes is small
   pub own-pushes : (c : Code) → lower.PushNodes (IsNodeOf (map typed lets) (typed root)) (lower.pushed_by p.shape.vars c) → BlockPushesSmall p.shape.vars c
   own-pushes c nodes = pushes-small (length p.shape.vars) (IsNodeOf (map typed lets) (typed root)) (lower.pushed_by p.shape.vars c)
-      (λ e v h. source-small p (map typed lets) (typed root) e v (l ∙ sym (trees-of p.shape.vars p.lets)) r light few h) nodes
+      (λ e v h. source-small p (map typed lets) (typed root) e v (l ∙ sym (trees_of_formulas p.shape.vars p.lets)) r light few h) nodes
 
   -- and what the filter pushes
   pub filter-pushes : (o : Option FilterCode) → IfSome o (λ f. filter.PushNodes (IsNodeOf (map typed lets) (typed root)) (filter.pushed_by p.shape.vars f))
       → IfSome o (FilterPushesSmall p.shape.vars)
   filter-pushes None nodes = tt
   filter-pushes (Some f) nodes = filter-pushes-small (length p.shape.vars) (IsNodeOf (map typed lets) (typed root)) (filter.pushed_by p.shape.vars f)
-      (λ e v h. source-small p (map typed lets) (typed root) e v (l ∙ sym (trees-of p.shape.vars p.lets)) r light few h) nodes
+      (λ e v h. source-small p (map typed lets) (typed root) e v (l ∙ sym (trees_of_formulas p.shape.vars p.lets)) r light few h) nodes

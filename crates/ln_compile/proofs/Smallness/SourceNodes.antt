@@ -1,6 +1,5 @@
 -- What the source's own block and the filter push is small: each node of an accepted predicate is.
-use Rattle.std.proofs.Common.{◌≡◌, ◌⊎◌, inl, inr, ℕ, ◌<◌, ◌≤◌, ◌^◌, zero, suc, List, [], ◌∷◌, ◌++◌, length, map, sym, ap, arith, subst}
-use Rattle.std.proofs.Math.Nat.{pow-le-pow_right, pow-suc, pow-zero}
+use Rattle.std.proofs.Common.{◌≡◌, ◌⊎◌, inl, inr, ℕ, ◌<◌, ◌≤◌, zero, suc, List, [], ◌∷◌, ◌++◌, length, map, sym, ap, arith, subst}
 use Rattle.std.proofs.lemmas.Bool.{cases_lt}
 use Rattle.ln_base.specs.declared.span.Span.{Span}
 use Rattle.ln_algebra.specs.Sizes.{two}
@@ -11,9 +10,9 @@ use Rattle.ln_tree.specs.declared.shape.VarInfo.{VarInfo}
 use Rattle.ln_tree.specs.Formula.{Formula, FNum, FInput, FName, FNeg, FAdd, FSub, FMul, FPow, formula, tree}
 use Rattle.ln_tree.specs.Table.{pred_of}
 use Rattle.ln_bound.specs.declared.fitted.Width.{Width}
-use Rattle.ln_bound.specs.Light.{most}
 use Rattle.ln_bound.specs.Light as bound
 use Rattle.ln_bound.specs.Typed.{Typed, untyped}
+use Rattle.ln_bound.proofs.Measures.Fitting.{lower}
 use Rattle.ln_poly.specs.Expansion.{HasTooManyTerms, HaveFewTerms, closed_lets, expanded, expanded_lets, powers}
 use Rattle.ln_poly.specs.Ready.{AreLight, IsLight, LetsAreLight}
 use Rattle.ln_poly.proofs.Loads.Sizing.{pred-expands}
@@ -85,14 +84,6 @@ module _ (n : ℕ) (vars : List VarInfo) where
       (power-few n at (inlined ls (tree vars g)) k j (few-right n (expanded vars ls g) (powers at (inlined ls (tree vars g)) k) f) (omega (arith, l))) q h
 
 -- ---- light nodes
--- lower powers are no heavier, and the power 0 is 1
-lower-power : (x j k : ℕ) → j ≤ k → x ^ k ≤ most → x ^ j ≤ most
-lower-power x zero k l h = rw pow-zero (omega arith)
-lower-power zero (suc j) k l h = zero-power j where
-  zero-power : (i : ℕ) → 0 ^ suc i ≤ most
-  zero-power i = omega (arith, pow-suc 0 i)
-lower-power (suc x) (suc j) k l h = omega (arith, h, pow-le-pow_right {n = suc x} (omega arith) {i = suc j} {j = k} l)
-
 module _ (n : ℕ) (w : ℕ → ℕ) (ls : List Tree) where
   -- what equals a light expression is light
   moved : (d e : Tree) → IsLight n w d → e ≡ d → IsLight n w e
@@ -116,7 +107,7 @@ module _ (n : ℕ) (w : ℕ → ℕ) (ls : List Tree) where
   node-light (Mul d f) e l (inr q) = moved (inlined ls (Mul d f)) e l.2 q
   node-light (Pow d k) e l (inl h) = node-light d e l.0 h
   node-light (Pow d k) e l (inr (j, b, q)) =
-      moved (Pow (inlined ls d) j) e (record { inputs = l.1.inputs; light = lower-power (weight w (inlined ls d)) j k b l.1.light }) q
+      moved (Pow (inlined ls d) j) e (record { inputs = l.1.inputs; light = lower (weight w (inlined ls d)) j k b l.1.light }) q
 
 -- ---- all nodes of a predicate
 module _ (vars : List VarInfo) where

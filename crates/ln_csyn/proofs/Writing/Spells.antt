@@ -46,7 +46,8 @@ op_back op.More = refl
 op_back op.Same = refl
 op_back op.Differ = refl
 
-digits_every : (ds : List ℕ) → list_all is_ascii_digit ds ≡ true → every is_digit ds ≡ true
+-- digits by the library's test are digits of the subset
+pub digits_every : (ds : List ℕ) → list_all is_ascii_digit ds ≡ true → every is_digit ds ≡ true
 digits_every [] h = refl
 digits_every (d ∷ ds) h =
     let a : is_ascii_digit d ≡ true = left (is_ascii_digit d) (list_all is_ascii_digit ds) h in

@@ -5,7 +5,7 @@ use Rattle.std.proofs.Math.IntN.{pos, ◌*ℤ◌}
 use Rattle.std.proofs.lemmas.List.{length-map}
 use Rattle.std.proofs.lemmas.List.Elements.{All-cons, All-head, All-nil, All-tail}
 use Rattle.std.proofs.lemmas.List.Sums.{sum_by-cons}
-use Rattle.ln_algebra.proofs.Bounding.Weights.{weighted-least}
+use Rattle.ln_algebra.proofs.Bounding.Weights.{weighted-least, IsCollected-Once}
 use Rattle.ln_algebra.specs.Terms.{Over, Term, binomials, covers, derived, factor_at, minus}
 use Rattle.ln_algebra.specs.Vector.{degree, total_degree}
 use Rattle.ln_algebra.specs.Weights.{weighted_sum}
@@ -16,13 +16,13 @@ use Rattle.ln_bound.specs.Value.{sizes, weights}
 use Rattle.ln_poly.specs.Derivative.{IsDerivative}
 use Rattle.ln_poly.specs.Sparse.{IsFactor, Sparse, coefficient_at, term_of, terms_of}
 use Rattle.ln_poly.proofs.Sorting.Collected.{collected}
-use Rattle.ln_poly.proofs.Derivations.Combined.{everywhere, once}
+use Rattle.ln_poly.proofs.Derivations.Combined.{everywhere}
 use Rattle.ln_poly.proofs.Derivations.Deriving.{derived-light}
 use Rattle.ln_poly.proofs.TermLists.Products.{over-terms}
 use Rattle.ln_poly.proofs.Derivations.Several.{over-vector}
 use Rattle.ln_poly.specs.Derivative.{covering}
 use Rattle.ln_poly.specs.Lean.{HasNoZero}
-use Rattle.ln_due.proofs.Derivatives.Fewest.{EachHas, each-has, shortest}
+use Rattle.ln_poly.proofs.TermLists.Fewest.{EachHas, each-has, shortest}
 
 -- it has a term for each that covers a
 pub length-derived : (n : ℕ) (f : Sparse) (a : List ℕ) → length (derived a (terms_of n f)) ≡ covering n f a
@@ -67,7 +67,7 @@ module _ (n : ℕ) (f h : Sparse) (a : Pairs) (d : IsDerivative n f a h) where
       → weighted_sum (sizes vars) (terms_of n h) ≤ most
   derivative-light vars e w =
       let l : weighted_sum (sizes vars) (terms_of n h) ≤ weighted_sum (sizes vars) (derived (vector n a) (terms_of n f)) =
-      weighted-least (sizes vars) (terms_of n h) (derived (vector n a) (terms_of n f)) (once (terms_of n h) (collected n h d.form d.below)) same in
+      weighted-least (sizes vars) (terms_of n h) (derived (vector n a) (terms_of n f)) (IsCollected-Once (terms_of n h) (collected n h d.form d.below)) same in
       let k : weighted_sum (sizes vars) (derived (vector n a) (terms_of n f)) ≤ most = light-over vars n e (vector n a) f w in
       omega (arith, l, k) where
         light-over : (vs : List VarInfo) (k : ℕ) → length vs ≡ k → (b : List ℕ) (g : Sparse)
@@ -85,14 +85,14 @@ module _ (n : ℕ) (f h : Sparse) (a : Pairs) (d : IsDerivative n f a h) where
   pub derivative-few : length h ≤ covering n f (vector n a)
   derivative-few =
       let s : length (terms_of n h) ≤ length (derived (vector n a) (terms_of n f)) =
-      shortest (terms_of n h) (derived (vector n a) (terms_of n f)) (once (terms_of n h) (collected n h d.form d.below)) no-zero same in
+      shortest (terms_of n h) (derived (vector n a) (terms_of n f)) (IsCollected-Once (terms_of n h) (collected n h d.form d.below)) no-zero same in
       omega (arith, s, length-map h (term_of n), length-derived n f (vector n a))
 
   -- where each term of f has a total degree of at most k, so has each term of the derivative
   pub derivative-degrees : (k : ℕ) → All (λ t. total_degree (vector n t.0) ≤ k) f → All (λ t. degree (vector n t.0) ≤ k) h
   derivative-degrees k z =
       back h (each-has (λ m. total_degree m ≤ k) (terms_of n h) (derived (vector n a) (terms_of n f))
-      (once (terms_of n h) (collected n h d.form d.below)) no-zero same (degrees-derived k (vector n a) (terms_of n f) (there f z)))
+      (IsCollected-Once (terms_of n h) (collected n h d.form d.below)) no-zero same (degrees-derived k (vector n a) (terms_of n f) (there f z)))
     where
       there : (g : Sparse) → All (λ t. total_degree (vector n t.0) ≤ k) g → EachHas (λ m. total_degree m ≤ k) (terms_of n g)
       there [] y = tt

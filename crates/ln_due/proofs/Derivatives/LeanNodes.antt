@@ -1,5 +1,5 @@
 -- What the blocks of derivatives push is small: each node of a lean tree is.
-use Rattle.std.proofs.Common.{◌≡◌, inl, inr, ℕ, ◌<◌, ◌≤◌, zero, suc, List, [], ◌∷◌, get_or, refl, sym, ◌∙◌, ap, arith}
+use Rattle.std.proofs.Common.{◌≡◌, inl, inr, ℕ, ◌<◌, ◌≤◌, zero, suc, List, [], ◌∷◌, get_or, refl, sym, ◌∙◌, ap, arith, ap₂}
 use Rattle.std.proofs.Math.IntN.{◌+ℤ◌, ◌-ℤ◌, neg_ℤ}
 use Rattle.std.proofs.lemmas.List.{length-map}
 use Rattle.ln_algebra.specs.Coefficient.{Series, normal_coefficient, power, product}
@@ -47,19 +47,15 @@ lean-small n count top e c u l = record {
   inside m k = nonzero-in l.terms m (λ z. k.nonzero (sym (l.normal.coefficients m k.size) ∙ z))
 
 -- ---- without lets
--- two equations in one
-both : {A B C : Type 0} (h : A → B → C) (a b : A) (c d : B) → a ≡ b → c ≡ d → h a c ≡ h b d
-both h a b c d p q = ap (λ x. h x c) p ∙ ap (λ y. h b y) q
-
 -- putting no lets in place changes no coefficient
 closed-series : (e : Tree) → normal_coefficient (inlined [] e) ≡ normal_coefficient e
 closed-series (Num c) = refl
 closed-series (Input v) = refl
 closed-series (Name j) = refl
 closed-series (Neg e) = ap (λ (u : Series). (λ a. neg_ℤ (u a))) (closed-series e)
-closed-series (Add d e) = both (λ (u v : Series). (λ a. u a +ℤ v a)) _ _ _ _ (closed-series d) (closed-series e)
-closed-series (Sub d e) = both (λ (u v : Series). (λ a. u a -ℤ v a)) _ _ _ _ (closed-series d) (closed-series e)
-closed-series (Mul d e) = both product _ _ _ _ (closed-series d) (closed-series e)
+closed-series (Add d e) = ap₂ (λ (u v : Series). (λ a. u a +ℤ v a)) (closed-series d) (closed-series e)
+closed-series (Sub d e) = ap₂ (λ (u v : Series). (λ a. u a -ℤ v a)) (closed-series d) (closed-series e)
+closed-series (Mul d e) = ap₂ product (closed-series d) (closed-series e)
 closed-series (Pow e k) = ap (λ (u : Series). power u k) (closed-series e)
 
 module _ (n count : ℕ) (top : ℕ → ℕ) (few : count ≤ 1024) (low : (v : ℕ) → top v < 128) where

@@ -19,7 +19,7 @@ use Rattle.ln_due.specs.Due.{IsDecidedBy, IsPositionIn, sign_number}
 use Rattle.ln_due.proofs.Verdicts.AlongLemmas.{AreZero, Ends, Stops, zero-at}
 
 -- the sign of a number, as a number
-sign-same : (z : ℤ) → sign_number (sign_of z) ≡ algebra.sign_of z
+pub sign-same : (z : ℤ) → sign_number (sign_of z) ≡ algebra.sign_of z
 sign-same (pos zero) = refl
 sign-same (pos (suc n)) = refl
 sign-same (negsuc n) = refl

@@ -103,13 +103,13 @@ some-site None h = absurd (h refl)
 some-site (Some t) h = refl
 
 -- each variable is one of a site
-all-sites : (vars : List VarInfo) (v : ℕ) → All (λ i. i.site ≢ None) vars → v < length vars → is_some (site_of vars v) ≡ true
+pub all-sites : (vars : List VarInfo) (v : ℕ) → All (λ i. i.site ≢ None) vars → v < length vars → is_some (site_of vars v) ≡ true
 all-sites [] v a h = absurd (omega arith)
 all-sites (i ∷ vars) zero a h = some-site i.site (All-head (λ (j : VarInfo). j.site ≢ None) i vars a)
 all-sites (i ∷ vars) (suc v) a h = all-sites vars v (All-tail (λ (j : VarInfo). j.site ≢ None) i vars a) (omega arith)
 
 -- a number that isn't 0 hasn't the sign 0
-sign-nonzero : (z : ℤ) → z ≢ pos 0 → algebra.sign_of z ≡ pos 0 → ⊥
+pub sign-nonzero : (z : ℤ) → z ≢ pos 0 → algebra.sign_of z ≡ pos 0 → ⊥
 sign-nonzero (pos zero) h e = h refl
 sign-nonzero (pos (suc n)) h e = cc
 sign-nonzero (negsuc n) h e = cc

@@ -10,11 +10,10 @@ use Rattle.ln_bound.specs.Typed.{Typed, TNum, TInput, TLet, TNeg, TTwo, TPow, co
 use Rattle.ln_code.specs.declared.op.Op.{Op}
 use Rattle.ln_code.specs.declared.op.Op.TheVariants.{Input, Set, Mul, Neg}
 use Rattle.ln_code.specs.declared.op.Triple.{Triple}
-use Rattle.ln_code.specs.Engine.{Line}
+use Rattle.ln_code.specs.Engine.{Line, op_of}
 use Rattle.ln_code.specs.Kept.{no_triple, stores, StoresHave}
 use Rattle.ln_filter.specs.Triples.{excess, whole, product_of, powered, triple}
 use Rattle.ln_filter.specs.Lines.{line, cut_lines, left_lines, trim_lines, factor_lines, factors, power_of, filter_lines, let_lines}
-use Rattle.ln_code.proofs.Engines.Steps.{op_of}
 use Rattle.ln_filter.proofs.Operations.Two.{raw_of, right_form, two_lines, two_pushes}
 
 cut_cost : (n : ℕ) (a : Triple) → length (cut_lines n a) ≤ 1

@@ -25,13 +25,12 @@ use Rattle.ln_bound.specs.Widths.{limit}
 use Rattle.ln_code.specs.declared.op.Op.{Op}
 use Rattle.ln_code.specs.declared.op.Op.TheVariants.{Push, Input, Get, Set, Mul, Neg, Cut}
 use Rattle.ln_code.specs.declared.op.Triple.{Triple}
-use Rattle.ln_code.specs.Engine.{Line, next, step}
+use Rattle.ln_code.specs.Engine.{Line, next, step, op_of}
 use Rattle.ln_code.specs.FilterRules.{FilterKnown, error_after, push_error, filter_known, two_known}
 use Rattle.ln_code.specs.Kept.{no_triple, stores}
 use Rattle.ln_code.specs.Numbers.{with_local}
 use Rattle.ln_code.specs.Pushes.{Pushed, pushes}
 use Rattle.ln_code.proofs.Engines.Behind.{then_run, step_run, pushes_append, pushes_front}
-use Rattle.ln_code.proofs.Engines.Steps.{op_of}
 use Rattle.ln_code.proofs.Following.NodeLists.{need_positive, root_node}
 use Rattle.ln_code.proofs.Following.Same.{Same, same_self, same_then, same_neg, same_two, same_first, same_next, same_zeroth}
 use Rattle.ln_filter.specs.Lines.{line, cut_lines, trim_lines, left_lines, right_lines, factor_lines, factors, power_of}

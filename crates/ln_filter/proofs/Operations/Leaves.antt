@@ -16,7 +16,7 @@ use Rattle.ln_interval.specs.Range.{Range}
 use Rattle.ln_code.specs.declared.op.Op.{Op}
 use Rattle.ln_code.specs.declared.op.Op.TheVariants.{Push, Input, Get, Set, Mul, Neg}
 use Rattle.ln_code.specs.declared.op.Triple.{Triple}
-use Rattle.ln_code.specs.Engine.{Engine, State, Line, next, run, step}
+use Rattle.ln_code.specs.Engine.{Engine, State, Line, next, run, step, op_of}
 use Rattle.ln_code.specs.Numbers.{result_of, cut_by, with_local}
 use Rattle.ln_code.specs.Exact.{Held, held, held_at, exact_filter}
 use Rattle.ln_code.specs.Kept.{no_triple}
@@ -27,7 +27,6 @@ use Rattle.ln_filter.specs.Triples.{both, excess, whole, leaf, product_of, power
 use Rattle.ln_filter.specs.Truncated.{leaf_number, product_number, power_number, number}
 use Rattle.ln_filter.specs.Lines.{line, cut_lines, left_lines, right_lines, trim_lines, factor_lines, factors, power_of, filter_lines}
 use Rattle.ln_code.proofs.Engines.Behind.{then_run, step_run}
-use Rattle.ln_code.proofs.Engines.Steps.{op_of}
 use Rattle.ln_filter.proofs.Operations.Two.{raw_of, right_form}
 use Rattle.ln_filter.proofs.Operations.Lands.{let_there}
 

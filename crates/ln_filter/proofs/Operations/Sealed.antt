@@ -1,11 +1,8 @@
 -- What the filter of a predicate is.
 use Rattle.std.proofs.Common.{◌≡◌, ℕ, ℤ, ◌≤◌, ◌<◌, ◌^◌, true, List, [], ◌∷◌, length, map, refl, suc, ap, arith, ◌∙◌, sym, inl, inr}
-use Rattle.std.proofs.Common.{length-append, Bool, ◌&&◌, nat_le, count_by}
-use Rattle.std.specs.Prelude.{Option, Some, None, IsSome, IfSome, ◌↔◌, ◌==◌}
+use Rattle.std.proofs.Common.{length-append}
+use Rattle.std.specs.Prelude.{Option, Some, None, IsSome, IfSome, ◌↔◌}
 use Rattle.std.proofs.lemmas.List.{length-map}
-use Rattle.std.specs.List.{list_all}
-use Rattle.std.proofs.lemmas.Bool.{and_parts}
-use Rattle.ln_tree.specs.Variables.{in_order, no_var, has_range, starts_site, is_param, is_laid_out}
 use Rattle.ln_algebra.specs.Coefficient.{Series, normal_coefficient}
 use Rattle.ln_algebra.specs.Tree.{Tree, inlined, inlined_after}
 use Rattle.ln_tree.specs.declared.shape.VarInfo.{VarInfo}
@@ -44,21 +41,6 @@ use Rattle.ln_filter.proofs.Operations.Leaves.{Same as SameNumber, SameLocals, N
 use Rattle.ln_filter.proofs.Operations.Lets.{lets_land, no_lets_known, with_numbers, lets_leave, no_numbers, none_there}
 use Rattle.ln_filter.proofs.Operations.Costs.{tree_cost, lets_cost, stores_append, tree_stores, lets_store}
 use Rattle.ln_filter.proofs.Operations.Writes.{wrote_then}
-
--- the ranges of a shape
-pub ranges_of : (sites : ℕ) (vars : List VarInfo) → is_laid_out sites vars ≡ true → list_all has_range vars ≡ true
-ranges_of sites vars h =
-    let i : Bool = in_order 0 0 no_var vars in
-    let r : Bool = list_all has_range vars in
-    let s : Bool = count_by starts_site vars == sites in
-    let f : Bool = nat_le sites 5 in
-    let p : Bool = nat_le (count_by is_param vars) 8 in
-    let v : Bool = nat_le (length vars) 168 in
-    let a = and_parts (i && r && s && f && p) v h in
-    let b = and_parts (i && r && s && f) p a.0 in
-    let c = and_parts (i && r && s) f b.0 in
-    let d = and_parts (i && r) s c.0 in
-    (and_parts i r d.0).1
 
 lines_back : (lines : List (Line Triple)) → lines_of (ops_in lines) (triples_in lines) ≡ lines
 lines_back [] = refl

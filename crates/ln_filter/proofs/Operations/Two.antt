@@ -10,7 +10,7 @@ use Rattle.ln_bound.specs.Room.{HasRoom}
 use Rattle.ln_bound.specs.Typed.{two_of}
 use Rattle.ln_code.specs.declared.op.Triple.{Triple}
 use Rattle.ln_code.specs.Kept.{stores}
-use Rattle.ln_code.proofs.Engines.Steps.{op_of}
+use Rattle.ln_code.specs.Engine.{op_of}
 use Rattle.ln_filter.specs.Lines.{filter_lines, left_lines, right_lines, trim_lines}
 use Rattle.ln_filter.specs.Steady.{IsSteady, AreSteady}
 use Rattle.ln_filter.specs.Tried.{AreNarrow}

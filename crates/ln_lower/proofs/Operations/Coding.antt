@@ -5,7 +5,7 @@ use Rattle.ln_interval.specs.Range.{Range}
 use Rattle.ln_bound.specs.Typed.{Typed, pair}
 use Rattle.ln_code.specs.Engine.{Line}
 use Rattle.ln_lower.specs.declared.distinct.Key.{Key}
-use Rattle.ln_lower.specs.Distinct.{AllStand, Stands}
+use Rattle.ln_lower.specs.Distinct.{AreNumbersOf, IsNumberOf}
 use Rattle.ln_lower.specs.Written as written
 use Rattle.ln_lower.specs.Written.{Written, LetsWritten, keeping}
 use Rattle.ln_lower.specs.StackCode.{IsCode, AreCode, IsCodeOf, number, variable, name, again, opposite, two, zeroth, raised, keep, none, more}
@@ -16,36 +16,36 @@ abbrev is_computed : ℕ → Bool
 is_computed zero = false
 is_computed (suc n) = true
 
-all_append : (ks : List Key) (ms ns : List ℕ) (ts us : List Typed) → AllStand ks ms ts → AllStand ks ns us → AllStand ks (ms ++ ns) (ts ++ us)
+all_append : (ks : List Key) (ms ns : List ℕ) (ts us : List Typed) → AreNumbersOf ks ms ts → AreNumbersOf ks ns us → AreNumbersOf ks (ms ++ ns) (ts ++ us)
 all_append ks [] ns [] us a b = b
 all_append ks [] ns (t ∷ ts) us a b = absurd a
 all_append ks (m ∷ ms) ns [] us a b = absurd a
 all_append ks (m ∷ ms) ns (t ∷ ts) us a b = (a.0, all_append ks ms ns ts us a.1 b)
 
-all_length : (ks : List Key) (ns : List ℕ) (ts : List Typed) → AllStand ks ns ts → length ns ≡ length ts
+all_length : (ks : List Key) (ns : List ℕ) (ts : List Typed) → AreNumbersOf ks ns ts → length ns ≡ length ts
 all_length ks [] [] a = refl
 all_length ks [] (t ∷ ts) a = absurd a
 all_length ks (n ∷ ns) [] a = absurd a
 all_length ks (n ∷ ns) (t ∷ ts) a = ap suc (all_length ks ns ts a.1)
 
 -- the tree with a number that is kept is at the number's place
-kept_at : (ks : List Key) (ns : List ℕ) (ts : List Typed) (i k : ℕ) (t : Typed) → AllStand ks ns ts → slice_get ns i ≡ Some k
-    → Stands ks k t → slice_get ts i ≡ Some t
+kept_at : (ks : List Key) (ns : List ℕ) (ts : List Typed) (i k : ℕ) (t : Typed) → AreNumbersOf ks ns ts → slice_get ns i ≡ Some k
+    → IsNumberOf ks k t → slice_get ts i ≡ Some t
 kept_at ks [] ts i k t a e s = cc
 kept_at ks (n ∷ ns) [] i k t a e s = absurd a
 kept_at ks (n ∷ ns) (u ∷ us) zero k t a e s =
     let f : n ≡ k = cc in
-    let h : Stands ks n t = rw f s in
+    let h : IsNumberOf ks n t = rw f s in
     ap Some (unique ks u t n a.0 h)
 kept_at ks (n ∷ ns) (u ∷ us) (suc i) k t a e s = kept_at ks ns us i k t a.1 e s
 
 record Coded (ks : List Key) (kept : List Typed) (t : Typed) (lines : List (Line Range)) (more : List ℕ) (b : Bool) : Type 0 where
   new : List Typed
-  are : AllStand ks more new
+  are : AreNumbersOf ks more new
   code : IsCode kept t lines new b
 
 coded : (ks : List Key) {ns : List ℕ} {t : Typed} {lines : List (Line Range)} {m : List ℕ} {spare : ℕ} (kept : List Typed)
-    → AllStand ks ns kept → Written ks ns t lines m spare → Coded ks kept t lines m (is_computed spare)
+    → AreNumbersOf ks ns kept → Written ks ns t lines m spare → Coded ks kept t lines m (is_computed spare)
 coded ks kept a (written.number c p w) = record { new = []; are = tt; code = number c p w }
 coded ks kept a (written.variable v p w) = record { new = []; are = tt; code = variable v p w }
 coded ks kept a (written.name j p w) = record { new = []; are = tt; code = name j p w }
@@ -73,7 +73,7 @@ coded ks kept a (written.keep {kept = ns} {more = m} {t = t} {lines = lines} k s
 
 record LetsCoded (ks : List Key) (ts : List Typed) (lines : List (Line Range)) (kept : List ℕ) : Type 0 where
   trees : List Typed
-  are : AllStand ks kept trees
+  are : AreNumbersOf ks kept trees
   code : AreCode ts lines trees
 
 lets_coded : (ks : List Key) {ts : List Typed} {lines : List (Line Range)} {kept : List ℕ} → LetsWritten ks ts lines kept → LetsCoded ks ts lines kept

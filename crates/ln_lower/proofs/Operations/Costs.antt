@@ -5,11 +5,11 @@ use Rattle.ln_bound.specs.declared.fitted.Width.{Width}
 use Rattle.ln_bound.specs.declared.fitted.Two.{Two}
 use Rattle.ln_bound.specs.declared.fitted.Two.TheVariants.{Plus, Minus, Times}
 use Rattle.ln_bound.specs.Typed.{Typed, TNum, TInput, TLet, TNeg, TTwo, TPow, cost, costs, pair}
-use Rattle.ln_code.specs.Engine.{Line}
+use Rattle.ln_code.specs.Engine.{Line, op_of}
 use Rattle.ln_code.specs.Kept.{StoresHave}
 use Rattle.ln_code.specs.declared.op.Op.TheVariants.{Neg, Set}
 use Rattle.ln_lower.specs.declared.distinct.Key.{Key}
-use Rattle.ln_lower.specs.Lowered.{line, nothing, op_of, factors, power_of}
+use Rattle.ln_lower.specs.Lowered.{line, nothing, factors, power_of}
 use Rattle.ln_lower.specs.Written.{Written, LetsWritten, keeping, number, variable, name, again, opposite, two, zeroth, raised, keep, none, more}
 
 factors_cost : (p : Range) (w : Width) (m n : ℕ) → length (factors p w m n) ≡ 2 * n

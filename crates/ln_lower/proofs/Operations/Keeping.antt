@@ -12,7 +12,7 @@ use Rattle.ln_bound.proofs.Trees.LetLists.{get_snoc}
 use Rattle.ln_code.specs.Numbers.{with_local}
 use Rattle.ln_code.specs.Rules.{Known}
 use Rattle.ln_lower.specs.declared.distinct.Key.{Key}
-use Rattle.ln_lower.specs.Distinct.{Stands}
+use Rattle.ln_lower.specs.Distinct.{IsNumberOf}
 use Rattle.ln_lower.proofs.Subtrees.Numbering.{unique}
 use Rattle.ln_lower.proofs.Operations.Landing.{Locals, ValueFor, IsKnown, wanted, known_at, value_wider}
 use Rattle.ln_lower.proofs.Operations.Closed.{NamesBelow, names_more, wanted_front, wanted_last}
@@ -80,7 +80,7 @@ lets_snoc lets l t x few k = record { each = each; few = let n = length-append l
 -- this local has the value of number k, a tree over these lets
 pub record Entry (ks : List Key) (lets : List Typed) (k : ℕ) (o : Option Known) : Type 0 where
   pub what : Typed
-  pub stands : Stands ks k what
+  pub stands : IsNumberOf ks k what
   pub names : NamesBelow (length lets) (untyped what)
   pub known : IsKnown o (wanted lets what)
 
@@ -93,7 +93,7 @@ entry_at : (ks : List Key) (lets : List Typed) (k : ℕ) (o p : Option Known) �
 entry_at ks lets k o p e q = record { what = e.what; stands = e.stands; names = e.names; known = known_at p e.known q }
 
 -- a local with the value of a number has the value of the tree with that number
-pub entry_known : (ks : List Key) (lets : List Typed) (k : ℕ) (o : Option Known) (t : Typed) → Entry ks lets k o → Stands ks k t
+pub entry_known : (ks : List Key) (lets : List Typed) (k : ℕ) (o : Option Known) (t : Typed) → Entry ks lets k o → IsNumberOf ks k t
     → IsKnown o (wanted lets t)
 entry_known ks lets k o t e s =
     let q : e.what ≡ t = unique ks e.what t k e.stands s in

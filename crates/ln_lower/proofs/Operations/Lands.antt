@@ -4,7 +4,6 @@ use Rattle.std.proofs.Common.{◌∙◌, unsigned_abs}
 use Rattle.std.specs.Prelude.{Some, slice_get}
 use Rattle.std.proofs.lemmas.Bool.{le-leb}
 use Rattle.ln_algebra.specs.Tree as tree
-use Rattle.ln_algebra.specs.Tree.{Tree}
 use Rattle.ln_tree.specs.declared.shape.VarInfo.{VarInfo}
 use Rattle.ln_interval.specs.Range.{Range, Covers, opposite, point, magnitude}
 use Rattle.ln_interval.proofs.Monotone.{covers_then, opposite_covers}
@@ -15,12 +14,12 @@ use Rattle.ln_bound.specs.Ranges.{ranges}
 use Rattle.ln_bound.specs.Typed.{range_of, bound_of, two_of}
 use Rattle.ln_bound.specs.Widths.{least, wider, no_wider}
 use Rattle.ln_code.specs.declared.op.Op.TheVariants.{Push, Input, Get, Neg}
-use Rattle.ln_code.specs.Engine.{State, Line, next, step, pushed}
+use Rattle.ln_code.specs.Engine.{State, Line, next, step, pushed, op_of}
 use Rattle.ln_code.specs.Rules.{Known, declared}
 use Rattle.ln_code.specs.Kept.{stores}
 use Rattle.ln_code.proofs.Following.Same.{Same, same_self, same_then, same_neg, same_two}
 use Rattle.ln_lower.specs.Nodes.{HasWidth}
-use Rattle.ln_lower.specs.Lowered.{line, op_of}
+use Rattle.ln_lower.specs.Lowered.{line}
 use Rattle.ln_lower.proofs.Subtrees.Bounding.{no_wider_trans, no_wider_self, wider_narrow, least_narrow, two_covers, known_is, least_in, wider_in}
 use Rattle.ln_lower.proofs.Operations.Landing.{Locals, Setting, rules_in, ValueFor, IsKnown, IsAllowed, Lands, value_in, small_as, lands_then, one_lands}
 

@@ -3,6 +3,7 @@ use Rattle.std.proofs.Common.{◌≡◌, ℕ, ℤ, ◌+◌, ◌*◌, ◌≤◌, 
 use Rattle.std.proofs.Common.{get_or, length-append}
 use Rattle.std.specs.Prelude.{Option, Some, All, IfOk, Result, pos, slice_index_or}
 use Rattle.std.proofs.lemmas.Result.{IfOk-weaker}
+use Rattle.std.proofs.lemmas.Option.{slice_get-get_or}
 use Rattle.ln_algebra.specs.Coefficient.{Series}
 use Rattle.ln_algebra.specs.Tree.{Num}
 use Rattle.ln_tree.specs.declared.shape.VarInfo.{VarInfo}
@@ -37,7 +38,6 @@ use Rattle.ln_lower.proofs.Operations.Costs.{tree_cost, lets_cost, stores_append
 use Rattle.ln_lower.proofs.Operations.Landing.{Locals, ValueFor, IsKnown, closed, tree_in, wanted}
 use Rattle.ln_lower.proofs.Operations.Keeping.{LetsKnown}
 use Rattle.ln_lower.proofs.Operations.Lets.{SoundBlock, block_lands}
-use Rattle.ln_code.proofs.Verdicts.Calls.{there}
 use Rattle.ln_lower.proofs.Subtrees.Bounding.{limit_most}
 use Rattle.ln_lower.proofs.Operations.Writes.{BlockWritten, ops_append, pairs_append}
 
@@ -94,7 +94,7 @@ lets_are_kept : (lets : List Typed) (l : Locals) → LetsKnown lets l → (j : �
 lets_are_kept lets l k j h =
     let d : Typed = TNum (pos 0) nothing W64 in
     let u : Typed = get_or lets j d in
-    has_polynomial (l j) (wanted lets (TLet j (pair u) (width u))) (k.each j u (there lets j d h))
+    has_polynomial (l j) (wanted lets (TLet j (pair u) (width u))) (k.each j u (slice_get-get_or lets j d h))
 
 -- what is known of a lowered block: the rules that it follows, its value, what it pushes, its locals, and its operations
 pub record IsLowered (vars : List VarInfo) (code : Code) (t : Typed) (lets : List Typed) : Type 0 where

@@ -12,11 +12,11 @@ use Rattle.ln_bound.specs.declared.fitted.Fitted.{Fitted}
 use Rattle.ln_bound.specs.Typed.{Typed, TNeg, TPow, TTwo, pair, operation}
 use Rattle.ln_bound.specs.View.{typed}
 use Rattle.ln_code.specs.declared.op.Op.TheVariants.{Push, Get, Set, Mul, Neg}
-use Rattle.ln_code.specs.Engine.{Line}
+use Rattle.ln_code.specs.Engine.{Line, op_of}
 use Rattle.ln_lower.specs.declared.draft.Draft.{Draft}
 use Rattle.ln_lower.specs.declared.distinct.Key.{Key}
-use Rattle.ln_lower.specs.Distinct.{Stands}
-use Rattle.ln_lower.specs.Lowered.{line, nothing, op_of, factors, power_of, ops_in, pairs_in}
+use Rattle.ln_lower.specs.Distinct.{IsNumberOf}
+use Rattle.ln_lower.specs.Lowered.{line, nothing, factors, power_of, ops_in, pairs_in}
 use Rattle.ln_lower.specs.Written.{Written, LetsWritten, keeping, again, opposite, two, zeroth, raised, keep, none, more}
 use Rattle.ln_lower.specs.Wrote.{Wrote, MayKeep, Puts, PutsLet, PutsLets}
 use Rattle.ln_lower.proofs.Subtrees.Roots.{HasRoot}
@@ -106,7 +106,7 @@ puts_leaf ks a b t u x e w h = rw e (record { lines = x ∷ []; more = []; spare
 
 -- a tree that is kept, in the local of its place among those that are
 pub puts_again : (ks : List Key) (a b : Draft) (t : Typed) (j k : ℕ) (p : Range) → (i : ℕ) × (slice_get a.kept i ≡ Some k) × (j ≡ 65 + i)
-    → p ≡ pair t → Stands ks k t → Wrote a b (line (Get j) p ∷ []) [] → Puts ks a b t
+    → p ≡ pair t → IsNumberOf ks k t → Wrote a b (line (Get j) p ∷ []) [] → Puts ks a b t
 puts_again ks a b t j k p i g s w =
     let v : Wrote a b (line (Get (65 + i.0)) (pair t) ∷ []) [] =
     subst (λ q. Wrote a b (line (Get (65 + i.0)) q ∷ []) []) g (subst (λ n. Wrote a b (line (Get n) p ∷ []) []) i.2 w) in
@@ -126,7 +126,8 @@ kept_place a b m e = ap length_of e
     length_of l = length l
 
 -- and then it is kept, or not
-pub puts_kept : (ks : List Key) (a b c : Draft) (t : Typed) (k : ℕ) (p : Range) → p ≡ pair t → Stands ks k t → Done ks a b t → MayKeep b c k p → Puts ks a c t
+pub puts_kept : (ks : List Key) (a b c : Draft) (t : Typed) (k : ℕ) (p : Range) → p ≡ pair t → IsNumberOf ks k t → Done ks a b t → MayKeep b c k p
+    → Puts ks a c t
 puts_kept ks a b c t k p e s x (inl h) = record {
   lines = x.lines;
   more = x.more;

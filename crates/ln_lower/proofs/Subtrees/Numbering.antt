@@ -11,7 +11,7 @@ use Rattle.ln_lower.specs.declared.distinct.KeyOp.TheVariants.{Number, Variable,
 use Rattle.ln_bound.specs.declared.fitted.Fitted.{Fitted}
 use Rattle.ln_bound.specs.View.{typed}
 use Rattle.ln_lower.proofs.Subtrees.Roots.{HasRoot}
-use Rattle.ln_lower.specs.Distinct.{key, Stands, AllStand, Extends, Added, Numbered, operand_or, right_or}
+use Rattle.ln_lower.specs.Distinct.{key, IsNumberOf, AreNumbersOf, Extends, Added, Numbered, operand_or, right_or}
 
 -- ---- one number, one tree
 
@@ -36,7 +36,7 @@ differ ks k {x = x} {y = y} a b n =
     n (ap (λ (z : Key). z.op) f)
 
 -- a number is one tree alone
-pub unique : (ks : List Key) (t u : Typed) (k : ℕ) → Stands ks k t → Stands ks k u → t ≡ u
+pub unique : (ks : List Key) (t u : Typed) (k : ℕ) → IsNumberOf ks k t → IsNumberOf ks k u → t ≡ u
 unique ks (TNum c p w) (TNum d q v) k x y =
     let z = same_key ks k (Number c) (Number d) p q w v x y in
     let u : Number c ≡ Number d = z.0 in
@@ -117,7 +117,7 @@ unique ks (TPow s n p w) (TPow e m q v) k x y =
 -- ---- more numbers
 
 -- a number that is a tree is that tree still in a list that extends the first
-pub stands_more : (ks ls : List Key) (t : Typed) (k : ℕ) → Extends ks ls → Stands ks k t → Stands ls k t
+pub stands_more : (ks ls : List Key) (t : Typed) (k : ℕ) → Extends ks ls → IsNumberOf ks k t → IsNumberOf ls k t
 stands_more ks ls (TNum c p w) k e s = e k (key (Number c) p w) s
 stands_more ks ls (TInput v p w) k e s = e k (key (Variable v) p w) s
 stands_more ks ls (TLet j p w) k e s = e k (key (Name j) p w) s
@@ -166,15 +166,15 @@ numbered_two ks ms ns a b k s t u r n d =
 
 -- ---- several trees
 
-all_more : (ks ls : List Key) (ns : List ℕ) (ts : List Typed) → Extends ks ls → AllStand ks ns ts → AllStand ls ns ts
+all_more : (ks ls : List Key) (ns : List ℕ) (ts : List Typed) → Extends ks ls → AreNumbersOf ks ns ts → AreNumbersOf ls ns ts
 all_more ks ls [] [] e a = tt
 all_more ks ls [] (t ∷ ts) e a = a
 all_more ks ls (n ∷ ns) [] e a = a
 all_more ks ls (n ∷ ns) (t ∷ ts) e a = (stands_more ks ls t n e a.0, all_more ks ls ns ts e a.1)
 
 -- numbers that are trees one by one still are with one more number and its tree at the end
-pub all_last : (ks : List Key) (ns : List ℕ) (ts : List Typed) (n : ℕ) (t : Typed) → AllStand ks ns ts → Stands ks n t
-    → AllStand ks (ns ++ (n ∷ [])) (ts ++ (t ∷ []))
+pub all_last : (ks : List Key) (ns : List ℕ) (ts : List Typed) (n : ℕ) (t : Typed) → AreNumbersOf ks ns ts → IsNumberOf ks n t
+    → AreNumbersOf ks (ns ++ (n ∷ [])) (ts ++ (t ∷ []))
 all_last ks [] [] n t a s = (s, tt)
 all_last ks [] (u ∷ us) n t a s = absurd a
 all_last ks (m ∷ ms) [] n t a s = absurd a
@@ -182,16 +182,16 @@ all_last ks (m ∷ ms) (u ∷ us) n t a s = (a.0, all_last ks ms us n t a.1 s)
 
 -- one tree more
 pub next_stands : (ks ls : List Key) (ns os : List ℕ) (ts us : List Typed) (k : ℕ) (t : Typed) → us ≡ ts ++ (t ∷ [])
-    → os ≡ ns ++ (k ∷ []) → Numbered ks ls k t → AllStand ks ns ts → AllStand ls os us
+    → os ≡ ns ++ (k ∷ []) → Numbered ks ls k t → AreNumbersOf ks ns ts → AreNumbersOf ls os us
 next_stands ks ls ns os ts us k t e f n a = rw (e, f) (all_last ls ns ts k t (all_more ks ls ns ts n.more a) n.stands)
 
 -- the same trees after one more
-pub stand_behind : (ks ls : List Key) (ns : List ℕ) (ts : List Typed) (k : ℕ) (t : Typed) → Numbered ks ls k t → AllStand ks ns ts → AllStand ls ns ts
+pub stand_behind : (ks ls : List Key) (ns : List ℕ) (ts : List Typed) (k : ℕ) (t : Typed) → Numbered ks ls k t → AreNumbersOf ks ns ts → AreNumbersOf ls ns ts
 stand_behind ks ls ns ts k t n a = all_more ks ls ns ts n.more a
 
 -- the number of the tree at a place
-pub stands_at : (ks : List Key) (ns : List ℕ) (us : List Fitted) (j : ℕ) (u : Fitted) → AllStand ks ns (map typed us) → j < length us
-    → u ≡ get_or us j u → Stands ks (get_or ns j 0) (typed u)
+pub stands_at : (ks : List Key) (ns : List ℕ) (us : List Fitted) (j : ℕ) (u : Fitted) → AreNumbersOf ks ns (map typed us) → j < length us
+    → u ≡ get_or us j u → IsNumberOf ks (get_or ns j 0) (typed u)
 stands_at ks [] [] j u a h e = absurd (omega arith)
 stands_at ks [] (v ∷ vs) j u a h e = absurd a
 stands_at ks (m ∷ ms) [] j u a h e = absurd a
@@ -199,7 +199,7 @@ stands_at ks (m ∷ ms) (v ∷ vs) zero u a h e = rw e a.0
 stands_at ks (m ∷ ms) (v ∷ vs) (suc j) u a h e = stands_at ks ms vs j u a.1 (omega arith) e
 
 -- there are as many numbers as trees
-pub stand_length : (ks : List Key) (ns : List ℕ) (us : List Fitted) → AllStand ks ns (map typed us) → length ns ≡ length us
+pub stand_length : (ks : List Key) (ns : List ℕ) (us : List Fitted) → AreNumbersOf ks ns (map typed us) → length ns ≡ length us
 stand_length ks [] [] a = refl
 stand_length ks [] (v ∷ vs) a = absurd a
 stand_length ks (m ∷ ms) [] a = absurd a
@@ -208,10 +208,11 @@ stand_length ks (m ∷ ms) (v ∷ vs) a = ap suc (stand_length ks ms vs a.1)
 -- ---- operands
 
 -- the left operand that is noted for the number of an operation on two is the number of its left operand
-pub two_operand : (ks : List Key) (k : ℕ) (o : Two) (t u : Typed) (p : Range) (w : Width) → Stands ks k (TTwo o t u p w)
-    → Stands ks (operand_or (slice_get ks k)) t
+pub two_operand : (ks : List Key) (k : ℕ) (o : Two) (t u : Typed) (p : Range) (w : Width) → IsNumberOf ks k (TTwo o t u p w)
+    → IsNumberOf ks (operand_or (slice_get ks k)) t
 two_operand ks k o t u p w s = rw s.2 s.3
 
 -- the right operand that is noted for the number of an operation on two is the number of its right operand
-pub two_right : (ks : List Key) (k : ℕ) (o : Two) (t u : Typed) (p : Range) (w : Width) → Stands ks k (TTwo o t u p w) → Stands ks (right_or (slice_get ks k)) u
+pub two_right : (ks : List Key) (k : ℕ) (o : Two) (t u : Typed) (p : Range) (w : Width) → IsNumberOf ks k (TTwo o t u p w)
+    → IsNumberOf ks (right_or (slice_get ks k)) u
 two_right ks k o t u p w s = rw s.2 s.4

@@ -7,7 +7,7 @@ use Rattle.ln_bound.specs.declared.fitted.Two.{Two}
 use Rattle.ln_bound.specs.Typed.{Typed, TTwo, cost, operation}
 use Rattle.ln_bound.proofs.Trees.TypedOperands.{two_costs}
 use Rattle.ln_lower.specs.declared.distinct.Key.{Key}
-use Rattle.ln_lower.specs.Distinct.{Stands, operand_or, right_or}
+use Rattle.ln_lower.specs.Distinct.{IsNumberOf, operand_or, right_or}
 use Rattle.ln_lower.specs.Lowered.{PowersFit}
 use Rattle.ln_lower.proofs.Subtrees.Roots.{HasRoot}
 use Rattle.ln_lower.proofs.Subtrees.Numbering.{two_operand, two_right}
@@ -18,18 +18,18 @@ pub record AreOperands (ks : List Key) (n k : ℕ) (s t : Typed) : Type 0 where
   pub second_falls : cost t < n
   pub first_powers : PowersFit s
   pub second_powers : PowersFit t
-  pub first_stands : Stands ks (operand_or (slice_get ks k)) s
-  pub second_stands : Stands ks (right_or (slice_get ks k)) t
+  pub first_stands : IsNumberOf ks (operand_or (slice_get ks k)) s
+  pub second_stands : IsNumberOf ks (right_or (slice_get ks k)) t
 
 -- the operands of an operation on two cost less than it, their powers are within the limit, and they have their numbers
-pub are_operands : (ks : List Key) (n k : ℕ) (u s t : Typed) → HasRoot (TTwo (operation u) s t) u → cost u ≡ n → PowersFit u → Stands ks k u
+pub are_operands : (ks : List Key) (n k : ℕ) (u s t : Typed) → HasRoot (TTwo (operation u) s t) u → cost u ≡ n → PowersFit u → IsNumberOf ks k u
     → AreOperands ks n k s t
 are_operands ks n k u s t r d f h =
     let o : Two = operation u in
     let p : Range = r.range in
     let w : Width = r.width in
     let f' : PowersFit (TTwo (operation u) s t r.range r.width) = subst PowersFit r.is f in
-    let h' : Stands ks k (TTwo (operation u) s t r.range r.width) = subst (Stands ks k) r.is h in
+    let h' : IsNumberOf ks k (TTwo (operation u) s t r.range r.width) = subst (IsNumberOf ks k) r.is h in
     let c = two_costs n u o s t p w r.is d in
     record {
       first_falls = c.0;

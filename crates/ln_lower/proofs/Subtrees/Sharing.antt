@@ -6,14 +6,14 @@ use Rattle.ln_interval.specs.Range.{Range}
 use Rattle.ln_bound.specs.Sound.{Sound}
 use Rattle.ln_bound.specs.Typed.{Typed, TNum, TInput, TLet, TNeg, TTwo, TPow, pair, need}
 use Rattle.ln_algebra.specs.Tree as tree
-use Rattle.ln_code.specs.Engine.{State, Line}
+use Rattle.ln_code.specs.Engine.{State, Line, op_of}
 use Rattle.ln_code.specs.Nodes.{IsNode}
 use Rattle.ln_code.specs.Numbers.{with_local}
 use Rattle.ln_code.specs.Rules.{Known}
 use Rattle.ln_code.proofs.Following.Same.{same_self, same_zeroth}
 use Rattle.ln_code.proofs.Following.NodeLists.{need_positive}
-use Rattle.ln_lower.specs.Distinct.{Stands}
-use Rattle.ln_lower.specs.Lowered.{line, nothing, op_of}
+use Rattle.ln_lower.specs.Distinct.{IsNumberOf}
+use Rattle.ln_lower.specs.Lowered.{line, nothing}
 use Rattle.ln_lower.specs.Written.{Written, keeping, number, variable, name, again, opposite, two, zeroth, raised, keep}
 use Rattle.ln_lower.proofs.Operations.Landing.{Locals, Lands, closed, size_in, tree_in, wanted, lands_then, lands_among, set_lands}
 use Rattle.ln_lower.proofs.Operations.Lands.{push_lands, input_lands, get_lands, neg_lands, right_lands}
@@ -28,7 +28,7 @@ Leaves b lets kept t lines s = Lands (within b lets t) lines s s.stack (Holds b.
 
 -- from a tree's value on the stack to the same in a local and on the stack
 keep_lands : (b : Lowering) (lets : List Typed) (now : List ℕ) (k : ℕ) (t : Typed) (lines : List (Line Range)) (s : State Known Locals)
-    → Stands b.keys k t → Sound b.vars lets t → suc (length s.stack) ≤ b.depth → Leaves b lets now t lines s
+    → IsNumberOf b.keys k t → Sound b.vars lets t → suc (length s.stack) ≤ b.depth → Leaves b lets now t lines s
     → Leaves b lets (now ++ (k ∷ [])) t (lines ++ keeping (65 + length now) (pair t)) s
 keep_lands b lets now k t lines s h sound d x =
     let j : ℕ = 65 + length now in

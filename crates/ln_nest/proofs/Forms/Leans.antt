@@ -8,6 +8,7 @@ use Rattle.ln_algebra.specs.Tree.{InputsBelow, Tree, Num, Input, Neg, Add, Mul}
 use Rattle.ln_algebra.specs.Vector.{plus, unit_vector, zeros}
 use Rattle.ln_algebra.proofs.Expanded.Expansion.{Over-expanded, expanded, times, times_term}
 use Rattle.ln_algebra.proofs.Expanded.Normal.{normal_is}
+use Rattle.ln_poly.proofs.TermLists.Bounded.{length-times_term}
 use Rattle.ln_nest.specs.Lean.{AreLean, AreUnder, IsLean}
 use Rattle.ln_nest.specs.Nested.{exponent_of, is_positive, one_less, divided, free_of, total, joined, horner, nested, scaled}
 use Rattle.ln_nest.proofs.Terms.Scaled.{expanded_scaled, inputs_scaled, scaled_cases}
@@ -177,14 +178,9 @@ times_under n v top [] l a = tt
 times_under n v top (t ∷ g) l a = (more_under n v top t.exponents l a.0, times_under n v top g l a.1)
 
 -- ---- the number of terms
--- a term times each of a list: as many terms
-length_times_term : (t : Term) (g : List Term) → length (times_term t g) ≡ length g
-length_times_term t [] = refl
-length_times_term t (s ∷ g) = ap suc (length_times_term t g)
-
 -- the same as a product of lists
 length_times_one : (t : Term) (g : List Term) → length (times (t ∷ []) g) ≡ length g
-length_times_one t g = let a = length_times_term t g in let b = length-append (times_term t g) [] in omega (arith, a, b)
+length_times_one t g = let a = length-times_term t g in let b = length-append (times_term t g) [] in omega (arith, a, b)
 
 -- ---- the nodes
 

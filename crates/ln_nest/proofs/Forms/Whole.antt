@@ -6,7 +6,7 @@ use Rattle.ln_algebra.specs.Coefficient.{normal_coefficient}
 use Rattle.ln_algebra.specs.Terms.{Over, Term, factor_at}
 use Rattle.ln_algebra.specs.Tree.{Tree, inlined}
 use Rattle.ln_algebra.specs.Vector.{degree}
-use Rattle.ln_algebra.specs.Weights.{monomial_weight, weighted_sum}
+use Rattle.ln_algebra.specs.Weights.{weighted_sum}
 use Rattle.ln_algebra.proofs.Expanded.Normal.{normal_is}
 use Rattle.ln_tree.specs.declared.shape.VarInfo.{VarInfo}
 use Rattle.ln_interval.specs.Range.{IsOrdered}
@@ -19,6 +19,7 @@ use Rattle.ln_bound.specs.Typed.{Typed, cost, need, polynomial, untyped}
 use Rattle.ln_bound.specs.Value.{sizes}
 use Rattle.ln_poly.specs.Sparse.{IsFactor, IsPoly, Sparse, coefficient_at, term_of, terms_of}
 use Rattle.ln_poly.proofs.TermLists.Products.{over-terms}
+use Rattle.ln_poly.proofs.Derivations.Deriving.{same-monomial}
 use Rattle.ln_nest.specs.Lean.{AreLean, AreUnder, HasNoZero, largest}
 use Rattle.ln_nest.specs.Nested.{exponent_of, divided, free_of, joined, horner, nested, nested_form}
 use Rattle.ln_nest.specs.declared.work.Work.{Work}
@@ -66,20 +67,12 @@ terms_under n top (t ∷ f) l = (
 )
 
 -- ---- weights that are the same up to the last variable
--- of one monomial
-monomial_same : (w u : ℕ → ℕ) (m : List ℕ) → ((v : ℕ) → v < length m → w v ≡ u v) → monomial_weight w m ≡ monomial_weight u m
-monomial_same w u [] h = refl
-monomial_same w u (n ∷ m) h =
-    let ih = monomial_same (λ v. w (suc v)) (λ v. u (suc v)) m (λ v l. h (suc v) (omega arith)) in
-    let e = h 0 (omega arith) in
-    rw (e, ih) refl
-
 -- of a list
 sum_same : (w u : ℕ → ℕ) (n : ℕ) (f : List Term) → Over n f → ((v : ℕ) → v < n → w v ≡ u v) → weighted_sum w f ≡ weighted_sum u f
 sum_same w u n [] o h = refl
 sum_same w u n (t ∷ f) o h =
     let ih = sum_same w u n f o.1 h in
-    let e = monomial_same w u t.exponents (λ v l. h v (omega (arith, l, o.0))) in
+    let e = same-monomial w u t.exponents (λ v l. h v (omega (arith, l, o.0))) in
     rw (e, ih) refl
 
 -- the sum with 1 past the last variable is the sum

@@ -1,20 +1,23 @@
 -- Prefixes of orders: each is there, they are sorted, and each is at its number.
-use Rattle.std.proofs.Common.{◌≡◌, ◌⊎◌, inl, inr, ℕ, zero, suc, ◌+◌, ◌*◌, ◌-◌, ◌<◌, ◌≤◌, Bool, true, false, cond, eqb, eq-eqb, List, []}
+use Rattle.std.proofs.Common.{◌≡◌, ◌⊎◌, inl, inr, ℕ, zero, suc, ◌+◌, ◌*◌, ◌-◌, ◌<◌, ◌≤◌, Bool, true, false, cond, List, []}
 use Rattle.std.proofs.Common.{◌∷◌, length, map, get_or, take, drop, refl, sym, ◌∙◌, ap, arith, add-one, drop-cons, Option, Some, None, ◌&&◌}
-use Rattle.std.specs.Prelude.{Contains, nat_lt, slice_get}
+use Rattle.std.specs.Prelude.{All, Contains, if◌then◌else◌, nat_lt, slice_get}
 use Rattle.std.specs.Cmp.Lexicographic.{slice_cmp}
 use Rattle.std.specs.Ordering.{nat_cmp}
 use Rattle.std.specs.declared.cmp.Ordering.TheVariants.{Equal}
-use Rattle.std.proofs.lemmas.Bool.{and_parts, cases_lt, eqb-true}
+use Rattle.std.proofs.lemmas.Bool.{and_parts, cases_lt}
 use Rattle.std.proofs.lemmas.Bool.Decides.{nat_tests}
 use Rattle.std.proofs.lemmas.List.{length-map, take-map}
-use Rattle.std.proofs.lemmas.Option.{slice_get_within}
+use Rattle.std.proofs.lemmas.List.Elements.{All-append, All-head, All-nil, All-tail}
+use Rattle.std.proofs.lemmas.Option.{slice_get-get_or, slice_get_within}
 use Rattle.ln_algebra.specs.Vector.{same_vector}
+use Rattle.ln_algebra.proofs.Expanded.Normal.{same_vector-is, same_vector-refl}
 use Rattle.ln_order.specs.Order.{ArePlaces}
 use Rattle.ln_order.specs.Orders.{IsOrderOf, behind, orders_of, past, smaller_behind}
 use Rattle.ln_order.proofs.Listing.OrdersLemmas.{are_sorted, are_sorted_is, back, before_all, behind-back, behind-places, firsts-are}
 use Rattle.ln_order.proofs.Listing.OrdersLemmas.{in-firsts, is-member, is_less, member-is, others-places}
-use Rattle.ln_order.specs.Prefixes.{Follows, FrontsFollow, FrontsArePrefixes, IsPrefixOf, PrefixesAreAll, beside, number_of_front, prefixes_of, tree_size}
+use Rattle.ln_order.specs.Prefixes.{Follows, FrontsFollow, FrontsArePrefixes, IsPrefixOf, PrefixesAreAll, beside, joined, number_of_front}
+use Rattle.ln_order.specs.Prefixes.{prefixes_of, tree_size}
 
 -- ---- by computing, for up to five sites
 -- is this prefix at this number?
@@ -139,15 +142,6 @@ pub prefixes-are-all : PrefixesAreAll
 prefixes-are-all k few = ((λ p. (prefix-is k p, is-prefix k p)), are_sorted_is (prefixes_of k) (sorted_all k few), size_all k few)
 
 -- ---- numbers
-same_vector-is : (a b : List ℕ) → same_vector a b ≡ true → a ≡ b
-same_vector-is [] [] h = refl
-same_vector-is [] (y ∷ b) h = cc
-same_vector-is (x ∷ a) [] h = cc
-same_vector-is (x ∷ a) (y ∷ b) h =
-    let p = and_parts (eqb x y) (same_vector a b) h in
-    let q : x ≡ y = eqb-true x y p.0 in
-    let r : a ≡ b = same_vector-is a b p.1 in cc
-
 stands-is : (x : Option (List ℕ)) (p : List ℕ) → stands x p ≡ true → x ≡ Some p
 stands-is None p h = cc
 stands-is (Some q) p h = ap (λ z. Some z) (same_vector-is q p h)
@@ -244,10 +238,6 @@ pub one_number : (k : ℕ) (p : List ℕ) (a b : ℕ) → k ≤ 5 → slice_get 
 one_number k p a b few e f = one_place (prefixes_of k) p a b (sorted_all k few) e f
 
 -- ---- what is at a prefix
-same-self : (a : List ℕ) → same_vector a a ≡ true
-same-self [] = refl
-same-self (x ∷ a) = let r = same-self a in rw (eq-eqb x x refl) r
-
 beside-is : (qs ss : List (List ℕ)) (p : List ℕ) (n : ℕ) (s : List ℕ) → ((b : ℕ) → slice_get qs b ≡ Some p → b ≡ n)
     → slice_get qs n ≡ Some p → slice_get ss n ≡ Some s → beside qs ss p ≡ s
 beside-is [] ss p n s one h k = cc
@@ -259,13 +249,36 @@ beside-is (q ∷ qs) (t ∷ ss) p n s one h k = go (same_vector q p) refl n h k 
       → cond b t (beside qs ss p) ≡ s
   go true e zero h k one ih = cc
   go true e (suc n) h k one ih = let z : 0 ≡ suc n = one 0 (ap (λ z. Some z) (same_vector-is q p e)) in absurd (omega (arith, z))
-  go false e zero h k one ih = let z : q ≡ p = cc in let t : true ≡ false = sym (same-self p) ∙ ap (λ y. same_vector y p) (sym z) ∙ e in absurd cc
+  go false e zero h k one ih = let z : q ≡ p = cc in let t : true ≡ false = sym (same_vector-refl p) ∙ ap (λ y. same_vector y p) (sym z) ∙ e in absurd cc
   go false e (suc n) h k one ih = ih n h k (λ b f. (let z : suc b ≡ suc n = one (suc b) f in omega (arith, z)))
 
 -- `beside` returns what is at the number of a prefix
 pub beside_at : (k : ℕ) (ss : List (List ℕ)) (p : List ℕ) (n : ℕ) (s : List ℕ) → k ≤ 5 → slice_get (prefixes_of k) n ≡ Some p
     → slice_get ss n ≡ Some s → beside (prefixes_of k) ss p ≡ s
 beside_at k ss p n s few h i = beside-is (prefixes_of k) ss p n s (λ b q. one_number k p b n few q h) h i
+
+-- what is read at the number of a prefix is what `beside` returns
+pub read-is : (k : ℕ) (ss : List (List ℕ)) (p : List ℕ) (i : ℕ) (s : List ℕ) → k ≤ 5 → length ss ≡ length (prefixes_of k)
+    → slice_get (prefixes_of k) i ≡ Some p → s ≡ get_or ss i s → s ≡ beside (prefixes_of k) ss p
+read-is k ss p i s few size h e =
+    let l : i < length ss = omega (arith, slice_get_within (prefixes_of k) i p h, size) in
+    sym (beside_at k ss p i s few h (slice_get-get_or ss i s l ∙ ap (λ z. Some z) (sym e)))
+
+-- ---- numbers of a kind
+module _ (P : ℕ → Type 0) where
+  -- what holds of the numbers of all lists holds of those of the one that is read
+  pub beside-all : (qs ss : List (List ℕ)) (q : List ℕ) → All (λ s. All P s) ss → All P (beside qs ss q)
+  beside-all [] ss q h = All-nil P
+  beside-all (x ∷ qs) [] q h = All-nil P
+  beside-all (x ∷ qs) (s ∷ ss) q h = by_case (same_vector x q) (beside-all qs ss q (All-tail (λ t. All P t) s ss h)) where
+    by_case : (b : Bool) → All P (beside qs ss q) → All P (if b then s else beside qs ss q)
+    by_case true r = All-head (λ t. All P t) s ss h
+    by_case false r = r
+
+  -- what holds of the numbers of each of several lists holds of those of all, one list after the other
+  pub joined-all : (f : ℕ → List ℕ) (ns : List ℕ) → ((n : ℕ) → All P (f n)) → All P (joined (map f ns))
+  joined-all f [] h = All-nil P
+  joined-all f (n ∷ ns) h = All-append P (f n) (joined (map f ns)) (h n) (joined-all f ns h)
 
 -- ---- one prefix after the other
 abbrev follows : List ℕ → List ℕ → Bool

@@ -18,7 +18,8 @@ use Rattle.ln_tree.specs.Variables.{is_laid_out, same_site}
 use Rattle.ln_order.specs.Order.{ArePlaces}
 use Rattle.ln_order.specs.Sites.{along, place_in, ranking_of, site_of, sites_of, vars_of}
 use Rattle.ln_tree.proofs.Powers.{vector-get}
-use Rattle.ln_order.proofs.Signs.SitesLemmas.{each-there, kept, same_site-is, same_site-refl}
+use Rattle.ln_tree.proofs.LaidLemmas.{same-site}
+use Rattle.ln_order.proofs.Signs.SitesLemmas.{each-there, kept, same_site-refl}
 
 -- ---- members
 -- a member of the first of two lists is one of both joined
@@ -73,7 +74,7 @@ module _ (sites : Sites) (s : ℕ) where
   vars-are (i ∷ is) v h w m = go (same_site i.site (Some s)) refl m (vars-are is (suc v) (numbered-next i is v h) w) where
     go : (b : Bool) → same_site i.site (Some s) ≡ b → Member (if b then v ∷ vars_of s is (suc v) else vars_of s is (suc v)) w
         → (Member (vars_of s is (suc v)) w → (suc v ≤ w) × (w < suc v + length is) × Of sites w s) → (v ≤ w) × (w < v + suc (length is)) × Of sites w s
-    go true e (inl q) ih = (omega (arith, q), omega (arith, q), ap sites.site q ∙ numbered-here i is v h ∙ same_site-is i.site (Some s) e)
+    go true e (inl q) ih = (omega (arith, q), omega (arith, q), ap sites.site q ∙ numbered-here i is v h ∙ same-site i.site (Some s) e)
     go true e (inr m) ih = let r = ih m in (omega (arith, r.0), omega (arith, r.1), r.2)
     go false e m ih = let r = ih m in (omega (arith, r.0), omega (arith, r.1), r.2)
 
@@ -97,7 +98,7 @@ module _ (sites : Sites) (s : ℕ) where
       go : (b : Bool) → same_site i.site (Some s) ≡ b → ((w : ℕ) → Member (vars_of s is (suc v)) w → (suc v ≤ w) × (w < suc v + length is) × Of sites w s)
           → IsRanked sites (vars_of s is (suc v)) → IsRanked sites (if b then v ∷ vars_of s is (suc v) else vars_of s is (suc v))
       go true e are r =
-          let o : Of sites v s = numbered-here i is v h ∙ same_site-is i.site (Some s) e in
+          let o : Of sites v s = numbered-here i is v h ∙ same-site i.site (Some s) e in
           (s, o, (λ w m. let k = are w m in (s, s, k.2, o, inr (refl, omega (arith, k.0)))), r)
       go false e are r = r
 
@@ -252,7 +253,8 @@ drop-before xs n k e h =
 pub all-passed : (xs : List ℕ) (n k : ℕ) → n ≤ k → drop (n - k) xs ≡ xs
 all-passed xs n k h = let z : n - k ≡ 0 = omega arith in rw z refl
 
-ranking-append : (vars : List VarInfo) (xs ys : List ℕ) → ranking_of vars (xs ++ ys) ≡ ranking_of vars ys ++ ranking_of vars xs
+-- the ranking of two lists of sites, one after the other, is that of the second list, and then that of the first
+pub ranking-append : (vars : List VarInfo) (xs ys : List ℕ) → ranking_of vars (xs ++ ys) ≡ ranking_of vars ys ++ ranking_of vars xs
 ranking-append vars [] ys = sym (append-nil (ranking_of vars ys))
 ranking-append vars (x ∷ xs) ys =
     ap (λ z. z ++ vars_of x vars 0) (ranking-append vars xs ys) ∙ append_assoc (ranking_of vars ys) (ranking_of vars xs) (vars_of x vars 0)

@@ -57,7 +57,7 @@ module _ (site : ℕ → Option ℕ) (i j : ℕ → ℕ) where
   before-moves h ByDegree a b (inr l) = inr (l.0, h a b l.1)
 
 -- lists in one order are lists in another that holds wherever it does
-order-moves : (order other : List ℕ → List ℕ → Type 0) → ((a b : List ℕ) → order a b → other a b) → (list : List (List ℕ))
+pub order-moves : (order other : List ℕ → List ℕ → Type 0) → ((a b : List ℕ) → order a b → other a b) → (list : List (List ℕ))
     → IsSortedIn order list → IsSortedIn other list
 order-moves order other h [] o = tt
 order-moves order other h (a ∷ list) o = (λ b k. h a b (o.0 b k), order-moves order other h list o.1)

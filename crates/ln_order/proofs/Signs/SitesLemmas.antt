@@ -1,26 +1,19 @@
 -- Sites of a shape: each is below their number, and each has its place in an order.
 use Rattle.std.proofs.Common.{◌≡◌, ◌⊎◌, inl, inr, ℕ, zero, suc, ◌+◌, ◌<◌, ◌≤◌, Bool, true, false, cond, eqb, eq-eqb, List, [], ◌∷◌, length}
 use Rattle.std.proofs.Common.{map, get_or, refl, sym, ◌∙◌, ap, arith, Option, Some, None, is_some, is_none}
-use Rattle.std.specs.Prelude.{Contains, if◌then◌else◌, ◌==◌, ◌&&◌, ◌||◌, nat_le, count_by}
-use Rattle.std.specs.List.{list_all}
+use Rattle.std.specs.Prelude.{Contains, if◌then◌else◌, ◌==◌, ◌&&◌, ◌||◌, count_by}
 use Rattle.std.proofs.lemmas.Bool.{and_parts, cases_eq, eqb-true}
-use Rattle.std.proofs.lemmas.Bool.Decides.{nat_tests}
 use Rattle.std.proofs.lemmas.List.{length-map, get_or_default}
 use Rattle.std.proofs.lemmas.List.Sums.{sum_by-cons}
 use Rattle.ln_tree.specs.declared.shape.VarInfo.{VarInfo}
-use Rattle.ln_tree.specs.Variables.{begins, goes_on, has_range, in_order, is_laid_out, is_param, no_var, same_site, sites_behind, starts_site}
+use Rattle.ln_tree.specs.Variables.{begins, goes_on, in_order, is_laid_out, no_var, same_site, sites_behind, starts_site}
+use Rattle.ln_tree.proofs.LaidLemmas.{same-site}
+use Rattle.ln_tree.proofs.KeptLemmas.{laid_out}
 use Rattle.ln_order.specs.Orders.{IsOrderOf, past}
 use Rattle.ln_order.specs.Sites.{place_in, site_of}
 use Rattle.ln_order.proofs.Listing.OrdersLemmas.{back, back-below, back-past, at_back, other, others-places}
 
 -- ---- sites of variables
--- sites that are the same by the test are equal
-pub same_site-is : (x y : Option ℕ) → same_site x y ≡ true → x ≡ y
-same_site-is None None h = refl
-same_site-is None (Some t) h = cc
-same_site-is (Some s) None h = cc
-same_site-is (Some s) (Some t) h = ap (λ z. Some z) (eqb-true s t h)
-
 -- a site is the same as itself
 pub same_site-refl : (s : ℕ) → same_site (Some s) (Some s) ≡ true
 same_site-refl s = eq-eqb s s refl
@@ -38,7 +31,7 @@ goes-site b i h =
     let p = and_parts ((i.arg == b.arg) && is_some b.site && same_site i.site b.site && (i.coord == b.coord + 1)) _ h in
     let q = and_parts ((i.arg == b.arg) && is_some b.site && same_site i.site b.site) (i.coord == b.coord + 1) p.0 in
     let r = and_parts ((i.arg == b.arg) && is_some b.site) (same_site i.site b.site) q.0 in
-    same_site-is i.site b.site r.1
+    same-site i.site b.site r.1
 
 -- how many sites there are from here on
 counted : (i : VarInfo) (is : List VarInfo) (c : Bool) → (i.coord == 0) ≡ c
@@ -89,9 +82,6 @@ sites-below a s b (i ∷ is) h k = go (i.coord == 0) refl h (sites-below (suc a)
       let here : (u : ℕ) → i.site ≡ Some u → u < s = λ u q. k u (sym (goes-site b i p.0) ∙ q) in
       rw n (below-cons i is (s + count_by starts_site is) (λ t q. omega (arith, here t q)) (two p.1 here))
 
-at_most : (n m : ℕ) → nat_le n m ≡ true → n ≤ m
-at_most n m h = grind (arith, nat_tests)
-
 -- what a shape keeps of its sites
 pub record Kept (sites : ℕ) (vars : List VarInfo) : Type 0 where
   pub below : (v t : ℕ) → site_of vars v ≡ Some t → t < sites
@@ -101,18 +91,11 @@ pub record Kept (sites : ℕ) (vars : List VarInfo) : Type 0 where
 -- and each shape that is laid out keeps it
 pub kept : (sites : ℕ) (vars : List VarInfo) → is_laid_out sites vars ≡ true → Kept sites vars
 kept sites vars h =
-    let a = and_parts (in_order 0 0 no_var vars && list_all has_range vars && (count_by starts_site vars == sites) && nat_le sites 5
-    && nat_le (count_by is_param vars) 8) (nat_le (length vars) 168) h in
-    let b = and_parts (in_order 0 0 no_var vars && list_all has_range vars && (count_by starts_site vars == sites) && nat_le sites 5)
-    (nat_le (count_by is_param vars) 8) a.0 in
-    let c = and_parts (in_order 0 0 no_var vars && list_all has_range vars && (count_by starts_site vars == sites)) (nat_le sites 5) b.0 in
-    let d = and_parts (in_order 0 0 no_var vars && list_all has_range vars) (count_by starts_site vars == sites) c.0 in
-    let e = and_parts (in_order 0 0 no_var vars) (list_all has_range vars) d.0 in
-    let n : count_by starts_site vars ≡ sites = eqb-true _ _ d.1 in
+    let p = laid_out sites vars h in
     record {
-      below = λ v t q. omega (arith, n, sites-below 0 0 no_var vars e.0 (λ u z. cc) v t q);
-      few_sites = at_most _ _ c.1;
-      few_vars = at_most _ _ a.1;
+      below = λ v t q. omega (arith, p.counted, sites-below 0 0 no_var vars p.order (λ u z. cc) v t q);
+      few_sites = p.few_sites;
+      few_vars = p.few_vars;
     }
 
 -- ---- places in an order

@@ -1,5 +1,5 @@
 -- What each step of the reader of expressions keeps.
-use Rattle.std.proofs.Common.{◌≡◌, ◌⊎◌, inl, inr, ℕ, zero, suc, [], ◌∷◌, ◌+◌, ◌≤◌, ◌<◌, ◌^◌, List, length, refl, ap, sym, ◌∙◌, subst, arith}
+use Rattle.std.proofs.Common.{◌≡◌, ◌⊎◌, inl, inr, ℕ, suc, ◌+◌, ◌≤◌, ◌<◌, ◌^◌, List, length, refl, ap, sym, ◌∙◌, subst, arith}
 use Rattle.std.specs.Prelude.{pos}
 use Rattle.ln_base.specs.declared.span.Span.{Span}
 use Rattle.ln_lex.specs.declared.token.Token.{Token}
@@ -12,6 +12,7 @@ use Rattle.ln_syntax.specs.Expression.{Derives, number, name, input, parens, pla
 use Rattle.ln_syntax.specs.Expression.{no_term, plus, less}
 use Rattle.ln_syntax.specs.Stops.{Stops}
 use Rattle.ln_syntax.proofs.Spellings.OneTree.{stops, never, tighter, factors_stop, terms_stop, power_first}
+use Rattle.ln_syntax.proofs.Spellings.Parts.{is_within}
 use Rattle.ln_names.specs.Numbers as numbers
 use Rattle.ln_names.specs.Rules.{Scope}
 use Rattle.ln_names.proofs.Within.{within}
@@ -20,12 +21,6 @@ use Rattle.ln_parse.specs.Says.{resolved, Says}
 use Rattle.ln_parse.specs.Ready.{Fit, HasTree, ReadyValue}
 use Rattle.ln_parse.specs.Reading.{Reads}
 use Rattle.ln_parse.proofs.Expressions.Roles.{FitBefore}
-
--- a place with a token is within the tokens
-pub is_within : (ts : List Token) (i : ℕ) (k : Kind) → Is ts i k → i < length ts
-is_within [] i k h = absurd (cc)
-is_within (t ∷ ts) zero k h = omega arith
-is_within (t ∷ ts) (suc i) k h = let r = is_within ts i k h in omega arith
 
 -- a token at a place as the code has it
 there : (ts : List Token) (i j : ℕ) (k : Kind) → Is ts i k → i ≡ j → Is ts j k

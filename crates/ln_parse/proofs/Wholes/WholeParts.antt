@@ -1,6 +1,6 @@
 -- What a whole table has, part by part.
 use Rattle.std.proofs.Common.{◌≡◌, ℕ, ◌<◌, ◌≤◌, ◌^◌, ◌==◌, ◌&&◌, ◌||◌, not, Bool, true, false, nat_lt, List, [], ◌∷◌, ◌++◌, length, map}
-use Rattle.std.proofs.Common.{Option, Some, None, refl, ap, arith}
+use Rattle.std.proofs.Common.{refl, arith}
 use Rattle.std.specs.Prelude.{ℤ, pos, neg_ℤ, int_lt, unsigned_abs, nat_le, count_by, bytes_eq, ◌≤ℤ◌}
 use Rattle.std.specs.List.{list_any, list_all}
 use Rattle.std.specs.Ordering.{int_eq}
@@ -14,6 +14,7 @@ use Rattle.ln_tree.specs.Variables.{same_site}
 use Rattle.ln_tree.specs.Table.{CoordOf, SiteOf, PredOf, TableOf}
 use Rattle.ln_tree.specs.Whole.{is_new, differ, is_range, site_whole, is_one_of, is_site_said, is_param_said, arg_name, vars_behind}
 use Rattle.ln_tree.specs.Whole.{same_var, same_vars, nesting, pred_whole, item_names, text_tokens, is_whole}
+use Rattle.ln_tree.proofs.LaidLemmas.{same-site}
 use Rattle.ln_parse.specs.ReadsBack.{Every}
 use Rattle.ln_parse.proofs.ReadBack.NamePlaces.{NoneIs, Differ}
 use Rattle.ln_parse.proofs.Wholes.TestLemmas.{at_most, below, equal}
@@ -83,12 +84,6 @@ site_parts s h =
       differ = differing _ a.1;
     }
 
-same_site_is : (a b : Option ℕ) → same_site a b ≡ true → a ≡ b
-same_site_is None None h = refl
-same_site_is None (Some t) h = absurd (cc)
-same_site_is (Some s) None h = absurd (cc)
-same_site_is (Some s) (Some t) h = ap (λ (n : ℕ). Some n) (equal s t h)
-
 -- two variables agree in each of their parts
 record SameVar (v w : VarInfo) : Type 0 where
   arg : v.arg ≡ w.arg
@@ -111,7 +106,7 @@ same_var_is i j h =
     let d = and_parts (i.arg == j.arg) (same_site i.site j.site) c.0 in
     var_is i j (record {
       arg = equal i.arg j.arg d.0;
-      site = same_site_is i.site j.site d.1;
+      site = same-site i.site j.site d.1;
       coord = equal i.coord j.coord c.1;
       lo = (signed_Decides i.lo j.lo).0 b.1;
       hi = (signed_Decides i.hi j.hi).0 a.1;

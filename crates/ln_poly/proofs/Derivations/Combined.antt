@@ -5,13 +5,13 @@ use Rattle.std.proofs.Math.IntN.{ℤ, pos, ◌*ℤ◌}
 use Rattle.std.proofs.lemmas.Bool.{and_parts, cases_eq}
 use Rattle.std.proofs.lemmas.Bool.Decides.{nat_tests}
 use Rattle.std.proofs.lemmas.Int.{ints}
-use Rattle.ln_algebra.proofs.Vectors.Covering.{factor_at-derived}
+use Rattle.ln_algebra.proofs.Vectors.Covering.{factor_at-derived, length-minus}
 use Rattle.ln_algebra.proofs.Deriving.Derived.{factor_at-length}
 use Rattle.ln_algebra.proofs.Expanded.Expansion.{length-plus}
 use Rattle.ln_algebra.proofs.Expanded.Normal.{same_vector-is}
 use Rattle.ln_algebra.proofs.Expanded.Ring.{mul_assoc}
 use Rattle.ln_algebra.proofs.Bounding.Weights.{Once, four_ℕ}
-use Rattle.ln_algebra.specs.Terms.{IsCollected, Lacks, Over, Term, binomial, binomials, covers, derived, factor_at, minus}
+use Rattle.ln_algebra.specs.Terms.{Over, Term, binomial, binomials, covers, derived, factor_at, minus}
 use Rattle.ln_algebra.specs.Vector.{plus}
 
 -- no variable has an exponent in both
@@ -60,12 +60,6 @@ plus-turned (n ∷ m) (i ∷ a) (j ∷ b) l k =
     rw (e, r) refl
 
 -- ---- derivatives
--- a derivative has as many variables
-length-minus : (m a : List ℕ) → length m ≡ length a → length (minus m a) ≡ length m
-length-minus [] a h = refl
-length-minus (k ∷ m) [] h = absurd (omega arith)
-length-minus (k ∷ m) (j ∷ a) h = omega (arith, length-minus m a (omega arith))
-
 -- a scaled derivative is over the same variables
 pub over-derived : (a : List ℕ) (f : List Term) → Over (length a) f → Over (length a) (derived a f)
 over-derived a [] o = tt
@@ -113,15 +107,6 @@ everywhere n f g o p s m = by_length (cases_eq (length m) n) where
   by_length (inr d) = factor_at-length n f m o d ∙ sym (factor_at-length n g m p d)
 
 -- ---- lists in which each vector occurs once
-lacks-none : (f : List Term) (m : List ℕ) → Lacks f m → factor_at f m ≡ pos 0
-lacks-none [] m l = refl
-lacks-none (t ∷ f) m l = rw l.0 (omega (arith, ints, lacks-none f m l.1))
-
--- where like monomials are collected, each vector occurs once
-pub once : (f : List Term) → IsCollected f → Once f
-once [] c = tt
-once (t ∷ f) c = (lacks-none f t.exponents c.0, λ k e. ap (factor_at f) (sym (same_vector-is t.exponents k e)) ∙ lacks-none f t.exponents c.0, once f c.1)
-
 plus-minus : (m a : List ℕ) → length m ≡ length a → covers m a ≡ true → plus (minus m a) a ≡ m
 plus-minus [] a l c = refl
 plus-minus (n ∷ m) [] l c = absurd (omega arith)
@@ -136,7 +121,7 @@ plus-minus (n ∷ m) (k ∷ a) l c =
 zero_times : (k : ℕ) → pos 0 *ℤ pos k ≡ pos 0
 zero_times k = omega (arith, ints)
 
--- so does a derivative's
+-- where each vector occurs once in a list, it does in that of a derivative
 pub once-derived : (a : List ℕ) (f : List Term) → Over (length a) f → Once f → Once (derived a f)
 once-derived a [] o c = tt
 once-derived a (t ∷ f) o c = by_case (covers t.exponents a) refl (once-derived a f o.1 c.2) where

@@ -308,7 +308,8 @@ deriving-room vars f' f v n i t q l s h e g =
     omega (arith, x, s, kept-room vars v n t l g)
 
 -- ---- derivatives of a polynomial whose weight isn't too large
-same-monomial : (w u : ℕ → ℕ) (m : List ℕ) → ((v : ℕ) → v < length m → w v ≡ u v) → monomial_weight w m ≡ monomial_weight u m
+-- by weights that are the same up to its last variable a monomial weighs the same
+pub same-monomial : (w u : ℕ → ℕ) (m : List ℕ) → ((v : ℕ) → v < length m → w v ≡ u v) → monomial_weight w m ≡ monomial_weight u m
 same-monomial w u [] h = refl
 same-monomial w u (k ∷ m) h =
     let e : w 0 ≡ u 0 = h 0 (omega arith) in

@@ -6,18 +6,13 @@ use Rattle.std.proofs.Math.Nat.{pow-zero, pow-suc}
 use Rattle.ln_algebra.specs.Terms.{binomial}
 use Rattle.ln_tree.specs.Exps.{IsAbove, IsRising, Pairs, exponent}
 use Rattle.ln_tree.proofs.Pairs.{rising-push}
-use Rattle.ln_tree.proofs.Powers.{above-at, exponent-more, power-apart, power-here, small-at}
+use Rattle.ln_tree.proofs.Powers.{exponent-more, power-apart, power-here, small-at, above-take}
 use Rattle.ln_poly.specs.Times.{power_at}
 use Rattle.ln_poly.specs.Derivative.{IsLowering}
 use Rattle.ln_poly.proofs.Sorting.Merging.{above-none, exponent-push, none-above}
 use Rattle.ln_poly.proofs.Loads.Weighing.{pow-le}
 
 -- ---- rising pairs
-above-take : (ps : Pairs) (i : ℕ) → IsRising ps → i < length ps → IsAbove (take i ps) (get_or ps i (0, 0)).0
-above-take [] i r h = absurd (omega arith)
-above-take (p ∷ ps) zero r h = tt
-above-take (p ∷ ps) (suc i) r h = (above-at p.0 ps i (omega arith) r.2, above-take ps i r.3 (omega arith))
-
 -- ---- lowering
 
 -- what is lowered and out is below the next pair

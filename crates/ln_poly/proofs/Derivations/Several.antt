@@ -4,7 +4,7 @@ use Rattle.std.proofs.lemmas.Bool.{cases_eq, eqb-true}
 use Rattle.std.specs.Prelude.{◌==◌, Bool, true, false}
 use Rattle.std.proofs.lemmas.List.{take_all, take_more}
 use Rattle.ln_algebra.proofs.Vectors.Zeros.{derived-zeros}
-use Rattle.ln_algebra.proofs.Bounding.Weights.{weighted-least}
+use Rattle.ln_algebra.proofs.Bounding.Weights.{weighted-least, IsCollected-Once}
 use Rattle.ln_algebra.specs.Terms.{Over, Term, derived, factor_at}
 use Rattle.ln_algebra.specs.Vector.{plus}
 use Rattle.ln_algebra.specs.Weights.{weighted_sum}
@@ -14,9 +14,9 @@ use Rattle.ln_bound.specs.Light.{most}
 use Rattle.ln_bound.specs.Value.{sizes, weights}
 use Rattle.ln_poly.specs.Derivative.{IsDerivative, derivative}
 use Rattle.ln_poly.specs.Sparse.{AreBelow, IsPoly, Sparse, coefficient_at, terms_of}
-use Rattle.ln_tree.proofs.Powers.{above-at, power-apart}
+use Rattle.ln_tree.proofs.Powers.{power-apart, above-take}
 use Rattle.ln_poly.proofs.Sorting.Collected.{collected}
-use Rattle.ln_poly.proofs.Derivations.Combined.{AreApart, combined, everywhere, once, once-derived, over-derived}
+use Rattle.ln_poly.proofs.Derivations.Combined.{AreApart, combined, everywhere, once-derived, over-derived}
 use Rattle.ln_poly.proofs.Sorting.Merging.{above-none, exponent-push}
 use Rattle.ln_poly.proofs.TermLists.Products.{length-vector, over-terms, vector-plus}
 use Rattle.ln_poly.proofs.Derivations.Deriving.{derived-light}
@@ -42,11 +42,6 @@ several-init n f h p b e = record {
 }
 
 -- ---- one variable more
-above-take : (ps : Pairs) (i : ℕ) → IsRising ps → i < length ps → IsAbove (take i ps) (get_or ps i (0, 0)).0
-above-take [] i r h = absurd (omega arith)
-above-take (p ∷ ps) zero r h = tt
-above-take (p ∷ ps) (suc i) r h = (above-at p.0 ps i (omega arith) r.2, above-take ps i r.3 (omega arith))
-
 -- each pair's variable is one of the first n
 pub variable-at : (n : ℕ) (ps : Pairs) (i : ℕ) → IsAbove ps n → i < length ps → (get_or ps i (0, 0)).0 < n
 variable-at n [] i a h = absurd (omega arith)
@@ -95,7 +90,7 @@ module _ (n : ℕ) (f h : Sparse) (ps : Pairs) (i : ℕ) (r : IsRising ps) (l : 
       let e : length (vector n (p ∷ [])) ≡ n = length-vector 0 n (p ∷ []) in
       let o : Over (length (vector n (p ∷ []))) (terms_of n h) = subst (λ k. Over k (terms_of n h)) (sym e) (over-terms n h) in
       weighted-least w (derivative n p.0 p.1 h) (derived (vector n (take (i + 1) ps)) (terms_of n f))
-      (once-derived (vector n (p ∷ [])) (terms_of n h) o (once (terms_of n h) (collected n h d.form d.below)))
+      (once-derived (vector n (p ∷ [])) (terms_of n h) o (IsCollected-Once (terms_of n h) (collected n h d.form d.below)))
       (everywhere n (derivative n p.0 p.1 h) (derived (vector n (take (i + 1) ps)) (terms_of n f))
       (over-vector n (p ∷ []) (terms_of n h) (over-terms n h)) (over-vector n (take (i + 1) ps) (terms_of n f) (over-terms n f)) next-coefficients)
 

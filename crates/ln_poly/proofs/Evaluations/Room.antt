@@ -1,14 +1,12 @@
 -- No number on the way to a value exceeds 127 bits.
-use Rattle.std.proofs.Common.{◌≡◌, ℕ, ◌+◌, ◌-◌, ◌*◌, ◌^◌, ◌<◌, ◌≤◌, zero, suc, refl, sym, ◌∙◌, ap, arith, List, [], ◌∷◌, length, max, unsigned_abs, true, leb}
+use Rattle.std.proofs.Common.{◌≡◌, ℕ, ◌+◌, ◌-◌, ◌*◌, ◌^◌, ◌<◌, ◌≤◌, zero, suc, refl, sym, ◌∙◌, ap, arith, List, [], ◌∷◌, length, max, unsigned_abs}
 use Rattle.std.proofs.Math.IntN.{ℤ, pos, negsuc, ◌*ℤ◌}
 use Rattle.std.specs.Prelude.{◌≤ℤ◌}
 use Rattle.std.proofs.Math.Nat.{mul-le-mul_left, mul-le-mul_right, pow-suc}
-use Rattle.std.proofs.lemmas.Bool.Decides.{nat_tests}
 use Rattle.std.proofs.lemmas.Int.{ints, unsigned_abs-mul}
-use Rattle.ln_algebra.proofs.Bounding.Bounds.{weighted-derived}
+use Rattle.ln_algebra.proofs.Bounding.Bounds.{binomial-power}
 use Rattle.ln_algebra.proofs.Expanded.Ring.{mul_assoc}
-use Rattle.ln_algebra.specs.Terms.{binomial, derived, power_of}
-use Rattle.ln_algebra.specs.Weights.{weighted_sum}
+use Rattle.ln_algebra.specs.Terms.{binomial, power_of}
 use Rattle.ln_bound.specs.Light.{most}
 use Rattle.ln_bound.specs.Value.{weights}
 use Rattle.ln_tree.specs.declared.shape.VarInfo.{VarInfo}
@@ -22,19 +20,6 @@ times-le a (suc b) h = omega arith
 
 times-assoc : (a b c : ℕ) → (a * b) * c ≡ a * (b * c)
 times-assoc a b c = omega arith
-
--- one term of (m + 1)^n is at most the whole: a derivative of one monomial
-pub binomial-power : (m n k : ℕ) → k ≤ n → binomial n k * m ^ (n - k) ≤ (m + 1) ^ n
-binomial-power m n k h =
-    let t : leb k n ≡ true = below k n h in
-    let w : weighted_sum (λ v. m) (derived (k ∷ []) (record { exponents = n ∷ []; factor = pos 1 } ∷ [])) ≤ weighted_sum (λ v. m + 1)
-    (record { exponents = n ∷ []; factor = pos 1 } ∷ []) = weighted-derived (λ v. m) (k ∷ []) (record { exponents = n ∷ []; factor = pos 1 } ∷ []) in
-    one (binomial n k) (m ^ (n - k)) ((m + 1) ^ n) (rw t at w) where
-      below : (k n : ℕ) → k ≤ n → leb k n ≡ true
-      below k n h = grind (arith, nat_tests)
-
-      one : (b p q : ℕ) → unsigned_abs (pos 1 *ℤ pos (b * 1)) * (p * 1) + 0 ≤ 1 * (q * 1) + 0 → b * p ≤ q
-      one b p q h = omega (arith, h, ap (λ z. z * (p * 1)) (unsigned_abs-mul (pos 1) (pos (b * 1))))
 
 -- ---- a power
 -- M of a number: its absolute value, and at least 1
@@ -120,10 +105,3 @@ row-size (i ∷ is) (z ∷ zs) zero h l = omega (arith, within i.lo z i.hi h.0 h
   within : (a b c : ℤ) → a ≤ℤ b → b ≤ℤ c → unsigned_abs b ≤ max (unsigned_abs a) (unsigned_abs c)
   within a b c l r = omega (arith, ints)
 row-size (i ∷ is) (z ∷ zs) (suc v) h l = row-size is zs v h.2 (omega (arith, l))
-
--- a row in range has a value for each variable
-pub row-long : (vars : List VarInfo) (zs : List ℤ) → AreWithin vars zs → length zs ≡ length vars
-row-long [] [] h = refl
-row-long [] (z ∷ zs) h = absurd h
-row-long (i ∷ is) [] h = absurd h
-row-long (i ∷ is) (z ∷ zs) h = omega (arith, row-long is zs h.2)

@@ -19,8 +19,9 @@ use Rattle.ln_poly.proofs.Loads.Weighing.{weight-some}
 use Rattle.ln_poly.specs.Values.{part, parts, term_value}
 use Rattle.ln_tree.proofs.Powers.{found}
 use Rattle.ln_algebra.specs.Terms.{covers}
+use Rattle.ln_algebra.proofs.Bounding.Bounds.{binomial-power}
 use Rattle.ln_poly.proofs.Evaluations.Parts.{covered-at, term-adds}
-use Rattle.ln_poly.proofs.Evaluations.Room.{binomial-power, row-size, size}
+use Rattle.ln_poly.proofs.Evaluations.Room.{row-size, size}
 
 times-assoc : (a b c : ℕ) → (a * b) * c ≡ a * (b * c)
 times-assoc a b c = omega arith

@@ -12,7 +12,7 @@ use Rattle.ln_algebra.specs.Tree.{Add, Input, Mul, Name, Neg, Num, Pow, Sub, Tre
 use Rattle.ln_algebra.specs.Vector.{total_degree}
 use Rattle.ln_algebra.specs.Weights.{monomial_weight, weighted_sum}
 use Rattle.ln_bound.specs.Light.{most}
-use Rattle.ln_bound.proofs.Soundness.KeptLaws.{parts_of}
+use Rattle.ln_bound.proofs.Soundness.KeptLaws.{parts_of, trees_of_formulas}
 use Rattle.ln_algebra.specs.Sizes.{two}
 use Rattle.ln_tree.specs.declared.expr.Expr.{Expr}
 use Rattle.ln_tree.specs.declared.items.Arg.{Arg}
@@ -143,11 +143,6 @@ length-polys vars es fs a = omega (
   length-trees vars es,
 )
 
--- the trees of the formulas of expressions are the trees of the expressions
-pub trees-of : (vars : List VarInfo) (es : List Expr) → map (tree vars) (map formula es) ≡ map (tree_of vars) es
-trees-of vars [] = refl
-trees-of vars (e ∷ es) = ap (λ (ts : List Tree). tree_of vars e ∷ ts) (trees-of vars es)
-
 -- ---- the root
 -- where each node weighs at most 2^127 - 1 with the lets in place of their names, so does the whole tree
 pub root-light : (n : ℕ) (w : ℕ → ℕ) (ls : List Tree) (e : Tree) → AreLight n w ls e → IsLight n w (inlined ls e)
@@ -192,7 +187,7 @@ root-degrees n w e f t l p k d h =
 -- the lets of a predicate are fit: their numbers, variables, names and exponents are in range
 pub pred-fit : (args : List Arg) (vars : List VarInfo) (es : List Expr) (names : ℕ) (root : Expr) → is_pred args vars es names root ≡ true
     → lets_fit (length vars) 0 (map (tree vars) (map formula es)) ≡ true
-pred-fit args vars es names root k = rw (trees-of vars es) (parts_of args vars es names root k).fit_lets
+pred-fit args vars es names root k = rw (trees_of_formulas vars es) (parts_of args vars es names root k).fit_lets
 
 -- the root of a predicate is fit after as many lets as there are polynomials
 pub root-fits : (args : List Arg) (vars : List VarInfo) (es : List Expr) (names : ℕ) (root : Expr) (polys : List Sparse)

@@ -9,9 +9,8 @@ use Rattle.std.proofs.lemmas.List.{take_all}
 use Rattle.std.proofs.lemmas.Bool.Decides.{nat_tests}
 use Rattle.std.proofs.lemmas.List.Sums.{sum_by-cons, sum_by_more, sum_by-take-le}
 use Rattle.std.proofs.lemmas.List.Elements.{All-head, All-tail}
-use Rattle.ln_algebra.proofs.Bounding.Weights.{four_ℕ}
+use Rattle.ln_algebra.proofs.Bounding.Weights.{monomial_weight-plus}
 use Rattle.ln_algebra.specs.Terms.{Term}
-use Rattle.ln_algebra.specs.Vector.{plus}
 use Rattle.ln_algebra.specs.Weights.{monomial_weight, weighted_sum}
 use Rattle.ln_bound.specs.Light.{most}
 use Rattle.ln_bound.specs.Value.{size_or, sizes, weight_or, weights}
@@ -22,15 +21,6 @@ use Rattle.ln_poly.specs.Weight.{IsWeighed, grown, grown_or, pairs_weight, term_
 use Rattle.ln_poly.proofs.TermLists.Products.{length-vector, vector-plus}
 
 -- ---- monomials
-weight-plus : (w : ℕ → ℕ) (a b : List ℕ) → length a ≡ length b → monomial_weight w (plus a b) ≡ monomial_weight w a * monomial_weight w b
-weight-plus w [] [] h = refl
-weight-plus w [] (k ∷ b) h = absurd (omega arith)
-weight-plus w (n ∷ a) [] h = absurd (omega arith)
-weight-plus w (n ∷ a) (k ∷ b) h =
-    let v : ℕ → ℕ = λ u. w (suc u) in
-    four_ℕ (w 0 ^ n) (w 0 ^ k) (monomial_weight v a) (monomial_weight v b) (w 0 ^ (n + k)) (monomial_weight v (plus a b))
-    (pow-add (w 0) n k) (weight-plus v a b (omega arith))
-
 -- no pair: the monomial 1
 weight-none : (w : ℕ → ℕ) (v n : ℕ) → monomial_weight w (exponents_from v n []) ≡ 1
 weight-none w v zero = refl
@@ -65,7 +55,7 @@ pub weight-pairs : (w : ℕ → ℕ) (n : ℕ) (ps : Pairs) → IsAbove ps n →
 weight-pairs w n [] a = weight-none w 0 n
 weight-pairs w n (p ∷ ps) a =
     ap (monomial_weight w) (vector-plus 0 n (p ∷ []) ps (p ∷ ps) (λ u. omega arith))
-    ∙ weight-plus w (vector n (p ∷ [])) (vector n ps) (length-vector 0 n (p ∷ []) ∙ sym (length-vector 0 n ps))
+    ∙ monomial_weight-plus w (vector n (p ∷ [])) (vector n ps) (length-vector 0 n (p ∷ []) ∙ sym (length-vector 0 n ps))
     ∙ ap (λ z. z * monomial_weight w (vector n ps)) (weight-single w 0 n p.0 p.0 p.1 (omega arith) a.0)
     ∙ ap (λ z. w p.0 ^ p.1 * z) (weight-pairs w n ps a.1)
 

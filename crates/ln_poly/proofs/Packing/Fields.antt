@@ -1,8 +1,8 @@
 -- The steps of the loops over fields.
-use Rattle.std.proofs.Common.{◌≡◌, ◌⊎◌, inl, inr, ℕ, ◌+◌, ◌-◌, ◌*◌, ◌/◌, ◌%◌, ◌<◌, ◌≤◌, ◌^◌, zero, suc, List, [], ◌∷◌, ◌++◌, append_assoc, length, get_or}
+use Rattle.std.proofs.Common.{◌≡◌, ◌⊎◌, inl, inr, ℕ, ◌+◌, ◌-◌, ◌*◌, ◌/◌, ◌<◌, ◌≤◌, ◌^◌, zero, suc, List, [], ◌∷◌, ◌++◌, append_assoc, length, get_or}
 use Rattle.std.proofs.Common.{set, refl, sym, ◌∙◌, ap, arith, subst, take, drop, All, max, add-one, append-nil, replicate}
 use Rattle.std.proofs.Math.IntN.{ℤ}
-use Rattle.std.proofs.Math.Nat.{max-le, max-zero, max_comm, mul-le-mul_right, div-mul-le_self, mod-eq_of_lt, zero-div, zero-max}
+use Rattle.std.proofs.Math.Nat.{max-le, max-zero, max_comm, mul-le-mul_right, pow-le-pow_right, zero-div, zero-max}
 use Rattle.std.proofs.lemmas.Grind.{get_or-set_at}
 use Rattle.std.proofs.lemmas.Nat.{pow-add}
 use Rattle.std.proofs.lemmas.Bool.{cases_eq, cases_lt}
@@ -15,7 +15,9 @@ use Rattle.ln_poly.specs.Lean.{largest}
 use Rattle.ln_poly.specs.Packed.{AreFields, AreSmall, keyed, number, packed, pairs_from, taken, weights}
 use Rattle.ln_poly.specs.Sparse.{AreBelow, AreRising, Sparse}
 use Rattle.ln_poly.proofs.Loads.Weighing.{pow-some}
+use Rattle.ln_poly.specs.Words.{IsPlace, fields_below, half}
 use Rattle.ln_poly.proofs.Packing.Numbers.{number-adds}
+use Rattle.ln_poly.proofs.Packing.Words.{half-le}
 
 -- ---- the number of a monomial, pair by pair
 number-zero : (ws : List ℕ) (v : ℕ) (m : ℕ → ℕ) → ((u : ℕ) → v ≤ u → m u ≡ 0) → number ws v m ≡ 0
@@ -201,34 +203,44 @@ fields-same top top' left v (w ∷ ws) h f = (
   fields-same top top' w (suc v) ws (λ u k l. h u (omega (arith, k)) (omega (arith, l))) f.2,
 )
 
--- the fields of the first v variables are laid, down to the bit `left`
-pub record AreLaid (top : ℕ → ℕ) (shifts : List ℕ) (left v : ℕ) : Type 0 where
-  pub fields : AreFields top (2 ^ 127) 0 (weights (take v shifts))
-  pub end : end_of (2 ^ 127) (weights (take v shifts)) ≡ 2 ^ left
-  pub small : left ≤ 127
-  pub low : All (λ s. s < 128) shifts
+-- the fields of the first v variables are laid in n words, down to the bit `left`
+pub record AreLaid (top : ℕ → ℕ) (n : ℕ) (shifts : List ℕ) (left v : ℕ) : Type 0 where
+  pub fields : AreFields top (half n) 0 (weights (take v shifts))
+  pub end : end_of (half n) (weights (take v shifts)) ≡ 2 ^ left
+  pub small : left < 127 * n
+  pub places : All (IsPlace n) shifts
   pub long : length shifts ≡ 256
+  pub many : ((u : ℕ) → u < 256 → top u < 128) → 15 ≤ n → 256 ≤ v + fields_below left
+
+half-is : (n : ℕ) → 0 < n → half n ≡ 2 ^ (127 * n - 1)
+half-is zero s = absurd (omega (arith, s))
+half-is (suc n) s = ap (λ z. 2 ^ z) {x = 127 * n + 126} {y = 127 * suc n - 1} (omega arith)
 
 -- no field yet
-pub laid-begin : (top : ℕ → ℕ) (shifts : List ℕ) → shifts ≡ replicate 256 0 → AreLaid top shifts 127 0
-laid-begin top shifts e = record {
+pub laid-begin : (top : ℕ → ℕ) (n left : ℕ) (shifts : List ℕ) → 0 < n → left ≡ 127 * n - 1 → shifts ≡ replicate 256 0 → AreLaid top n shifts left 0
+laid-begin top n left shifts s l e = record {
   fields = tt;
-  end = refl;
-  small = omega arith;
-  low = subst (All (λ t. t < 128)) (sym e) (λ i d h. rw (get_or-replicate {A = ℕ} 256 i 0 d (omega (arith, h, length-replicate {A = ℕ} 256 0))) (omega arith));
+  end = half-is n s ∙ ap (λ z. 2 ^ z) (sym l);
+  small = omega (arith, l, s);
+  places = subst (All (IsPlace n)) (sym e) (λ i d h. rw (get_or-replicate {A = ℕ} 256 i 0 d (omega (arith, h, length-replicate {A = ℕ} 256 0))) first);
   long = rw e (length-replicate {A = ℕ} 256 0);
-}
+  many = λ t h. omega (arith, l, h);
+} where
+  first : IsPlace n 0
+  first = record { within = s; room = λ _. omega arith }
 
 -- one field more
-pub laid-step : (top : ℕ → ℕ) (shifts : List ℕ) (left left' width v : ℕ) → AreLaid top shifts left v → v < 256 → top v < 2 ^ width → left ≡ left' + width
-    → AreLaid top (set shifts v left') left' (v + 1)
-laid-step top shifts left left' width v r h t e = record {
-  fields = subst (λ z. AreFields top (2 ^ 127) 0 z) (sym more)
-      (fields-push top (2 ^ 127) 0 v (2 ^ left') (weights (take v shifts)) r.fields (two-positive left') long fits);
-  end = ap (end_of (2 ^ 127)) more ∙ end-push (2 ^ 127) (2 ^ left') (weights (take v shifts));
+pub laid-step : (top : ℕ → ℕ) (n : ℕ) (shifts : List ℕ) (left left' width v : ℕ) → AreLaid top n shifts left v → v < 256 → top v < 2 ^ width
+    → left' + width ≤ left → IsPlace n left' → (top v < 128 → width ≤ 7) → (width ≤ 7 → fields_below left ≤ fields_below left' + 1)
+    → AreLaid top n (set shifts v left') left' (v + 1)
+laid-step top n shifts left left' width v r h t e i k m = record {
+  fields = subst (λ z. AreFields top (half n) 0 z) (sym more)
+      (fields-push top (half n) 0 v (2 ^ left') (weights (take v shifts)) r.fields (two-positive left') long fits);
+  end = ap (end_of (half n)) more ∙ end-push (half n) (2 ^ left') (weights (take v shifts));
   small = omega (arith, e, r.small);
-  low = All-set (λ s. s < 128) shifts v left' (omega (arith, e, r.small)) r.low;
+  places = All-set (IsPlace n) shifts v left' i r.places;
   long = length-set shifts v left' ∙ r.long;
+  many = λ f l. omega (arith, m (k (f v h)), r.many f l);
 } where
   more : weights (take (v + 1) (set shifts v left')) ≡ weights (take v shifts) ++ (2 ^ left' ∷ [])
   more = ap weights (take_more_set shifts v left' (omega (arith, h, r.long))) ∙ map-append (λ s. 2 ^ s) (take v shifts) (left' ∷ [])
@@ -236,15 +248,16 @@ laid-step top shifts left left' width v r h t e = record {
   long : v ≡ 0 + length (weights (take v shifts))
   long = omega (arith, weights-length (take v shifts), length-take-le v shifts (omega (arith, h, r.long)))
 
-  fits : top v * 2 ^ left' + 2 ^ left' ≤ end_of (2 ^ 127) (weights (take v shifts))
+  fits : top v * 2 ^ left' + 2 ^ left' ≤ end_of (half n) (weights (take v shifts))
   fits =
       let p : (top v + 1) * 2 ^ left' ≤ 2 ^ width * 2 ^ left' = mul-le-mul_right (2 ^ left') (omega (arith, t)) in
-      let q : 2 ^ left ≡ 2 ^ width * 2 ^ left' = ap (λ z. 2 ^ z) (omega (arith, e)) ∙ pow-add 2 width left' in
-      omega (arith, p, q, r.end)
+      let k : width + left' ≤ left = omega (arith, e) in
+      let q : 2 ^ (width + left') ≤ 2 ^ left = pow-le-pow_right (omega arith) k in
+      omega (arith, p, q, pow-add 2 width left', r.end)
 
 -- all fields
-pub laid-end : (top : ℕ → ℕ) (shifts : List ℕ) (left v : ℕ) → AreLaid top shifts left v → 256 ≤ v → AreFields top (2 ^ 127) 0 (weights shifts)
-laid-end top shifts left v r h = subst (λ z. AreFields top (2 ^ 127) 0 (weights z)) (take_all v shifts (omega (arith, h, r.long))) r.fields
+pub laid-end : (top : ℕ → ℕ) (n : ℕ) (shifts : List ℕ) (left v : ℕ) → AreLaid top n shifts left v → 256 ≤ v → AreFields top (half n) 0 (weights shifts)
+laid-end top n shifts left v r h = subst (λ z. AreFields top (half n) 0 (weights z)) (take_all v shifts (omega (arith, h, r.long))) r.fields
 
 -- ---- the monomial of a number
 -- out has the exponents of the number n before variable v, and `rest` remains
@@ -324,25 +337,39 @@ packed-end ws ps i n e l = omega (arith, e, ap (packed ws) (drop_all i ps l), pa
   packed-none : (ws : List ℕ) → packed ws [] ≡ 0
   packed-none ws = number-zero ws 0 (λ v. 0) (λ u l. refl)
 
--- one more pair is packed, as the processor shifts its exponent
-pub packed-next : (ss : List ℕ) (ps : Pairs) (i n e v s x : ℕ) → n + packed (weights ss) (drop i ps) ≡ packed (weights ss) ps
-    → packed (weights ss) ps < 2 ^ 127 → i < length ps → e ≡ (get_or ps i (0, 0)).1 → v ≡ (get_or ps i (0, 0)).0 → v < length ss → s ≡ get_or ss v 0
-    → x ≡ e * 2 ^ s % 2 ^ 128 → (n + x) + packed (weights ss) (drop (i + 1) ps) ≡ packed (weights ss) ps
-packed-next ss ps i n e v s x h room l a b k q y =
-    let p : ℕ × ℕ = get_or ps i (0, 0) in
-    let w : (n + p.1 * 2 ^ s) + packed (weights ss) (drop (i + 1) ps) ≡ packed (weights ss) ps =
-    packed-step ss ps i n s p h l (get_or_default ps i (0, 0) p l) (omega (arith, k, b)) (q ∙ ap (λ z. get_or ss z 0) b) in
-    let m : e * 2 ^ s ≡ p.1 * 2 ^ s = ap (λ z. z * 2 ^ s) a in
-    let t : e * 2 ^ s % 2 ^ 128 ≡ e * 2 ^ s = mod-eq_of_lt (omega (arith, w, m, room)) in
-    omega (arith, w, m, t, y)
+-- what is packed so far, and the remaining pairs
+pub record IsPacking (ss : List ℕ) (ps : Pairs) (i n : ℕ) : Type 0 where
+  pub whole : n + packed (weights ss) (drop i ps) ≡ packed (weights ss) ps
+  pub rising : IsRising (drop i ps)
 
--- what remains of a number without its first exponent, as the processor shifts it
-pub rest-kept : (rest s : ℕ) → rest < 2 ^ 128 → rest - rest / 2 ^ s * 2 ^ s % 2 ^ 128 ≡ rest - rest / 2 ^ s * 2 ^ s
-rest-kept rest s h = let t : rest / 2 ^ s * 2 ^ s % 2 ^ 128 ≡ rest / 2 ^ s * 2 ^ s = mod-eq_of_lt (omega (arith, h, div-mul-le_self rest (2 ^ s))) in
-    ap (λ z. rest - z) t
+module _ (ss : List ℕ) (ps : Pairs) (i n e v s : ℕ) (r : IsPacking ss ps i n) (l : i < length ps) (a : e ≡ (get_or ps i (0, 0)).1)
+    (b : v ≡ (get_or ps i (0, 0)).0) (k : v < length ss) (q : s ≡ get_or ss v 0) where
+  pair-first : IsRising (get_or ps i (0, 0) ∷ drop (i + 1) ps)
+  pair-first = subst IsRising (drop_more ps i (0, 0) l) r.rising
+
+  -- the next exponent is small
+  pub packing-small : e < 128
+  packing-small = omega (arith, a, pair-first.1)
+
+  -- one more pair is packed
+  pub packing-step : (x : ℕ) → x ≡ e * 2 ^ s → IsPacking ss ps (i + 1) (n + x)
+  packing-step x y = record {
+    whole =
+        let p : ℕ × ℕ = get_or ps i (0, 0) in
+        let w : (n + p.1 * 2 ^ s) + packed (weights ss) (drop (i + 1) ps) ≡ packed (weights ss) ps =
+        packed-step ss ps i n s p r.whole l (get_or_default ps i (0, 0) p l) (omega (arith, k, b)) (q ∙ ap (λ z. get_or ss z 0) b) in
+        omega (arith, w, y, ap (λ z. z * 2 ^ s) a);
+    rising = pair-first.3;
+  }
+
+  -- there is room for it
+  pub packing-room : (w x : ℕ) → packed (weights ss) ps < half w → x ≡ e * 2 ^ s → n + x < 2 ^ (127 * w)
+  packing-room w x h y = omega (arith, (packing-step x y).whole, h, half-le w)
 
 -- the number of a term is as those of all are
-pub keyed-at : (ws : List ℕ) (f : Sparse) (i : ℕ) (d : Pairs × ℤ) → i < length f → All (λ t. t.0 < 2 ^ 127) (keyed ws f) → packed ws (get_or f i d).0 < 2 ^ 127
-keyed-at ws [] i d l a = absurd (omega arith)
-keyed-at ws (t ∷ f) zero d l a = All-head (λ (x : ℕ × ℤ). x.0 < 2 ^ 127) (packed ws t.0, t.1) (keyed ws f) a
-keyed-at ws (t ∷ f) (suc i) d l a = keyed-at ws f i d (omega arith) (All-tail (λ (x : ℕ × ℤ). x.0 < 2 ^ 127) (packed ws t.0, t.1) (keyed ws f) a)
+pub keyed-at : (ws : List ℕ) (f : Sparse) (i left : ℕ) (d : Pairs × ℤ) → i < length f → All (λ t. t.0 < left) (keyed ws f)
+    → packed ws (get_or f i d).0 < left
+keyed-at ws [] i left d l a = absurd (omega arith)
+keyed-at ws (t ∷ f) zero left d l a = All-head (λ (x : ℕ × ℤ). x.0 < left) (packed ws t.0, t.1) (keyed ws f) a
+keyed-at ws (t ∷ f) (suc i) left d l a =
+    keyed-at ws f i left d (omega arith) (All-tail (λ (x : ℕ × ℤ). x.0 < left) (packed ws t.0, t.1) (keyed ws f) a)

@@ -1,12 +1,14 @@
 -- The steps of the loops over terms whose monomials are numbers.
 use Rattle.std.proofs.Common.{◌≡◌, ℕ, ◌+◌, ◌*◌, ◌<◌, ◌≤◌, ◌^◌, zero, suc, [], ◌∷◌, ◌++◌, append_assoc, append-nil, length, get_or, set, ◌-◌, ◌/◌, refl, sym}
-use Rattle.std.proofs.Common.{◌∙◌, ap, arith, subst, take, drop, unsigned_abs}
+use Rattle.std.proofs.Common.{◌∙◌, ap, arith, subst, take, drop, unsigned_abs, Bool, true, false, IsTrue, ◌↔◌, ◌⊎◌, inl, inr}
+use Rattle.std.proofs.lemmas.Bool.{cases_lt}
 use Rattle.std.proofs.Math.IntN.{ℤ, pos, ◌+ℤ◌, ◌*ℤ◌}
-use Rattle.std.proofs.Math.Nat.{mul-le-mul_left}
+use Rattle.std.proofs.Math.Nat.{mul-le-mul_left, mul-le-mul_right}
 use Rattle.std.proofs.lemmas.Int.{unsigned_abs-mul}
-use Rattle.std.proofs.lemmas.List.{drop_more, length-drop, length-set, length-take-le, take-append-drop, take_all, take_more_set}
-use Rattle.ln_poly.specs.Keyed.{AreAllProducts, AreAscending, HaveFactors, IsMerge, Keyed, both, first, left_over, neither, right_over, row, second, weight_of}
-use Rattle.ln_poly.proofs.TermLists.Halves.{half-below, half-some}
+use Rattle.std.proofs.lemmas.List.{drop_more, length-append, length-drop, length-set, length-take-le, take-append-drop, take_all, take_more_set}
+use Rattle.ln_poly.specs.Keyed.{AreAllProducts, AreAscending, HaveFactors, IsMerge, Keyed, ProductsFit, both, first, left_over}
+use Rattle.ln_poly.specs.Keyed.{neither, right_over, row, second, weight_of}
+use Rattle.std.proofs.lemmas.List.Elements.{All-drop, All-take}
 use Rattle.ln_poly.proofs.Packing.Rows.{distributed, one-row, rows-joined, weight-append}
 
 -- what is done begins the merge of f and g, whose terms from i and j on remain
@@ -20,22 +22,21 @@ next-is done done' h x e = sym (append_assoc done (x ∷ []) h) ∙ ap (λ z. z 
 abbrev pub AreMerging : Keyed → Keyed → Keyed → Keyed → ℕ → ℕ → ℕ → Type 0
 AreMerging old out f g i j k = IsMerging (take k out) f g i j × (length out ≡ length old) × (k ≤ i + j) × (i ≤ length f) × (j ≤ length g)
 
+-- a number that isn't below another
+pub not-below : (b : Bool) (x y : ℕ) → IsTrue b ↔ (x < y) → b ≡ false → y ≤ x
+not-below b x y t e = by_case (cases_lt x y) where
+  by_case : (x < y) ⊎ (y ≤ x) → y ≤ x
+  by_case (inr h) = h
+  by_case (inl h) = let q : true ≡ false = sym (t.1 h) ∙ e in cc
+
 -- each step, where both lists have terms
-module _ (old out f g : Keyed) (i j k : ℕ) (d : ℕ × ℤ) (m : AreMerging old out f g i j k) (l : i < length f) (r : j < length g)
-    (room : length f + length g ≤ length old) where
-  -- the next term of f
-  abbrev pub s : ℕ × ℤ
-  s = get_or f i d
-
-  -- and of g
-  abbrev pub t : ℕ × ℤ
-  t = get_or g j d
-
+module _ (old out f g : Keyed) (i j k : ℕ) (s t : ℕ × ℤ) (a : s ≡ get_or f i s) (b : t ≡ get_or g j t) (m : AreMerging old out f g i j k)
+    (l : i < length f) (r : j < length g) (room : length f + length g ≤ length old) where
   from-f : drop i f ≡ s ∷ drop (i + 1) f
-  from-f = drop_more f i d l
+  from-f = drop_more f i s l ∙ ap (λ z. z ∷ drop (i + 1) f) (sym a)
 
   from-g : drop j g ≡ t ∷ drop (j + 1) g
-  from-g = drop_more g j d r
+  from-g = drop_more g j t r ∙ ap (λ z. z ∷ drop (j + 1) g) (sym b)
 
   -- what the first terms merge to
   rebuilt : (h h' : Keyed) → IsMerge (s ∷ drop (i + 1) f) (t ∷ drop (j + 1) g) h' → IsMerge f g (take k out ++ h')
@@ -69,10 +70,10 @@ module _ (old out f g : Keyed) (i j k : ℕ) (d : ℕ × ℤ) (m : AreMerging ol
   -- it has the sum of both factors
   pub merging-both : (c : ℤ) → t.0 ≤ s.0 → s.0 ≤ t.0 → c ≡ s.1 +ℤ t.1 → (c ≡ pos 0 → ⊥)
       → AreMerging old (set out k (s.0, c)) f g (i + 1) (j + 1) (k + 1)
-  merging-both c a b e n = (
+  merging-both c x y e n = (
     λ h q. subst (IsMerge f g) (next-is (take k out) (take (k + 1) (set out k (s.0, c))) h (s.0, s.1 +ℤ t.1)
         (put (s.0, c) ∙ ap (λ z. take k out ++ ((s.0, z) ∷ [])) e)) (rebuilt h ((s.0, s.1 +ℤ t.1) ∷ h)
-        (both s t (drop (i + 1) f) (drop (j + 1) g) h (omega (arith, a, b)) (λ z. n (e ∙ z)) q)),
+        (both s t (drop (i + 1) f) (drop (j + 1) g) h (omega (arith, x, y)) (λ z. n (e ∙ z)) q)),
     length-set out k (s.0, c) ∙ m.1,
     omega (arith, m.2),
     omega (arith, l),
@@ -81,8 +82,8 @@ module _ (old out f g : Keyed) (i j k : ℕ) (d : ℕ × ℤ) (m : AreMerging ol
 
   -- both go
   pub merging-neither : (c : ℤ) → t.0 ≤ s.0 → s.0 ≤ t.0 → c ≡ s.1 +ℤ t.1 → c ≡ pos 0 → AreMerging old out f g (i + 1) (j + 1) k
-  merging-neither c a b e n = (
-    λ h q. rebuilt h h (neither s t (drop (i + 1) f) (drop (j + 1) g) h (omega (arith, a, b)) (sym e ∙ n) q),
+  merging-neither c x y e n = (
+    λ h q. rebuilt h h (neither s t (drop (i + 1) f) (drop (j + 1) g) h (omega (arith, x, y)) (sym e ∙ n) q),
     m.1,
     omega (arith, m.2),
     omega (arith, l),
@@ -128,9 +129,10 @@ factor-low (t ∷ f) zero d l = omega arith
 factor-low (t ∷ f) (suc i) d l = omega (arith, factor-low f i d (omega arith))
 
 -- the sum of the factors of two terms has room
-pub factors-room : (f g : Keyed) (i j : ℕ) (d : ℕ × ℤ) → i < length f → j < length g → weight_of f + weight_of g < 2 ^ 127
-    → unsigned_abs (get_or f i d).1 + unsigned_abs (get_or g j d).1 < 2 ^ 127
-factors-room f g i j d l k room = omega (arith, factor-low f i d l, factor-low g j d k, room)
+pub factors-room : (f g : Keyed) (i j : ℕ) (s t : ℕ × ℤ) → s ≡ get_or f i s → t ≡ get_or g j t → i < length f → j < length g
+    → weight_of f + weight_of g < 2 ^ 127 → unsigned_abs s.1 + unsigned_abs t.1 < 2 ^ 127
+factors-room f g i j s t a b l k room =
+    omega (arith, factor-low f i s l, factor-low g j t k, ap (λ z. unsigned_abs z.1) a, ap (λ z. unsigned_abs z.1) b, room)
 
 -- ---- a row
 -- the products so far
@@ -138,81 +140,99 @@ abbrev pub IsRowPut : Keyed → Keyed → ℕ × ℤ → Keyed → ℕ → Type 
 IsRowPut old out s g i = (take i out ≡ row s (take i g)) × (length out ≡ length old)
 
 -- the product of two factors has room
-pub product-room : (g : Keyed) (i : ℕ) (s d : ℕ × ℤ) → i < length g → unsigned_abs s.1 * weight_of g < 2 ^ 127
-    → unsigned_abs (s.1 *ℤ (get_or g i d).1) < 2 ^ 127
-product-room g i s d l room = omega (arith, unsigned_abs-mul s.1 (get_or g i d).1, mul-le-mul_left (unsigned_abs s.1) (factor-low g i d l), room)
+pub product-room : (g : Keyed) (i : ℕ) (s t : ℕ × ℤ) → t ≡ get_or g i t → i < length g → unsigned_abs s.1 * weight_of g < 2 ^ 127
+    → unsigned_abs (s.1 *ℤ t.1) < 2 ^ 127
+product-room g i s t e l room = omega (
+  arith,
+  unsigned_abs-mul s.1 t.1,
+  mul-le-mul_left (unsigned_abs s.1) (factor-low g i t l),
+  ap (λ z. unsigned_abs s.1 * unsigned_abs z.1) e,
+  room,
+)
 
 -- ---- halves
--- the products of both halves, merged
-pub halves-joined : (a b h f f' f'' g : Keyed) (k : ℕ) → AreAllProducts a f' g → AreAllProducts b f'' g → IsMerge a b h → f' ≡ take k f → f'' ≡ drop k f
-    → AreAllProducts h f g
-halves-joined a b h f f' f'' g k p q m e d =
-    subst (λ z. AreAllProducts h z g) (ap (λ z. z ++ f'') e ∙ ap (λ z. take k f ++ z) d ∙ take-append-drop k f) (rows-joined a b h f' f'' g p q m)
+-- the size of the products of a list in two parts
+whole-weight : (f f' f'' g : Keyed) → f ≡ f' ++ f'' → weight_of f * weight_of g ≡ weight_of f' * weight_of g + weight_of f'' * weight_of g
+whole-weight f f' f'' g e =
+    ap (λ z. z * weight_of g) (ap weight_of e ∙ weight-append f' f'') ∙ distributed (weight_of f') (weight_of f'') (weight_of g)
 
-whole-weight : (f f' f'' g : Keyed) (k : ℕ) → f' ≡ take k f → f'' ≡ drop k f
-    → weight_of f * weight_of g ≡ weight_of f' * weight_of g + weight_of f'' * weight_of g
-whole-weight f f' f'' g k e d =
-    let w : weight_of f ≡ weight_of f' + weight_of f'' =
-    ap weight_of (sym (take-append-drop k f)) ∙ weight-append (take k f) (drop k f) ∙ omega (arith, ap weight_of e, ap weight_of d) in
-    ap (λ z. z * weight_of g) w ∙ distributed (weight_of f') (weight_of f'') (weight_of g)
+-- there is room for the sum of the products of both parts
+pub sum-room : (a b f f' f'' g : Keyed) → AreAllProducts a f' g → AreAllProducts b f'' g → f ≡ f' ++ f'' → weight_of f * weight_of g < 2 ^ 127
+    → weight_of a + weight_of b < 2 ^ 127
+sum-room a b f f' f'' g p q e room = omega (arith, p.size, q.size, whole-weight f f' f'' g e, room)
 
--- there is room for each half
-pub first-room : (f f' f'' g : Keyed) (k : ℕ) → f' ≡ take k f → f'' ≡ drop k f → weight_of f * weight_of g < 2 ^ 127 → weight_of f' * weight_of g < 2 ^ 127
-first-room f f' f'' g k e d room = omega (arith, whole-weight f f' f'' g k e d, room)
-
--- and for the other
-pub second-room : (f f' f'' g : Keyed) (k : ℕ) → f' ≡ take k f → f'' ≡ drop k f → weight_of f * weight_of g < 2 ^ 127 → weight_of f'' * weight_of g < 2 ^ 127
-second-room f f' f'' g k e d room = omega (arith, whole-weight f f' f'' g k e d, room)
-
--- and for their sum
-pub sum-room : (a b f f' f'' g : Keyed) (k : ℕ) → AreAllProducts a f' g → AreAllProducts b f'' g → f' ≡ take k f → f'' ≡ drop k f
-    → weight_of f * weight_of g < 2 ^ 127 → weight_of a + weight_of b < 2 ^ 127
-sum-room a b f f' f'' g k p q e d room = omega (arith, p.size, q.size, whole-weight f f' f'' g k e d, room)
+-- the products of both parts, merged
+pub halves-joined : (a b h f f' f'' g : Keyed) → AreAllProducts a f' g → AreAllProducts b f'' g → IsMerge a b h → f ≡ f' ++ f'' → AreAllProducts h f g
+halves-joined a b h f f' f'' g p q m e = subst (λ z. AreAllProducts h z g) (sym e) (rows-joined a b h f' f'' g p q m)
 
 -- no factor of a half is 0
-pub factors-take : (k : ℕ) (f : Keyed) → HaveFactors f → HaveFactors (take k f)
+factors-take : (k : ℕ) (f : Keyed) → HaveFactors f → HaveFactors (take k f)
 factors-take zero f h = tt
 factors-take (suc k) [] h = tt
 factors-take (suc k) (t ∷ f) h = (h.0, factors-take k f h.1)
 
 -- nor of the other
-pub factors-drop : (k : ℕ) (f : Keyed) → HaveFactors f → HaveFactors (drop k f)
+factors-drop : (k : ℕ) (f : Keyed) → HaveFactors f → HaveFactors (drop k f)
 factors-drop zero f h = h
 factors-drop (suc k) [] h = tt
 factors-drop (suc k) (t ∷ f) h = factors-drop k f h.1
 
 -- ---- the two halves
 -- one term
-pub one-product : (out f g : Keyed) (d : ℕ × ℤ) → length f ≡ 1 → HaveFactors f → AreAscending g → HaveFactors g → out ≡ row (get_or f 0 d) g
+pub one-product : (out f g : Keyed) (s : ℕ × ℤ) → s ≡ get_or f 0 s → length f ≡ 1 → HaveFactors f → AreAscending g → HaveFactors g → out ≡ row s g
     → AreAllProducts out f g
-one-product out [] g d l h a k e = absurd (omega (arith, l))
-one-product out (s ∷ []) g d l h a k e = subst (λ z. AreAllProducts z (s ∷ []) g) (sym e) (one-row s g h.0 a k)
-one-product out (s ∷ t ∷ f) g d l h a k e = absurd (omega (arith, l))
+one-product out [] g s q l h a k e = absurd (omega (arith, l))
+one-product out (t ∷ []) g s q l h a k e = subst (λ z. AreAllProducts z (t ∷ []) g) (sym (e ∙ ap (λ z. row z g) q)) (one-row t g h.0 a k)
+one-product out (t ∷ u ∷ f) g s q l h a k e = absurd (omega (arith, l))
 
--- each half is shorter
-pub first-shorter : (f : Keyed) (n : ℕ) → 0 < length f → (length f ≡ 1 → ⊥) → length f ≡ n → length (take (length f / 2) f) < n
-first-shorter f n s o e =
-    let b : length f / 2 < length f = half-below (length f) (omega (arith, s)) o in
-    omega (arith, b, e, length-take-le (length f / 2) f (omega (arith, b)))
+-- there is room for its products
+pub one-room : (f g : Keyed) (s : ℕ × ℤ) → s ≡ get_or f 0 s → length f ≡ 1 → weight_of f * weight_of g < 2 ^ 127
+    → unsigned_abs s.1 * weight_of g < 2 ^ 127
+one-room f g s e l room =
+    let d : s ≡ get_or f 0 s = e in
+    let k : unsigned_abs s.1 ≤ weight_of f = omega (arith, ap (λ z. unsigned_abs z.1) d, factor-low f 0 s (omega (arith, l))) in
+    omega (arith, mul-le-mul_right (weight_of g) k, room)
+
+-- and memory
+pub one-long : (f g : Keyed) → length f ≡ 1 → length f * length g ≡ length g
+one-long f g l = omega (arith, ap (λ z. z * length g) l)
 
 -- the second half is shorter, too
-pub second-shorter : (f : Keyed) (n : ℕ) → 0 < length f → (length f ≡ 1 → ⊥) → length f ≡ n
-    → length (take (length f - length f / 2) (drop (length f / 2) f)) < n
-second-shorter f n s o e =
-    let b : 0 < length f / 2 = half-some (length f) (omega (arith, s)) o in
-    omega (arith, b, e, s, ap length (rest-is f (length f / 2)), length-drop (length f / 2) f)
+pub second-shorter : (f f' : Keyed) → 2 ≤ length f → f' ≡ drop (length f / 2) f → length f' < length f
+second-shorter f f' o e =
+    let b : 0 < length f / 2 = omega (arith, o) in
+    omega (arith, b, o, ap length e, length-drop (length f / 2) f)
 
--- there is memory for the first half
-pub first-long : (f g : Keyed) (l : ℕ) → l ≡ (length f / 2) * length g → length (take (length f / 2) f) * length g ≤ l
-first-long f g l e =
-    let k : length f / 2 ≤ length f = omega arith in
-    omega (arith, e, ap (λ z. z * length g) (length-take-le (length f / 2) f k))
+-- how many products the first half has
+pub halves-first : (f g : Keyed) → (length f / 2) * length g ≡ length (take (length f / 2) f) * length g
+halves-first f g = let k : length f / 2 ≤ length f = omega arith in ap (λ z. z * length g) (sym (length-take-le (length f / 2) f k))
 
--- and for the second
-pub second-long : (f g : Keyed) (l whole : ℕ) → l + (length f / 2) * length g ≡ whole → length f * length g ≤ whole
-    → length (take (length f - length f / 2) (drop (length f / 2) f)) * length g ≤ l
-second-long f g l whole e h =
-    let k : (length f - length f / 2) + length f / 2 ≡ length f = omega arith in
-    let p : (length f - length f / 2) * length g + (length f / 2) * length g ≡ length f * length g =
-    sym (distributed (length f - length f / 2) (length f / 2) (length g)) ∙ ap (λ z. z * length g) k in
-    omega (arith, e, h, p, ap (λ z. z * length g) (ap length (rest-is f (length f / 2)) ∙ length-drop (length f / 2) f))
+-- the products of both parts are as many as all
+pub parts-long : (f f' f'' g : Keyed) → f ≡ f' ++ f'' → length f * length g ≡ length f' * length g + length f'' * length g
+parts-long f f' f'' g e = ap (λ z. z * length g) (ap length e ∙ length-append f' f'') ∙ distributed (length f') (length f'') (length g)
+
+-- the products of the first terms fit
+pub first-fit : (left k : ℕ) (f g : Keyed) → ProductsFit left f g → ProductsFit left (take k f) g
+first-fit left k f g p = record {
+  low = All-take (λ (x : ℕ × ℤ). x.0 < left) k f p.low;
+  low_all = p.low_all;
+  room = omega (arith, whole-weight f (take k f) (drop k f) g (sym (take-append-drop k f)), p.room);
+  factors = factors-take k f p.factors;
+  right = p.right;
+  ascending = p.ascending;
+}
+
+-- so do those of the others
+pub rest-fit : (left k : ℕ) (f g : Keyed) → ProductsFit left f g → ProductsFit left (drop k f) g
+rest-fit left k f g p = record {
+  low = All-drop (λ (x : ℕ × ℤ). x.0 < left) k f p.low;
+  low_all = p.low_all;
+  room = omega (arith, whole-weight f (take k f) (drop k f) g (sym (take-append-drop k f)), p.room);
+  factors = factors-drop k f p.factors;
+  right = p.right;
+  ascending = p.ascending;
+}
+
+-- and those of a part
+pub part-fit : (left i j : ℕ) (f f' g : Keyed) → f' ≡ take (j - i) (drop i f) → ProductsFit left f g → ProductsFit left f' g
+part-fit left i j f f' g e p = subst (λ (z : Keyed). ProductsFit left z g) (sym e) (first-fit left (j - i) (drop i f) g (rest-fit left i f g p))

@@ -1,7 +1,8 @@
 -- Terms of two polynomials as numbers: each sum of two numbers is that of a product, and they are in its order.
-use Rattle.std.proofs.Common.{◌≡◌, ◌⊎◌, inl, inr, ℕ, ◌+◌, ◌<◌, ◌≤◌, zero, suc, List, [], ◌∷◌, length, get_or, refl, ◌∙◌, ap, arith, All, Less, Equal, Greater}
+use Rattle.std.proofs.Common.{◌≡◌, ◌⊎◌, inl, inr, ℕ, ◌+◌, ◌-◌, ◌<◌, ◌≤◌, zero, suc, List, [], ◌∷◌, length, get_or}
+use Rattle.std.proofs.Common.{refl, ◌∙◌, ap, arith, All, Less, Equal, Greater}
 use Rattle.std.proofs.Math.IntN.{ℤ, pos}
-use Rattle.std.proofs.Math.Nat.{le-max_left, le-max_right}
+use Rattle.std.proofs.Math.Nat.{le-max_left, le-max_right, max-le}
 use Rattle.std.proofs.lemmas.Bool.{cases_lt}
 use Rattle.std.proofs.lemmas.List.Elements.{All-cons, All-head, All-nil, All-tail}
 use Rattle.std.specs.List.{AllByRecursion}
@@ -13,10 +14,12 @@ use Rattle.ln_tree.proofs.Monomials.{is-before}
 use Rattle.ln_poly.specs.Keyed.{AreAscending, AreOver, Has, HaveFactors, IsSumIn, Keyed}
 use Rattle.ln_poly.specs.Lean.{largest}
 use Rattle.ln_poly.specs.Packed.{AreFields, AreSmall, ArePackable, keyed, number, opened, packed, taken, top_of, unkeyed}
+use Rattle.ln_poly.specs.Rows.{PowersFit}
 use Rattle.ln_poly.specs.Sparse.{AreBelow, AreRising, AreSorted, IsFactor, Sparse}
 use Rattle.ln_poly.proofs.Packing.Numbers.{number-adds, number-below, number-rises, number-same}
 use Rattle.ln_poly.proofs.Packing.Opened.{opened-exponent, small-rising, taken-small}
 use Rattle.ln_poly.proofs.Sorting.Merging.{above-none, none-above}
+use Rattle.ln_poly.proofs.TermLists.Exponents.{exponent-small}
 
 -- ---- the largest exponents
 -- no exponent exceeds the largest
@@ -24,6 +27,23 @@ pub largest-at : (f : Sparse) (i v : ℕ) (d : Pairs × ℤ) → i < length f �
 largest-at [] i v d h = absurd (omega arith)
 largest-at (t ∷ f) zero v d h = le-max_left (exponent v t.0) (largest f v)
 largest-at (t ∷ f) (suc i) v d h = omega (arith, largest-at f i v d (omega arith), le-max_right (exponent v t.0) (largest f v))
+
+-- what no exponent exceeds the largest doesn't
+largest-most : (f : Sparse) (v m : ℕ) → ((i : ℕ) (d : Pairs × ℤ) → i < length f → exponent v (get_or f i d).0 ≤ m) → largest f v ≤ m
+largest-most [] v m h = omega arith
+largest-most (t ∷ f) v m h = max-le (h 0 t (omega arith)) (largest-most f v m (λ i d l. h (suc i) d (omega (arith, l))))
+
+-- where those of all products fit, the largest of both do
+pub largest-both : (f g : Sparse) (v : ℕ) → AreRising f → AreRising g → All (λ s. PowersFit s g) f → largest f v + largest g v < 128
+largest-both f g v r q h =
+    let low : largest g v ≤ 127 = largest-most g v 127 (λ j e k. omega (arith, exponent-small (get_or g j e).0 v (q j e k))) in
+    let each : (i : ℕ) (d : Pairs × ℤ) → i < length f → exponent v (get_or f i d).0 ≤ 127 - largest g v =
+    λ i d k. omega (
+      arith,
+      largest-most g v (127 - exponent v (get_or f i d).0) (λ j e m. omega (arith, h i d k j e m v)),
+      exponent-small (get_or f i d).0 v (r i d k),
+    ) in
+    omega (arith, low, largest-most f v (127 - largest g v) each)
 
 -- in no term an exponent is above top
 abbrev pub AreUpTo : (ℕ → ℕ) → Sparse → Type 0

@@ -1,77 +1,105 @@
 -- The product of two polynomials by their numbers.
-use Rattle.std.proofs.Common.{◌≡◌, inl, inr, ℕ, ◌+◌, ◌-◌, ◌*◌, ◌<◌, ◌≤◌, ◌^◌, zero, suc, List, [], ◌∷◌, ◌++◌, length, get_or, take, drop, refl, sym, ◌∙◌, ap}
+use Rattle.std.proofs.Common.{◌≡◌, inl, inr, ℕ, ◌+◌, ◌-◌, ◌*◌, ◌/◌, ◌<◌, ◌≤◌, ◌^◌, zero, suc, List, [], ◌∷◌}
+use Rattle.std.proofs.Common.{◌++◌, length, get_or, take, drop, refl, sym, ◌∙◌, ap}
 use Rattle.std.proofs.Common.{arith, subst, All, min, Bool, true, false, ◌↔◌}
 use Rattle.std.proofs.Math.Nat.{min-le_right, mul-le-mul_right}
-use Rattle.std.proofs.lemmas.List.{take-append-le, take-map, take_all}
+use Rattle.std.proofs.lemmas.Nat.{pow_pos}
+use Rattle.std.proofs.lemmas.List.{length-drop, length-take-le, take-append-le, take-map, take_all}
 use Rattle.std.proofs.lemmas.List.Elements.{All-cons, All-nil}
-use Rattle.ln_poly.specs.Keyed.{AreAllProducts, AreAscending, Has, HaveFactors, IsGivenUp, IsMerge, Keyed, weight_of}
+use Rattle.ln_poly.specs.Keyed.{AreAllProducts, AreAscending, Has, IsGivenUp, IsMerge, Keyed, ProductsFit, weight_of}
 use Rattle.ln_poly.specs.Lean.{largest}
 use Rattle.ln_poly.specs.Packed.{AreFields, ArePackable, AreSmall, keyed, taken, top_of, unkeyed, weights}
 use Rattle.ln_poly.specs.Rows.{IsRows, PowersFit}
-use Rattle.ln_poly.specs.Sparse.{AreBelow, IsPoly, Sparse, size_of}
+use Rattle.ln_poly.specs.Sparse.{AreBelow, AreRising, IsPoly, Sparse, size_of}
 use Rattle.ln_poly.specs.Within.{TakesMore}
+use Rattle.ln_poly.specs.Words.{IsPlace, half}
 use Rattle.ln_poly.proofs.Packing.Back.{rows-numbers, rows-poly, rows-unkeyed, weight-keyed}
 use Rattle.ln_poly.proofs.Packing.Fields.{fields-same, weights-length}
-use Rattle.ln_poly.proofs.Packing.Loops.{factors-drop, factors-take}
 use Rattle.ln_poly.proofs.Packing.Rows.{distributed, no-row, rows-joined, weight-append}
-use Rattle.ln_poly.proofs.Packing.Terms.{keyed-ascending, keyed-low, left-up-to, right-up-to}
+use Rattle.ln_poly.proofs.Packing.Terms.{keyed-ascending, keyed-factors, keyed-low, largest-both, left-up-to, right-up-to}
 use Rattle.ln_poly.proofs.TermLists.Bounded.{take-take, takes-more}
 
 -- ---- what there is to pack
+-- fields lie in words
+pub some-half : (n : ℕ) (ss : List ℕ) → All (IsPlace n) ss → length ss ≡ 256 → 0 < half n
+some-half n ss h e = by_case n (h 0 0 (omega (arith, e))).within where
+  by_case : (m : ℕ) → get_or ss 0 0 / 127 < m → 0 < half m
+  by_case zero l = absurd (omega (arith, l))
+  by_case (suc m) l = pow_pos (127 * m + 126)
+
 -- fields for the largest exponents of f and g are for their products
-pub packable : (f g : Sparse) (a b ss : List ℕ) → ((v : ℕ) → v < 256 → get_or a v 0 ≡ largest f v) → ((v : ℕ) → v < 256 → get_or b v 0 ≡ largest g v)
+pub packable : (n : ℕ) (f g : Sparse) (a b ss : List ℕ) → ((v : ℕ) → v < 256 → get_or a v 0 ≡ largest f v) → ((v : ℕ) → v < 256 → get_or b v 0 ≡ largest g v)
     → AreBelow 256 f → AreBelow 256 g → All (λ s. PowersFit s g) f → length ss ≡ 256
-    → AreFields (λ v. get_or a v 0 + get_or b v 0) (2 ^ 127) 0 (weights ss) → ArePackable (weights ss) (2 ^ 127) f g
-packable f g a b ss p q x y h l w = record {
-  fields = fields-same (λ v. get_or a v 0 + get_or b v 0) (top_of f g) (2 ^ 127) 0 (weights ss)
-      (λ u _ k. let n : u < 256 = omega (arith, k, weights-length ss, l) in omega (arith, p u n, q u n)) w;
+    → AreFields (λ v. get_or a v 0 + get_or b v 0) (half n) 0 (weights ss) → ArePackable (weights ss) (half n) f g
+packable n f g a b ss p q x y h l w = record {
+  fields = fields-same (λ v. get_or a v 0 + get_or b v 0) (top_of f g) (half n) 0 (weights ss)
+      (λ u _ k. let m : u < 256 = omega (arith, k, weights-length ss, l) in omega (arith, p u m, q u m)) w;
   left_below = subst (λ n. AreBelow n f) (sym (weights-length ss ∙ l)) x;
   right_below = subst (λ n. AreBelow n g) (sym (weights-length ss ∙ l)) y;
   powers = h;
 }
 
 -- the same, where the largest exponents are those of lists that are f and g
-pub packable-at : (f' g' f g : Sparse) (a b ss : List ℕ) → f' ≡ f → g' ≡ g → ((v : ℕ) → v < 256 → get_or a v 0 ≡ largest f' v)
+pub packable-at : (n : ℕ) (f' g' f g : Sparse) (a b ss : List ℕ) → f' ≡ f → g' ≡ g → ((v : ℕ) → v < 256 → get_or a v 0 ≡ largest f' v)
     → ((v : ℕ) → v < 256 → get_or b v 0 ≡ largest g' v) → AreBelow 256 f' → AreBelow 256 g' → All (λ s. PowersFit s g) f → length ss ≡ 256
-    → AreFields (λ v. get_or a v 0 + get_or b v 0) (2 ^ 127) 0 (weights ss) → ArePackable (weights ss) (2 ^ 127) f g
-packable-at f' g' f g a b ss e d p q x y h l w = packable f g a b ss (λ v k. p v k ∙ ap (λ z. largest z v) e) (λ v k. q v k ∙ ap (λ z. largest z v) d)
+    → AreFields (λ v. get_or a v 0 + get_or b v 0) (half n) 0 (weights ss) → ArePackable (weights ss) (half n) f g
+packable-at n f' g' f g a b ss e d p q x y h l w = packable n f g a b ss (λ v k. p v k ∙ ap (λ z. largest z v) e) (λ v k. q v k ∙ ap (λ z. largest z v) d)
     (subst (AreBelow 256) e x) (subst (AreBelow 256) d y) h l w
 
-module _ (ws : List ℕ) (f g : Sparse) (p : ArePackable ws (2 ^ 127) f g) where
-  -- the numbers of f are below 2^127
-  pub left-low : All (λ t. t.0 < 2 ^ 127) (keyed ws f)
-  left-low = keyed-low (top_of f g) (2 ^ 127) ws f p.fields (omega arith) (left-up-to f g)
+-- the largest exponents of lists that are f and g fit together
+pub fit-at : (f' g' f g : Sparse) (a b : List ℕ) → f' ≡ f → g' ≡ g → ((v : ℕ) → v < 256 → get_or a v 0 ≡ largest f' v)
+    → ((v : ℕ) → v < 256 → get_or b v 0 ≡ largest g' v) → AreRising f' → AreRising g' → All (λ s. PowersFit s g) f
+    → (v : ℕ) → v < 256 → get_or a v 0 + get_or b v 0 < 128
+fit-at f' g' f g a b e d p q x y h v k = omega (
+  arith,
+  p v k,
+  q v k,
+  ap (λ z. largest z v) e,
+  ap (λ z. largest z v) d,
+  largest-both f g v (subst AreRising e x) (subst AreRising d y) h,
+)
+
+module _ (n : ℕ) (ws : List ℕ) (f g : Sparse) (p : ArePackable ws (half n) f g) where
+  -- the numbers of f are in that half
+  pub left-low : 0 < half n → All (λ t. t.0 < half n) (keyed ws f)
+  left-low s = keyed-low (top_of f g) (half n) ws f p.fields s (left-up-to f g)
 
   -- so are those of g
-  pub right-low : All (λ t. t.0 < 2 ^ 127) (keyed ws g)
-  right-low = keyed-low (top_of f g) (2 ^ 127) ws g p.fields (omega arith) (right-up-to f g)
+  pub right-low : 0 < half n → All (λ t. t.0 < half n) (keyed ws g)
+  right-low s = keyed-low (top_of f g) (half n) ws g p.fields s (right-up-to f g)
 
   -- they rise
-  pub right-ascending : IsPoly g → AreAscending (keyed ws g)
-  right-ascending h = keyed-ascending (top_of f g) (2 ^ 127) ws g p.fields h.rising p.right_below (right-up-to f g) h.sorted
+  right-ascending : IsPoly g → AreAscending (keyed ws g)
+  right-ascending h = keyed-ascending (top_of f g) (half n) ws g p.fields h.rising p.right_below (right-up-to f g) h.sorted
 
-  -- there is room for the products
-  pub keyed-room : size_of f * size_of g < 2 ^ 127 → weight_of (keyed ws f) * weight_of (keyed ws g) < 2 ^ 127
-  keyed-room room =
-      omega (arith, room, ap (λ z. z * weight_of (keyed ws g)) (weight-keyed ws f), ap (λ z. size_of f * z) (weight-keyed ws g))
+  -- so their products fit
+  pub keyed-fit : 0 < half n → IsPoly f → IsPoly g → size_of f * size_of g < 2 ^ 127 → ProductsFit (half n) (keyed ws f) (keyed ws g)
+  keyed-fit s p q room = record {
+    low = left-low s;
+    low_all = right-low s;
+    room = omega (arith, room, ap (λ z. z * weight_of (keyed ws g)) (weight-keyed ws f), ap (λ z. size_of f * z) (weight-keyed ws g));
+    factors = keyed-factors ws f p.factors;
+    right = keyed-factors ws g q.factors;
+    ascending = right-ascending q;
+  }
 
   all-rows : (h : Keyed) → AreAllProducts h (keyed ws f) (keyed ws g) → AreAllProducts h (keyed ws (take (length f) f)) (keyed ws g)
   all-rows h a = subst (λ z. AreAllProducts h (keyed ws z) (keyed ws g)) (sym (take_all (length f) f (omega arith))) a
 
   -- the numbers of a product are those of monomials
   pub product-small : (h : Keyed) → AreAllProducts h (keyed ws f) (keyed ws g) → All (λ t. AreSmall (taken ws t.0)) h
-  product-small h a = each h (λ k i. (rows-numbers ws (2 ^ 127) h f g (length f) p (all-rows h a) k i).small) where
+  product-small h a = each h (λ k i. (rows-numbers ws (half n) h f g (length f) p (all-rows h a) k i).small) where
     each : (ks : Keyed) → ((k : ℕ) → Has ks k → AreSmall (taken ws k)) → All (λ t. AreSmall (taken ws t.0)) ks
-    each [] n = All-nil (λ t. AreSmall (taken ws t.0))
-    each (t ∷ ks) n = All-cons (λ z. AreSmall (taken ws z.0)) t ks (n t.0 (inl refl)) (each ks (λ k i. n k (inr i)))
+    each [] m = All-nil (λ t. AreSmall (taken ws t.0))
+    each (t ∷ ks) m = All-cons (λ z. AreSmall (taken ws z.0)) t ks (m t.0 (inl refl)) (each ks (λ k i. m k (inr i)))
 
   -- the terms of a product
   pub product-rows : (h : Keyed) → AreAllProducts h (keyed ws f) (keyed ws g) → IsRows (unkeyed ws h) f g (length f)
-  product-rows h a = rows-unkeyed ws (2 ^ 127) h f g (length f) p (all-rows h a)
+  product-rows h a = rows-unkeyed ws (half n) h f g (length f) p (all-rows h a)
 
   -- they are a polynomial
   pub product-poly : (h : Keyed) → AreAllProducts h (keyed ws f) (keyed ws g) → size_of f * size_of g < 2 ^ 127 → IsPoly (unkeyed ws h)
-  product-poly h a room = rows-poly ws (2 ^ 127) h f g (length f) p (all-rows h a) room
+  product-poly h a room = rows-poly ws (half n) h f g (length f) p (all-rows h a) room
 
   -- there are as many numbers as terms
   pub keyed-length : (e : Sparse) → length (keyed ws e) ≡ length e
@@ -95,8 +123,8 @@ module _ (ws : List ℕ) (f g : Sparse) (p : ArePackable ws (2 ^ 127) f g) where
         ap (λ z. (z - u.rows) * length (keyed ws g)) (keyed-length f),
         ap (λ z. (length f - u.rows) * z) (keyed-length g),
       ) in
-      takes-more (unkeyed ws u.done) (unkeyed ws u.done) f g f g u.rows most (rows-unkeyed ws (2 ^ 127) u.done f g u.rows p a)
-      (rows-poly ws (2 ^ 127) u.done f g u.rows p a room) refl refl refl many
+      takes-more (unkeyed ws u.done) (unkeyed ws u.done) f g f g u.rows most (rows-unkeyed ws (half n) u.done f g u.rows p a)
+      (rows-poly ws (half n) u.done f g u.rows p a room) refl refl refl many
 
 -- ---- parts of the rows
 weight-take : (i : ℕ) (f : Keyed) → weight_of (take i f) ≤ weight_of f
@@ -133,9 +161,13 @@ next-room done f f' g i j p e l room =
     mul-le-mul_right (weight_of g) (omega (arith, w, weight-take j f)) in
     omega (arith, p.size, m, room, distributed (weight_of (take i f)) (weight_of f') (weight_of g))
 
--- no factor of the next rows is 0
-pub next-factors : (f f' : Keyed) (i j : ℕ) → f' ≡ take (j - i) (drop i f) → HaveFactors f → HaveFactors f'
-next-factors f f' i j e a = subst HaveFactors (sym e) (factors-take (j - i) (drop i f) (factors-drop i f a))
+-- there is memory for the next rows
+pub next-long : (f f' g : Keyed) (i j l : ℕ) → f' ≡ take (j - i) (drop i f) → j ≤ length f → j - i ≤ 64 → min (length f) 64 * length g ≤ l
+    → length f' * length g ≤ l
+next-long f f' g i j l e k s h =
+    let q : length f' ≡ j - i = ap length e ∙ length-take-le (j - i) (drop i f) (omega (arith, length-drop i f, k)) in
+    let a : length f' ≤ min (length f) 64 = omega (arith, q, k, s) in
+    omega (arith, h, mul-le-mul_right (length g) a)
 
 -- the rows up to j
 pub next-products : (next f f' g : Keyed) (i j : ℕ) → AreAllProducts next (take i f ++ f') g → f' ≡ take (j - i) (drop i f) → i ≤ j

@@ -2,13 +2,10 @@
 use Rattle.std.proofs.Common.{◌≡◌, ℕ, ◌+◌, ◌-◌, ◌<◌, zero, suc, sym, ◌∙◌, ap, subst, arith, [], ◌∷◌, ◌++◌, length, take, get_or}
 use Rattle.std.proofs.Common.{true, nat_lt}
 use Rattle.std.proofs.lemmas.Bool.Decides.{nat_tests}
-use Rattle.ln_tree.specs.Exps.{AllAbove, IsAbove, IsRising, Pairs, exponent}
-use Rattle.ln_tree.proofs.Powers.{above-at}
+use Rattle.ln_tree.specs.Exps.{IsAbove, IsRising, Pairs, exponent}
+use Rattle.ln_tree.proofs.Powers.{above-at, above-take}
+use Rattle.ln_tree.proofs.Monomials.{above-lower}
 use Rattle.ln_poly.specs.Times.{AreLow}
-
-above-lower : (v w : ℕ) (ps : Pairs) → v < w → AllAbove w ps → AllAbove v ps
-above-lower v w [] h a = tt
-above-lower v w (p ∷ ps) h a = (omega (arith, a.0), above-lower v w ps h a.1)
 
 -- where one has no pair
 pub low-none : (a b : Pairs) → length b ≡ 0 → AreLow a b
@@ -45,11 +42,6 @@ low-tested a b r s h k t = low-last a b (length a - 1) r s (omega (arith, h)) k 
 above-more : (a b : Pairs) (i : ℕ) → AreLow a b → IsRising b → i < length b → IsAbove a (get_or b i (0, 0)).0
 above-more [] b i l r h = tt
 above-more (p ∷ a) b i l r h = (above-at p.0 b i h l.0, above-more a b i l.1 r h)
-
-above-take : (ps : Pairs) (i : ℕ) → IsRising ps → i < length ps → IsAbove (take i ps) (get_or ps i (0, 0)).0
-above-take [] i r h = absurd (omega arith)
-above-take (p ∷ ps) zero r h = tt
-above-take (p ∷ ps) (suc i) r h = (above-at p.0 ps i (omega arith) r.2, above-take ps i r.3 (omega arith))
 
 above-append : (a b : Pairs) (v : ℕ) → IsAbove a v → IsAbove b v → IsAbove (a ++ b) v
 above-append [] b v h k = k

@@ -1,8 +1,7 @@
 -- The terms of a polynomial differ in their vectors.
-use Rattle.std.proofs.Common.{◌≡◌, ℕ, ◌+◌, ◌<◌, ◌≤◌, zero, suc, refl, sym, ◌∙◌, ap, arith, List, [], ◌∷◌, Bool, true, false, eqb, eq-eqb, Less, if◌then◌else◌}
+use Rattle.std.proofs.Common.{◌≡◌, ℕ, ◌+◌, ◌<◌, ◌≤◌, zero, suc, refl, sym, ◌∙◌, ap, arith, List, [], ◌∷◌, Bool, true, false, eqb, Less, if◌then◌else◌}
 use Rattle.std.proofs.Math.IntN.{ℤ}
 use Rattle.std.proofs.lemmas.Bool.{cases_lt}
-use Rattle.std.proofs.lemmas.Bool.Decides.{nat_tests}
 use Rattle.std.proofs.lemmas.Cmp.{tied_itself}
 use Rattle.std.proofs.lemmas.List.Elements.{All-head, All-tail}
 use Rattle.std.specs.List.{AllByRecursion}
@@ -12,35 +11,17 @@ use mathlib.Core.Logic.{◌⊎◌, inl, inr}
 use Rattle.ln_algebra.proofs.Expanded.Normal.{same_vector-is}
 use Rattle.ln_algebra.specs.Terms.{IsCollected, Lacks}
 use Rattle.ln_algebra.specs.Vector.{same_vector}
-use Rattle.ln_tree.specs.Exps.{AllAbove, IsAbove, IsRising, Pairs, exponent, exponents_from, pairs_cmp, pairs_cmp-total, vector}
+use Rattle.ln_tree.specs.Exps.{IsAbove, IsRising, Pairs, exponent, exponents_from, pairs_cmp, pairs_cmp-total, vector}
+use Rattle.ln_tree.proofs.Monomials.{first-here, none-before}
 use Rattle.ln_poly.specs.Sparse.{AreBelow, AreRising, IsPoly, Sparse, terms_of}
 use Rattle.ln_poly.proofs.Sorting.Merging.{above-none}
 
 -- ---- pairs with equal exponents
--- pairs above v have no exponent of v
-all-above-none : (v : ℕ) (ps : Pairs) → AllAbove v ps → exponent v ps ≡ 0
-all-above-none v [] a = refl
-all-above-none v (p ∷ ps) a = let f : eqb p.0 v ≡ false = other v p.0 a.0 in rw f (omega (arith, all-above-none v ps a.1)) where
-  other : (x y : ℕ) → x < y → eqb y x ≡ false
-  other x y l = grind (arith, nat_tests)
-
-lower-all : (v w : ℕ) (ps : Pairs) → v < w → AllAbove w ps → AllAbove v ps
-lower-all v w [] h a = tt
-lower-all v w (p ∷ ps) h a = (omega (arith, a.0), lower-all v w ps h a.1)
-
--- the exponent of the first variable
-exponent-here : (p : ℕ × ℕ) (ps : Pairs) → AllAbove p.0 ps → exponent p.0 (p ∷ ps) ≡ p.1
-exponent-here p ps a = let t : eqb p.0 p.0 ≡ true = eq-eqb p.0 p.0 refl in rw t (omega (arith, all-above-none p.0 ps a))
-
--- a variable below all has none
-exponent-before : (v : ℕ) (p : ℕ × ℕ) (ps : Pairs) → v < p.0 → AllAbove p.0 ps → exponent v (p ∷ ps) ≡ 0
-exponent-before v p ps l a = all-above-none v (p ∷ ps) (l, lower-all v p.0 ps l a)
-
 -- rising pairs with equal exponents are equal
 pub rising-same : (a b : Pairs) → IsRising a → IsRising b → ((v : ℕ) → exponent v a ≡ exponent v b) → a ≡ b
 rising-same [] [] r s h = refl
-rising-same [] (q ∷ b) r s h = absurd (omega (arith, s.0, h q.0, exponent-here q b s.2))
-rising-same (p ∷ a) [] r s h = absurd (omega (arith, r.0, h p.0, exponent-here p a r.2))
+rising-same [] (q ∷ b) r s h = absurd (omega (arith, s.0, h q.0, first-here q b s.2))
+rising-same (p ∷ a) [] r s h = absurd (omega (arith, r.0, h p.0, first-here p a r.2))
 rising-same (p ∷ a) (q ∷ b) r s h = by_case (λ e f. rising-same a b r.3 s.3 (rest e f)) (cases_lt p.0 q.0) (cases_lt q.0 p.0) where
   rest : p.0 ≡ q.0 → p.1 ≡ q.1 → (v : ℕ) → exponent v a ≡ exponent v b
   rest e f v =
@@ -49,11 +30,11 @@ rising-same (p ∷ a) (q ∷ b) r s h = by_case (λ e f. rising-same a b r.3 s.3
       omega (arith, h v, g)
 
   by_case : (p.0 ≡ q.0 → p.1 ≡ q.1 → a ≡ b) → (p.0 < q.0) ⊎ (q.0 ≤ p.0) → (q.0 < p.0) ⊎ (p.0 ≤ q.0) → p ∷ a ≡ q ∷ b
-  by_case ih (inl l) k = absurd (omega (arith, r.0, h p.0, exponent-here p a r.2, exponent-before p.0 q b l s.2))
-  by_case ih (inr l) (inl k) = absurd (omega (arith, s.0, h q.0, exponent-here q b s.2, exponent-before q.0 p a k r.2))
+  by_case ih (inl l) k = absurd (omega (arith, r.0, h p.0, first-here p a r.2, none-before p.0 q b l s.2))
+  by_case ih (inr l) (inl k) = absurd (omega (arith, s.0, h q.0, first-here q b s.2, none-before q.0 p a k r.2))
   by_case ih (inr l) (inr k) =
       let e : p.0 ≡ q.0 = omega arith in
-      let f : p.1 ≡ q.1 = omega (arith, exponent-here p a r.2, h p.0, ap (λ z. exponent z (q ∷ b)) e, exponent-here q b s.2) in
+      let f : p.1 ≡ q.1 = omega (arith, first-here p a r.2, h p.0, ap (λ z. exponent z (q ∷ b)) e, first-here q b s.2) in
       let t : a ≡ b = ih e f in
       let z : (p.0, p.1) ∷ a ≡ (q.0, q.1) ∷ b = rw (e, f, t) refl in
       z

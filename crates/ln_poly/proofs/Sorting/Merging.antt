@@ -7,13 +7,9 @@ use mathlib.Core.Logic.{◌⊎◌, inl, inr}
 use Rattle.std.proofs.lemmas.List.{drop_more}
 use Rattle.ln_tree.specs.Exps.{AllAbove, IsAbove, IsRising, Pairs, exponent}
 use Rattle.ln_tree.proofs.Pairs.{rising-push}
+use Rattle.ln_tree.proofs.Monomials.{above-lower}
 use Rattle.ln_poly.specs.declared.times.Pick.{Pick}
 use Rattle.ln_poly.specs.Times.{AreLow, IsMerged, IsPicked, MayPick, Picks, power_at}
-
--- what is above w is above what is below w
-above-lower : (v w : ℕ) (ps : Pairs) → v < w → AllAbove w ps → AllAbove v ps
-above-lower v w [] h a = tt
-above-lower v w (p ∷ ps) h a = (omega (arith, a.0), above-lower v w ps h a.1)
 
 -- nothing, or all above v
 abbrev pub Lower : ℕ → Pairs → Type 0

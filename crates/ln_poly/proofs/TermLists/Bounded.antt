@@ -1,11 +1,9 @@
 -- Products of a part of the rows after the other, and how many terms the remaining rows can take away.
-use Rattle.std.proofs.Common.{◌≡◌, ◌⊎◌, inl, inr, ℕ, ◌+◌, ◌*◌, ◌-◌, ◌<◌, ◌≤◌, ◌^◌, zero, suc, refl, sym, ◌∙◌, ap, subst, arith, All, List}
+use Rattle.std.proofs.Common.{◌≡◌, ◌⊎◌, inl, inr, ℕ, ◌+◌, ◌*◌, ◌-◌, ◌<◌, ◌≤◌, zero, suc, refl, sym, ◌∙◌, ap, subst, arith, List}
 use Rattle.std.proofs.Common.{[], ◌∷◌, ◌++◌, length, take, drop, length-append}
-use Rattle.std.proofs.Math.Nat.{mul-le-mul_left}
 use Rattle.std.proofs.Math.IntN.{ℤ, pos, ◌+ℤ◌}
 use Rattle.std.proofs.lemmas.Int.{ints}
 use Rattle.std.proofs.lemmas.List.{length-drop, length-map, take-append-drop, take_all}
-use Rattle.std.proofs.lemmas.List.Elements.{All-drop, All-take}
 use Rattle.ln_algebra.specs.Coefficient.{product}
 use Rattle.ln_algebra.specs.Terms.{Term, factor_at}
 use Rattle.ln_algebra.specs.Vector.{In, sum_over}
@@ -13,13 +11,11 @@ use Rattle.ln_algebra.proofs.Expanded.Expansion.{times, times_term}
 use Rattle.ln_algebra.proofs.Expanded.Normal.{zero_cases}
 use Rattle.ln_algebra.proofs.Expanded.Product.{factor_at-times}
 use Rattle.ln_algebra.proofs.Expanded.Sums.{sum_over-append}
-use Rattle.ln_tree.specs.Exps.{IsAbove}
-use Rattle.ln_poly.specs.Rows.{IsRows, PowersFit, row_at}
-use Rattle.ln_poly.specs.Sparse.{AreBelow, IsPoly, Sparse, coefficient_at, size_of, terms_of}
+use Rattle.ln_poly.specs.Rows.{IsRows, row_at}
+use Rattle.ln_poly.specs.Sparse.{AreBelow, IsPoly, Sparse, coefficient_at, terms_of}
 use Rattle.ln_poly.specs.Expansion.{AreDistinct}
 use Rattle.ln_poly.specs.Within.{HasMoreTerms, TakesMore}
 use Rattle.ln_poly.proofs.Sorting.Collected.{collected}
-use Rattle.ln_poly.proofs.TermLists.Coefficients.{size-append, size-take}
 use Rattle.ln_poly.proofs.TermLists.Counting.{distinct-length, distinct-vectors, in-nonzero, length-vectors, nonzero-in, nonzero-terms, over-length, vectors}
 use Rattle.ln_poly.proofs.TermLists.Products.{over-terms, rows_times}
 
@@ -70,7 +66,8 @@ parted c (x ∷ ms) d = by_case (zero_cases (c x)) (parted c ms d.1) where
   by_case (inl z) p = with-zero c x ms d.0 z p
   by_case (inr z) p = with-other c x ms d.0 z p
 
-length-times_term : (t : Term) (g : List Term) → length (times_term t g) ≡ length g
+-- a product with a term has as many terms
+pub length-times_term : (t : Term) (g : List Term) → length (times_term t g) ≡ length g
 length-times_term t [] = refl
 length-times_term t (s ∷ g) = ap suc (length-times_term t g)
 
@@ -134,50 +131,3 @@ take-take (suc i) k j [] e = take_all k [] (omega arith) ∙ sym (take_all j [] 
 take-take (suc i) k j (t ∷ f) e =
     let z : suc (i + k) ≡ j = omega arith in
     ap (λ y. t ∷ y) (take-take i k (i + k) f refl) ∙ ap (λ y. take y (t ∷ f)) z
-
--- rows from i to j
-joined : (i j : ℕ) (f f' : Sparse) → f' ≡ take (j - i) (drop i f) → i ≤ j → take i f ++ f' ≡ take j f
-joined i j f f' e h = ap (λ z. take i f ++ z) e ∙ take-take i (j - i) j f (omega arith)
-
-joined-size : (i j : ℕ) (f f' : Sparse) → f' ≡ take (j - i) (drop i f) → i ≤ j → size_of (take i f) + size_of f' ≡ size_of (take j f)
-joined-size i j f f' e h = sym (size-append (take i f) f') ∙ ap size_of (joined i j f f' e h)
-
--- there is room for the product of a part of the terms where there is room for that of all
-pub part-room : (i j : ℕ) (f f' g : Sparse) → f' ≡ take (j - i) (drop i f) → i ≤ j → size_of f * size_of g < 2 ^ 127 → size_of f' * size_of g < 2 ^ 127
-part-room i j f f' g e h room =
-    let l : size_of f' ≤ size_of f = omega (arith, joined-size i j f f' e h, size-take f j) in
-    omega (arith, room, mul-le-mul_left (size_of g) l)
-
--- no exponent of the products of a part of the terms exceeds 127 where none of those of all does
-pub part-powers : (i j : ℕ) (f f' g : Sparse) → f' ≡ take (j - i) (drop i f) → All (λ s. PowersFit s g) f → All (λ s. PowersFit s g) f'
-part-powers i j f f' g e a = subst (All (λ s. PowersFit s g)) (sym e) (All-take (λ s. PowersFit s g) (j - i) (drop i f) (All-drop (λ s. PowersFit s g) i f a))
-
--- there is room for the sum of the rows so far and those of the next part
-pub sum-room : (acc part f f' g : Sparse) (i j : ℕ) → IsRows acc f g i → IsRows part f' g (length f') → f' ≡ take (j - i) (drop i f) → i ≤ j
-    → size_of f * size_of g < 2 ^ 127 → size_of acc + size_of part < 2 ^ 127
-sum-room acc part f f' g i j r p e h room =
-    let s : size_of part ≤ size_of f' * size_of g = omega (arith, p.size, ap (λ q. size_of q * size_of g) (take_all (length f') f' (omega arith))) in
-    omega (arith, room, r.size, s, ap (λ q. q * size_of g) (joined-size i j f f' e h), mul-le-mul_left (size_of g) (size-take f j))
-
--- the sum of the rows so far and of those of a part has the rows up to its end
-pub parts-step : (acc part out f f' g : Sparse) (i j : ℕ) → IsRows acc f g i → IsRows part f' g (length f') → f' ≡ take (j - i) (drop i f) → i ≤ j →
-    ((n : ℕ) (m : List ℕ) → coefficient_at n out m ≡ coefficient_at n acc m +ℤ coefficient_at n part m) →
-    size_of out ≤ size_of acc + size_of part → IsPoly out → ((n : ℕ) → AreBelow n acc → AreBelow n part → AreBelow n out) → IsRows out f g j
-parts-step acc part out f f' g i j r p e h c s q b = record {
-  coefficients = λ n m. omega (
-    arith,
-    ints,
-    c n m,
-    r.coefficients n m,
-    p.coefficients n m,
-    ap (sum_over (λ u. row_at n m u g)) (take_all (length f') f' (omega arith)),
-    ap (sum_over (λ u. row_at n m u g)) (joined i j f f' e h),
-    sum_over-append (λ u. row_at n m u g) (take i f) f',
-  );
-  size =
-      let t : size_of part ≤ size_of f' * size_of g = omega (arith, p.size, ap (λ z. size_of z * size_of g) (take_all (length f') f' (omega arith))) in
-      omega (arith, s, r.size, t, ap (λ z. z * size_of g) (joined-size i j f f' e h));
-  rising = q.rising;
-  below = λ k x y. b k (r.below k x y)
-      (p.below k (subst (AreBelow k) (sym e) (All-take (λ z. IsAbove z.0 k) (j - i) (drop i f) (All-drop (λ z. IsAbove z.0 k) i f x))) y);
-}

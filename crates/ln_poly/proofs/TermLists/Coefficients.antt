@@ -80,11 +80,6 @@ pub size-cons : (t : Pairs × ℤ) (xs : Sparse) → size_of (t ∷ xs) ≡ unsi
 unfolding size_of
 size-cons t xs = sum_by-cons (λ z. unsigned_abs z.1) t xs
 
--- the size of one list followed by another is the sum of both
-pub size-append : (xs ys : Sparse) → size_of (xs ++ ys) ≡ size_of xs + size_of ys
-unfolding size_of
-size-append xs ys = sum_by-append (λ z. unsigned_abs z.1) xs ys
-
 -- an appended term adds its absolute factor to the size
 pub size-push : (xs : Sparse) (t : Pairs × ℤ) → size_of (xs ++ (t ∷ [])) ≡ size_of xs + unsigned_abs t.1
 unfolding size_of

@@ -15,6 +15,7 @@ use Rattle.ln_algebra.specs.Stage.{IsMonomial}
 use Rattle.ln_algebra.specs.Terms.{IsCollected, Lacks, Over, Term, factor_at}
 use Rattle.ln_algebra.specs.Tree.{Tree, degree_of}
 use Rattle.ln_algebra.specs.Vector.{In, same_vector, total_degree}
+use Rattle.ln_algebra.proofs.Bounding.Weights.{Lacks-factor_at}
 use Rattle.ln_tree.specs.Exps.{vector}
 use Rattle.ln_poly.specs.Sparse.{IsFactor, IsPoly, Sparse, terms_of}
 use Rattle.ln_poly.specs.Expansion.{AreDistinct, HasTooManyTerms, IsNormal, IsTermsFault, IsZeroFault}
@@ -36,16 +37,12 @@ lacks-not_in [] m l i = i
 lacks-not_in (t ∷ f) m l (inl e) = let x : same_vector t.exponents m ≡ true = rw e (same_vector-refl t.exponents) in let y : true ≡ false = sym x ∙ l.0 in cc
 lacks-not_in (t ∷ f) m l (inr i) = lacks-not_in f m l.1 i
 
-lacks-zero : (f : List Term) (m : List ℕ) → Lacks f m → factor_at f m ≡ pos 0
-lacks-zero [] m l = refl
-lacks-zero (t ∷ f) m l = rw l.0 (omega (arith, ints, lacks-zero f m l.1))
-
 -- the coefficient at a term's vector isn't 0, where like monomials are collected and no factor is 0
 pub in-nonzero : (f : List Term) (m : List ℕ) → IsCollected f → AreNonzero f → In (vectors f) m → factor_at f m ≢ pos 0
 in-nonzero [] m c z i e = i
 in-nonzero (t ∷ f) m c z (inl q) e =
     let x : same_vector t.exponents m ≡ true = rw q (same_vector-refl t.exponents) in
-    let y : factor_at f m ≡ pos 0 = ap (factor_at f) q ∙ lacks-zero f t.exponents c.0 in
+    let y : factor_at f m ≡ pos 0 = ap (factor_at f) q ∙ Lacks-factor_at f t.exponents c.0 in
     let w : t.factor +ℤ factor_at f m ≡ pos 0 = rw x at e in
     z.0 (omega (arith, ints, w, y))
 in-nonzero (t ∷ f) m c z (inr i) e = by_case (in-nonzero f m c.1 z.1 i) (same_vector t.exponents m) refl where

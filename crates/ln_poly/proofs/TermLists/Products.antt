@@ -1,6 +1,6 @@
 -- Sums of products of terms.
 use Rattle.std.proofs.Common.{◌≡◌, ℕ, ◌+◌, ◌*◌, ◌<◌, ◌≤◌, ◌^◌, zero, suc, refl, sym, ◌∙◌, ap, subst, arith, List, [], ◌∷◌, ◌++◌, length}
-use Rattle.std.proofs.Common.{take, append_assoc, get_or, if◌then◌else◌, unsigned_abs, add-one}
+use Rattle.std.proofs.Common.{take, append_assoc, get_or, set, if◌then◌else◌, unsigned_abs, add-one}
 use Rattle.std.proofs.Math.Nat.{mul-le-mul_left}
 use Rattle.std.proofs.lemmas.Int.{ints, unsigned_abs-mul}
 use Rattle.std.proofs.lemmas.List.{take_all, take_more}
@@ -64,6 +64,27 @@ row_at-more n m s g i d h = sum_over-more (cell_at n m s) g i d h
 row_at-nil : (n : ℕ) (m : List ℕ) (s : Pairs × ℤ) → row_at n m s [] ≡ pos 0
 unfolding row_at
 row_at-nil n m s = refl
+
+set-last : {A : Type 0} (xs : List A) (x y : A) → set (xs ++ (x ∷ [])) (length xs) y ≡ xs ++ (y ∷ [])
+set-last [] x y = refl
+set-last (z ∷ xs) x y = ap (λ ys. z ∷ ys) (set-last xs x y)
+
+get-last : {A : Type 0} (xs : List A) (x d : A) → get_or (xs ++ (x ∷ [])) (length xs) d ≡ x
+get-last [] x d = refl
+get-last (z ∷ xs) x d = get-last xs x d
+
+-- a product whose exponents are written after it is appended
+pub product-put : (old put : Sparse) (k : ℕ) (none e : Pairs) (z : ℤ) (s t x : Pairs × ℤ) → put ≡ old ++ ((none, z) ∷ []) → z ≡ s.1 *ℤ t.1 → k ≡ length old
+    → x ≡ get_or put k x → ((v : ℕ) → exponent v e ≡ exponent v s.0 + exponent v t.0) → IsRising e → IsProductPut (set put k (e, x.1)) old s t
+product-put old put k none e z s t x p m l g h r =
+    let q : x ≡ (none, z) = g ∙ ap (λ y. get_or y k x) p ∙ ap (λ i. get_or (old ++ ((none, z) ∷ [])) i x) l ∙ get-last old (none, z) x in
+    record {
+      exps = e;
+      put = ap (λ y. set y k (e, x.1)) p ∙ ap (λ i. set (old ++ ((none, z) ∷ [])) i (e, x.1)) l ∙ set-last old (none, z) (e, x.1)
+          ∙ ap (λ (y : Pairs × ℤ). old ++ ((e, y.1) ∷ [])) q ∙ ap (λ y. old ++ ((e, y) ∷ [])) m;
+      exponents = h;
+      rising = r;
+    }
 
 -- the loop in `put_row` begins with no product appended
 pub row-init : (old g : Sparse) (s : Pairs × ℤ) → IsRow old old s g 0
@@ -207,10 +228,6 @@ rows-product out f g r n m h =
 -- the size of all rows is at most the product of the two sizes
 pub rows-size : (out f g : Sparse) → IsRows out f g (length f) → size_of out ≤ size_of f * size_of g
 rows-size out f g r = omega (arith, r.size, ap (λ q. size_of q * size_of g) (take_all (length f) f (omega arith)))
-
--- the end of the loop, whatever the lists are called
-pub rows-end : (out f g f' g' : Sparse) (i : ℕ) → IsRows out f g i → i ≡ length f → f ≡ f' → g ≡ g' → IsRows out f' g' (length f')
-rows-end out f g f' g' i r h p q = subst (λ z. IsRows out z g' (length z)) p (subst (λ z. IsRows out f z (length f)) q (subst (IsRows out f g) h r))
 
 -- no exponent of a product of s with a term of g exceeds 127
 pub powers-at : (s : Pairs × ℤ) (g : Sparse) (i : ℕ) (t : Pairs × ℤ) → PowersFit s g → i < length g → t ≡ get_or g i t → (v : ℕ)

@@ -1,5 +1,5 @@
 -- Products with the two polynomials in turn.
-use Rattle.std.proofs.Common.{◌≡◌, ℕ, ◌*◌, ◌<◌, ◌≤◌, ◌^◌, refl, sym, ◌∙◌, ap, arith, List, [], ◌∷◌, length, if◌then◌else◌}
+use Rattle.std.proofs.Common.{◌≡◌, ℕ, ◌*◌, ◌≤◌, refl, sym, ◌∙◌, ap, arith, List, [], ◌∷◌, length, if◌then◌else◌}
 use Rattle.std.specs.Prelude.{IfNone, IfSome, Option, None, Some}
 use Rattle.std.proofs.lemmas.Int.{ints}
 use Rattle.std.proofs.lemmas.List.{take_all}
@@ -79,10 +79,6 @@ more-turned f g k h = λ n bf bg. let r : HasMoreTerms n g f k = h n bg bf in re
 pub none-turned : (o : Option Sparse) (f g : Sparse) (k : ℕ) → IfNone o (TakesMore g f k) → IfNone o (TakesMore f g k)
 none-turned None f g k h = more-turned f g k h
 none-turned (Some x) f g k h = h
-
--- there is room for the product of f and g in either order
-pub room-turned : (f g : Sparse) → size_of f * size_of g < 2 ^ 127 → size_of g * size_of f < 2 ^ 127
-room-turned f g h = omega (arith, h)
 
 -- ---- a product that there may be
 -- a product that was found has the coefficients of the product of f and g

@@ -1,5 +1,6 @@
 -- Products of one term with a polynomial, which are in the order of its terms.
-use Rattle.std.proofs.Common.{◌≡◌, ◌≢◌, ◌⊎◌, inl, inr, ◌*◌, ◌<◌, ◌^◌, sym, ◌∙◌, ap, subst, arith, All, [], ◌∷◌, length, take, get_or, unsigned_abs, Less}
+use Rattle.std.proofs.Common.{◌≡◌, ◌≢◌, ◌⊎◌, inl, inr, ℕ, ◌-◌, ◌*◌, ◌<◌, ◌^◌, refl, sym, ◌∙◌, ap, subst, arith}
+use Rattle.std.proofs.Common.{All, [], ◌∷◌, length, take, get_or, unsigned_abs, Less}
 use Rattle.std.proofs.lemmas.List.{take_all}
 use Rattle.std.proofs.lemmas.List.Elements.{All-cons, All-head, All-nil, All-tail}
 use Rattle.std.proofs.Math.IntN.{ℤ, pos, ◌*ℤ◌}
@@ -12,7 +13,9 @@ use Rattle.ln_tree.proofs.Monomials.{products-kept}
 use Rattle.ln_poly.specs.Rows.{AreProducts, IsProduct, IsRow, IsRows}
 use Rattle.ln_poly.specs.Sparse.{AreRising, IsFactor, IsPoly, Sparse, size_of}
 use Rattle.ln_poly.proofs.TermLists.Coefficients.{size-cons, size-nil}
-use Rattle.ln_poly.proofs.TermLists.Products.{rows-begin, rows-step}
+use Rattle.ln_poly.specs.Within.{TakesMore}
+use Rattle.ln_poly.proofs.TermLists.Bounded.{takes-more}
+use Rattle.ln_poly.proofs.TermLists.Products.{rows-begin, rows-room, rows-step}
 
 -- ---- the order
 -- a product is before those of what comes after
@@ -75,3 +78,23 @@ pub one-row : (out out' f g old : Sparse) (s : Pairs × ℤ) → length f ≡ 1 
 one-row out out' f g old s l e o q r =
     let step : IsRows out' f g 1 = rows-step [] out' f g s 0 (rows-begin f g) (omega (arith, l)) e (subst (λ z. IsRow out' z s g (length g)) o r) in
     subst (IsRows out f g) (sym l) (subst (λ z. IsRows z f g 1) (sym q) step)
+
+-- ---- the product of a polynomial of one term
+module _ (f f' g g' : Sparse) (s : Pairs × ℤ) (p : f' ≡ f) (q : g' ≡ g) (one : length f ≡ 1) (first : s ≡ get_or f' 0 s) where
+  -- there is room for its factors
+  pub row-room : size_of f * size_of g < 2 ^ 127 → unsigned_abs s.1 * size_of g' < 2 ^ 127
+  row-room room =
+      let h : size_of f' * size_of g' < 2 ^ 127 = rw (p, q) room in
+      omega (arith, size-nil, rows-room [] f' g' s 0 (rows-begin f' g') (omega (arith, one, ap length p)) first h)
+
+  -- it has the one row
+  pub row-rows : (out : Sparse) → IsRow out [] s g' (length g') → IsRows out f g (length f)
+  row-rows out r =
+      let h : IsRows out f' g' (length f') = one-row out out f' g' [] s (ap length p ∙ one) first refl refl r in
+      subst (λ z. IsRows out z g (length z)) p (subst (λ z. IsRows out f' z (length f')) q h)
+
+  -- where there are more terms than are wanted, the product has more
+  pub row-more : (out terms : Sparse) (most : ℕ) → IsRow out [] s g' (length g') → IsPoly out → terms ≡ out → most < length terms → TakesMore f g most
+  row-more out terms most r h e l =
+      let none : length f - length f ≡ 0 = omega arith in
+      takes-more terms out f g f g (length f) most (row-rows out r) h e refl refl (omega (arith, l, ap (λ z. z * length g) none))

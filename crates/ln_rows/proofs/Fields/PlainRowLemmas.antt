@@ -18,16 +18,16 @@ use Rattle.ln_rows.proofs.Records.PlainLemmas.{IsFresh, number_goes, comma_goes,
 use Rattle.ln_rows.proofs.Fields.RowLemmas.{Filled, filled_none, filled_site, filled_other, filled_all, site_fits}
 
 -- these fields of the first record have been read, and the next one begins
-pub record Stands (text : List ℕ) (fields : List (List ℕ)) (rest : List ℕ) : Type 0 where
+pub record IsBetweenFields (text : List ℕ) (fields : List (List ℕ)) (rest : List ℕ) : Type 0 where
   pub state : State
   pub fresh : IsFresh state
   pub is : first_of text ≡ next_record default_config state fields [] rest
 
 -- ---- the next field of a record is a value
 module _ (text : List ℕ) (fields : List (List ℕ)) (rest more : List ℕ) (lo hi z : ℤ)
-    (s : Stands text fields rest) where
+    (s : IsBetweenFields text fields rest) where
   -- a value with a comma after it: the next field begins
-  value_stands : (h : HasValue rest lo hi false z more) → Stands text (fields ++ (h.number.first ∷ h.number.others) ∷ []) more
+  value_stands : (h : HasValue rest lo hi false z more) → IsBetweenFields text (fields ++ (h.number.first ∷ h.number.others) ∷ []) more
   value_stands h = record {
     state = st.StartField;
     fresh = inr refl;
@@ -42,7 +42,7 @@ module _ (text : List ℕ) (fields : List (List ℕ)) (rest more : List ℕ) (lo
 
   -- where the record goes on after a value, and where it ends
   behind_value : (vars : List VarInfo) (v : ℕ) (last : Bool) → last ≡ (v + 1 == length vars) → (h : HasValue rest lo hi last z more)
-      → (v + 1 < length vars → Stands text (fields ++ (h.number.first ∷ h.number.others) ∷ []) more)
+      → (v + 1 < length vars → IsBetweenFields text (fields ++ (h.number.first ∷ h.number.others) ∷ []) more)
       × (v + 1 ≡ length vars → Gives text (fields ++ (h.number.first ∷ h.number.others) ∷ []) more)
   behind_value vars v true e h =
       (λ l. absurd (no_eq (omega (arith, l)) (sym e)), λ l. value_gives h)
@@ -61,7 +61,7 @@ module _ (text : List ℕ) (fields : List (List ℕ)) (rest more : List ℕ) (lo
 pub record Reading (vars : List VarInfo) (text : List ℕ) (index0 value0 : List ℤ) (v site : ℕ) (rest : List ℕ) (index value : List ℤ) : Type 0 where
   pub fields : List (List ℕ)
   pub filled : (more : List (List ℕ)) → Filled vars (fields ++ more) index0 value0 v site (length fields) index value
-  pub going : v < length vars → Stands text fields rest
+  pub going : v < length vars → IsBetweenFields text fields rest
   pub gone : v ≡ length vars → Gives text fields rest
 
 -- before any variable

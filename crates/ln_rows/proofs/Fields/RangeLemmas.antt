@@ -1,18 +1,17 @@
 -- A row that is read is in range.
 use Rattle.std.proofs.Common.{◌≡◌, ◌≢◌, ℕ, suc, ◌+◌, ◌-◌, ◌^◌, ◌≤◌, Bool, true, false, ◌&&◌, cond, List, [], ◌∷◌, length, take, ℤ, pos}
 use Rattle.std.proofs.Common.{◌≤ℤ◌, Option, Some, None, Result, Ok, Err, refl, ap, ◌∙◌, subst, arith}
-use Rattle.std.specs.Prelude.{unwrap_or, int_le, count_by, if◌then◌else◌, All, AllPairs, MatchOption, nat_le, ◌==◌}
-use Rattle.std.specs.List.{list_all}
+use Rattle.std.specs.Prelude.{unwrap_or, int_le, count_by, if◌then◌else◌, All, AllPairs, MatchOption, ◌==◌}
 use Rattle.std.proofs.lemmas.Bool.{and_parts, eqb-true}
-use Rattle.std.proofs.lemmas.Bool.Decides.{nat_tests}
 use Rattle.std.proofs.lemmas.Int.{ints}
 use Rattle.std.proofs.lemmas.List.{take_all}
 use Rattle.std.proofs.lemmas.List.Elements.{All-nil, All-cons}
 use Rattle.std.proofs.lemmas.List.Recursion.{is_count_by}
 use Rattle.ln_base.specs.Decimal.{integer_value}
 use Rattle.ln_tree.specs.declared.shape.VarInfo.{VarInfo}
-use Rattle.ln_tree.specs.Variables.{starts_site, no_var, in_order, has_range, is_param, is_laid_out}
+use Rattle.ln_tree.specs.Variables.{starts_site, is_laid_out}
 use Rattle.ln_tree.specs.Row.{Row, AreWithin, InRange}
+use Rattle.ln_tree.proofs.KeptLemmas.{within_length, laid_out, LaidOut}
 use Rattle.ln_order.specs.Order.{first_equal, IsFirstEqual}
 use Rattle.ln_order.proofs.Listing.OrderLemmas.{first_equal_is}
 use Rattle.ln_rows.specs.Number.{within}
@@ -22,26 +21,6 @@ use Rattle.ln_rows.specs.declared.numbers.NumberStop.TheVariants as stop
 use Rattle.ln_rows.specs.declared.record.RowStop.{RowStop}
 use Rattle.ln_rows.specs.declared.record.RowStop.TheVariants.{Fields}
 use Rattle.ln_rows.proofs.Fields.RowLemmas.{columns_at_least}
-
-at_most : (n m : ℕ) → nat_le n m ≡ true → n ≤ m
-at_most n m h = grind (arith, nat_tests)
-
--- what a shape keeps of its size
-pub record Sizes (sites : ℕ) (vars : List VarInfo) : Type 0 where
-  pub counted : count_by starts_site vars ≡ sites
-  pub few_sites : sites ≤ 5
-  pub few_vars : length vars ≤ 168
-
--- variables that are laid out for a number of sites have as many, at most 5, and are at most 168
-pub sizes : (sites : ℕ) (vars : List VarInfo) → is_laid_out sites vars ≡ true → Sizes sites vars
-sizes sites vars h =
-    let a = and_parts (in_order 0 0 no_var vars && list_all has_range vars && (count_by starts_site vars == sites) && nat_le sites 5
-    && nat_le (count_by is_param vars) 8) (nat_le (length vars) 168) h in
-    let b = and_parts (in_order 0 0 no_var vars && list_all has_range vars && (count_by starts_site vars == sites) && nat_le sites 5)
-    (nat_le (count_by is_param vars) 8) a.0 in
-    let c = and_parts (in_order 0 0 no_var vars && list_all has_range vars && (count_by starts_site vars == sites)) (nat_le sites 5) b.0 in
-    let d = and_parts (in_order 0 0 no_var vars && list_all has_range vars) (count_by starts_site vars == sites) c.0 in
-    record { counted = eqb-true _ _ d.1; few_sites = at_most _ _ c.1; few_vars = at_most _ _ a.1 }
 
 -- how many columns there are beside the variables: one for each site
 more_columns : List VarInfo → ℕ
@@ -131,12 +110,6 @@ all_said (c ∷ cs) [] h = absurd (omega (arith, h))
 all_said (SiteIndex ∷ cs) (f ∷ fs) h = omega (arith, all_said cs fs (omega (arith, h)))
 all_said (Variable i ∷ cs) (f ∷ fs) h = omega (arith, all_said cs fs (omega (arith, h)))
 
-within_length : (vars : List VarInfo) (zs : List ℤ) → AreWithin vars zs → length zs ≡ length vars
-within_length [] [] h = refl
-within_length [] (z ∷ zs) h = absurd h
-within_length (i ∷ is) [] h = absurd h
-within_length (i ∷ is) (z ∷ zs) h = ap suc (within_length is zs h.2)
-
 -- where a record is a row
 pub record IsRow (sites : ℕ) (vars : List VarInfo) (fields : List (List ℕ)) (r : Row) : Type 0 where
   pub size : length fields ≡ length (columns vars)
@@ -167,7 +140,7 @@ none_differ : (zs : List ℤ) → first_equal zs ≡ None → AllPairs (λ y z. 
 none_differ zs h = subst (λ (o : Option ℕ). MatchOption o (AllPairs (λ y z. y ≢ z) zs) (λ k. IsFirstEqual zs k)) h (first_equal_is zs)
 
 -- what the columns say is in range, where no column has a fault and the indices differ
-said_in_range : (sites : ℕ) (vars : List VarInfo) (fields : List (List ℕ)) → Sizes sites vars → length fields ≡ length (columns vars)
+said_in_range : (sites : ℕ) (vars : List VarInfo) (fields : List (List ℕ)) → LaidOut sites vars → length fields ≡ length (columns vars)
     → first_fault 0 (columns vars) fields ≡ None → first_equal (take sites (indices (columns vars) fields)) ≡ None
     → InRange sites vars (record { index = take sites (indices (columns vars) fields); values = values (columns vars) fields })
 said_in_range sites vars fields s size fault differ =
@@ -188,8 +161,8 @@ pub row_in_range : (sites : ℕ) (vars : List VarInfo) (fields : List (List ℕ)
     → read_row sites vars fields ≡ Ok r → InRange sites vars r
 row_in_range sites vars fields r laid h =
     let p = is_row sites vars fields r h in
-    subst (λ (q : Row). InRange sites vars q) p.is (said_in_range sites vars fields (sizes sites vars laid) p.size p.fault p.differ)
+    subst (λ (q : Row). InRange sites vars q) p.is (said_in_range sites vars fields (laid_out sites vars laid) p.size p.fault p.differ)
 
 -- how many columns a shape has
 pub shape_columns : (sites : ℕ) (vars : List VarInfo) → is_laid_out sites vars ≡ true → length (columns vars) ≡ length vars + sites
-shape_columns sites vars laid = let s = sizes sites vars laid in omega (arith, columns_length vars, s.counted)
+shape_columns sites vars laid = let s = laid_out sites vars laid in omega (arith, columns_length vars, s.counted)

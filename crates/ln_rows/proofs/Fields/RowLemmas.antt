@@ -265,7 +265,8 @@ stays_past sites vars old new e s = let n : length (columns vars) - length vars 
 pub zero_stays : (sites vars : ℕ) (old new : Row) → StaysPast sites vars old new → IsZeroPast sites vars old → IsZeroPast sites vars new
 zero_stays sites vars old new s z = record { index = λ k h. s.index k h ∙ z.index k h; values = λ k h. s.values k h ∙ z.values k h }
 
-zeros : (n k : ℕ) → get_or (replicate n (pos 0)) k (pos 0) ≡ pos 0
+-- a list of zeros has zeros alone
+pub zeros : (n k : ℕ) → get_or (replicate n (pos 0)) k (pos 0) ≡ pos 0
 zeros zero k = refl
 zeros (suc n) zero = refl
 zeros (suc n) (suc k) = zeros n k

@@ -19,7 +19,8 @@ use Rattle.ln_stage.specs.Kept.{AreFresh, IsStep, high, listed, rows, term_at}
 use Rattle.ln_stage.specs.Tally.{IsOver, IsStoppedBy, Tallied, see_all}
 use Rattle.ln_stage.proofs.Monomials.MonomialLemmas.{vector-small}
 use Rattle.ln_stage.proofs.Walks.StepLemmas.{over-more, rows-high, see_all-append, step-down}
-use Rattle.ln_stage.proofs.Walks.WalkLemmas.{stopped-more}
+use Rattle.ln_stage.proofs.Walks.WalkLemmas.{stopped-more, split}
+use Rattle.ln_stage.proofs.Walks.SiteWalkLemmas.{at_least-all, set-zero}
 
 -- ---- the exponents in turn
 module _ (go : ℕ → List (List ℕ) → List ℕ → Found) (v : ℕ) (ms : List (List ℕ)) (p : List ℕ) (k e : ℕ) where
@@ -41,10 +42,6 @@ module _ (go : ℕ → List (List ℕ) → List ℕ → Found) (v : ℕ) (ms : L
   steps-more : 0 < length (at_least v e ms) → (go k (at_least v e ms) (set p v e)).1 ≡ false
       → steps_at go v ms p (suc k) e ≡ ((go k (at_least v e ms) (set p v e)).0 ++ (steps_at go v ms p k (suc e)).0, (steps_at go v ms p k (suc e)).1)
   steps-more h c = some-rows _ h ∙ (rw c refl)
-
-split : (vs : List ℕ) → 0 < length vs → vs ≡ get_or vs 0 0 ∷ drop 1 vs
-split [] h = absurd (omega arith)
-split (v ∷ vs) h = refl
 
 walk-first : (vs : List ℕ) (d : ℕ) (ms : List (List ℕ)) (p : List ℕ) → 0 < length vs
     → walk_at vs d ms p ≡ steps_at (walk_at (drop 1 vs)) (get_or vs 0 0) ms p (d + 1) 0
@@ -248,16 +245,6 @@ nil : (vs : List ℕ) → length vs ≡ 0 → vs ≡ []
 nil [] h = refl
 nil (v ∷ vs) h = absurd (omega arith)
 
--- where nothing of the degree remains, the vector itself is the one that is listed
-at_least-all : (v : ℕ) (ms : List (List ℕ)) → at_least v 0 ms ≡ ms
-at_least-all v [] = refl
-at_least-all v (m ∷ ms) = let z : leb 0 (get_or m v 0) ≡ true = grind (arith, nat_tests) in rw z (ap (λ r. m ∷ r) (at_least-all v ms))
-
-set-same : (p : List ℕ) (v : ℕ) → get_or p v 0 ≡ 0 → set p v 0 ≡ p
-set-same [] v h = refl
-set-same (x ∷ p) zero h = ap (λ z. z ∷ p) (sym h)
-set-same (x ∷ p) (suc v) h = ap (λ z. x ∷ z) (set-same p v h)
-
 before-end : (r : Found) → before r ([], false) ≡ r
 before-end (l, true) = refl
 before-end (l, false) = ap (λ z. (z, false)) (append-nil l)
@@ -271,7 +258,7 @@ walk-nothing [] ms p h = refl
 walk-nothing (v ∷ vs) ms p h =
     let ih : walk_at vs 0 ms p ≡ ending 0 ms p = walk-nothing vs ms p (λ w i. h w (inr i)) in
     let a : at_least v 0 ms ≡ ms = at_least-all v ms in
-    let q : set p v 0 ≡ p = set-same p v (h v (inl refl)) in
+    let q : set p v 0 ≡ p = set-zero p v (h v (inl refl)) in
     let down : walk_at vs 0 (at_least v 0 ms) (set p v 0) ≡ ending 0 ms p = ap (λ z. walk_at vs 0 z (set p v 0)) a ∙ ap (walk_at vs 0 ms) q ∙ ih in
     ap (λ z. unless_none z (before (walk_at vs 0 (at_least v 0 ms) (set p v 0)) ([], false))) a
     ∙ ap (unless_none ms) (before-end (walk_at vs 0 (at_least v 0 ms) (set p v 0)) ∙ down)
@@ -290,7 +277,7 @@ first-none (v ∷ vs) p more h = h v (inl refl)
 
 module _ (f : Sparse) (vs kept p : List ℕ) (s : IsStep f vs kept p) (more : 0 < length vs) (d : ℕ) (r : List ℕ) (er : r ≡ drop 1 vs) where
   stays : p ≡ set p (get_or vs 0 0) 0
-  stays = sym (set-same p (get_or vs 0 0) (first-none vs p more s.none_yet))
+  stays = sym (set-zero p (get_or vs 0 0) (first-none vs p more s.none_yet))
 
   -- it is a step without the first variable
   pub zero-step : IsStep f r kept p

@@ -16,8 +16,9 @@ use Rattle.ln_tree.specs.Exps.{IsAbove, IsRising, Pairs, pairs_cmp, same_pairs, 
 use Rattle.ln_tree.proofs.Powers.{vector-get, vector-length}
 use Rattle.ln_poly.proofs.TermLists.Exponents.{exponent-small}
 use Rattle.ln_poly.specs.Sparse.{AreBelow, AreRising, IsFactor, IsPoly, Sparse, coefficient_at}
+use Rattle.ln_poly.proofs.Sorting.Collected.{vectors-same}
 use Rattle.ln_stage.specs.Kept.{all_rows}
-use Rattle.ln_stage.proofs.Walks.PairsLemmas.{same-pairs, same_pairs-refl}
+use Rattle.ln_stage.proofs.Walks.PairsLemmas.{same_pairs-refl}
 use Rattle.ln_stage.proofs.Monomials.StageLemmas.{AreMonomialsOf}
 
 -- ---- one term and the others
@@ -66,7 +67,7 @@ others : (n : ℕ) (x : Pairs) (f : Sparse) → IsRising x → IsAbove x n → A
     → AllByRecursion (λ t. on (λ t. t.0) pairs_cmp (x, pos 0) t ≡ Less) f → In (all_rows n f) (vector n x) → ⊥
 others n x [] r a rs bs h i = i
 others n x (t ∷ f) r a rs bs h (inl e) =
-    less-differs x t.0 h.0 (same-pairs n x t.0 r (All-head (λ t. IsRising t.0) t f rs) a (All-head (λ t. IsAbove t.0 n) t f bs) e)
+    less-differs x t.0 h.0 (vectors-same n x t.0 r (All-head (λ t. IsRising t.0) t f rs) a (All-head (λ t. IsAbove t.0 n) t f bs) e)
 others n x (t ∷ f) r a rs bs h (inr i) = others n x f r a (All-tail (λ t. IsRising t.0) t f rs) (All-tail (λ t. IsAbove t.0 n) t f bs) h.1 i
 
 -- terms strictly sorted by their monomials, each with rising variables and a coefficient that is a factor
@@ -79,7 +80,8 @@ pub record IsTerms (f : Sparse) : Type 0 where
 pub poly-terms : (f : Sparse) → IsPoly f → IsTerms f
 poly-terms f p = record { sorted = p.sorted; rising = p.rising; factors = p.factors }
 
-terms-of : (t : Pairs × ℤ) (f : Sparse) → IsTerms (t ∷ f) → IsTerms f
+-- so are those after the first
+pub terms-of : (t : Pairs × ℤ) (f : Sparse) → IsTerms (t ∷ f) → IsTerms f
 unfolding IsStrictlySortedBy
 terms-of t f p = record { sorted = p.sorted.1; rising = All-tail (λ t. IsRising t.0) t f p.rising; factors = All-tail (λ t. IsFactor t.1) t f p.factors }
 

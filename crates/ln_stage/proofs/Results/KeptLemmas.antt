@@ -1,18 +1,18 @@
 -- What is kept of the lists of all orders: blocks by first sight, numbers of segments and lists, count and weight.
-use Rattle.std.proofs.Common.{◌≡◌, ◌⊎◌, inl, inr, Bool, false, ℕ, zero, suc, ◌+◌, ◌-◌, ◌<◌, ◌≤◌, true, List, [], ◌∷◌, length, map, get_or}
-use Rattle.std.proofs.Common.{take, ◌++◌, refl, sym, ◌∙◌, ap, arith, if◌then◌else◌}
+use Rattle.std.proofs.Common.{◌≡◌, ◌⊎◌, inl, inr, ℕ, zero, suc, ◌+◌, ◌-◌, ◌<◌, ◌≤◌, List, [], ◌∷◌, length, map, get_or}
+use Rattle.std.proofs.Common.{take, ◌++◌, refl, sym, ◌∙◌, ap, arith}
 use Rattle.std.specs.Prelude.{All, Contains, Some, slice_get}
 use Rattle.std.proofs.lemmas.List.{append-nil, get_or-map, length-map, map-append}
-use Rattle.std.proofs.lemmas.List.Elements.{All-append, All-cons, All-head, All-nil, All-tail}
+use Rattle.std.proofs.lemmas.List.Elements.{All-cons, All-head, All-nil, All-tail}
 use Rattle.std.proofs.lemmas.Option.{get_or_from_slice_get, slice_get-get_or, slice_get_within}
 use Rattle.std.specs.List.{range_with_len}
-use Rattle.ln_algebra.specs.Vector.{In, same_vector}
+use Rattle.ln_algebra.specs.Vector.{In}
 use Rattle.ln_tree.specs.declared.shape.VarInfo.{VarInfo}
 use Rattle.ln_tree.specs.Exps.{IsAbove, Pairs, vector}
 use Rattle.ln_order.specs.Orders.{IsOrderOf, orders_of}
 use Rattle.ln_order.specs.Prefixes.{IsPrefixOf, beside, joined, prefixes_of, segments_from}
 use Rattle.ln_order.proofs.Listing.OrdersLemmas.{member-is}
-use Rattle.ln_order.proofs.Listing.PrefixLemmas.{beside_at, front_number, prefix-is}
+use Rattle.ln_order.proofs.Listing.PrefixLemmas.{beside_at, beside-all, front_number, joined-all, prefix-is}
 use Rattle.ln_order.specs.Prefixes.{number_of_front}
 use Rattle.ln_poly.specs.Sparse.{Sparse}
 use Rattle.ln_stage.specs.FirstSight.{list_along, shared_count}
@@ -60,19 +60,6 @@ maps-agree F G [] h = refl
 maps-agree F G (x ∷ xs) h =
     let ih = maps-agree F G xs (λ y c. h y (suc c.0, omega (arith, c.1), c.2)) in
     ap (λ z. z ∷ map F xs) (h x (0, omega arith, refl)) ∙ ap (λ z. G x ∷ z) ih
-
--- a claim on all numbers of all segments is one on those of a list
-beside-all : (P : ℕ → Type 0) (ps ss : List (List ℕ)) (p : List ℕ) → All (λ l. All P l) ss → All P (beside ps ss p)
-beside-all P [] ss p h = All-nil P
-beside-all P (q ∷ ps) [] p h = All-nil P
-beside-all P (q ∷ ps) (s ∷ ss) p h = go (same_vector q p) (beside-all P ps ss p (All-tail (λ l. All P l) s ss h)) where
-  go : (b : Bool) → All P (beside ps ss p) → All P (if b then s else beside ps ss p)
-  go true ih = All-head (λ l. All P l) s ss h
-  go false ih = ih
-
-joined-all : (P : ℕ → Type 0) (F : ℕ → List ℕ) (is : List ℕ) → ((i : ℕ) → All P (F i)) → All P (joined (map F is))
-joined-all P F [] h = All-nil P
-joined-all P F (i ∷ is) h = All-append P (F i) (joined (map F is)) (h i) (joined-all P F is h)
 
 maps-all : (P : ℕ → Type 0) (F : List ℕ → List ℕ) (os : List (List ℕ)) → ((o : List ℕ) → All P (F o)) → All (λ l. All P l) (map F os)
 maps-all P F [] h = All-nil (λ l. All P l)

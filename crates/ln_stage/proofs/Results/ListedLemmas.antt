@@ -1,16 +1,14 @@
 -- The segments of all prefixes, one after the other.
 use Rattle.std.proofs.Common.{◌≡◌, ◌⊎◌, inl, inr, zero, suc, ℕ, ◌+◌, ◌-◌, ◌*◌, ◌<◌, ◌≤◌, Bool, List, [], ◌∷◌, ◌++◌, append_assoc, length}
 use Rattle.std.proofs.Common.{length-append, map, get_or, drop, refl, sym, ◌∙◌, ap, subst, arith}
-use Rattle.std.specs.Prelude.{Some, slice_get}
 use Rattle.std.proofs.lemmas.List.{append-nil, drop-map, drop_all, drop_more}
-use Rattle.std.proofs.lemmas.Option.{slice_get-get_or, slice_get_within}
 use Rattle.ln_tree.specs.declared.shape.VarInfo.{VarInfo}
 use Rattle.ln_order.specs.declared.front.Front.{Front}
 use Rattle.ln_order.specs.Fronts.{front_places}
 use Rattle.ln_order.specs.Orders.{orders_of}
-use Rattle.ln_order.specs.Prefixes.{IsPrefixOf, beside, prefixes_of}
+use Rattle.ln_order.specs.Prefixes.{IsPrefixOf, prefixes_of}
 use Rattle.ln_order.proofs.Listing.FrontLemmas.{front-is-prefix}
-use Rattle.ln_order.proofs.Listing.PrefixLemmas.{beside_at, fronts-follow}
+use Rattle.ln_order.proofs.Listing.PrefixLemmas.{fronts-follow}
 use Rattle.ln_poly.specs.Sparse.{Sparse}
 use Rattle.ln_stage.specs.FirstSight.{shared_count}
 use Rattle.ln_stage.specs.Kept.{numbers_by, tallied_by}
@@ -128,10 +126,3 @@ pub cuts-follow : (vars : List VarInfo) (f : Sparse) (all : List Front) (k i : �
 cuts-follow vars f all k i p cuts few e h q a =
     cuts-go vars f (prefixes_of k) i (front_places p) (map front_places (drop (i + 1) all)) cuts (λ j l. fronts-follow k j few l)
     (ap (drop i) (sym e) ∙ drop-map front_places i all ∙ more-prefixes all i p h q) a
-
--- what is read at a prefix's number
-pub read-is : (k : ℕ) (ss : List (List ℕ)) (p : List ℕ) (i : ℕ) (s : List ℕ) → k ≤ 5 → length ss ≡ length (prefixes_of k)
-    → slice_get (prefixes_of k) i ≡ Some p → s ≡ get_or ss i s → s ≡ beside (prefixes_of k) ss p
-read-is k ss p i s few size h e =
-    let l : i < length ss = omega (arith, slice_get_within (prefixes_of k) i p h, size) in
-    sym (beside_at k ss p i s few h (slice_get-get_or ss i s l ∙ ap (λ z. Some z) (sym e)))

@@ -8,6 +8,7 @@ use Rattle.std.proofs.lemmas.List.{get_or_past}
 use Rattle.ln_algebra.specs.Vector.{In}
 use Rattle.ln_algebra.specs.Earlier.{Earlier, IndicesDiffer, IsInOrder, IsOver, Of, RanksBefore, Sites}
 use Rattle.ln_algebra.proofs.Ordering.Order.{earlier-irreflexive, earlier-total, earlier-transitive}
+use Rattle.ln_algebra.proofs.Walking.Walk.{In-append_left, In-append_right, In-append}
 use Rattle.ln_tree.specs.declared.shape.VarInfo.{VarInfo}
 use Rattle.ln_order.specs.Prefixes.{joined}
 use Rattle.ln_order.specs.Sites.{place_in, sites_of}
@@ -17,28 +18,11 @@ use Rattle.ln_stage.specs.Segments.{AreSegments, Ends, IndicesBelow, IsSegmentOf
 use Rattle.ln_stage.specs.Segments.{SegmentIsUnique, SegmentsMakeTheList, at_index, isnt_zero, part, reach, touches}
 
 -- ---- members
--- a member of the first of two lists is a member of the lists one after the other
-pub in-left : (xs ys : List (List ℕ)) (a : List ℕ) → In xs a → In (xs ++ ys) a
-in-left [] ys a i = absurd i
-in-left (x ∷ xs) ys a (inl e) = inl e
-in-left (x ∷ xs) ys a (inr i) = inr (in-left xs ys a i)
-
--- a member of the second of two lists is a member of the lists one after the other
-pub in-right : (xs ys : List (List ℕ)) (a : List ℕ) → In ys a → In (xs ++ ys) a
-in-right [] ys a i = i
-in-right (x ∷ xs) ys a i = inr (in-right xs ys a i)
-
--- a member of two lists, one after the other, is a member of one of them
-pub in-cases : (xs ys : List (List ℕ)) (a : List ℕ) → In (xs ++ ys) a → In xs a ⊎ In ys a
-in-cases [] ys a i = inr i
-in-cases (x ∷ xs) ys a (inl e) = inl (inl e)
-in-cases (x ∷ xs) ys a (inr i) = elim (in-cases xs ys a i) [ inl k ↦ inl (inr k) | inr k ↦ inr k ]
-
 order-join : (sites : Sites) (xs ys : List (List ℕ)) → IsInOrder sites xs → IsInOrder sites ys
     → ((a b : List ℕ) → In xs a → In ys b → Earlier sites a b) → IsInOrder sites (xs ++ ys)
 order-join sites [] ys s t h = t
 order-join sites (x ∷ xs) ys s t h =
-    ((λ b i. elim (in-cases xs ys b i) [ inl k ↦ s.0 b k | inr k ↦ h x b (inl refl) k ]), order-join sites xs ys s.1 t (λ a b i j. h a b (inr i) j))
+    ((λ b i. elim (In-append xs ys b i) [ inl k ↦ s.0 b k | inr k ↦ h x b (inl refl) k ]), order-join sites xs ys s.1 t (λ a b i j. h a b (inr i) j))
 
 -- two lists in order with the same members are one
 lists-same : (sites : Sites) → IndicesDiffer sites → (xs ys : List (List ℕ)) → IsInOrder sites xs → IsInOrder sites ys
@@ -173,7 +157,7 @@ module _ (n : ℕ) (sites : Sites) (f : Sparse) (d : IndicesDiffer sites) where
   joined-are : (j : ℕ) (lists : List (List (List ℕ))) (a : List ℕ) → AreSegments n sites f j lists → In (joined lists) a
       → (i : ℕ) × (j ≤ i) × IsStageOf n sites f a × Ends sites i a
   joined-are j [] a h i = absurd i
-  joined-are j (list ∷ lists) a h i = go (in-cases list (joined lists) a i) (joined-are (suc j) lists a h.1) where
+  joined-are j (list ∷ lists) a h i = go (In-append list (joined lists) a i) (joined-are (suc j) lists a h.1) where
     go : In list a ⊎ In (joined lists) a → (In (joined lists) a → (i : ℕ) × (suc j ≤ i) × IsStageOf n sites f a × Ends sites i a)
         → (i : ℕ) × (j ≤ i) × IsStageOf n sites f a × Ends sites i a
     go (inl m) ih = let r = h.0.stages a m in (j, omega arith, r.0, r.1)
@@ -184,8 +168,8 @@ module _ (n : ℕ) (sites : Sites) (f : Sparse) (d : IndicesDiffer sites) where
   in-joined j [] a i h s e l m = absurd (omega arith)
   in-joined j (list ∷ lists) a i h s e l m = go (cases_eq i j) (in-joined (suc j) lists a i h.1 s e) where
     go : (i ≡ j) ⊎ (i ≡ j → ⊥) → (suc j ≤ i → i < suc j + length lists → In (joined lists) a) → In (list ++ joined lists) a
-    go (inl q) ih = in-left list (joined lists) a (h.0.all a s (rw q at e))
-    go (inr ne) ih = in-right list (joined lists) a (ih (omega (arith, l, ne)) (omega (arith, m)))
+    go (inl q) ih = In-append_left list (joined lists) a (h.0.all a s (rw q at e))
+    go (inr ne) ih = In-append_right list (joined lists) a (ih (omega (arith, l, ne)) (omega (arith, m)))
 
   joined-order : (j : ℕ) (lists : List (List (List ℕ))) → AreSegments n sites f j lists → IsInOrder sites (joined lists)
   joined-order j [] h = tt

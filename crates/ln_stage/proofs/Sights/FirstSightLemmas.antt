@@ -1,10 +1,11 @@
 -- First sight through segments, and the count.
-use Rattle.std.proofs.Common.{◌≡◌, ℕ, ◌≤◌, zero, suc, ◌+◌, ◌-◌, ◌*◌, Bool, true, false, eq-eqb, List, [], ◌∷◌, ◌++◌, append_assoc, length}
+use Rattle.std.proofs.Common.{◌≡◌, ℕ, ◌≤◌, zero, suc, ◌+◌, ◌-◌, ◌*◌, Bool, true, false, List, [], ◌∷◌, ◌++◌, append_assoc, length}
 use Rattle.std.proofs.Common.{length-append, map, refl, sym, ◌∙◌, ap, subst, arith, if◌then◌else◌}
 use Rattle.std.specs.Prelude.{◌||◌}
 use Rattle.std.proofs.lemmas.List.{append-nil, length-map}
 use Rattle.std.proofs.Math.Nat.{add-mul}
 use Rattle.ln_algebra.specs.Vector.{same_vector}
+use Rattle.ln_algebra.proofs.Expanded.Normal.{same_vector-refl}
 use Rattle.ln_tree.specs.declared.shape.VarInfo.{VarInfo}
 use Rattle.ln_order.specs.Orders.{behind, firsts, orders_of, past}
 use Rattle.ln_poly.specs.Sparse.{Sparse}
@@ -19,10 +20,6 @@ use Rattle.ln_stage.proofs.Walks.SiteWalkLemmas.{lists-are-walked-by-prefixes}
 has : List (List ℕ) → List ℕ → Bool
 has [] a = false
 has (b ∷ bs) a = same_vector a b || has bs a
-
-self : (a : List ℕ) → same_vector a a ≡ true
-self [] = refl
-self (x ∷ a) = let r = self a in rw (eq-eqb x x refl) r
 
 put-known : (bs : List (List ℕ)) (a : List ℕ) → has bs a ≡ true → put_last bs a ≡ bs
 unfolding has
@@ -45,7 +42,7 @@ has-put (c ∷ bs) b a h = go (same_vector b c) (same_vector a c) h (has-put bs 
 
 has-new : (bs : List (List ℕ)) (a : List ℕ) → has (put_last bs a) a ≡ true
 unfolding has
-has-new [] a = rw (self a) refl
+has-new [] a = rw (same_vector-refl a) refl
 has-new (b ∷ bs) a = go (same_vector a b) refl (has-new bs a) where
   go : (t : Bool) → same_vector a b ≡ t → has (put_last bs a) a ≡ true → has (if t then b ∷ bs else b ∷ put_last bs a) a ≡ true
   go true e ih = rw e refl

@@ -7,14 +7,15 @@ use Rattle.std.proofs.lemmas.List.{get_or-map, get_or_default, length-append, le
 use Rattle.std.proofs.lemmas.List.Elements.{All-cons, All-nil}
 use Rattle.std.proofs.lemmas.List.Sums.{sum_by-cons}
 use Rattle.ln_algebra.proofs.Expanded.Expansion.{length-zeros}
-use Rattle.ln_algebra.proofs.Ordering.Admissible.{both-admissible}
+use Rattle.ln_algebra.proofs.Ordering.Admissible.{both-admissible, degree-zeros}
 use Rattle.ln_algebra.proofs.Ordering.Order.{earlier-irreflexive}
 use Rattle.ln_algebra.proofs.Ordering.Unique.{stage_list-unique-by}
 use Rattle.ln_algebra.proofs.Vectors.Zeros.{covers-zeros}
 use Rattle.ln_algebra.specs.Earlier.{IsSortedIn, Sites}
 use Rattle.ln_algebra.specs.Orders.{Before, BySmallest, ByDegree, Rank}
 use Rattle.ln_algebra.specs.Stage.{CoveredBy, IsStageBy}
-use Rattle.ln_algebra.specs.Vector.{In, covers, same_vector, total_degree, zeros}
+use Rattle.ln_algebra.specs.Vector.{In, covers, same_vector, zeros}
+use Rattle.ln_algebra.proofs.Walking.Stages.{zeros-get}
 use Rattle.ln_tree.specs.declared.shape.VarInfo.{VarInfo}
 use Rattle.ln_tree.specs.Exps.{Pairs, vector}
 use Rattle.ln_tree.specs.Variables.{is_laid_out}
@@ -89,21 +90,11 @@ seen-length bs [] = omega arith
 seen-length bs (l ∷ ls) = omega (arith, seen-length (seen_behind bs l) ls, behind-length bs l)
 
 -- ---- the vector of zeros is the first
--- each exponent in the vector of zeros is 0
-pub zeros-at : (n v : ℕ) → get_or (zeros n) v 0 ≡ 0
-zeros-at zero v = refl
-zeros-at (suc n) zero = refl
-zeros-at (suc n) (suc v) = zeros-at n v
-
-zeros-degree : (n : ℕ) → total_degree (zeros n) ≡ 0
-zeros-degree zero = refl
-zeros-degree (suc n) = omega (arith, zeros-degree n)
-
 -- no vector is before the vector of zeros
 pub none-before : (rank : Rank) (n : ℕ) (sites : Sites) (b : List ℕ) → Before rank sites b (zeros n) → ⊥
-none-before BySmallest n sites b (v, s, o, l, r) = absurd (omega (arith, l, zeros-at n v))
-none-before ByDegree n sites b (inl l) = absurd (omega (arith, l, zeros-degree n))
-none-before ByDegree n sites b (inr (q, w)) = absurd (omega (arith, w.3, zeros-at n w.0))
+none-before BySmallest n sites b (v, s, o, l, r) = absurd (omega (arith, l, zeros-get n v))
+none-before ByDegree n sites b (inl l) = absurd (omega (arith, l, degree-zeros n))
+none-before ByDegree n sites b (inr (q, w)) = absurd (omega (arith, w.3, zeros-get n w.0))
 
 -- it is a stage
 pub zeros-stage : (rank : Rank) (n : ℕ) (sites : Sites) (f : Sparse) → IsPoly f → AreBelow n f → f ≢ []
@@ -112,7 +103,7 @@ zeros-stage rank n sites [] p b d = absurd (d refl)
 zeros-stage rank n sites (t ∷ f) p b d =
     let m = (rows-monomials n (t ∷ f) (poly-terms (t ∷ f) p) b).monomials (vector n t.0) (inl refl) in
     record {
-      over = record { size = length-zeros n; of_sites = λ v e. zeros-at n v };
+      over = record { size = length-zeros n; of_sites = λ v e. zeros-get n v };
       covered = (vector n t.0, m, covers-zeros (vector n t.0) n m.size);
       before_cut = λ b o l e. none-before rank n sites b e;
     }

@@ -4,10 +4,11 @@ use Rattle.std.proofs.lemmas.List.{append-nil}
 use Rattle.ln_algebra.proofs.Expanded.Normal.{same_vector-is, same_vector-refl}
 use Rattle.ln_algebra.specs.Earlier.{IsSortedIn}
 use Rattle.ln_algebra.specs.Vector.{In, same_vector}
+use Rattle.ln_algebra.proofs.Walking.Walk.{In-append_left, In-append_right, In-append}
 use Rattle.ln_order.specs.Prefixes.{joined}
+use Rattle.ln_order.proofs.Signs.RowSigns.{order-moves}
 use Rattle.ln_stage.specs.Lists.{all_seen_behind, first_seen, put_last, seen_behind}
 use Rattle.ln_stage.specs.Sighted.{FirstSeenAreSighted, SightedBefore}
-use Rattle.ln_stage.proofs.Results.SegmentLemmas.{in-cases, in-left, in-right}
 
 -- ---- one vector more
 put-cases : (bs : List (List ℕ)) (a : List ℕ) → (In bs a × (put_last bs a ≡ bs)) ⊎ ((In bs a → ⊥) × (put_last bs a ≡ bs ++ a ∷ []))
@@ -25,15 +26,11 @@ put-cases (b ∷ bs) a = by_case (same_vector a b) refl (put-cases bs a) where
 sorted-more : (R : List ℕ → List ℕ → Type 0) (bs : List (List ℕ)) (a : List ℕ) → IsSortedIn R bs → ((b : List ℕ) → In bs b → R b a)
     → IsSortedIn R (bs ++ a ∷ [])
 sorted-more R [] a s h = (λ b i. absurd i, tt)
-sorted-more R (b ∷ bs) a s h = (λ c i. at c (in-cases bs (a ∷ []) c i), sorted-more R bs a s.1 (λ c i. h c (inr i))) where
+sorted-more R (b ∷ bs) a s h = (λ c i. at c (In-append bs (a ∷ []) c i), sorted-more R bs a s.1 (λ c i. h c (inr i))) where
   at : (c : List ℕ) → In bs c ⊎ In (a ∷ []) c → R b c
   at c (inl i) = s.0 c i
   at c (inr (inl e)) = rw e (h b (inl refl))
   at c (inr (inr i)) = absurd i
-
-sorted-weaker : (R Q : List ℕ → List ℕ → Type 0) → ((a b : List ℕ) → R a b → Q a b) → (bs : List (List ℕ)) → IsSortedIn R bs → IsSortedIn Q bs
-sorted-weaker R Q h [] s = tt
-sorted-weaker R Q h (b ∷ bs) s = (λ c i. h b c (s.0 c i), sorted-weaker R Q h bs s.1)
 
 further : (xs zs : List (List ℕ)) (a b : List ℕ) → SightedBefore xs a b → SightedBefore (xs ++ zs) a b
 further xs zs a b (us, vs, e, i, n) = (us, vs ++ zs, ap (λ q. q ++ zs) e ∙ append_assoc us vs zs, i, n)
@@ -48,27 +45,27 @@ found-more : (xs bs : List (List ℕ)) (a : List ℕ) → Found xs bs → Found 
 found-more xs bs a f = by_case (put-cases bs a) where
   by_case : (In bs a × (put_last bs a ≡ bs)) ⊎ ((In bs a → ⊥) × (put_last bs a ≡ bs ++ a ∷ [])) → Found (xs ++ a ∷ []) (put_last bs a)
   by_case (inl (i, q)) = subst (Found (xs ++ a ∷ [])) (sym q) (record {
-    to = λ b j. in-left xs (a ∷ []) b (f.to b j);
-    from = λ b j. at b (in-cases xs (a ∷ []) b j);
-    in_order = sorted-weaker (SightedBefore xs) (SightedBefore (xs ++ a ∷ [])) (further xs (a ∷ [])) bs f.in_order;
+    to = λ b j. In-append_left xs (a ∷ []) b (f.to b j);
+    from = λ b j. at b (In-append xs (a ∷ []) b j);
+    in_order = order-moves (SightedBefore xs) (SightedBefore (xs ++ a ∷ [])) (further xs (a ∷ [])) bs f.in_order;
   }) where
     at : (b : List ℕ) → In xs b ⊎ In (a ∷ []) b → In bs b
     at b (inl j) = f.from b j
     at b (inr (inl e)) = rw e i
     at b (inr (inr j)) = absurd j
   by_case (inr (n, q)) = subst (Found (xs ++ a ∷ [])) (sym q) (record {
-    to = λ b j. into b (in-cases bs (a ∷ []) b j);
-    from = λ b j. at b (in-cases xs (a ∷ []) b j);
-    in_order = sorted-more (SightedBefore (xs ++ a ∷ [])) bs a (sorted-weaker (SightedBefore xs) (SightedBefore (xs ++ a ∷ []))
+    to = λ b j. into b (In-append bs (a ∷ []) b j);
+    from = λ b j. at b (In-append xs (a ∷ []) b j);
+    in_order = sorted-more (SightedBefore (xs ++ a ∷ [])) bs a (order-moves (SightedBefore xs) (SightedBefore (xs ++ a ∷ []))
         (further xs (a ∷ [])) bs f.in_order) (λ b j. (xs, a ∷ [], refl, f.to b j, λ k. n (f.from a k)));
   }) where
     into : (b : List ℕ) → In bs b ⊎ In (a ∷ []) b → In (xs ++ a ∷ []) b
-    into b (inl j) = in-left xs (a ∷ []) b (f.to b j)
-    into b (inr j) = in-right xs (a ∷ []) b j
+    into b (inl j) = In-append_left xs (a ∷ []) b (f.to b j)
+    into b (inr j) = In-append_right xs (a ∷ []) b j
 
     at : (b : List ℕ) → In xs b ⊎ In (a ∷ []) b → In (bs ++ a ∷ []) b
-    at b (inl j) = in-left bs (a ∷ []) b (f.from b j)
-    at b (inr j) = in-right bs (a ∷ []) b j
+    at b (inl j) = In-append_left bs (a ∷ []) b (f.from b j)
+    at b (inr j) = In-append_right bs (a ∷ []) b j
 
 found-behind : (rest xs bs : List (List ℕ)) → Found xs bs → Found (xs ++ rest) (seen_behind bs rest)
 found-behind [] xs bs f = subst (λ q. Found q bs) (sym (append-nil xs)) f

@@ -1,5 +1,5 @@
 -- The walk by prefixes lists the segments.
-use Rattle.std.proofs.Common.{◌≡◌, ◌≢◌, ◌⊎◌, inl, inr, ℕ, zero, suc, ◌+◌, ◌<◌, ◌≤◌, Bool, true, false, cond, eqb, eq-eqb, eqb-true, leb}
+use Rattle.std.proofs.Common.{◌≡◌, ◌≢◌, ◌⊎◌, inl, inr, ℕ, zero, suc, ◌+◌, ◌<◌, ◌≤◌, Bool, true, false, cond, eqb, eq-eqb, eqb-true}
 use Rattle.std.proofs.Common.{List, [], ◌∷◌, ◌++◌, append_assoc, length, length-append, get_or, set, refl, sym, ◌∙◌, ap, subst, arith, Some}
 use Rattle.std.proofs.Common.{if◌then◌else◌}
 use Rattle.std.specs.List.{range_with_len}
@@ -10,15 +10,15 @@ use Rattle.ln_algebra.specs.Vector.{In, zeros}
 use Rattle.ln_algebra.specs.Earlier.{IsInOrder, Sites}
 use Rattle.ln_algebra.specs.Walk.{AllBelow, Found, IsRanked, IsRanking, Member, at_least, before, steps, unless_none, walk}
 use Rattle.ln_algebra.proofs.Expanded.Expansion.{length-zeros}
-use Rattle.ln_algebra.proofs.Ordering.Order.{before-irreflexive}
-use Rattle.ln_algebra.proofs.Walking.Stages.{zeros-get}
-use Rattle.ln_algebra.proofs.Walking.Walk.{Distinct, Fresh, Inside, Region, listing-walk}
+use Rattle.ln_algebra.proofs.Walking.Stages.{zeros-get, ranked-distinct, fresh_from}
+use Rattle.ln_algebra.proofs.Walking.Walk.{Distinct, Inside, Region, listing-walk, below_at_least, inside_set, In-append_left, In-append_right}
+use Rattle.ln_algebra.proofs.Walking.Walk.{In-append}
 use Rattle.ln_tree.specs.declared.shape.VarInfo.{VarInfo}
 use Rattle.ln_tree.specs.Variables.{is_laid_out, same_site}
+use Rattle.ln_tree.proofs.LaidLemmas.{same-site}
 use Rattle.ln_order.specs.Orders.{IsOrderOf}
 use Rattle.ln_order.specs.Sites.{place_in, ranking_of, site_of, sites_of, vars_of}
-use Rattle.ln_order.proofs.Signs.RankingLemmas.{member-cases, member-right, ranking-is}
-use Rattle.ln_order.proofs.Signs.SitesLemmas.{same_site-is}
+use Rattle.ln_order.proofs.Signs.RankingLemmas.{member-cases, member-right, ranking-is, ranking-append}
 use Rattle.ln_poly.specs.Sparse.{AreBelow, IsPoly, Sparse}
 use Rattle.ln_stage.specs.Kept.{all_rows, list_of, listed, rows, tail}
 use Rattle.ln_stage.specs.StageList.{IsStageListOf, IsStageOf}
@@ -27,7 +27,7 @@ use Rattle.ln_stage.proofs.Monomials.StageLemmas.{walk-stages}
 use Rattle.ln_stage.proofs.Walks.StartLemmas.{rows-all}
 use Rattle.ln_order.specs.Prefixes.{joined}
 use Rattle.ln_stage.specs.Segments.{AreSegments, Ends, IsSegmentOf}
-use Rattle.ln_stage.proofs.Results.SegmentLemmas.{ends-order, in-cases, in-left, in-right}
+use Rattle.ln_stage.proofs.Results.SegmentLemmas.{ends-order}
 use Rattle.ln_stage.specs.SiteWalk.{ListsAreWalkedByPrefixes, WalkGoesSiteBySite, WalksAreSegments, front_walk, prefix_walks, site_walk, site_walks, unless_cut}
 
 -- ---- one list before another
@@ -41,11 +41,13 @@ before-assoc (l, false) (m, true) t = refl
 before-assoc (l, false) (m, false) t = ap (λ z. (z, t.1)) (append_assoc l m t.0)
 
 -- ---- exponents of 0
-at_least-all : (v : ℕ) (ms : List (List ℕ)) → at_least v 0 ms ≡ ms
+-- all monomials have at least the exponent 0
+pub at_least-all : (v : ℕ) (ms : List (List ℕ)) → at_least v 0 ms ≡ ms
 at_least-all v [] = refl
 at_least-all v (m ∷ ms) = rw (le-leb 0 (get_or m v 0) (omega arith)) (ap (λ z. m ∷ z) (at_least-all v ms))
 
-set-zero : (p : List ℕ) (v : ℕ) → get_or p v 0 ≡ 0 → set p v 0 ≡ p
+-- setting an exponent that is 0 to 0 changes nothing
+pub set-zero : (p : List ℕ) (v : ℕ) → get_or p v 0 ≡ 0 → set p v 0 ≡ p
 set-zero p v e = ap (set p v) (sym e) ∙ set-get_or p v 0
 
 -- without monomials nothing is listed
@@ -119,7 +121,7 @@ lists-are-walked-by-prefixes vars f o = list-walks vars f o ∙ sym (fronts-join
 -- ---- what a walk lists needs its variables
 in-before : (r t : Found) (a : List ℕ) → In (before r t).0 a → In r.0 a ⊎ In t.0 a
 in-before (l, true) t a i = inl i
-in-before (l, false) t a i = in-cases l t.0 a i
+in-before (l, false) t a i = In-append l t.0 a i
 
 in-unless : (ms : List (List ℕ)) (r : Found) (a : List ℕ) → In (unless_none ms r).0 a → In r.0 a
 in-unless [] r a i = absurd i
@@ -137,19 +139,6 @@ in-steps go v ms p (suc k) e a i = by_case (in-before (go (at_least v e ms) (set
         → (d : ℕ) × (e ≤ d) × In (go (at_least v d ms) (set p v d)).0 a
     by_case (inl j) ih = (e, omega arith, j)
     by_case (inr j) ih = let r = ih j in (r.0, omega (arith, r.1), r.2)
-
-below-at_least : (bound v e : ℕ) (ms : List (List ℕ)) → AllBelow bound ms → AllBelow bound (at_least v e ms)
-below-at_least bound v e ms h m u i = h m u (there ms i) where
-  there : (ms : List (List ℕ)) → In (at_least v e ms) m → In ms m
-  there [] i = i
-  there (x ∷ ms) i = by_case (leb e (get_or x v 0)) i (there ms) where
-    by_case : (b : Bool) → In (if b then (x ∷ at_least v e ms) else at_least v e ms) m → (In (at_least v e ms) m → In ms m) → In (x ∷ ms) m
-    by_case true (inl q) ih = inl q
-    by_case true (inr j) ih = inr (ih j)
-    by_case false j ih = inr (ih j)
-
-inside-set : (vs p : List ℕ) (v e : ℕ) → Inside vs (length p) → Inside vs (length (set p v e))
-inside-set vs p v e h = subst (λ n. Inside vs n) (sym (length-set p v e)) h
 
 -- a member needs one of the variables us, and is p but for the variables us and the rest
 NeedsOne : List ℕ → List ℕ → Type 0
@@ -171,8 +160,8 @@ tail-needs b (v ∷ us) rest ms p a d n h i =
     by_case (inl j) ih = let r = ih j in ((r.0.0, inr r.0.1, r.0.2), wider r.1)
     by_case (inr j) ih =
         let r = in-steps (walk (suc b) (us ++ rest)) v ms p b 1 a j in
-        let l = listing-walk (suc b) (us ++ rest) (at_least v r.0 ms) (set p v r.0) d.1 (inside-set (us ++ rest) p v r.0 n.1)
-        (below-at_least (suc b) v r.0 ms h) in
+        let l = listing-walk (suc b) (us ++ rest) (at_least v r.0 ms) (set p v r.0) d.1 (inside_set (us ++ rest) p v r.0 n.1)
+        (below_at_least (suc b) v r.0 ms h) in
         let g : Region (us ++ rest) (set p v r.0) a = l.inside a r.2 in
         let q : get_or a v 0 ≡ r.0 = g.off v d.0 ∙ get_or-set_same p v r.0 0 n.0 in (
           (v, inl refl, λ e. omega (arith, r.1, q, e)),
@@ -185,7 +174,7 @@ vars-site s [] v w m = absurd m
 vars-site s (i ∷ is) v w m = go (same_site i.site (Some s)) refl m (vars-site s is (suc v) w) where
   go : (b : Bool) → same_site i.site (Some s) ≡ b → Member (if b then (v ∷ vars_of s is (suc v)) else vars_of s is (suc v)) w
       → (Member (vars_of s is (suc v)) w → (u : ℕ) × (w ≡ suc v + u) × (site_of is u ≡ Some s)) → (u : ℕ) × (w ≡ v + u) × (site_of (i ∷ is) u ≡ Some s)
-  go true e (inl q) ih = (0, omega (arith, q), same_site-is i.site (Some s) e)
+  go true e (inl q) ih = (0, omega (arith, q), same-site i.site (Some s) e)
   go true e (inr j) ih = let r = ih j in (suc r.0, omega (arith, r.1), r.2)
   go false e j ih = let r = ih j in (suc r.0, omega (arith, r.1), r.2)
 
@@ -216,23 +205,10 @@ place-next (t ∷ p) o s h = go (eqb t s) refl (place-next p o s (λ m. h (inr m
   go true e ih = absurd (h (inl (sym (eqb-true t s e))))
   go false e ih = ap suc ih
 
-fresh-from : (vs : List ℕ) (w : ℕ) → (Member vs w → ⊥) → Fresh w vs
-fresh-from [] w h = tt
-fresh-from (u ∷ vs) w h = (λ e. h (inl e), fresh-from vs w (λ m. h (inr m)))
-
 -- ---- a ranking has each variable once
--- the ranking of two lists of sites, one after the other, is that of the second list, and then that of the first
-pub ranking-join : (vars : List VarInfo) (p q : List ℕ) → ranking_of vars (p ++ q) ≡ ranking_of vars q ++ ranking_of vars p
-ranking-join vars [] q = sym (append-nil (ranking_of vars q))
-ranking-join vars (t ∷ p) q = ap (λ z. z ++ vars_of t vars 0) (ranking-join vars p q) ∙ append_assoc (ranking_of vars q) (ranking_of vars p) (vars_of t vars 0)
-
 ranked-behind : (sites : Sites) (xs ys : List ℕ) → IsRanked sites (xs ++ ys) → IsRanked sites ys
 ranked-behind sites [] ys h = h
 ranked-behind sites (x ∷ xs) ys h = ranked-behind sites xs ys h.3
-
-ranked-distinct : (sites : Sites) (vs : List ℕ) → IsRanked sites vs → Distinct vs
-ranked-distinct sites [] h = tt
-ranked-distinct sites (v ∷ vs) h = (fresh-from vs v (λ m. before-irreflexive sites v (h.2 v m)), ranked-distinct sites vs h.3)
 
 inside-from : (vs : List ℕ) (n : ℕ) → ((v : ℕ) → Member vs v → v < n) → Inside vs n
 inside-from [] n h = tt
@@ -250,14 +226,14 @@ HaveEnds sites j (l ∷ ls) = ((a : List ℕ) → In l a → Ends sites j a) × 
 joined-ends : (sites : Sites) (j : ℕ) (ls : List (List (List ℕ))) (a : List ℕ) → HaveEnds sites j ls → In (joined ls) a → (i : ℕ) × (j ≤ i) × Ends sites i a
 unfolding HaveEnds
 joined-ends sites j [] a h i = absurd i
-joined-ends sites j (l ∷ ls) a h i = go (in-cases l (joined ls) a i) (joined-ends sites (suc j) ls a h.1) where
+joined-ends sites j (l ∷ ls) a h i = go (In-append l (joined ls) a i) (joined-ends sites (suc j) ls a h.1) where
   go : In l a ⊎ In (joined ls) a → (In (joined ls) a → (i : ℕ) × (suc j ≤ i) × Ends sites i a) → (i : ℕ) × (j ≤ i) × Ends sites i a
   go (inl m) ih = (j, omega arith, h.0 a m)
   go (inr m) ih = let r = ih m in (r.0, omega (arith, r.1), r.2)
 
 order-left : (sites : Sites) (xs ys : List (List ℕ)) → IsInOrder sites (xs ++ ys) → IsInOrder sites xs
 order-left sites [] ys h = tt
-order-left sites (x ∷ xs) ys h = ((λ b i. h.0 b (in-left xs ys b i)), order-left sites xs ys h.1)
+order-left sites (x ∷ xs) ys h = ((λ b i. h.0 b (In-append_left xs ys b i)), order-left sites xs ys h.1)
 
 order-right : (sites : Sites) (xs ys : List (List ℕ)) → IsInOrder sites (xs ++ ys) → IsInOrder sites ys
 order-right sites [] ys h = h
@@ -270,8 +246,8 @@ module _ (n : ℕ) (sites : Sites) (f : Sparse) where
   segments-from j [] o st al h = tt
   segments-from j (l ∷ ls) o st al h = (
     here,
-    segments-from (suc j) ls (order-right sites l (joined ls) o) (λ a i. st a (in-right l (joined ls) a i))
-        (λ a i s e k. behind a i e k (in-cases l (joined ls) a (al a i s e (omega (arith, k))))) h.1,
+    segments-from (suc j) ls (order-right sites l (joined ls) o) (λ a i. st a (In-append_right l (joined ls) a i))
+        (λ a i s e k. behind a i e k (In-append l (joined ls) a (al a i s e (omega (arith, k))))) h.1,
   ) where
     at : (a : List ℕ) → Ends sites j a → In l a ⊎ In (joined ls) a → In l a
     at a e (inl m) = m
@@ -283,8 +259,8 @@ module _ (n : ℕ) (sites : Sites) (f : Sparse) where
 
     here : IsSegmentOf n sites f j l
     here = record {
-      stages = λ a i. (st a (in-left l (joined ls) a i), h.0 a i);
-      all = λ a s e. at a e (in-cases l (joined ls) a (al a j s e (omega arith)));
+      stages = λ a i. (st a (In-append_left l (joined ls) a i), h.0 a i);
+      all = λ a s e. at a e (In-append l (joined ls) a (al a j s e (omega arith)));
       in_order = order-left sites l (joined ls) o;
     }
 
@@ -324,7 +300,7 @@ module _ (k : ℕ) (vars : List VarInfo) (f : Sparse) (o : List ℕ) (laid : is_
   walked-end p q s a e i =
       let vs : List ℕ = vars_of s vars 0 ++ ranking_of vars p in
       let split : ranking_of vars o ≡ ranking_of vars q ++ (vars_of s vars 0 ++ ranking_of vars p) =
-      ap (ranking_of vars) e ∙ ranking-join vars p (s ∷ q) ∙ append_assoc (ranking_of vars q) (vars_of s vars 0) (ranking_of vars p) in
+      ap (ranking_of vars) e ∙ ranking-append vars p (s ∷ q) ∙ append_assoc (ranking_of vars q) (vars_of s vars 0) (ranking_of vars p) in
       let ranked : IsRanked (sites_of vars o) (ranking_of vars q ++ (vars_of s vars 0 ++ ranking_of vars p)) =
       subst (λ z. IsRanked (sites_of vars o) z) split ranking.ranked in
       let d = ranked-distinct (sites_of vars o) (vars_of s vars 0 ++ ranking_of vars p)
@@ -337,7 +313,7 @@ module _ (k : ℕ) (vars : List VarInfo) (f : Sparse) (o : List ℕ) (laid : is_
       (tail 127 (vars_of s vars 0) (ranking_of vars p) (all_rows (length vars) f) (zeros (length vars))) a i) in
       let here : place_in o s ≡ length p = ap (λ z. place_in z s) e ∙ place-next p q s (not-before p q s e) in
       record {
-        below = λ w t of far. r.1.off w (fresh-from (vars_of s vars 0 ++ ranking_of vars p) w
+        below = λ w t of far. r.1.off w (fresh_from (vars_of s vars 0 ++ ranking_of vars p) w
             (λ m. outside w t of far here (member-cases (vars_of s vars 0) (ranking_of vars p) w m))) ∙ zeros-get (length vars) w;
         last = λ j z. (r.0.0, s, var-of vars s r.0.0 r.0.1, omega (arith, here, z), r.0.2);
       } where

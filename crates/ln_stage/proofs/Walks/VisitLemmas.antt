@@ -12,7 +12,7 @@ use Rattle.ln_tree.specs.declared.shape.VarInfo.{VarInfo}
 use Rattle.ln_tree.specs.Variables.{is_laid_out}
 use Rattle.ln_order.specs.Prefixes.{Follows, IsPrefixOf}
 use Rattle.ln_order.specs.Sites.{ranking_of, sites_of, vars_of}
-use Rattle.ln_order.proofs.Signs.RankingLemmas.{ranking-is}
+use Rattle.ln_order.proofs.Signs.RankingLemmas.{ranking-is, ranking-append}
 use Rattle.ln_poly.specs.Sparse.{Sparse}
 use Rattle.ln_stage.specs.FirstSight.{last_walk, prefix_walk}
 use Rattle.ln_stage.specs.Kept.{AreFresh, all_rows, listed, listed_at, listed_behind, rows, tail}
@@ -20,7 +20,7 @@ use Rattle.ln_stage.specs.SiteWalk.{front_walk, site_walk, unless_cut}
 use Rattle.ln_stage.specs.Visit.{AreCuts, AreCutsFor, cut_before, cut_in, is_cut_at, segment_at}
 use Rattle.ln_stage.specs.Tally.{Tallied, see_all}
 use Rattle.ln_stage.proofs.Walks.SiteLemmas.{fresh-behind}
-use Rattle.ln_stage.proofs.Walks.SiteWalkLemmas.{ranking-join, ranking-last, walk-goes-site-by-site}
+use Rattle.ln_stage.proofs.Walks.SiteWalkLemmas.{ranking-last, walk-goes-site-by-site}
 use Rattle.ln_stage.proofs.Walks.StartLemmas.{fresh-ranking, rows-all}
 use Rattle.ln_stage.proofs.Walks.WalkLemmas.{at-zero}
 
@@ -175,7 +175,7 @@ module _ (vars : List VarInfo) (f : Sparse) where
       let o : List ℕ = r.order in
       let whole = fresh-ranking (length vars) (sites_of vars r.order) (ranking_of vars r.order) (ranking-is k vars r.order laid r.full.size r.full.each) in
       let split : ranking_of vars r.order ≡ ranking_of vars (drop r.places r.order) ++ ranking_of vars p =
-      ap (ranking_of vars) (sym (take-append-drop r.places r.order)) ∙ ranking-join vars (take r.places r.order) (drop r.places r.order)
+      ap (ranking_of vars) (sym (take-append-drop r.places r.order)) ∙ ranking-append vars (take r.places r.order) (drop r.places r.order)
       ∙ ap (λ z. ranking_of vars (drop r.places r.order) ++ ranking_of vars z) (sym r.front) in
       let behind = fresh-behind (length vars) (ranking_of vars r.order) (length (ranking_of vars (drop r.places r.order))) whole in
       subst (AreFresh (length vars)) (ap (drop (length (ranking_of vars (drop r.places r.order)))) split

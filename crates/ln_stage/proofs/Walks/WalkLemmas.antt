@@ -21,7 +21,8 @@ stopped-more Stages f h = f h
 stopped-more (NoMemory m) f h = tt
 
 -- ---- the first variable
-split : (vs : List ℕ) → 0 < length vs → vs ≡ get_or vs 0 0 ∷ drop 1 vs
+-- variables, where there are some, are the first one and the others
+pub split : (vs : List ℕ) → 0 < length vs → vs ≡ get_or vs 0 0 ∷ drop 1 vs
 split [] h = absurd (omega arith)
 split (v ∷ vs) h = refl
 

@@ -148,49 +148,49 @@ pub record NameRead (ts : List Token) (p : Part) (d j : ℕ) : Type 0 where
   pub next : j ≡ suc from
 
 -- what comes before place j in each state
-abbrev StandsIn : List Token → State → ℕ → ℕ → Type 0
-StandsIn ts AnItem d j = Front ts j
-StandsIn ts SiteName d j = Is ts j Name → Is ts (suc j) BraceL → WantsCoords ts (suc (suc j))
-StandsIn ts SiteOpen d j = Is ts j BraceL → WantsCoords ts (suc j)
-StandsIn ts CoordName d j = WantsCoords ts j
-StandsIn ts CoordColon d j = Is ts j Colon → WantsLow ts Coordinate (suc j)
-StandsIn ts CoordOrEnd d j = WantsMore ts j
-StandsIn ts ParamName d j = Is ts j Name → Is ts (suc j) Colon → WantsLow ts Parameter (suc (suc j))
-StandsIn ts ParamColon d j = Is ts j Colon → WantsLow ts Parameter (suc j)
-StandsIn ts (Low r) d j = WantsLow ts r j
-StandsIn ts (LowNumber r) d j = Is ts j Number → WantsBetween ts r (suc j)
-StandsIn ts (Between r) d j = WantsBetween ts r j
-StandsIn ts (High r) d j = WantsHigh ts r j
-StandsIn ts (HighNumber r) d j = Is ts j Number → WantsRangeEnd ts r (suc j)
-StandsIn ts (RangeEnd r) d j = WantsRangeEnd ts r j
-StandsIn ts PredicateName d j = Is ts j Name → Is ts (suc j) ParL → WantsArgName ts (suc (suc j))
-StandsIn ts PredicateOpen d j = Is ts j ParL → WantsArgName ts (suc j)
-StandsIn ts ArgName d j = WantsArgName ts j
-StandsIn ts ArgColon d j = Is ts j Colon → WantsArgKind ts (suc j)
-StandsIn ts ArgKind d j = WantsArgKind ts j
-StandsIn ts ArgEnd d j = WantsArgEnd ts j
-StandsIn ts BodyOpen d j = WantsBodyOpen ts j
-StandsIn ts Body d j = WantsBody ts j
-StandsIn ts LetName d j = Is ts j Name → Is ts (suc j) Equals → WantsSum ts Value (suc (suc j))
-StandsIn ts LetEquals d j = Is ts j Equals → WantsSum ts Value (suc j)
-StandsIn ts (Operand p) d j = Before ts p d j
-StandsIn ts (InputName p) d j = Is ts j Name → Read ts p d Atom (suc j)
-StandsIn ts (Exponent p) d j = Is ts j Number → Read ts p d Power (suc j)
-StandsIn ts (After p Named) d j = NameRead ts p d j
-StandsIn ts (After p Whole) d j = Read ts p d Atom j
-StandsIn ts (After p Raised) d j = Read ts p d Power j
-StandsIn ts BodyEnd d j = WantsBodyEnd ts j
+abbrev ComesBeforeIn : List Token → State → ℕ → ℕ → Type 0
+ComesBeforeIn ts AnItem d j = Front ts j
+ComesBeforeIn ts SiteName d j = Is ts j Name → Is ts (suc j) BraceL → WantsCoords ts (suc (suc j))
+ComesBeforeIn ts SiteOpen d j = Is ts j BraceL → WantsCoords ts (suc j)
+ComesBeforeIn ts CoordName d j = WantsCoords ts j
+ComesBeforeIn ts CoordColon d j = Is ts j Colon → WantsLow ts Coordinate (suc j)
+ComesBeforeIn ts CoordOrEnd d j = WantsMore ts j
+ComesBeforeIn ts ParamName d j = Is ts j Name → Is ts (suc j) Colon → WantsLow ts Parameter (suc (suc j))
+ComesBeforeIn ts ParamColon d j = Is ts j Colon → WantsLow ts Parameter (suc j)
+ComesBeforeIn ts (Low r) d j = WantsLow ts r j
+ComesBeforeIn ts (LowNumber r) d j = Is ts j Number → WantsBetween ts r (suc j)
+ComesBeforeIn ts (Between r) d j = WantsBetween ts r j
+ComesBeforeIn ts (High r) d j = WantsHigh ts r j
+ComesBeforeIn ts (HighNumber r) d j = Is ts j Number → WantsRangeEnd ts r (suc j)
+ComesBeforeIn ts (RangeEnd r) d j = WantsRangeEnd ts r j
+ComesBeforeIn ts PredicateName d j = Is ts j Name → Is ts (suc j) ParL → WantsArgName ts (suc (suc j))
+ComesBeforeIn ts PredicateOpen d j = Is ts j ParL → WantsArgName ts (suc j)
+ComesBeforeIn ts ArgName d j = WantsArgName ts j
+ComesBeforeIn ts ArgColon d j = Is ts j Colon → WantsArgKind ts (suc j)
+ComesBeforeIn ts ArgKind d j = WantsArgKind ts j
+ComesBeforeIn ts ArgEnd d j = WantsArgEnd ts j
+ComesBeforeIn ts BodyOpen d j = WantsBodyOpen ts j
+ComesBeforeIn ts Body d j = WantsBody ts j
+ComesBeforeIn ts LetName d j = Is ts j Name → Is ts (suc j) Equals → WantsSum ts Value (suc (suc j))
+ComesBeforeIn ts LetEquals d j = Is ts j Equals → WantsSum ts Value (suc j)
+ComesBeforeIn ts (Operand p) d j = Before ts p d j
+ComesBeforeIn ts (InputName p) d j = Is ts j Name → Read ts p d Atom (suc j)
+ComesBeforeIn ts (Exponent p) d j = Is ts j Number → Read ts p d Power (suc j)
+ComesBeforeIn ts (After p Named) d j = NameRead ts p d j
+ComesBeforeIn ts (After p Whole) d j = Read ts p d Atom j
+ComesBeforeIn ts (After p Raised) d j = Read ts p d Power j
+ComesBeforeIn ts BodyEnd d j = WantsBodyEnd ts j
 
-abbrev Stands : List Token → Standing → ℕ → Type 0
-Stands ts None j = Unit {0}
-Stands ts (Some c) j = StandsIn ts c.0 c.1 j
+abbrev ComesBefore : List Token → Standing → ℕ → Type 0
+ComesBefore ts None j = Unit {0}
+ComesBefore ts (Some c) j = ComesBeforeIn ts c.0 c.1 j
 
 -- a name is an atom
 named : {ts : List Token} {p : Part} {d j : ℕ} → NameRead ts p d j → Read ts p d Atom j
 named {ts = ts} {p = p} {d = d} r =
     subst (λ (w : ℕ). Read ts p d Atom w) (sym r.next) (record { from = r.from; tree = _; before = r.before; derives = name r.is })
 
-as_unary : {ts : List Token} {p : Part} {d j : ℕ} (l : Last) → StandsIn ts (After p l) d j → Read ts p d Unary j
+as_unary : {ts : List Token} {p : Part} {d j : ℕ} (l : Last) → ComesBeforeIn ts (After p l) d j → Read ts p d Unary j
 as_unary Named h = let r = named h in record { from = r.from; tree = r.tree; before = r.before; derives = base (plain r.derives) }
 as_unary Whole r = record { from = r.from; tree = r.tree; before = r.before; derives = base (plain r.derives) }
 as_unary Raised r = record { from = r.from; tree = r.tree; before = r.before; derives = base r.derives }
@@ -201,7 +201,7 @@ close ts p d j r is =
     let t = term_end r.derives b.3 in
     record { from = b.0; tree = t.tree; before = b.1; derives = parens b.2 (t.on j t.tree no_term) is }
 
-end : (ts : List Token) (p : Part) (j : ℕ) → Read ts p 0 Unary j → Is ts j Semi → Stands ts (behind p Whole 0 Semi) (suc j)
+end : (ts : List Token) (p : Part) (j : ℕ) → Read ts p 0 Unary j → Is ts j Semi → ComesBefore ts (behind p Whole 0 Semi) (suc j)
 end ts Root j r s = let b = r.before in let t = term_end r.derives b.2 in b.1 j t.tree (t.on j t.tree no_term) s
 end ts Value j r s = let b = r.before in let t = term_end r.derives b.2 in b.1 j t.tree (t.on j t.tree no_term) s
 
@@ -215,7 +215,7 @@ field_of ts p d j r h n =
     subst (λ (w : ℕ). Read ts p d Atom (suc (suc w))) (sym r.next) (record { from = r.from; tree = _; before = r.before; derives = input r.is h2 n2 })
 
 -- a token after an operand
-past : (ts : List Token) (p : Part) (l : Last) (d j : ℕ) (k : Kind) → StandsIn ts (After p l) d j → Is ts j k → Stands ts (behind p l d k) (suc j)
+past : (ts : List Token) (p : Part) (l : Last) (d j : ℕ) (k : Kind) → ComesBeforeIn ts (After p l) d j → Is ts j k → ComesBefore ts (behind p l d k) (suc j)
 past ts p l d j Plus h is = let r = as_unary l h in inner p d (plus_more r.derives is) r.before
 past ts p l d j Minus h is = let r = as_unary l h in inner p d (less_more r.derives is) r.before
 past ts p l d j Star h is = let r = as_unary l h in inner p d (times_more r.derives is) r.before
@@ -256,7 +256,7 @@ predicate_begins : {ts : List Token} {i : ℕ} → Front ts i → Is ts i Predic
 predicate_begins f is n o = λ j xs ys c b k ls ds g l t e s z. record { on = λ m x. f.on m (_, an_item (predicate is n o ys c b ds g (t, e) s z) x.1) }
 
 -- a token in each state
-more : (ts : List Token) (s : State) (d j : ℕ) (k : Kind) → StandsIn ts s d j → Is ts j k → Stands ts (next_of s d k) (suc j)
+more : (ts : List Token) (s : State) (d j : ℕ) (k : Kind) → ComesBeforeIn ts s d j → Is ts j k → ComesBefore ts (next_of s d k) (suc j)
 more ts AnItem d j Site h is = λ n b. site_begins h is n b
 more ts AnItem d j Param h is = λ n c. param_begins h is n c
 more ts AnItem d j Predicate h is = λ n o. predicate_begins h is n o
@@ -327,7 +327,7 @@ more ts (After p l) d j k h is = past ts p l d j k h is
 more ts BodyEnd d j BraceR h is = h is
 more ts BodyEnd d j k h is = tt
 
-more_at : (ts : List Token) (o : Standing) (j : ℕ) (k : Kind) → Stands ts o j → Is ts j k → Stands ts (next_at o k) (suc j)
+more_at : (ts : List Token) (o : Standing) (j : ℕ) (k : Kind) → ComesBefore ts o j → Is ts j k → ComesBefore ts (next_at o k) (suc j)
 more_at ts None j k h is = tt
 more_at ts (Some c) j k h is = more ts c.0 c.1 j k h is
 
@@ -342,18 +342,18 @@ from [] (suc j) t us e = absurd (cc)
 from (x ∷ xs) zero t us e = record { first = let q : x ≡ t = cc in ap (λ (w : Token). Some w.kind) q; rest = cc }
 from (x ∷ xs) (suc j) t us e = let r = from xs j t us e in record { first = r.first; rest = r.rest }
 
-stands_all : (ts us : List Token) (o : Standing) (j : ℕ) → drop j ts ≡ us → Stands ts o j → Stands ts (goes o us) (j + length us)
-stands_all ts [] o j e h = let q : j ≡ j + 0 = omega arith in subst (λ (w : ℕ). Stands ts o w) q h
+stands_all : (ts us : List Token) (o : Standing) (j : ℕ) → drop j ts ≡ us → ComesBefore ts o j → ComesBefore ts (goes o us) (j + length us)
+stands_all ts [] o j e h = let q : j ≡ j + 0 = omega arith in subst (λ (w : ℕ). ComesBefore ts o w) q h
 stands_all ts (t ∷ us) o j e h =
     let r = from ts j t us e in
     let q : suc j + length us ≡ j + length (t ∷ us) = omega arith in
-    subst (λ (w : ℕ). Stands ts (goes (next_at o t.kind) us) w) q (stands_all ts us (next_at o t.kind) (suc j) r.rest (more_at ts o j t.kind h r.first))
+    subst (λ (w : ℕ). ComesBefore ts (goes (next_at o t.kind) us) w) q (stands_all ts us (next_at o t.kind) (suc j) r.rest (more_at ts o j t.kind h r.first))
 
 -- tokens that take the automaton to its end are a file
 pub text : (ts : List Token) (d : ℕ) → goes start ts ≡ Some (AnItem, d) → IsText ts
 text ts d e =
-    let h : Stands ts (goes start ts) (0 + length ts) = stands_all ts ts start 0 refl (record { on = λ k x. x }) in
-    let g : Stands ts (Some (AnItem, d)) (0 + length ts) = subst (λ (o : Standing). Stands ts o (0 + length ts)) e h in
+    let h : ComesBefore ts (goes start ts) (0 + length ts) = stands_all ts ts start 0 refl (record { on = λ k x. x }) in
+    let g : ComesBefore ts (Some (AnItem, d)) (0 + length ts) = subst (λ (o : Standing). ComesBefore ts o (0 + length ts)) e h in
     let z : 0 + length ts ≡ length ts = omega arith in
     let r : Front ts (length ts) = subst (λ (w : ℕ). Front ts w) z g in
     r.on (length ts) ([], no_item)

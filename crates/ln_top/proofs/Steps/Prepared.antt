@@ -20,10 +20,11 @@ use Rattle.ln_top.specs.Steps.{Then, stopped, lacks, goes, Each, Reads, there, l
 use Rattle.ln_top.specs.Steps.{most_source}
 use Rattle.ln_frame.specs.Carried.{Halts, tells, unread, short}
 use Rattle.ln_frame.specs.Ready.{AreNumbered}
+use Rattle.ln_frame.specs.Signature.{Refuses}
 use Rattle.ln_top.specs.Ready.{HasNumbers, IsReady}
 use Rattle.ln_top.proofs.Steps.Chain.{Behind, behind_at, behind_more, behind_all}
 use Rattle.ln_frame.proofs.FindLaws.{found_at, none_at}
-use Rattle.ln_top.specs.Signature.{Asks, objection}
+use Rattle.ln_top.specs.Signature.{Asks, signature_of}
 
 -- what stops the first step stops the chain
 pub halts_first : {A B : Type 0} (first : Outcome A → Type 0) (next : A → Outcome B → Type 0) (r q : Type 0) (s : Stop)
@@ -175,18 +176,20 @@ names_stop plan told bytes table r s a c h =
     halts_next _ _ bytes r r s a (halts_next _ _ table r r s c (halts_first _ _ ⊥ r s h (λ x. absurd x)) (λ x. x)) (λ x. x)
 
 -- predicates that don't suit a command stop it with its objection
-pub objects : (c : Command) (bytes : List ℕ) (preds : List PredOf) → (Asks c preds → ⊥)
-    → Halts (Suits c bytes preds) ⊥ (stop.Tell (objection c bytes preds))
-objects c bytes preds o = tells _ (unsuited o)
+refuses : (c : Command) (bytes : List ℕ) (preds : List PredOf) (s : Stop) → Refuses (signature_of c).suits bytes preds s
+    → Halts (Suits c bytes preds) ⊥ s
+refuses c bytes preds (stop.Tell why) h = subst (λ w. Halts (Suits c bytes preds) ⊥ (stop.Tell w)) (sym h.0) (tells _ (unsuited h.1))
+refuses c bytes preds stop.Read h = absurd h
+refuses c bytes preds (stop.Memory m) h = short
 
 -- what stops the test whether the predicates suit stops the plan
 pub suits_stop : (plan : Plan) (told : Option Shelf) (bytes : List ℕ) (table : TableOf) (preds : List PredOf) (r : Type 0) (s : Stop)
     → Reads told most_source plan.source (gives bytes) → Compiles bytes (gives table)
-    → Each (Finds table.preds) plan.names (gives preds) → Halts (Suits plan.command bytes preds) ⊥ s
+    → Each (Finds table.preds) plan.names (gives preds) → Refuses (signature_of plan.command).suits bytes preds s
     → Halts (Prepares plan told) r s
 suits_stop plan told bytes table preds r s a c n h =
     halts_next _ _ bytes r r s a (halts_next _ _ table r r s c (halts_next _ _ preds r r s n
-    (halts_first _ _ ⊥ r s h (λ x. absurd x)) (λ x. x)) (λ x. x)) (λ x. x)
+    (halts_first _ _ ⊥ r s (refuses plan.command bytes preds s h) (λ x. absurd x)) (λ x. x)) (λ x. x)) (λ x. x)
 
 -- what stops the reading of the further files stops the plan
 pub files_stop : (plan : Plan) (told : Option Shelf) (bytes : List ℕ) (table : TableOf) (preds : List PredOf) (r : Type 0)

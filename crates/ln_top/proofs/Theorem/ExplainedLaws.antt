@@ -14,12 +14,13 @@ use Rattle.ln_algebra.specs.Stage.{IsStage}
 use Rattle.ln_algebra.specs.Tree.{InputsBelow}
 use Rattle.ln_algebra.specs.Vector.{zeros}
 use Rattle.ln_algebra.specs.Weights.{weighted_sum}
+use Rattle.ln_algebra.proofs.Walking.Stages.{zeros-get}
 use Rattle.ln_base.specs.Exponents.{Each}
 use Rattle.ln_bound.specs.Light.{most}
 use Rattle.ln_bound.specs.Value.{weights}
 use Rattle.ln_compile.specs.Accepted.{IsSound, root_of}
 use Rattle.ln_order.specs.Sites.{row_sites}
-use Rattle.ln_stage.proofs.Sights.Members.{none-before, zeros-at}
+use Rattle.ln_stage.proofs.Sights.Members.{none-before}
 use Rattle.ln_poly.proofs.Expansions.Existing.{tree-normal}
 use Rattle.ln_poly.specs.Expansion.{IsNormal}
 use Rattle.ln_poly.specs.Sparse.{Sparse, terms_of}
@@ -102,7 +103,7 @@ have_stages q sound row list h e = sound.nonzero (λ m l k. none m l (zero_cases
     stage : (m : List ℕ) → length m ≡ length q.shape.vars → (normal_coefficient (root_of (pred_of q)) m ≡ pos 0 → ⊥)
         → IsStage (length q.shape.vars) (row_sites q.shape.vars row.index) (root_of (pred_of q)) (zeros (length q.shape.vars))
     stage m l z = record {
-      over = record { size = length-zeros (length q.shape.vars); of_sites = λ v f. zeros-at (length q.shape.vars) v };
+      over = record { size = length-zeros (length q.shape.vars); of_sites = λ v f. zeros-get (length q.shape.vars) v };
       covered = (m, record { size = l; nonzero = z }, covers-zeros m (length q.shape.vars) l);
       before_cut = λ b o c f. none-before BySmallest (length q.shape.vars) (row_sites q.shape.vars row.index) b f;
     }

@@ -1,10 +1,9 @@
 -- The lines that were written are the perturbed signs of their rows with what decides them, and each is one line.
-use Rattle.std.proofs.Common.{◌≡◌, ◌≢◌, ◌⊎◌, inl, inr, ℕ, zero, suc, ◌<◌, Bool, true, false, cond, List, []}
-use Rattle.std.proofs.Common.{◌∷◌, ◌++◌, find, length, is_some, Option, Some, None, Result, Ok, refl, ap, sym}
-use Rattle.std.proofs.Common.{◌∙◌, subst, arith, bytes_eq}
+use Rattle.std.proofs.Common.{◌≡◌, ◌≢◌, ◌⊎◌, inl, inr, ℕ, Bool, true, false, cond, List, []}
+use Rattle.std.proofs.Common.{◌∷◌, ◌++◌, find, length, Option, Some, None, Result, Ok, refl, ap, sym}
+use Rattle.std.proofs.Common.{◌∙◌, subst, bytes_eq}
 use Rattle.std.specs.Prelude.{All, IfSome}
-use Rattle.std.proofs.Math.IntN.{ℤ, pos, negsuc}
-use Rattle.std.proofs.lemmas.List.Elements.{All-head, All-tail}
+use Rattle.std.proofs.Math.IntN.{pos}
 use Rattle.std.proofs.lemmas.Option.{none-some}
 use Rattle.ln_base.specs.Outside.{Shelf, Shown}
 use Rattle.ln_base.specs.declared.sign.Sign.{Sign}
@@ -35,12 +34,11 @@ use Rattle.ln_algebra.specs.Sign as algebra
 use Rattle.ln_algebra.specs.Sign.{perturbed}
 use Rattle.ln_algebra.specs.Tree.{InputsBelow, Tree}
 use Rattle.ln_tree.specs.declared.pred.Pred.{Pred}
-use Rattle.ln_tree.specs.declared.shape.VarInfo.{VarInfo}
 use Rattle.ln_tree.specs.Row.{InRange, Row}
 use Rattle.ln_tree.specs.Table.{PredOf, pred_of}
 use Rattle.ln_bound.specs.Value.{values}
 use Rattle.ln_order.specs.Rows.{RowFirst, RowSign}
-use Rattle.ln_order.specs.Sites.{row_sites, site_of}
+use Rattle.ln_order.specs.Sites.{row_sites}
 use Rattle.ln_rows.specs.Left.{Records}
 use Rattle.ln_watch.specs.Panel.{State}
 use Rattle.ln_rows.specs.Record.{read_row}
@@ -52,7 +50,7 @@ use Rattle.ln_due.specs.Due.{sign_number}
 use Rattle.ln_compile.specs.Filtered.{IsDueIn}
 use Rattle.ln_algebra.specs.Orders.{Before, BySmallest, ByDegree, Rank}
 use Rattle.ln_order.proofs.Signs.RowSigns.{rows-differ}
-use Rattle.ln_due.proofs.Verdicts.UniqueLemmas.{due-sign}
+use Rattle.ln_due.proofs.Verdicts.UniqueLemmas.{due-sign, all-sites, sign-nonzero}
 use Rattle.ln_frame.specs.declared.status.Status.{Status}
 use Rattle.ln_frame.specs.Said.{Said, line, put_both}
 use Rattle.ln_frame.specs.Given.{Given, named}
@@ -61,20 +59,6 @@ use Rattle.ln_frame.specs.Lines as l
 use Rattle.ln_frame.specs.Lines.{Lines}
 
 -- ---- without params no row has the sign 0
-some_site : (o : Option ℕ) → o ≢ None → is_some o ≡ true
-some_site None h = absurd (h refl)
-some_site (Some t) h = refl
-
-all_sites : (vars : List VarInfo) (v : ℕ) → All (λ i. i.site ≢ None) vars → v < length vars → is_some (site_of vars v) ≡ true
-all_sites [] v a h = absurd (omega arith)
-all_sites (i ∷ vars) zero a h = some_site i.site (All-head (λ (j : VarInfo). j.site ≢ None) i vars a)
-all_sites (i ∷ vars) (suc v) a h = all_sites vars v (All-tail (λ (j : VarInfo). j.site ≢ None) i vars a) (omega arith)
-
-sign_nonzero : (z : ℤ) → z ≢ pos 0 → algebra.sign_of z ≡ pos 0 → ⊥
-sign_nonzero (pos zero) h e = h refl
-sign_nonzero (pos (suc n)) h e = cc
-sign_nonzero (negsuc n) h e = cc
-
 module _ (rank : Rank) (p : Pred) (row : Row) where
   abbrev sites : Sites
   sites = row_sites p.shape.vars row.index
@@ -98,11 +82,11 @@ module _ (rank : Rank) (p : Pred) (row : Row) where
       none_first lacks m l (inr z) =
           let order = both-admissible rank (length p.shape.vars) sites (rows-differ p.shape row range) in
           let first = all-first-in (length p.shape.vars) sites (Before rank sites) order (values row.values) root inputs
-          (λ u k. all_sites p.shape.vars u all k) m (record { size = l; nonzero = z }) in
+          (λ u k. all-sites p.shape.vars u all k) m (record { size = l; nonzero = z }) in
           absurd (lacks first.0 first.1)
 
       by_sign : RowSign rank p.shape.vars root row (sign_number s) → ⊥
-      by_sign (inl t) = sign_nonzero (perturbed sites (values row.values) root t.0) t.1.nonzero (sym t.2 ∙ ap sign_number q)
+      by_sign (inl t) = sign-nonzero (perturbed sites (values row.values) root t.0) t.1.nonzero (sym t.2 ∙ ap sign_number q)
       by_sign (inr t) = sound.nonzero (λ m l k. none_first t.0 m l (zero_cases (normal_coefficient root m)))
 
 -- the same by the smallest infinitesimal in which two vectors differ

@@ -22,7 +22,7 @@ use Rattle.ln_order.proofs.Signs.RowSigns.{row_sign-unique}
 use Rattle.ln_parse.specs.ReadsBack.{Every}
 use Rattle.ln_code.specs.declared.verdict.Verdict.{Verdict}
 use Rattle.ln_due.specs.Due.{sign_number}
-use Rattle.ln_due.proofs.Verdicts.UniqueLemmas.{due-sign}
+use Rattle.ln_due.proofs.Verdicts.UniqueLemmas.{due-sign, sign-number-same}
 use Rattle.ln_factor.specs.Factors.{numbers_of}
 use Rattle.ln_factor.specs.Law.{AreRowSigns}
 use Rattle.ln_factor.proofs.Sums.{firsts-are-sums, signs-are-products, zero-where-one-is}
@@ -48,7 +48,6 @@ use Rattle.ln_top.specs.Causes.{Answered}
 use Rattle.ln_signs.proofs.FactorsLaws.{IsOver}
 use Rattle.ln_signs.proofs.ProductLaws.{all_over}
 use Rattle.ln_top.proofs.Theorem.Feeds.{HaveNoFeed, behind, columns_no_feed, decider_feed, other, sign_feed, stop_feed}
-use Rattle.ln_signs.proofs.OneProduct.{sign_same}
 use Rattle.ln_top.proofs.Steps.TopLaws.{work_of_words}
 use Rattle.ln_frame.proofs.Grounded.{IsGrounded, in_memory}
 use Rattle.ln_top.proofs.Steps.Grounded.{asked, grounded}
@@ -87,7 +86,7 @@ zero_of (p ∷ ps) row (v ∷ vs) d (inl z) = record {
   k = 0;
   pred = p;
   there = refl;
-  zero = subst (λ (s : Sign). IsSignOn p row s) (sign_same v.sign Zero z)
+  zero = subst (λ (s : Sign). IsSignOn p row s) (sign-number-same v.sign Zero z)
       (due-sign BySmallest p.vars (root_of p) row d.0.filtering v d.0.due);
 }
 zero_of (p ∷ ps) row (v ∷ vs) d (inr h) =
@@ -153,7 +152,7 @@ module _ (q : Pred) (others : List PredOf) (over : Every (IsOver q.shape.sites q
       zero_back : OneIsZeroOn (pred_of q ∷ others) row → m.sign ≡ Zero
       zero_back o =
           let one = zero_from q.shape row range (pred_of q ∷ others) m.verdicts over d o.k o.pred o.there o.zero in
-          sign_same m.sign Zero (k ∙ (zero-where-one-is (numbers_of m.verdicts)).1 one)
+          sign-number-same m.sign Zero (k ∙ (zero-where-one-is (numbers_of m.verdicts)).1 one)
 
       firsts : m.sign ≢ Zero → HasSummedFirsts (pred_of q) others row
       firsts n = by_sign sign
@@ -168,7 +167,7 @@ module _ (q : Pred) (others : List PredOf) (over : Every (IsOver q.shape.sites q
                 sum = subst (λ (a : List ℕ). IsFirst (length q.shape.vars) (row_sites q.shape.vars row.index) (values row.values)
                     (product_of (pred_of q) others) a) r.2 f.1;
               }
-          by_sign (inr f) = absurd (n (sign_same m.sign Zero f.1))
+          by_sign (inr f) = absurd (n (sign-number-same m.sign Zero f.1))
 
   line_sign : (fields : List (List ℕ)) (text : List ℕ) {said : Result Multiplied RowStop}
       → SaysProduct (pred_of q) (pred_of q ∷ others) fields said → text ≡ line (product_text names said) → (row : Row)

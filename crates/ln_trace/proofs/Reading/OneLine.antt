@@ -24,24 +24,25 @@ use Rattle.ln_trace.specs.Text.{IsLine, sign_word, words_of}
 
 -- ---- first words
 -- the word w is that of the kind k, and the state allows a line of this kind
-pub record Stands (s : State) (w : List ℕ) (k : Kind) : Type 0 where
+pub record IsFirstWord (s : State) (w : List ℕ) (k : Kind) : Type 0 where
   pub word : w ≡ word_of k
   pub may : may s k ≡ true
 
-is_word : (s : State) (w : List ℕ) (j k : Kind) → may s j ≡ true → bytes_eq w (word_of j) ≡ true → Some j ≡ Some k → Stands s w k
-is_word s w j k m t e = subst (λ x. Stands s w x) (some e) (record { word = equal_bytes w (word_of j) t; may = m })
+is_word : (s : State) (w : List ℕ) (j k : Kind) → may s j ≡ true → bytes_eq w (word_of j) ≡ true → Some j ≡ Some k → IsFirstWord s w k
+is_word s w j k m t e = subst (λ x. IsFirstWord s w x) (some e) (record { word = equal_bytes w (word_of j) t; may = m })
 
 -- the kind of a first word in a state has that word and is allowed there
-pub sound : (s : State) (w : List ℕ) (k : Kind) → kind_in s w ≡ Some k → Stands s w k
+pub sound : (s : State) (w : List ℕ) (k : Kind) → kind_in s w ≡ Some k → IsFirstWord s w k
 sound Between w k e =
-    pick (Stands Between w) (bytes_eq w (codes "refused")) (Some kind.Refused) (if bytes_eq w (codes "row") then Some kind.Row else None) k
+    pick (IsFirstWord Between w) (bytes_eq w (codes "refused")) (Some kind.Refused) (if bytes_eq w (codes "row") then Some kind.Row else None) k
     (is_word Between w kind.Refused k refl)
-    (pick (Stands Between w) (bytes_eq w (codes "row")) (Some kind.Row) None k (is_word Between w kind.Row k refl) (none (Stands Between w) k)) e
-sound Opened w k e = pick (Stands Opened w) (bytes_eq w (codes "at")) (Some kind.At) None k (is_word Opened w kind.At k refl) (none (Stands Opened w) k) e
+    (pick (IsFirstWord Between w) (bytes_eq w (codes "row")) (Some kind.Row) None k (is_word Between w kind.Row k refl) (none (IsFirstWord Between w) k)) e
+sound Opened w k e = pick (IsFirstWord Opened w) (bytes_eq w (codes "at")) (Some kind.At) None k (is_word Opened w kind.At k refl)
+    (none (IsFirstWord Opened w) k) e
 sound Within w k e =
-    pick (Stands Within w) (bytes_eq w (codes "at")) (Some kind.At) (if bytes_eq w (codes "sign") then Some kind.Sign else None) k
+    pick (IsFirstWord Within w) (bytes_eq w (codes "at")) (Some kind.At) (if bytes_eq w (codes "sign") then Some kind.Sign else None) k
     (is_word Within w kind.At k refl)
-    (pick (Stands Within w) (bytes_eq w (codes "sign")) (Some kind.Sign) None k (is_word Within w kind.Sign k refl) (none (Stands Within w) k)) e
+    (pick (IsFirstWord Within w) (bytes_eq w (codes "sign")) (Some kind.Sign) None k (is_word Within w kind.Sign k refl) (none (IsFirstWord Within w) k)) e
 
 -- and a kind that is allowed in a state is that of its word there
 pub complete : (s : State) (k : Kind) → may s k ≡ true → kind_in s (word_of k) ≡ Some k

@@ -1,21 +1,21 @@
 -- Lines within the part of a predicate: from what a stack does to what the whole state stands for.
 use Rattle.std.proofs.Common.{◌≡◌, ℕ, ◌<◌, ◌+◌, Bool, true, false, List, [], ◌∷◌, ◌++◌, length, refl, sym, ap, arith, subst, ◌∙◌}
 use Rattle.std.proofs.lemmas.List.{length-map, map-append}
-use Rattle.std.specs.Prelude.{Option, Some, None, slice_get}
+use Rattle.std.specs.Prelude.{Option, Some, None}
 use Rattle.std.proofs.lemmas.Option.{slice_get_within}
 use Rattle.ln_order.specs.Orders.{orders_of}
 use Rattle.std.proofs.Common.{zero, suc}
-use Rattle.ln_tree.specs.declared.shape.VarInfo.{VarInfo}
 use Rattle.ln_tree.specs.Exps.{IsAbove, IsRising, Pairs}
 use Rattle.ln_code.specs.Engine.{State}
 use Rattle.ln_code.specs.FilterRules.{FilterKnown}
-use Rattle.ln_code.specs.Kept.{AreOfSites, is_of_site}
+use Rattle.ln_code.specs.Kept.{AreOfSites}
 use Rattle.ln_verify.specs.Line.{fresh}
 use Rattle.ln_verify.specs.declared.progress.At.{At}
 use Rattle.ln_code.specs.declared.op.Op.{Op}
 use Rattle.ln_code.specs.declared.op.Triple.{Triple}
 use Rattle.ln_interval.specs.Range.{Range}
 use Rattle.ln_code.specs.Rules.{Known}
+use Rattle.ln_code.proofs.Exponents.{sites-above}
 use Rattle.ln_verify.specs.BlockRules.{Version, balanced}
 use Rattle.ln_verify.specs.Line.{Between, InBlock, InFilter, IsNextList, Named, Ordering, Piece, Subject, exps_of}
 use Rattle.ln_cert.specs.declared.part.Part.TheVariants.{Filter, FilterOp, Decide, Block, BlockOp, RangeOp, End, NoFilter, Order}
@@ -85,15 +85,6 @@ above-more n [] a h k zero d l = k
 above-more n [] a h k (suc i) d l = absurd (omega (arith, l))
 above-more n (x ∷ es) a h k zero d l = h zero d (omega arith)
 above-more n (x ∷ es) a h k (suc i) d l = above-more n es a (λ j z m. h (suc j) z (omega (arith, m))) k i d (omega (arith, l))
-
-site-within : (vars : List VarInfo) (v : ℕ) → is_of_site (slice_get vars v) ≡ true → v < length vars
-site-within [] v h = cc
-site-within (x ∷ vars) zero h = omega arith
-site-within (x ∷ vars) (suc v) h = omega (arith, site-within vars v h)
-
-sites-above : (vars : List VarInfo) (a : Pairs) → AreOfSites vars a → IsAbove a (length vars)
-sites-above vars [] h = tt
-sites-above vars (x ∷ a) h = (site-within vars x.0 h.0, sites-above vars a h.1)
 
 exps-more : (bs : List Piece) (b : Piece) → exps_of (bs ++ b ∷ []) ≡ exps_of bs ++ b.exps ∷ []
 exps-more bs b = map-append (λ (x : Piece). x.exps) bs (b ∷ [])

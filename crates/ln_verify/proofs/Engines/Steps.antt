@@ -11,14 +11,13 @@ use Rattle.ln_bound.specs.declared.fitted.Two.TheVariants.{Plus, Minus, Times}
 use Rattle.ln_bound.specs.declared.fitted.Width.{Width}
 use Rattle.ln_code.specs.declared.op.Op.{Op}
 use Rattle.ln_code.specs.declared.op.Op.TheVariants.{Add, Cut, Get, Mul, Neg, Set, Sub}
-use Rattle.ln_code.specs.Engine.{Engine, State, next, pushed, step}
+use Rattle.ln_code.specs.Engine.{Engine, State, next, pushed, step, op_of}
 use Rattle.ln_code.specs.Kept.{stores}
 use Rattle.ln_code.specs.Numbers.{with_local}
 use Rattle.ln_code.proofs.Engines.Follow.{when_some}
 use Rattle.ln_due.specs.Small.{IsSmall}
 use Rattle.ln_verify.specs.Line.{PushedSmall}
 use Rattle.ln_verify.specs.Values.{AreFor, Came, IsLocal, IsMade, IsState, PushedOnto}
-use Rattle.ln_verify.specs.Works.{op_of}
 
 module _ {X K : Type 0} (R : X → K → Type 0) where
   -- a stack in code has as many values as the stack that it is for

@@ -18,10 +18,11 @@ use Rattle.ln_order.specs.Prefixes.{joined, segments_from}
 use Rattle.ln_order.specs.Sites.{sites_of}
 use Rattle.ln_order.proofs.Listing.OrdersLemmas.{member-is}
 use Rattle.ln_order.proofs.Signs.RowSigns.{orders-differ}
+use Rattle.ln_poly.proofs.Sorting.Collected.{vectors-same as same-pairs}
 use Rattle.ln_stage.specs.StageList.{IsStageListOf}
 use Rattle.ln_stage.specs.Staged.{AreStagesOf, Staged, block_vector, segment_of}
 use Rattle.ln_stage.proofs.Monomials.LawLemmas.{list-unique}
-use Rattle.ln_stage.proofs.Walks.PairsLemmas.{same-pairs, same_pairs-refl}
+use Rattle.ln_stage.proofs.Walks.PairsLemmas.{same_pairs-refl}
 use Rattle.ln_verify.specs.Line.{IsNextList, Subject, named}
 use Rattle.ln_verify.specs.Orders.{HasVector, SameStages}
 

@@ -1,6 +1,6 @@
 -- The list of an order in a part whose lists stand whole at their orders.
 use Rattle.std.proofs.Common.{◌≡◌, ℕ, ◌+◌, ◌-◌, ◌<◌, ◌≤◌, zero, suc, Bool, true, false, List, [], ◌∷◌, ◌++◌, length, map, take, refl, sym}
-use Rattle.std.proofs.Common.{◌∙◌, ap, arith, subst}
+use Rattle.std.proofs.Common.{◌∙◌, ap, arith, get_or, subst}
 use Rattle.std.specs.Prelude.{All, Some, slice_get, if◌then◌else◌, ◌==◌}
 use Rattle.std.specs.List.{range_with_len}
 use Rattle.std.specs.Option.{option_map}
@@ -13,7 +13,7 @@ use Rattle.ln_tree.specs.declared.shape.Shape.{Shape}
 use Rattle.ln_order.specs.Orders.{IsOrderOf, orders_of}
 use Rattle.ln_order.specs.Prefixes.{beside, joined, number_of_front, prefixes_of}
 use Rattle.ln_order.proofs.Listing.OrdersLemmas.{is-member}
-use Rattle.ln_order.proofs.Listing.PrefixLemmas.{beside_at, front_number}
+use Rattle.ln_order.proofs.Listing.PrefixLemmas.{beside_at, beside-all, front_number}
 use Rattle.ln_order.proofs.Signs.SitesLemmas.{kept}
 use Rattle.ln_code.specs.Lists.{IsListOf, list_of, segment_of}
 use Rattle.ln_verify.specs.AsPart.{part_of, segment_at}
@@ -36,15 +36,6 @@ beside-there (q ∷ qs) (s ∷ ss) p i h e = go (same_vector q p) refl i h (λ m
     go true t i h ih = record { at = 0; there = ap (λ z. Some z) (same_vector-is q p t); beside_it = rw t refl }
     go false t zero h ih = let z : q ≡ p = cc in let u : true ≡ false = sym (same_vector-refl q) ∙ ap (same_vector q) z ∙ t in absurd cc
     go false t (suc i) h ih = let r = ih i h in record { at = suc r.at; there = r.there; beside_it = rw t r.beside_it }
-
-beside-all : (P : ℕ → Type 0) (qs ss : List (List ℕ)) (p : List ℕ) → ((k : ℕ) (s : List ℕ) → slice_get ss k ≡ Some s → All P s) → All P (beside qs ss p)
-beside-all P [] ss p h = λ i d l. absurd (omega (arith, l))
-beside-all P (q ∷ qs) [] p h = λ i d l. absurd (omega (arith, l))
-beside-all P (q ∷ qs) (s ∷ ss) p h = go (same_vector q p) (beside-all P qs ss p (λ k t e. h (suc k) t e))
-  where
-    go : (b : Bool) → All P (beside qs ss p) → All P (if b then s else beside qs ss p)
-    go true ih = h 0 s refl
-    go false ih = ih
 
 -- ---- one segment after the other
 joined-last : (g : ℕ → List ℕ) (a n : ℕ) (list : List ℕ) → ((i : ℕ) → i < a + n → g i ≡ []) → g (a + n) ≡ list
@@ -118,5 +109,5 @@ module _ (s : Shape) (w : Written) (size : length w.lists ≡ length (orders_of 
   segments-all P h p = go (length p == s.sites)
     where
       go : (b : Bool) → All P (if b then beside (orders_of s.sites) w.lists p else [])
-      go true = beside-all P (orders_of s.sites) w.lists p h
+      go true = beside-all P (orders_of s.sites) w.lists p (λ k d l. h k (get_or w.lists k d) (slice_get-get_or w.lists k d l))
       go false = λ i d l. absurd (omega (arith, l))

@@ -12,6 +12,8 @@ use Rattle.ln_algebra.specs.Vector.{In, plus}
 use Rattle.ln_algebra.proofs.Expanded.Normal.{zero_cases}
 use Rattle.ln_algebra.proofs.Expanded.Shift.{product_is}
 use Rattle.ln_algebra.proofs.Expanded.Sums.{sum_parts, sum_splits}
+use Rattle.ln_algebra.proofs.Ordering.Admissible.{get_or-plus}
+use Rattle.ln_algebra.proofs.Ordering.Products.{left-zero, right-zero}
 
 -- ---- sums with one part that isn't 0
 parts-zero : (n : ℕ) (g : ℕ → ℕ → ℤ) → ((i j : ℕ) → i + j ≡ n → g i j ≡ pos 0) → sum_parts n g ≡ pos 0
@@ -121,13 +123,6 @@ tight (x ∷ b) (z ∷ c) (y ∷ t) (w ∷ u) l m r h k e = by_case h k (λ s s'
 abbrev key : ℕ → List ℕ → List ℕ
 key v a = get_or a v 0 ∷ a
 
-get-plus : (b c : List ℕ) (v : ℕ) → length b ≡ length c → get_or (plus b c) v 0 ≡ get_or b v 0 + get_or c v 0
-get-plus [] [] v l = omega arith
-get-plus [] (y ∷ c) v l = absurd (omega arith)
-get-plus (x ∷ b) [] v l = absurd (omega arith)
-get-plus (x ∷ b) (y ∷ c) zero l = refl
-get-plus (x ∷ b) (y ∷ c) (suc v) l = get-plus b c v (omega (arith, l))
-
 length-plus : (b c : List ℕ) → length b ≡ length c → length (plus b c) ≡ length b
 length-plus [] c l = refl
 length-plus (x ∷ b) [] l = absurd (omega arith)
@@ -182,12 +177,6 @@ times-nonzero y z h k e =
     let b : 1 * 1 ≤ unsigned_abs y * unsigned_abs z = mul-le-mul (size-pos y h) (size-pos z k) in
     omega (arith, a, b)
 
-left-zero : (y z : ℤ) → y ≡ pos 0 → y *ℤ z ≡ pos 0
-left-zero y z e = rw e (omega (arith, ints))
-
-right-zero : (y z : ℤ) → z ≡ pos 0 → y *ℤ z ≡ pos 0
-right-zero y z e = rw e (omega (arith, ints))
-
 under : (v : ℕ) (b t : List ℕ) → NotAbove (key v b) (key v t) → get_or b v 0 ≤ get_or t v 0
 under v b t (inl l) = omega (arith, l)
 under v b t (inr r) = omega (arith, r.0)
@@ -218,7 +207,7 @@ products-reach n v e f ms ks b c all all' hb hc = (
     size = length-plus t.here u.here same ∙ t.monomial.size
 
     reach : get_or b v 0 + get_or c v 0 ≤ get_or (plus t.here u.here) v 0
-    reach = omega (arith, under v b t.here (t.highest b hb (all b hb)), under v c u.here (u.highest c hc (all' c hc)), get-plus t.here u.here v same)
+    reach = omega (arith, under v b t.here (t.highest b hb (all b hb)), under v c u.here (u.highest c hc (all' c hc)), get_or-plus t.here u.here v same)
 
     apart : (x y : List ℕ) → length x ≡ length (plus t.here u.here) → length y ≡ length (plus t.here u.here) →
         plus x y ≡ plus t.here u.here → (x ≡ t.here → ⊥) →
@@ -230,7 +219,7 @@ products-reach n v e f ms ks b c all all' hb hc = (
         let i : IsMonomial n e x = record { size = l ∙ size; nonzero = z } in
         let j : IsMonomial n f y = record { size = r ∙ size; nonzero = w } in
         let g : get_or x v 0 + get_or y v 0 ≡ get_or t.here v 0 + get_or u.here v 0 =
-        sym (get-plus x y v (l ∙ sym r)) ∙ ap (λ a. get_or a v 0) p ∙ get-plus t.here u.here v same in
+        sym (get_or-plus x y v (l ∙ sym r)) ∙ ap (λ a. get_or a v 0) p ∙ get_or-plus t.here u.here v same in
         let k : plus (key v x) (key v y) ≡ plus (key v t.here) (key v u.here) =
         cons (get_or x v 0) (get_or y v 0) (get_or t.here v 0 + get_or u.here v 0) x y (plus t.here u.here) g p in
         absurd (ne (tail (get_or x v 0) (get_or t.here v 0) x t.here

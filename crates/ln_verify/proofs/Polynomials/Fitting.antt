@@ -1,9 +1,8 @@
 -- Whether exponents fit, and what follows of a product.
-use Rattle.std.proofs.Common.{◌≡◌, ◌⊎◌, inl, inr, Bool, ◌↔◌, ℕ, ◌+◌, ◌-◌, ◌<◌, ◌≤◌, zero, suc, List, [], ◌∷◌, length, get_or, drop, refl, sym}
+use Rattle.std.proofs.Common.{◌≡◌, ◌⊎◌, inl, inr, Bool, ◌↔◌, ℕ, ◌+◌, ◌-◌, ◌<◌, ◌≤◌, suc, List, [], ◌∷◌, length, get_or, refl, sym}
 use Rattle.std.proofs.Common.{arith, subst, eqb, true, false}
 use Rattle.std.specs.Prelude.{All}
 use Rattle.std.proofs.Math.IntN.{ℤ, pos}
-use Rattle.std.proofs.Math.Nat.{max-le}
 use Rattle.std.proofs.lemmas.Bool.{cases_eq, cases_lt}
 use Rattle.std.proofs.lemmas.Bool.Decides.{nat_tests}
 use Rattle.std.proofs.lemmas.List.Elements.{All-head, All-tail, All-cons, All-nil}
@@ -13,9 +12,10 @@ use Rattle.ln_poly.specs.Expansion.{IsNormal}
 use Rattle.ln_poly.specs.Lean.{largest}
 use Rattle.ln_poly.specs.Rows.{PowersFit}
 use Rattle.ln_poly.specs.Sparse.{AreBelow, AreRising, Sparse}
-use Rattle.ln_poly.proofs.Packing.Terms.{largest-at}
+use Rattle.ln_poly.proofs.Packing.Terms.{largest-at, largest-both}
+use Rattle.ln_poly.proofs.TermLists.Exponents.{exponent-small}
 use Rattle.ln_due.specs.Small.{IsSmall}
-use Rattle.ln_verify.specs.Products.{AllFit, EachOf, PairsFit, RowFits}
+use Rattle.ln_verify.specs.Products.{AllFit, PairsFit, RowFits}
 use Rattle.ln_verify.proofs.Polynomials.Small.{too-high}
 
 -- ---- it fits, or some variable passes the limit
@@ -55,18 +55,9 @@ pairs-fit-or n (p ∷ ps) b h = by_case (cases_lt (p.1 + exponent p.0 b) 128) (p
     by_case (inl l) (inl r) = inl (l, r)
     by_case (inl l) (inr r) = inr (record { var = r.var; below = r.below; high = omega (arith, r.high, more p ps r.var) })
 
--- in each variable
-small : (ps : Pairs) (v : ℕ) → IsRising ps → exponent v ps < 128
-small [] v r = omega arith
-small (p ∷ ps) v r = by_case (cases_eq p.0 v) (small ps v r.3)
-  where
-    by_case : (p.0 ≡ v) ⊎ (p.0 ≡ v → ⊥) → exponent v ps < 128 → exponent v (p ∷ ps) < 128
-    by_case (inl e) s = subst (λ (w : ℕ). exponent w (p ∷ ps) < 128) e (omega (arith, here p ps, AllAbove-none p.0 ps p.0 r.2 (omega arith), r.1))
-    by_case (inr d) s = omega (arith, apart p ps v d, s)
-
 -- where the exponents of two monomials fit, both exponents of each variable are together below 128
 pub pairs-fit : (a b : Pairs) → IsRising a → IsRising b → PairsFit a b → (v : ℕ) → exponent v a + exponent v b < 128
-pairs-fit [] b r s h v = omega (arith, small b v s)
+pairs-fit [] b r s h v = omega (arith, exponent-small b v s)
 pairs-fit (p ∷ ps) b r s h v = by_case (cases_eq p.0 v) (pairs-fit ps b r.3 s h.1 v)
   where
     by_case : (p.0 ≡ v) ⊎ (p.0 ≡ v → ⊥) → exponent v ps + exponent v b < 128 → exponent v (p ∷ ps) + exponent v b < 128
@@ -123,10 +114,6 @@ misfit-large n d e f g p q none s = by_case (all-fit-or n f g p.below)
     by_case (inr x) = too-high n d e f g p q x.at x.high.at x.high.high.var ([], pos 0) x.within x.high.within x.high.high.below x.high.high.high s
 
 -- ---- by the largest exponents
-largest-most : (f : Sparse) (v m : ℕ) → ((i : ℕ) (d : Pairs × ℤ) → i < length f → exponent v (get_or f i d).0 ≤ m) → largest f v ≤ m
-largest-most [] v m h = omega arith
-largest-most (t ∷ f) v m h = max-le (h 0 t (omega arith)) (largest-most f v m (λ i d l. h (suc i) d (omega (arith, l))))
-
 module _ (f g : Sparse) (a b : List ℕ) (p : (v : ℕ) → v < 256 → get_or a v 0 ≡ largest f v)
     (q : (v : ℕ) → v < 256 → get_or b v 0 ≡ largest g v) where
   -- where the largest exponents of each variable fit, all do
@@ -149,16 +136,7 @@ module _ (f g : Sparse) (a b : List ℕ) (p : (v : ℕ) → v < 256 → get_or a
 
   -- where all fit, the largest of each variable do
   pub fit-largest : AreRising f → AreRising g → AllFit f g → (v : ℕ) → v < 256 → get_or a v 0 + get_or b v 0 < 128
-  fit-largest r s h v l =
-      let w = all-powers f g r s h in
-      let low : largest g v ≤ 127 = largest-most g v 127 (λ j e k. omega (arith, small (get_or g j e).0 v (s j e k))) in
-      let each : (i : ℕ) (d : Pairs × ℤ) → i < length f → exponent v (get_or f i d).0 ≤ 127 - largest g v =
-      λ i d k. omega (
-        arith,
-        largest-most g v (127 - exponent v (get_or f i d).0) (λ j e m. omega (arith, w i d k j e m v)),
-        small (get_or f i d).0 v (r i d k),
-      ) in
-      omega (arith, p v l, q v l, low, largest-most f v (127 - largest g v) each)
+  fit-largest r s h v l = omega (arith, p v l, q v l, largest-both f g v r s (all-powers f g r s h))
 
 -- one variable more fits
 pub fit-next : (a b : List ℕ) (v : ℕ) → ((u : ℕ) → u < v → get_or a u 0 + get_or b u 0 < 128) → get_or a v 0 + get_or b v 0 < 128
@@ -168,38 +146,6 @@ fit-next a b v h l u k = by_case (cases_eq u v)
     by_case : (u ≡ v) ⊎ (u ≡ v → ⊥) → get_or a u 0 + get_or b u 0 < 128
     by_case (inl e) = rw e l
     by_case (inr d) = h u (omega (arith, k, d))
-
--- ---- loops over each of several
-module _ {A : Type 0} (H : A → Type 0) where
-  each-turn : (xs : List A) (i : ℕ) (d : A) → i < length xs → EachOf H (drop i xs) ↔ H (get_or xs i d) × EachOf H (drop (suc i) xs)
-  each-turn [] i d l = absurd (omega arith)
-  each-turn (x ∷ xs) zero d l = (λ h. h, λ h. h)
-  each-turn (x ∷ xs) (suc i) d l = each-turn xs i d (omega arith)
-
-  -- whether it holds from place i on decides
-  abbrev pub EachDecides : List A → ℕ → Type 0
-  EachDecides xs i = EachOf H (drop i xs) ↔ EachOf H xs
-
-  -- where the rest decides and the property fails at its first place, it doesn't hold of each
-  pub each-stop : (xs : List A) (i : ℕ) (d : A) → i < length xs → EachDecides xs i → (H (get_or xs i d) → ⊥) → EachOf H xs → ⊥
-  each-stop xs i d l t none h = none ((each-turn xs i d l).0 (t.1 h)).0
-
-  -- where the rest decides and the property holds at its first place, what comes after it decides
-  pub each-next : (xs : List A) (i : ℕ) (d : A) → i < length xs → EachDecides xs i → H (get_or xs i d) → EachDecides xs (i + 1)
-  each-next xs i d l t y =
-      let u = each-turn xs i d l in
-      let w : suc i ≡ i + 1 = omega arith in
-      subst (EachDecides xs) w (λ h. t.0 (u.1 (y, h)), λ h. (u.0 (t.1 h)).1)
-
-  past : (xs : List A) (i : ℕ) → length xs ≤ i → EachOf H (drop i xs)
-  past [] zero l = tt
-  past [] (suc i) l = tt
-  past (x ∷ xs) zero l = absurd (omega arith)
-  past (x ∷ xs) (suc i) l = past xs i (omega arith)
-
-  -- where the rest decides and nothing remains, the property holds of each
-  pub each-end : (xs : List A) (i : ℕ) → length xs ≤ i → EachDecides xs i → EachOf H xs
-  each-end xs i l t = t.0 (past xs i l)
 
 -- the test, at the polynomials
 pub fits-at : (r : Bool) (x y f g : Sparse) → (r ≡ true) ↔ AllFit x y → x ≡ f → y ≡ g → (r ≡ true) ↔ AllFit f g

@@ -13,11 +13,12 @@ use Rattle.ln_algebra.proofs.Expanded.Normal.{same_vector-refl, zero_cases}
 use Rattle.ln_tree.specs.Exps.{IsAbove, IsRising, Pairs, pairs_cmp, same_pairs-ties, vector}
 use Rattle.ln_tree.proofs.Powers.{vector-length}
 use Rattle.ln_poly.specs.Expansion.{IsNormal}
-use Rattle.ln_poly.specs.Sparse.{AreBelow, AreRising, IsFactor, Sparse, coefficient_at}
+use Rattle.ln_poly.specs.Sparse.{AreBelow, AreRising, Sparse, coefficient_at}
+use Rattle.ln_poly.proofs.Sorting.Collected.{vectors-same}
 use Rattle.ln_tree.specs.Exps.{pairs_cmp-total}
 use Rattle.ln_stage.specs.Kept.{all_rows}
-use Rattle.ln_stage.proofs.Monomials.MonomialLemmas.{IsTerms, rows-monomials}
-use Rattle.ln_stage.proofs.Walks.PairsLemmas.{same-pairs, same_pairs-refl}
+use Rattle.ln_stage.proofs.Monomials.MonomialLemmas.{IsTerms, rows-monomials, terms-of}
+use Rattle.ln_stage.proofs.Walks.PairsLemmas.{same_pairs-refl}
 use Rattle.ln_stage.proofs.Results.ResultLemmas.{poly-terms}
 
 -- ---- the order of exponents
@@ -32,7 +33,7 @@ behind : (n : ℕ) (t : Pairs × ℤ) (f : Sparse) (x : Pairs) → IsRising x �
     → AllByRecursion (λ u. on (λ t. t.0) pairs_cmp t u ≡ Less) f → In (all_rows n f) (vector n x) → pairs_cmp t.0 x ≡ Less
 behind n t [] x r a rs bs h i = absurd i
 behind n t (u ∷ f) x r a rs bs h (inl e) =
-    let q : x ≡ u.0 = same-pairs n x u.0 r (All-head (λ t. IsRising t.0) u f rs) a (All-head (λ t. IsAbove t.0 n) u f bs) e in
+    let q : x ≡ u.0 = vectors-same n x u.0 r (All-head (λ t. IsRising t.0) u f rs) a (All-head (λ t. IsAbove t.0 n) u f bs) e in
     subst (λ (y : Pairs). pairs_cmp t.0 y ≡ Less) (sym q) h.0
 behind n t (u ∷ f) x r a rs bs h (inr i) = behind n t f x r a (All-tail (λ t. IsRising t.0) u f rs) (All-tail (λ t. IsAbove t.0 n) u f bs) h.1 i
 
@@ -40,10 +41,6 @@ first-behind : (n : ℕ) (t : Pairs × ℤ) (f : Sparse) (x : Pairs) → IsRisin
     → In (all_rows n f) (vector n x) → pairs_cmp t.0 x ≡ Less
 unfolding IsStrictlySortedBy
 first-behind n t f x r a p b i = behind n t f x r a (All-tail (λ t. IsRising t.0) t f p.rising) (All-tail (λ t. IsAbove t.0 n) t f b) p.sorted.0 i
-
-terms-tail : (t : Pairs × ℤ) (f : Sparse) → IsTerms (t ∷ f) → IsTerms f
-unfolding IsStrictlySortedBy
-terms-tail t f p = record { sorted = p.sorted.1; rising = All-tail (λ t. IsRising t.0) t f p.rising; factors = All-tail (λ t. IsFactor t.1) t f p.factors }
 
 -- ---- coefficients
 abbrev part : ℕ → Pairs × ℤ → List ℕ → ℤ
@@ -73,7 +70,7 @@ own n t f p b = by_case (zero_cases (coefficient_at n f (vector n t.0)))
     by_case : (coefficient_at n f (vector n t.0) ≡ pos 0) ⊎ (coefficient_at n f (vector n t.0) ≡ pos 0 → ⊥) → coefficient_at n (t ∷ f) (vector n t.0) ≡ t.1
     by_case (inl z) = omega (arith, ints, first-part n t f (vector n t.0), own-part n t, z)
     by_case (inr d) =
-        let i = (rows-monomials n f (terms-tail t f p) (All-tail (λ t. IsAbove t.0 n) t f b)).all (vector n t.0)
+        let i = (rows-monomials n f (terms-of t f p) (All-tail (λ t. IsAbove t.0 n) t f b)).all (vector n t.0)
         (record { size = vector-length n t.0; nonzero = d }) in
         absurd (less-none t.0 (first-behind n t f t.0 (All-head (λ t. IsRising t.0) t f p.rising) (All-head (λ t. IsAbove t.0 n) t f b) p b i))
 
@@ -82,7 +79,7 @@ same-terms n [] [] p b q c e = refl
 same-terms n [] (u ∷ g) p b q c e = absurd (first-there n u g [] q c p b (λ m h. sym (e m h)))
 same-terms n (t ∷ f) [] p b q c e = absurd (first-there n t f [] p b q c e)
 same-terms n (t ∷ f) (u ∷ g) p b q c e = join heads
-    (λ y. same-terms n f g (terms-tail t f p) (All-tail (λ t. IsAbove t.0 n) t f b) (terms-tail u g q) (All-tail (λ t. IsAbove t.0 n) u g c) (rest y))
+    (λ y. same-terms n f g (terms-of t f p) (All-tail (λ t. IsAbove t.0 n) t f b) (terms-of u g q) (All-tail (λ t. IsAbove t.0 n) u g c) (rest y))
   where
     rt : IsRising t.0
     rt = All-head (λ t. IsRising t.0) t f p.rising
@@ -97,8 +94,8 @@ same-terms n (t ∷ f) (u ∷ g) p b q c e = join heads
     au = All-head (λ t. IsAbove t.0 n) u g c
 
     pick : (vector n t.0 ≡ vector n u.0) ⊎ In (all_rows n g) (vector n t.0) → (vector n u.0 ≡ vector n t.0) ⊎ In (all_rows n f) (vector n u.0) → t.0 ≡ u.0
-    pick (inl v) j = same-pairs n t.0 u.0 rt ru at au v
-    pick (inr i) (inl v) = sym (same-pairs n u.0 t.0 ru rt au at v)
+    pick (inl v) j = vectors-same n t.0 u.0 rt ru at au v
+    pick (inr i) (inl v) = sym (vectors-same n u.0 t.0 ru rt au at v)
     pick (inr i) (inr j) = absurd (less-none u.0 (pairs_cmp-total.trans u.0 t.0 u.0 (first-behind n u g t.0 rt at q c i) (first-behind n t f u.0 ru au p b j)))
 
     heads : t.0 ≡ u.0

@@ -3,7 +3,7 @@ use Rattle.std.proofs.Common.{◌≡◌, ℕ, ◌<◌, zero, suc, List, [], ◌�
 use Rattle.std.specs.Prelude.{All, IfSome, IsSome, Option, Some, None, slice_get, slice_index_or}
 use Rattle.std.specs.Option.{option_map}
 use Rattle.std.proofs.lemmas.List.{length-map}
-use Rattle.std.proofs.lemmas.Option.{get_or_from_slice_get, slice_get-map}
+use Rattle.std.proofs.lemmas.Option.{get_or_from_slice_get, slice_get-map, slice_get_within}
 use Rattle.ln_algebra.specs.Orders.{BySmallest}
 use Rattle.ln_algebra.specs.Terms.{IsNormalOf, derived}
 use Rattle.ln_algebra.specs.Tree.{InputsBelow, Tree}
@@ -145,11 +145,6 @@ order-there {A} xs k n l e = go (slice_get xs k) refl
     go None q = absurd (none-past xs k q (omega (arith, l, e)))
     go (Some x) q = (x, q)
 
-get-within : {A : Type 0} (xs : List A) (k : ℕ) (x : A) → slice_get xs k ≡ Some x → k < length xs
-get-within [] k x h = cc
-get-within (y ∷ xs) zero x h = omega arith
-get-within (y ∷ xs) (suc k) x h = omega (arith, get-within xs k x h)
-
 -- the judge's subject of a shape
 abbrev subject_of : Shape → List ℕ → Sparse → Subject
 subject_of s name f = record { name = name; sites = s.sites; vars = s.vars; poly = f }
@@ -157,7 +152,7 @@ subject_of s name f = record { name = name; sites = s.sites; vars = s.vars; poly
 module _ (v : Version) (z : Followed v) (s : Shape) (e : Tree) (name : List ℕ) (f : Sparse) (w : Written) (h : PartStands v (subject_of s name f) w) where
   within : (k : ℕ) (list : List ℕ) → slice_get w.lists k ≡ Some list → All (λ n. n < length (map code_of w.blocks)) list
   within k list q =
-      let o = order-there (orders_of s.sites) k (length w.lists) (get-within w.lists k list q) h.all in
+      let o = order-there (orders_of s.sites) k (length w.lists) (slice_get_within w.lists k list q) h.all in
       let t = h.lists k list q o.0 o.1 in
       λ j d l. omega (arith, t.within j d l, length-map w.blocks code_of, length-map w.blocks (λ (b : Piece). b.exps))
 

@@ -138,18 +138,18 @@ spot-step v p (Ordering w) (Order places list) t h r = order-stands v p w places
 spot-step v p (Ordering w) Done t h r = absurd r
 
 -- ---- all parts
-abbrev Stands : Version → List Subject → Place → Type 0
-Stands v ps (Outside parts) = PartsStand v ps parts
-Stands v ps (Within parts s) = PartsStand v ps parts × ((p : Subject) → slice_get ps (length parts) ≡ Some p → SpotStands v p s)
+abbrev HoldsAt : Version → List Subject → Place → Type 0
+HoldsAt v ps (Outside parts) = PartsStand v ps parts
+HoldsAt v ps (Within parts s) = PartsStand v ps parts × ((p : Subject) → slice_get ps (length parts) ≡ Some p → SpotStands v p s)
 
 -- a line that leads on within a part
 moved : (v : Version) (ps : List Subject) (p : Subject) (parts : List Written) (s : Spot) (line : Part) (q : Place) → PartsStand v ps parts
-    → slice_get ps (length parts) ≡ Some p → SpotStands v p s → (t : Spot) × LineRule v p s line t × (q ≡ Within parts t) → Stands v ps q
+    → slice_get ps (length parts) ≡ Some p → SpotStands v p s → (t : Spot) × LineRule v p s line t × (q ≡ Within parts t) → HoldsAt v ps q
 moved v ps p parts s line q all g h (t, r, to) =
     rw to (all, λ p' g'. let e : p ≡ p' = some-same p p' (sym g ∙ g') in subst (λ (z : Subject). SpotStands v z t) e (spot-step v p s line t h r))
 
 part-step : (v : Version) (ps : List Subject) (p : Subject) (parts : List Written) (s : Spot) (line : Part) (q : Place)
-    → PartsStand v ps parts → slice_get ps (length parts) ≡ Some p → SpotStands v p s → PartRule v p parts s line q → Stands v ps q
+    → PartsStand v ps parts → slice_get ps (length parts) ≡ Some p → SpotStands v p s → PartRule v p parts s line q → HoldsAt v ps q
 part-step v ps p parts Named (Predicate name) q all g h r = moved v ps p parts Named (Predicate name) q all g h r
 part-step v ps p parts Named NoFilter q all g h r = moved v ps p parts Named NoFilter q all g h r
 part-step v ps p parts Named Filter q all g h r = moved v ps p parts Named Filter q all g h r
@@ -207,7 +207,7 @@ part-step v ps p parts (Ordering w) (Order places list) q all g h r = moved v ps
 part-step v ps p parts (Ordering w) Done q all g h r = rw r.to (everywhere-more parts w all (λ p' g'. let e : p ≡ p' = some-same p p' (sym g ∙ g') in
     subst (λ (z : Subject). PartStands v z w) e (record { filter = h.0; blocks = h.1; lists = h.2; all = r.all })))
 
-rule-step : (v : Version) (ps : List Subject) (here : Place) (line : Part) (q : Place) → Stands v ps here → Rule v ps here line q → Stands v ps q
+rule-step : (v : Version) (ps : List Subject) (here : Place) (line : Part) (q : Place) → HoldsAt v ps here → Rule v ps here line q → HoldsAt v ps q
 rule-step v ps (Outside parts) (Predicate name) q h r = rw r.to (h, λ p g. tt)
 rule-step v ps (Outside parts) NoFilter q h r = absurd r
 rule-step v ps (Outside parts) Filter q h r = absurd r
@@ -221,7 +221,7 @@ rule-step v ps (Outside parts) (Order places list) q h r = absurd r
 rule-step v ps (Outside parts) Done q h r = absurd r
 rule-step v ps (Within parts s) line q h (p, g, r) = part-step v ps p parts s line q h.0 g (h.1 p g) r
 
-go-stands : (v : Version) (ps : List Subject) (here : Place) (lines : List Part) (q : Place) → Stands v ps here → Go v ps here lines q → Stands v ps q
+go-stands : (v : Version) (ps : List Subject) (here : Place) (lines : List Part) (q : Place) → HoldsAt v ps here → Go v ps here lines q → HoldsAt v ps q
 go-stands v ps here [] q h r = rw r h
 go-stands v ps here (line ∷ lines) q h (t, r, g) = go-stands v ps t lines q (rule-step v ps here line t h r) g
 

@@ -38,7 +38,8 @@ inputs-below p a =
     (root-light (length p.shape.vars) two (closed_lets p.shape.vars (map formula p.lets)) (tree p.shape.vars (formula p.root))
     (pred-expands p.args p.shape.vars p.lets (length p.let_names) p.root p.kept a.light).1).inputs
 
-sound-of : (ps : List Pred) (k : ℕ) (p : Pred) → AreSound (map pred_of ps) → slice_get ps k ≡ Some p → IsSound (pred_of p)
+-- each predicate of an accepted source has no fault
+pub sound-of : (ps : List Pred) (k : ℕ) (p : Pred) → AreSound (map pred_of ps) → slice_get ps k ≡ Some p → IsSound (pred_of p)
 sound-of [] k p h e = cc
 sound-of (q ∷ ps) zero p h e = let z : q ≡ p = cc in subst (λ (x : Pred). IsSound (pred_of x)) z h.0
 sound-of (q ∷ ps) (suc k) p h e = sound-of ps k p h.1 e

@@ -4,13 +4,9 @@ use Rattle.std.specs.Prelude.{Some, nat_le, int_le, ◌≤ℤ◌}
 use Rattle.std.proofs.lemmas.Bool.{and_parts, leb-true, le-leb}
 use Rattle.std.proofs.lemmas.Int.{ints}
 use Rattle.ln_algebra.specs.Tree.{Tree}
-use Rattle.ln_interval.specs.Range.{Covers, IsOrdered, Range, magnitude, most}
-use Rattle.ln_interval.proofs.Magnitudes.{difference_ordered, product_ordered, sum_ordered}
-use Rattle.ln_bound.specs.declared.fitted.Two.{Two}
-use Rattle.ln_bound.specs.declared.fitted.Two.TheVariants.{Minus, Plus, Times}
+use Rattle.ln_interval.specs.Range.{Covers, Range, magnitude, most}
 use Rattle.ln_bound.specs.declared.fitted.Width.{Width}
 use Rattle.ln_bound.specs.Sound.{IsIn, covers, is_in}
-use Rattle.ln_bound.specs.Typed.{range_of}
 use Rattle.ln_bound.specs.Widths.{least, limit}
 use Rattle.ln_bound.proofs.Soundness.SoundLaws.{covers_say, is_in_says}
 use Rattle.ln_verify.specs.BlockRules.{balanced}
@@ -68,10 +64,3 @@ not-true P e = absurd (go e)
   where
     go : false ≡ true → ⊥
     go e = cc
-
--- ---- of two values
--- a sum, a difference or a product of ordered ranges is ordered
-pub range-ordered : (t : Two) (p q : Range) → IsOrdered p → IsOrdered q → IsOrdered (range_of t p q)
-range-ordered Plus p q h g = sum_ordered p q h g
-range-ordered Minus p q h g = difference_ordered p q h g
-range-ordered Times p q h g = product_ordered p q

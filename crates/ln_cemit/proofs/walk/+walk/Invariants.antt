@@ -20,5 +20,7 @@ decreases-put_pick l = 3 * l.d + 1
 abbrev pub invariant-put_picks-left : goal.invariant-put_picks-left
 invariant-put_picks-left l =
     Goes l.fn.out.items l.out.items
-    (spell_body (picks_on (λ i. walked (block_name (part_name l.p)) answer_name (segment_of l.p) l.d (l.front ++ i ∷ []) (without i l.left)) (drop l.k l.left)))
-    (spell_body (picks (λ i. walked (block_name (part_name l.p)) answer_name (segment_of l.p) l.d (l.front ++ i ∷ []) (without i l.left)) l.left))
+    (spell_body (picks_on (λ i. walked (block_name (part_name l.at.program.now)) answer_name (segment_of l.at.program.now) l.d
+    (l.at.front.now ++ i ∷ []) (without i l.at.left.now)) (drop l.k l.at.left.now)))
+    (spell_body (picks (λ i. walked (block_name (part_name l.at.program.now)) answer_name (segment_of l.at.program.now) l.d
+    (l.at.front.now ++ i ∷ []) (without i l.at.left.now)) l.at.left.now))

@@ -3,7 +3,7 @@ use Rattle.std.proofs.Common.{[], ◌∷◌, subst}
 use Rattle.std.proofs.lemmas.Result.{IfOk-weaker}
 use Rattle.ln_tree.specs.declared.shape.Shape.{Shape}
 use Rattle.ln_tree.specs.Names.{name_bytes}
-use Rattle.ln_code.proofs.Verdicts.Differ.{few_vars}
+use Rattle.ln_tree.proofs.KeptLemmas.{few_vars}
 use Rattle.ln_cert.specs.declared.part.Part.TheVariants.{Predicate}
 use Rattle.ln_cert.specs.Written.{AreListableBlocks, Wrote, blocks_lines}
 use Rattle.ln_cert.proofs.Writing.Programmed.{for_blocks, one_behind, program_wrote}

@@ -15,15 +15,15 @@ returns-in-Ok-clause-meaning g c = λ rest.
     let old = c.args.s.now in
     let e = seen_same c.open.new.s c.wanted_value.new.s c.in-Ok.ensures.same ∙ c.open.ensures.seen in
     let fits : FitsSigned w128 c.in-Ok.number = search rules in
-    let a = simp to_z-of_z at (c.settle.ensures.seen (record { name = c.args.name.now; kind = c.args.kind; number = None }) (seen old) e) in
-    declared (scene_of (g.C.Calls.given c.args.calls.now) c.args.inputs.now) c.args.line c.args.kind c.args.name.now (expr_tree c.args.e.now) rest
-    (seen old) (seen c.open.new.s) (seen c.settle.new.s) (tally c.args.counts.now) (tally c.wanted_value.new.counts) c.in-Ok.number
-    c.open.ensures.seen a c.in-Ok.ensures.meaning
+    let a = simp to_z-of_z at (c.settle.ensures.seen (record { name = c.args.name.now; kind = c.args.of.now.kind; number = None }) (seen old) e) in
+    declared (scene_of (g.C.Calls.given c.args.calls.now) c.args.inputs.now) c.args.of.now.line c.args.of.now.kind c.args.name.now
+    (expr_tree c.args.of.now.expr.now) rest (seen old) (seen c.open.new.s) (seen c.settle.new.s) (tally c.args.counts.now)
+    (tally c.wanted_value.new.counts) c.in-Ok.number c.open.ensures.seen a c.in-Ok.ensures.meaning
 
 pub returns-in-Err-clause-meaning : goal.returns-in-Err-clause-meaning
 returns-in-Err-clause-meaning g c = λ rest.
-    not_declared (scene_of (g.C.Calls.given c.args.calls.now) c.args.inputs.now) c.args.line c.in-Err.l c.args.kind c.args.name.now
-    (expr_tree c.args.e.now) rest (seen c.args.s.now) (seen c.open.new.s) (tally c.args.counts.now) c.open.ensures.seen c.in-Err.ensures.meaning
+    not_declared (scene_of (g.C.Calls.given c.args.calls.now) c.args.inputs.now) c.args.of.now.line c.in-Err.l c.args.of.now.kind c.args.name.now
+    (expr_tree c.args.of.now.expr.now) rest (seen c.args.s.now) (seen c.open.new.s) (tally c.args.counts.now) c.open.ensures.seen c.in-Err.ensures.meaning
 
 pub wanted_value-requires : goal.wanted_value-requires
 wanted_value-requires g c = record {

@@ -13,6 +13,6 @@ use Rattle.ln_cmean.proofs.body.wanted_value.Goals as goal
 pub returns-then-same_kind-clause-within : goal.returns-then-same_kind-clause-within
 returns-then-same_kind-clause-within g c =
     let fits : FitsSigned w128 c.in-Ok.n.number = search rules in
-    subst (λ z. has c.args.kind z ≡ true) (sym (to_z-of_z w128 c.in-Ok.n.number fits))
-    (wanted_within (scene_of (g.C.Calls.given c.args.calls.now) c.args.inputs.now) (seen c.args.s.now) (expr_tree c.args.e.now)
+    subst (λ z. has c.args.of.now.kind z ≡ true) (sym (to_z-of_z w128 c.in-Ok.n.number fits))
+    (wanted_within (scene_of (g.C.Calls.given c.args.calls.now) c.args.inputs.now) (seen c.args.s.now) (expr_tree c.args.of.now.expr.now)
     (tally c.args.counts.now) (tally c.value.new.counts) _ _ _ c.in-Ok.ensures.meaning (sym c.if-same_kind.true ∙ c.same_kind.ensures))

@@ -1,5 +1,5 @@
 use Rattle.std.proofs.Common.{◌≡◌, ◌≤◌, length, arith}
-use Rattle.ln_code.proofs.Verdicts.Differ.{few_vars}
+use Rattle.ln_tree.proofs.KeptLemmas.{few_vars}
 use Rattle.ln_code.proofs.run.block_value.Goals as goal
 
 pub shared_ref_as_front-values : goal.shared_ref_as_front-values

@@ -1,9 +1,9 @@
 use Rattle.std.proofs.Common.{◌≡◌, ◌≤◌, length, arith, refl, subst, ℕ}
+use Rattle.ln_tree.proofs.KeptLemmas.{few_vars}
 use Rattle.ln_order.specs.Orders.{IsOrderOf}
 use Rattle.ln_order.proofs.Signs.RowsLemmas.{order-places}
 use Rattle.ln_order.proofs.Listing.OrderExists.{order-exists}
 use Rattle.ln_code.specs.Lists.{list_of}
-use Rattle.ln_code.proofs.Verdicts.Differ.{few_vars}
 use Rattle.ln_code.proofs.run.run_row.Goals as goal
 
 pub shared_ref_as_front-values : goal.shared_ref_as_front-values

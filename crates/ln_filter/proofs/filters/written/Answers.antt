@@ -1,15 +1,16 @@
 use Rattle.std.proofs.Common.{◌≡◌, [], map}
 use Rattle.std.specs.Prelude.{None, Some}
+use Rattle.ln_tree.proofs.KeptLemmas.{laid_out}
 use Rattle.ln_bound.specs.Typed.{untyped}
 use Rattle.ln_bound.specs.View.{typed}
 use Rattle.ln_filter.specs.Tried.{lets_tried, tried}
 use Rattle.ln_filter.specs.Wrote.{LetsPut, SteadyPut}
 use Rattle.ln_filter.proofs.Truncation.Steady.{no_lets_filter, no_root_filter}
-use Rattle.ln_filter.proofs.Operations.Sealed.{blank, predicate_of, ranges_of, sealed, sound_predicate}
+use Rattle.ln_filter.proofs.Operations.Sealed.{blank, predicate_of, sealed, sound_predicate}
 use Rattle.ln_filter.proofs.filters.written.Goals as goal
 
 pub put_steady-requires-clause-ranges : goal.put_steady-requires-clause-ranges
-put_steady-requires-clause-ranges c = rw c.as_slice-vars.ensures (ranges_of c.args.p.now.shape.sites c.args.p.now.shape.vars c.args.p.now.shape.kept)
+put_steady-requires-clause-ranges c = rw c.as_slice-vars.ensures (laid_out c.args.p.now.shape.sites c.args.p.now.shape.vars c.args.p.now.shape.kept).ranges
 
 pub seal-requires : goal.seal-requires
 seal-requires c =
@@ -49,7 +50,7 @@ returns-in-Some-2 c =
     rw c.seal.ensures x.planned
 
 pub put_lets-requires-clause-ranges : goal.put_lets-requires-clause-ranges
-put_lets-requires-clause-ranges c = rw c.as_slice-vars.ensures (ranges_of c.args.p.now.shape.sites c.args.p.now.shape.vars c.args.p.now.shape.kept)
+put_lets-requires-clause-ranges c = rw c.as_slice-vars.ensures (laid_out c.args.p.now.shape.sites c.args.p.now.shape.vars c.args.p.now.shape.kept).ranges
 
 pub put_lets-requires-clause-few : goal.put_lets-requires-clause-few
 put_lets-requires-clause-few c = rw c.as_slice.ensures c.args.p.now.few

@@ -1,4 +1,4 @@
-use Rattle.ln_filter.proofs.Truncation.Stands.{numbers_stand, never_wrong}
+use Rattle.ln_filter.proofs.Truncation.Approximating.{numbers_stand, never_wrong}
 use Rattle.ln_filter.proofs.laws.filter_is_never_wrong.Goals as goal
 
 pub returns-clause-stand : goal.returns-clause-stand

@@ -1,11 +1,12 @@
 use Rattle.std.proofs.Common.{arith}
-use Rattle.ln_rows.proofs.Fields.RangeLemmas.{sizes, shape_columns}
-use Rattle.ln_gen.proofs.MadeRangeLemmas.{ranges, made_is, made_in_range, zero_past}
+use Rattle.ln_tree.proofs.KeptLemmas.{laid_out}
+use Rattle.ln_rows.proofs.Fields.RangeLemmas.{shape_columns}
+use Rattle.ln_gen.proofs.MadeRangeLemmas.{made_is, made_in_range, zero_past}
 use Rattle.ln_gen.proofs.gen_row.gen_row.Goals as goal
 
 pub fill-requires-clause-few_vars : goal.fill-requires-clause-few_vars
 fill-requires-clause-few_vars c =
-    rw c.laid_out-vars.ensures.vars (sizes c.args.p.now.shape.sites c.args.p.now.shape.vars c.laid_out-vars.ensures.laid).few_vars
+    rw c.laid_out-vars.ensures.vars (laid_out c.args.p.now.shape.sites c.args.p.now.shape.vars c.laid_out-vars.ensures.laid).few_vars
 
 pub fill-requires-clause-few_sites : goal.fill-requires-clause-few_sites
 fill-requires-clause-few_sites c =
@@ -13,12 +14,12 @@ fill-requires-clause-few_sites c =
     rw c.laid_out-vars.ensures.vars (omega (
       arith,
       shape_columns c.args.p.now.shape.sites c.args.p.now.shape.vars laid,
-      (sizes c.args.p.now.shape.sites c.args.p.now.shape.vars laid).few_sites,
+      (laid_out c.args.p.now.shape.sites c.args.p.now.shape.vars laid).few_sites,
     ))
 
 pub fill-requires-clause-ranges : goal.fill-requires-clause-ranges
 fill-requires-clause-ranges c =
-    rw c.laid_out-vars.ensures.vars (ranges c.args.p.now.shape.sites c.args.p.now.shape.vars c.laid_out-vars.ensures.laid)
+    rw c.laid_out-vars.ensures.vars (laid_out c.args.p.now.shape.sites c.args.p.now.shape.vars c.laid_out-vars.ensures.laid).ranges
 
 pub returns-clause-row : goal.returns-clause-row
 returns-clause-row c =

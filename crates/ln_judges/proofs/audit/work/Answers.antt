@@ -1,11 +1,12 @@
 use Rattle.std.proofs.Common.{refl}
-use Rattle.ln_judges.proofs.AuditLaws.{has_trace, sound_in}
+use Rattle.ln_judges.proofs.AuditLaws.{has_trace}
 use Rattle.ln_frame.proofs.ReadyLaws.{one_name}
 use Rattle.ln_judges.proofs.audit.work.Goals as goal
+use Rattle.ln_verify.proofs.Validity.Tells.{sound-of}
 
 pub audit_records-requires-clause-accepted : goal.audit_records-requires-clause-accepted
 audit_records-requires-clause-accepted g c =
-    sound_in c.args.ready.now.compiled.table.preds _ _ c.requires.stands.sound c.named.ensures
+    sound-of c.args.ready.now.compiled.table.preds _ _ c.requires.stands.sound c.named.ensures
 
 pub returns : goal.returns
 returns g c = λ given s.

@@ -1,11 +1,11 @@
 use Rattle.std.proofs.Common.{length, map, []}
-use Rattle.std.proofs.lemmas.Result.{IfOk-weaker, MatchResult-weaker}
+use Rattle.std.proofs.lemmas.Result.{IfOk-weaker, MatchResult-weaker, err_from_is_err_and}
 use Rattle.ln_tree.proofs.KeptLemmas.{few_vars}
 use Rattle.ln_tree.specs.Formula.{formula, tree}
 use Rattle.ln_algebra.specs.Sizes.{two}
 use Rattle.ln_poly.specs.Expansion.{closed_lets, closed_root, expanded, expanded_lets}
 use Rattle.ln_poly.proofs.TermLists.Counting.{no-terms-zero, zero-no-terms}
-use Rattle.ln_poly.proofs.Expansions.Expanding.{few-both, stop-behind}
+use Rattle.ln_poly.proofs.Expansions.Expanding.{few-both, stop-before, stop-behind}
 use Rattle.ln_poly.proofs.Expansions.Lets.{pred-fit, root-degrees, root-fits, root-light}
 use Rattle.ln_poly.proofs.Loads.Sizing.{pred-expands}
 use Rattle.ln_poly.proofs.Loads.Room.{two-sizes}
@@ -74,3 +74,16 @@ returns-clause-err c =
     let a = rw (c.as_slice-vars.ensures, c.as_slice-lets.ensures) at c.in_ok-polys.ensures.few in
     MatchResult-weaker c.expand.result k (λ f t. tt) (λ s q. stop-behind (length p.shape.vars) (expanded_lets p.shape.vars [] (map formula p.lets))
     (expanded p.shape.vars (closed_lets p.shape.vars (map formula p.lets)) (formula p.root)) s a q)
+
+pub returns-clause-normal : goal.returns-clause-normal
+returns-clause-normal c =
+    let k = rw (c.as_slice-vars.ensures, c.as_slice-lets.ensures) at c.expand.ensures.ok in
+    IfOk-weaker c.expand.result _ _ (λ f q. q.normal) k
+
+pub returns-in_err-polys-clause-err : goal.returns-in_err-polys-clause-err
+returns-in_err-polys-clause-err c =
+    let p = c.args.p.now in
+    let a = rw (c.as_slice-vars.ensures, c.as_slice-lets.ensures) at c.in_err-polys.ensures.err in
+    let e = err_from_is_err_and c.from_residual.result c.from_residual.ensures.1 in
+    rw (e.1, e.2) (stop-before (length p.shape.vars) (expanded_lets p.shape.vars [] (map formula p.lets))
+    (expanded p.shape.vars (closed_lets p.shape.vars (map formula p.lets)) (formula p.root)) _ a)

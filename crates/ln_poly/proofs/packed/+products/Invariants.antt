@@ -2,4 +2,4 @@ use Rattle.std.proofs.Common.{length}
 use Rattle.ln_poly.proofs.packed.+products.Given as goal
 
 abbrev pub decreases-products : goal.decreases-products
-decreases-products l = length l.f.now
+decreases-products g l = length l.f.now

@@ -2,4 +2,4 @@ use Rattle.ln_poly.proofs.Packing.Loops.{IsRowPut}
 use Rattle.ln_poly.proofs.packed.put_row.Given as goal
 
 abbrev pub invariant-terms : goal.invariant-terms
-invariant-terms l = IsRowPut l.initial.out l.out l.s l.g l.i
+invariant-terms g l = IsRowPut l.initial.out l.out l.s l.g l.i

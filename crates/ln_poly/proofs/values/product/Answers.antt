@@ -6,8 +6,8 @@ use Rattle.ln_bound.specs.Value.{weights}
 use Rattle.ln_tree.specs.Exps.{IsAbove, IsRising}
 use Rattle.ln_tree.specs.Row.{values}
 use Rattle.ln_tree.proofs.Powers.{small-at}
+use Rattle.ln_tree.proofs.KeptLemmas.{within_length}
 use Rattle.ln_poly.specs.Weight.{pairs_weight}
-use Rattle.ln_poly.proofs.Evaluations.Room.{row-long}
 use Rattle.ln_poly.proofs.Evaluations.Summing.{pair-above, pair-within, product-end, product-on, product-room}
 use Rattle.ln_poly.proofs.values.product.Goals as goal
 
@@ -19,7 +19,7 @@ bounds-row-from c =
       arith,
       c.from.ensures,
       pair-above (length c.args.s.now.vars) ps c.pairs.p-index above (omega (arith, c.pairs-test.true)),
-      row-long c.args.s.now.vars c.args.row.now c.requires.row,
+      within_length c.args.s.now.vars c.args.row.now c.requires.row,
     )
 
 pub with_pair-z-requires-clause-small : goal.with_pair-z-requires-clause-small

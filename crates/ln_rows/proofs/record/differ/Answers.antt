@@ -1,11 +1,12 @@
 use Rattle.std.proofs.Common.{arith, sym}
-use Rattle.ln_rows.proofs.Fields.RangeLemmas.{shape_columns, sizes, row_in_range}
+use Rattle.ln_tree.proofs.KeptLemmas.{laid_out}
+use Rattle.ln_rows.proofs.Fields.RangeLemmas.{shape_columns, row_in_range}
 use Rattle.ln_rows.proofs.Fields.ExactLemmas.{is_said, has_equal}
 use Rattle.ln_rows.proofs.record.differ.Goals as goal
 
 pub index_column-requires : goal.index_column-requires
 index_column-requires c =
-    let s = sizes c.args.sites c.args.vars.now c.requires in
+    let s = laid_out c.args.sites c.args.vars.now c.requires in
     omega (arith, shape_columns c.args.sites c.args.vars.now c.requires, s.few_sites, s.few_vars)
 
 pub returns-in-None : goal.returns-in-None

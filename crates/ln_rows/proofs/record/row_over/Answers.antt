@@ -1,12 +1,13 @@
 use Rattle.std.proofs.Common.{arith, sym, ◌∙◌}
 use Rattle.csv.specs.Records.{fields_of}
-use Rattle.ln_rows.proofs.Fields.RangeLemmas.{shape_columns, sizes}
+use Rattle.ln_tree.proofs.KeptLemmas.{laid_out}
+use Rattle.ln_rows.proofs.Fields.RangeLemmas.{shape_columns}
 use Rattle.ln_rows.proofs.Fields.RowLemmas.{begun_none, begun_read, on_err, stays_past}
 use Rattle.ln_rows.proofs.record.row_over.Goals as goal
 
 pub read_columns-requires-clause-few_sites : goal.read_columns-requires-clause-few_sites
 read_columns-requires-clause-few_sites c =
-    omega (arith, shape_columns c.args.sites c.args.vars.now c.requires, (sizes c.args.sites c.args.vars.now c.requires).few_sites)
+    omega (arith, shape_columns c.args.sites c.args.vars.now c.requires, (laid_out c.args.sites c.args.vars.now c.requires).few_sites)
 
 pub returns-in_err-read_columns-clause-past : goal.returns-in_err-read_columns-clause-past
 returns-in_err-read_columns-clause-past c =

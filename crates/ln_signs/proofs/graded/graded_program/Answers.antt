@@ -1,19 +1,23 @@
-use Rattle.ln_signs.proofs.GradedLaws.{answers_at, begins_at, gradable_at, passes_none}
+use Rattle.ln_signs.proofs.GradedLaws.{begins_at, gradable_at, programs_at, stops_at}
 use Rattle.ln_signs.proofs.graded.graded_program.Goals as goal
 
-pub made-requires-clause-poly : goal.made-requires-clause-poly
-made-requires-clause-poly c =
-    gradable_at c.args.c.now.table.preds c.args.i c.requires.within c.in_ok-f.f c.in_ok-p.p c.in_ok-f.ensures c.in_ok-p.ensures.program
+pub graded-requires-clause-poly : goal.graded-requires-clause-poly
+graded-requires-clause-poly c =
+    rw c.shape.ensures
+    (gradable_at c.args.c.now.table.preds c.args.i c.requires c.in_ok-f.f c.in_ok-p.p c.in_ok-f.ensures c.in_ok-p.ensures.program)
 
-pub made-requires-clause-begins : goal.made-requires-clause-begins
-made-requires-clause-begins c =
-    begins_at c.args.c.now.table.preds c.args.i c.requires.within c.in_ok-f.f c.in_ok-p.p c.in_ok-f.ensures c.in_ok-p.ensures.program
+pub graded-requires-clause-begins : goal.graded-requires-clause-begins
+graded-requires-clause-begins c =
+    rw c.shape.ensures
+    (begins_at c.args.c.now.table.preds c.args.i c.requires c.in_ok-f.f c.in_ok-p.p c.in_ok-f.ensures c.in_ok-p.ensures.program)
 
-pub made-requires-clause-few : goal.made-requires-clause-few
-made-requires-clause-few c =
-    passes_none c.args.c.now.table.preds c.args.i c.requires.within c.in_ok-f.f c.in_ok-p.p c.in_ok-f.ensures c.in_ok-p.ensures.program
-    c.requires.few
+pub returns-clause-program : goal.returns-clause-program
+returns-clause-program c =
+    let e = rw c.shape.ensures at c.graded.ensures in
+    programs_at c.args.c.now.table.preds c.args.i c.requires c.in_ok-f.f c.in_ok-p.p c.in_ok-f.ensures c.in_ok-p.ensures.program _
+    e.program e.within
 
-pub returns : goal.returns
-returns c = λ p e. answers_at c.args.c.now.table.preds c.args.i c.requires.within c.in_ok-f.f c.in_ok-p.p c.in_ok-f.ensures
-    c.in_ok-p.ensures.program c.in_ok-q.q c.in_ok-q.ensures p e
+pub returns-clause-err : goal.returns-clause-err
+returns-clause-err c =
+    stops_at c.args.c.now.table.preds c.args.i c.requires c.in_ok-f.f c.in_ok-p.p c.in_ok-f.ensures c.in_ok-p.ensures.program _
+    (rw c.shape.ensures at c.graded.ensures.err)

@@ -1,25 +1,30 @@
 use Rattle.std.proofs.Common.{◌≡◌, arith, length, map}
 use Rattle.ln_tree.specs.Table.{pred_of}
 use Rattle.ln_frame.proofs.ReadyLaws.{one_within, one_numbered}
-use Rattle.ln_signs.proofs.GradedLaws.{few_named}
+use Rattle.ln_signs.proofs.GradedLaws.{is_kept, kept_named}
 use Rattle.ln_signs.proofs.TargetLaws.{given_by}
 use Rattle.ln_signs.proofs.target.degree_target.Goals as goal
 
+pub unreachable-requires : goal.unreachable-requires
+unreachable-requires c =
+    is_kept (map pred_of c.args.ready.now.compiled.table.preds) c.args.ready.now.numbers.items c.requires.ready.fit.least
+    (rw c.in-None.is at c.requires.kept)
+
 pub graded-requires-clause-within : goal.graded-requires-clause-within
 graded-requires-clause-within c =
-    let f = c.requires.fit in
+    let f = c.requires.ready.fit in
     let one : length c.args.ready.now.numbers.items ≡ 1 = omega (arith, f.least, f.most) in
-    rw c.as_slice.ensures.value (one_within c.args.ready.now.compiled.table.preds _ _ c.requires.stands.stands.numbered one)
+    rw c.as_slice.ensures.value (one_within c.args.ready.now.compiled.table.preds _ _ c.requires.ready.stands.stands.numbered one)
 
-pub graded-requires-clause-few : goal.graded-requires-clause-few
-graded-requires-clause-few c = λ p.
+pub graded-requires-clause-answers : goal.graded-requires-clause-answers
+graded-requires-clause-answers c = λ p.
     rw c.as_slice.ensures.value
-    (few_named (map pred_of c.args.ready.now.compiled.table.preds) _ _ c.requires.stands.stands.numbered c.requires.fit.least c.requires.suited p)
+    (kept_named (map pred_of c.args.ready.now.compiled.table.preds) _ _ c.requires.ready.fit.least (rw c.in-Some.is at c.requires.kept) p)
 
 pub returns-clause-given : goal.returns-clause-given
 returns-clause-given c given = λ s.
-    let f = c.requires.fit in
+    let f = c.requires.ready.fit in
     let one : length c.args.ready.now.numbers.items ≡ 1 = omega (arith, f.least, f.most) in
-    let preds = one_numbered c.args.ready.now.compiled.table.preds _ _ c.in_ok-target.target.pred s.numbered one
-    (rw c.as_slice.ensures.value at c.in_ok-target.ensures.pred) in
-    given_by given c.in_ok-target.target c.args.ready.now.compiled.table s.table preds c.in_ok-target.ensures.names
+    let preds = one_numbered c.args.ready.now.compiled.table.preds _ _ c.graded.result.pred s.numbered one
+    (rw c.as_slice.ensures.value at c.graded.ensures.pred) in
+    given_by given c.graded.result c.args.ready.now.compiled.table s.table preds c.graded.ensures.names

@@ -34,6 +34,9 @@ returns-in-Ok-texts-clause-ok g c =
     ((rw c.deref-3.ensures.value at c.in-Ok-suited.ensures.ok) n.preds n.numbered)
     (rw c.file.ensures.told at c.in-Ok-texts.ensures.ok)
 
+pub returns-in-Ok-texts-clause-kept : goal.returns-in-Ok-texts-clause-kept
+returns-in-Ok-texts-clause-kept g c = rw c.deref-3.ensures.value at c.in-Ok-suited.ensures.kept
+
 pub suited-requires-clause-short : goal.suited-requires-clause-short
 suited-requires-clause-short g c = rw c.deref-2.ensures.value c.in-Ok.ensures.limit
 

@@ -3,35 +3,32 @@ use mir.Syntax.{w128}
 use Rattle.ln_algebra.specs.Terms.{derived, value}
 use Rattle.ln_tree.specs.Exps.{vector}
 use Rattle.ln_tree.specs.Row.{values}
-use Rattle.ln_order.specs.Places.{order_places}
 use Rattle.ln_poly.specs.Sparse.{terms_of}
 use Rattle.ln_trace.proofs.Bridging.{is-next, not-next, other-value}
 use Rattle.ln_trace.proofs.at_line.is_next_at.Goals as goal
 
-pub returns-then-not-may_stand : goal.returns-then-not-may_stand
-returns-then-not-may_stand c =
-    let f : c.may_stand.result ≡ false = search rules in
+pub returns-then-not-may_be_next : goal.returns-then-not-may_be_next
+returns-then-not-may_be_next c =
+    let f : c.may_be_next.result ≡ false = search rules in
     let fz : FitsSigned w128 c.args.z = search rules in
     λ e stood r same range ord differ below normal over last left.
-    not-next c.args.s.now r (order_places c.args.o.now) range ord e stood c.args.row.now
-    (vector (length c.args.s.now.vars) c.args.a.now) c.args.z c.may_stand.result f (c.may_stand.ensures e stood differ last left)
+    not-next c.args.case.now.pred.now.shape r _ range ord e stood c.args.row.now _ c.args.z c.may_be_next.result f
+    (c.may_be_next.ensures e stood differ last left)
 
 pub returns-then-value-z : goal.returns-then-value-z
 returns-then-value-z c =
     let d : c.value_at-value.result ≡ c.args.z → ⊥ = search rules in
-    let v : c.value_at-value.result ≡ value (values c.args.row.now) (derived (vector (length c.args.s.now.vars) c.args.a.now)
-    (terms_of (length c.args.s.now.vars) c.args.f.now)) = rw c.pairs.ensures.value at c.value_at-value.ensures in
+    let v : c.value_at-value.result ≡ value (values c.args.row.now) (derived (vector (length c.args.case.now.pred.now.shape.vars) c.args.a.now)
+    (terms_of (length c.args.case.now.pred.now.shape.vars) c.args.case.now.poly.now)) = rw c.pairs.ensures.value at c.value_at-value.ensures in
     λ e stood r same range ord differ below normal over last left.
-    other-value c.args.s.now r (order_places c.args.o.now) range ord e stood c.args.row.now (terms_of (length c.args.s.now.vars) c.args.f.now)
-    (vector (length c.args.s.now.vars) c.args.a.now) c.value_at-value.result c.args.z below normal over v d
+    other-value c.args.case.now.pred.now.shape r _ range ord e stood c.args.row.now _ _ c.value_at-value.result c.args.z below normal over v d
 
 pub returns : goal.returns
 returns c =
     let d : c.value_at-value.result ≡ c.args.z = search rules in
-    let t : c.may_stand.result ≡ true = search rules in
-    let v : c.value_at-value.result ≡ value (values c.args.row.now) (derived (vector (length c.args.s.now.vars) c.args.a.now)
-    (terms_of (length c.args.s.now.vars) c.args.f.now)) = rw c.pairs.ensures.value at c.value_at-value.ensures in
+    let t : c.may_be_next.result ≡ true = search rules in
+    let v : c.value_at-value.result ≡ value (values c.args.row.now) (derived (vector (length c.args.case.now.pred.now.shape.vars) c.args.a.now)
+    (terms_of (length c.args.case.now.pred.now.shape.vars) c.args.case.now.poly.now)) = rw c.pairs.ensures.value at c.value_at-value.ensures in
     λ e stood r same range ord differ below normal over last left.
-    is-next c.args.s.now r (order_places c.args.o.now) range ord e stood c.args.row.now (terms_of (length c.args.s.now.vars) c.args.f.now)
-    (vector (length c.args.s.now.vars) c.args.a.now) c.value_at-value.result c.args.z c.may_stand.result below normal over v d t
-    (c.may_stand.ensures e stood differ last left)
+    is-next c.args.case.now.pred.now.shape r _ range ord e stood c.args.row.now _ _ c.value_at-value.result c.args.z c.may_be_next.result below normal over
+    v d t (c.may_be_next.ensures e stood differ last left)

@@ -1,7 +1,7 @@
 use Rattle.std.proofs.Common.{◌≡◌, ◌≤◌, ◌<◌, ap, arith, length}
 use Rattle.ln_tree.specs.declared.shape.Shape.{Shape}
+use Rattle.ln_tree.proofs.KeptLemmas.{laid_out}
 use Rattle.ln_order.specs.Places.{order_places}
-use Rattle.ln_code.proofs.Verdicts.Differ.{few_sites}
 use Rattle.ln_code.specs.Lists.{list_of}
 use Rattle.ln_code.specs.RowOf.{row_of}
 use Rattle.ln_trace.proofs.BlockLines.{list-end, list-on, list-told, nothing-on}
@@ -9,7 +9,7 @@ use Rattle.ln_trace.proofs.explain.tell_list.Goals as goal
 
 pub overflow_add-j-end : goal.overflow_add-j-end
 overflow_add-j-end c =
-    let h : c.shape.result.now.sites ≤ 5 = few_sites c.shape.result.now.sites c.shape.result.now.vars c.shape.result.now.kept in
+    let h : c.shape.result.now.sites ≤ 5 = (laid_out c.shape.result.now.sites c.shape.result.now.vars c.shape.result.now.kept).few_sites in
     omega (arith, h)
 
 pub prefixes-init : goal.prefixes-init

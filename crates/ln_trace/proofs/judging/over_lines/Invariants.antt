@@ -9,9 +9,9 @@ use Rattle.ln_trace.proofs.judging.over_lines.Given as goal
 
 abbrev pub invariant-lines : goal.invariant-lines
 invariant-lines l = record {
-  holds : Holds l.p.shape l.st l.state;
-  midway : (e : Tree) (ls : List TraceLine) → HasPoly l.p.shape e l.f → AreLeft l.initial.lines ls
-      → Midway l.p.shape e l.st l.initial.rows ls l.rows l.state l.lines;
+  holds : Holds l.case.pred.now.shape l.case.stages.now l.state;
+  midway : (e : Tree) (ls : List TraceLine) → HasPoly l.case.pred.now.shape e l.case.poly.now → AreLeft l.initial.lines ls
+      → Midway l.case.pred.now.shape e l.case.stages.now l.initial.rows ls l.rows l.state l.lines;
 }
 
 abbrev pub decreases-lines : goal.decreases-lines

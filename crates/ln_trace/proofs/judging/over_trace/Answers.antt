@@ -1,6 +1,5 @@
 -- Answers to the goals of `over_trace` in src/judging.rt.
-use Rattle.std.proofs.Common.{Bool, arith, false, refl, subst, sym, true, ◌∙◌}
-use Rattle.ln_trace.specs.Here.{Step}
+use Rattle.std.proofs.Common.{arith, refl, sym, ◌∙◌}
 use Rattle.ln_trace.proofs.Midway.{judged-seen, stands-ends, stands-first, stands-lacks, stands-more, stands-stops}
 use Rattle.ln_trace.proofs.Steps.{clash, false-true}
 use Rattle.ln_trace.proofs.judging.over_trace.Goals as goal
@@ -9,34 +8,28 @@ pub lines-init : goal.lines-init
 lines-init c = record {
   holds = λ i. absurd (clash c.args.state.now.inside i c.requires.inside);
   stands =
-      λ e p. stands-first c.args.p.now.shape e c.args.f.now c.args.st.now c.args.rows.now c.args.read.now c.args.state.now c.requires.inside c.requires.none;
+      λ e p. stands-first _ e c.args.case.now.poly.now _ c.args.rows.now c.args.read.now c.args.state.now c.requires.inside c.requires.none;
 }
 
 pub lines-preserved : goal.lines-preserved
 lines-preserved c =
-    let g : Step c.args.p.now.shape c.args.f.now c.args.st.now c.lines.rows c.lines.state c.index-read-i.result true c.line.new.rows c.line.new.state =
-    subst (λ (ok : Bool). Step c.args.p.now.shape c.args.f.now c.args.st.now c.lines.rows c.lines.state c.index-read-i.result ok c.line.new.rows
-    c.line.new.state)
-    c.if-not-branch.false c.in_ok-line.ensures in
+    let g = rw c.if-not-branch.false at c.in_ok-line.ensures in
     record {
       holds = g.holds refl;
-      stands = λ e p. stands-more c.args.p.now.shape e c.args.f.now c.args.st.now c.args.rows.now c.args.read.now c.lines.state c.lines.rows p c.lines.i
+      stands = λ e p. stands-more _ e _ _ c.args.rows.now c.args.read.now c.lines.state c.lines.rows p c.lines.i
           (c.lines.invariant.stands e p) c.index-read-i.result c.line.new.rows c.line.new.state (omega (arith, c.lines-test.true)) c.index-read-i.is g;
     }
 
 pub returns-then-not-branch : goal.returns-then-not-branch
 returns-then-not-branch c =
-    let g : Step c.args.p.now.shape c.args.f.now c.args.st.now c.lines.rows c.lines.state c.index-read-i.result false c.line.new.rows c.line.new.state =
-    subst (λ (ok : Bool). Step c.args.p.now.shape c.args.f.now c.args.st.now c.lines.rows c.lines.state c.index-read-i.result ok c.line.new.rows
-    c.line.new.state)
-    c.if-not-branch.true c.in_ok-line.ensures in
-    λ e p. stands-stops c.args.p.now.shape e c.args.f.now c.args.st.now c.args.rows.now c.args.read.now c.lines.state c.lines.rows p c.lines.i
+    let g = rw c.if-not-branch.true at c.in_ok-line.ensures in
+    λ e p. stands-stops _ e _ _ c.args.rows.now c.args.read.now c.lines.state c.lines.rows p c.lines.i
     (c.lines.invariant.stands e p) c.index-read-i.result c.line.new.rows c.line.new.state _
     (omega (arith, c.lines-test.true)) c.index-read-i.is g (omega (arith, c.requires.few, c.lines-test.true))
 
 pub returns-then-not-branch-2 : goal.returns-then-not-branch-2
 returns-then-not-branch-2 c =
-    λ e p. stands-lacks c.args.p.now.shape e c.args.f.now c.args.st.now c.args.rows.now c.args.read.now c.lines.state c.lines.rows p c.lines.i
+    λ e p. stands-lacks _ e _ _ c.args.rows.now c.args.read.now c.lines.state c.lines.rows p c.lines.i
     (c.lines.invariant.stands e p) _ (omega (arith, c.lines-test.false, c.lines.auto.i-end))
     (omega (arith, c.requires.few, c.lines-test.false, c.lines.auto.i-end))
     (λ o. false-true (sym c.if-not-branch-2.true ∙ c.in_ok-is_over.ensures.over.1 o))
@@ -44,5 +37,5 @@ returns-then-not-branch-2 c =
 pub returns : goal.returns
 returns c =
     let o = c.in_ok-is_over.ensures.over.0 c.if-not-branch-2.false in
-    λ e p. judged-seen _ _ c.args.read.now _ _ c.in_ok-is_over.ensures.seen (stands-ends c.args.p.now.shape e c.args.f.now c.args.st.now c.args.rows.now
+    λ e p. judged-seen _ _ c.args.read.now _ _ c.in_ok-is_over.ensures.seen (stands-ends _ e _ _ c.args.rows.now
     c.args.read.now c.lines.state c.lines.rows p c.lines.i (c.lines.invariant.stands e p) (omega (arith, c.lines-test.false, c.lines.auto.i-end)) o.0 o.1)

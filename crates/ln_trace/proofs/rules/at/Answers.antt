@@ -9,12 +9,12 @@ use Rattle.ln_trace.proofs.Steps.{at-of, at-outside, at-unread}
 use Rattle.ln_trace.proofs.rules.at.Goals as goal
 
 pub returns-then-not-state : goal.returns-then-not-state
-returns-then-not-state c = λ rows. at-outside c.args.s.now c.args.f.now c.args.st.now rows c.args.state.now c.args.a.now c.args.z rows _ c.if-not-state.true
+returns-then-not-state c = λ rows. at-outside _ _ _ rows c.args.state.now c.args.a.now c.args.z rows _ c.if-not-state.true
 
 pub returns-in_default : goal.returns-in_default
 returns-in_default c =
     let none = rw c.in_default.is at c.in_ok-e.ensures in
-    λ rows. at-unread c.args.s.now c.args.f.now c.args.st.now rows c.args.state.now c.args.a.now c.args.z rows _
+    λ rows. at-unread _ _ _ rows c.args.state.now c.args.a.now c.args.z rows _
     (λ r o. none r (subst (λ (vs : List VarInfo). AreOfSites vs c.args.a.now) (sym c.as_slice.ensures) o))
 
 pub stands-ok-requires-clause-at : goal.stands-ok-requires-clause-at
@@ -22,15 +22,15 @@ stands-ok-requires-clause-at c = c.requires.holds c.if-not-state.false
 
 pub stands-ok-requires-clause-rising : goal.stands-ok-requires-clause-rising
 stands-ok-requires-clause-rising c =
-    (was-read c.as_slice.result.now c.args.s.now.vars c.args.a.now c.in-Some.e _ c.as_slice.ensures c.in-Some.is c.in_ok-e.ensures).rising
+    (was-read c.as_slice.result.now c.args.case.now.pred.now.shape.vars c.args.a.now c.in-Some.e _ c.as_slice.ensures c.in-Some.is c.in_ok-e.ensures).rising
 
 pub stands-ok-requires-clause-of_sites : goal.stands-ok-requires-clause-of_sites
 stands-ok-requires-clause-of_sites c =
-    (was-read c.as_slice.result.now c.args.s.now.vars c.args.a.now c.in-Some.e _ c.as_slice.ensures c.in-Some.is c.in_ok-e.ensures).sites
+    (was-read c.as_slice.result.now c.args.case.now.pred.now.shape.vars c.args.a.now c.in-Some.e _ c.as_slice.ensures c.in-Some.is c.in_ok-e.ensures).sites
 
 pub returns : goal.returns
 returns c =
     let fits : FitsSigned w128 c.args.z = search rules in
-    λ rows. at-of c.args.s.now c.args.f.now c.args.st.now rows c.args.state.now c.args.a.now c.in-Some.e _ c.args.z c.stands-ok.result c.stands-ok.new.state
-    (was-read c.as_slice.result.now c.args.s.now.vars c.args.a.now c.in-Some.e _ c.as_slice.ensures c.in-Some.is c.in_ok-e.ensures).same
+    λ rows. at-of _ _ _ rows c.args.state.now c.args.a.now c.in-Some.e _ c.args.z c.stands-ok.result c.stands-ok.new.state
+    (was-read c.as_slice.result.now c.args.case.now.pred.now.shape.vars c.args.a.now c.in-Some.e _ c.as_slice.ensures c.in-Some.is c.in_ok-e.ensures).same
     (to_z-of_z w128 c.args.z fits) (c.stands-ok.ensures rows)

@@ -1,7 +1,7 @@
 -- Answers to the goals of `with_two` in src/steps.rt.
 use Rattle.std.proofs.Common.{length}
 use Rattle.ln_verify.specs.Values.{IsFor}
-use Rattle.ln_verify.specs.Works.{op_of}
+use Rattle.ln_code.specs.Engine.{op_of}
 use Rattle.ln_verify.proofs.Engines.Steps.{op-pushes, popped, pushed-came, two-step}
 use Rattle.ln_verify.proofs.steps.with_two.Goals as goal
 

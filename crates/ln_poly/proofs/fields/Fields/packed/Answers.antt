@@ -1,23 +1,43 @@
 use Rattle.std.proofs.Common.{◌<◌, arith, refl, rules}
+use Rattle.std.proofs.lemmas.List.Elements.{All-get_or}
 use Rattle.ln_poly.specs.Packed.{weights}
-use Rattle.ln_poly.proofs.Packing.Fields.{packed-end, packed-next}
+use Rattle.ln_poly.specs.Words.{IsPlace}
+use Rattle.ln_poly.proofs.Packing.Fields.{packed-end, packing-room, packing-small, packing-step}
 use Rattle.ln_poly.proofs.fields.Fields.packed.Goals as goal
 
-pub overflow_add-n : goal.overflow_add-n
-overflow_add-n c =
-    let k : c.from-in-pairs.result < 256 = search rules in
-    omega (
-      arith,
-      packed-next c.args.self.now.shifts c.args.pairs.now c.pairs.p-index c.pairs.n _ _ _ _ c.pairs.invariant c.requires (omega (arith, c.pairs-test.true))
-          c.from.ensures c.from-in-pairs.ensures (omega (arith, k, c.args.self.now.long)) c.from-in-pairs-2.ensures refl,
-      c.requires,
+pub field-x-requires : goal.field-x-requires
+field-x-requires g c =
+    let k : c.from.result < 256 = search rules in (
+      search rules,
+      (
+        All-get_or (IsPlace g.row.N) c.args.self.now.shifts c.from.result 0 (omega (arith, k, c.args.self.now.long)) c.args.self.now.places,
+        (
+          packing-small c.args.self.now.shifts c.args.pairs.now c.pairs.p-index c.pairs.n _ c.from.result _ c.pairs.invariant
+              (omega (arith, c.pairs-test.true)) refl c.from.ensures (omega (arith, k, c.args.self.now.long)) refl,
+          omega (
+            arith,
+            packing-room c.args.self.now.shifts c.args.pairs.now c.pairs.p-index c.pairs.n _ c.from.result _ c.pairs.invariant
+                (omega (arith, c.pairs-test.true)) refl c.from.ensures (omega (arith, k, c.args.self.now.long)) refl g.row.N _ c.requires.low refl,
+          ),
+        ),
+      ),
+    )
+
+pub sum-n-requires : goal.sum-n-requires
+sum-n-requires g c =
+    let k : c.from.result < 256 = search rules in (
+      search rules,
+      packing-room c.args.self.now.shifts c.args.pairs.now c.pairs.p-index c.pairs.n _ c.from.result _ c.pairs.invariant
+          (omega (arith, c.pairs-test.true)) refl c.from.ensures (omega (arith, k, c.args.self.now.long)) refl g.row.N c.field-x.result c.requires.low
+          c.field-x.ensures,
     )
 
 pub pairs-preserved : goal.pairs-preserved
-pairs-preserved c =
-    let k : c.from-in-pairs.result < 256 = search rules in
-    packed-next c.args.self.now.shifts c.args.pairs.now c.pairs.p-index c.pairs.n _ _ _ _ c.pairs.invariant c.requires (omega (arith, c.pairs-test.true))
-    c.from.ensures c.from-in-pairs.ensures (omega (arith, k, c.args.self.now.long)) c.from-in-pairs-2.ensures refl
+pairs-preserved g c =
+    let k : c.from.result < 256 = search rules in
+    rw c.sum-n.ensures (packing-step c.args.self.now.shifts c.args.pairs.now c.pairs.p-index c.pairs.n _ c.from.result _ c.pairs.invariant
+    (omega (arith, c.pairs-test.true)) refl c.from.ensures (omega (arith, k, c.args.self.now.long)) refl c.field-x.result c.field-x.ensures)
 
 pub returns : goal.returns
-returns c = packed-end (weights c.args.self.now.shifts) c.args.pairs.now c.pairs.p-index c.pairs.n c.pairs.invariant (omega (arith, c.pairs-test.false))
+returns g c =
+    packed-end (weights c.args.self.now.shifts) c.args.pairs.now c.pairs.p-index c.pairs.n c.pairs.invariant.whole (omega (arith, c.pairs-test.false))

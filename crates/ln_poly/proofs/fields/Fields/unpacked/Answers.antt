@@ -1,28 +1,39 @@
-use Rattle.std.proofs.Common.{arith}
-use Rattle.ln_poly.proofs.Packing.Fields.{opening-end, opening-small, opening-step, rest-kept}
+use Rattle.std.proofs.Common.{[], ◌∷◌, ◌++◌, ◌∙◌, ap, arith, refl, rules}
+use Rattle.std.proofs.lemmas.List.Elements.{All-get_or}
+use Rattle.ln_poly.specs.Packed.{pairs_from}
+use Rattle.ln_poly.specs.Words.{IsPlace}
+use Rattle.ln_poly.proofs.Packing.Fields.{opening-end, opening-small, opening-step}
+use Rattle.ln_poly.proofs.Packing.Loops.{not-below}
 use Rattle.ln_poly.proofs.fields.Fields.unpacked.Goals as goal
-use Rattle.ln_poly.proofs.fields.Fields.unpacked.Goals.{then-vars-test+else-rest-gt0, else-vars-test}
+use Rattle.ln_poly.proofs.fields.Fields.unpacked.Goals.{then-vars-test+else-is_below, else-vars-test}
 
-pub overflow_cast-e-in-vars : goal.overflow_cast-e-in-vars
-overflow_cast-e-in-vars c = omega (
-  arith,
-  opening-small _ _ _ _ _ _ c.vars.invariant (omega (arith, c.vars-test.true, c.args.self.now.long)) c.from-shift.ensures,
+pub take-e-requires : goal.take-e-requires
+take-e-requires g c = (
+  search rules,
+  (
+    All-get_or (IsPlace g.row.N) c.args.self.now.shifts c.vars.v 0 (omega (arith, c.vars-test.true, c.args.self.now.long)) c.args.self.now.places,
+    opening-small c.args.self.now.shifts _ _ _ c.vars.v _ c.vars.invariant (omega (arith, c.vars-test.true, c.args.self.now.long)) refl,
+  ),
 )
 
 pub put_exponent-requires-clause-small : goal.put_exponent-requires-clause-small
-put_exponent-requires-clause-small c = opening-small _ _ _ _ _ _ c.vars.invariant (omega (arith, c.vars-test.true, c.args.self.now.long)) c.from-shift.ensures
+put_exponent-requires-clause-small g c = omega (
+  arith,
+  c.take-e.ensures.exponent,
+  opening-small c.args.self.now.shifts _ _ _ c.vars.v _ c.vars.invariant (omega (arith, c.vars-test.true, c.args.self.now.long)) refl,
+)
 
 pub vars-preserved : goal.vars-preserved
-vars-preserved c =
-    opening-step c.args.self.now.shifts c.args.n _ _ c.vars.rest _ c.vars.v c.from-shift.result c.vars.invariant (omega (arith, c.vars-test.true))
-    (omega (arith, c.vars-test.true, c.args.self.now.long)) c.from-shift.ensures c.in_ok-put_exponent.ensures
-    (rest-kept c.vars.rest c.from-shift.result (omega (arith, c.vars.auto.rest-fits)))
+vars-preserved g c =
+    opening-step c.args.self.now.shifts c.args.n _ _ c.vars.rest _ c.vars.v _ c.vars.invariant (omega (arith, c.vars-test.true))
+    (omega (arith, c.vars-test.true, c.args.self.now.long)) refl
+    (c.in_ok-put_exponent.ensures ∙ ap (λ z. c.vars.out ++ pairs_from c.vars.v (z ∷ [])) c.take-e.ensures.exponent) c.take-e.ensures.rest
 
 pub returns : goal.returns
-returns c =
+returns g c =
     opening-end c.args.self.now.shifts c.args.n c.vars.out c.vars.rest c.vars.v c.vars.invariant
     (elim c.vars-test.branch [
-      | then-vars-test+else-rest-gt0 w ↦ λ _ r. omega (arith, r, w.if-rest-gt0.false)
+      | then-vars-test+else-is_below w ↦ λ _ r. omega (arith, r, c.zero-zero.ensures, not-below _ _ _ w.is_below.ensures w.if-is_below.false)
       | else-vars-test w ↦ λ l _. omega (arith, l, w.vars-test.false)
     ])
     c.args.self.now.long

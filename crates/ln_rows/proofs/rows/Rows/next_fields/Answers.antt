@@ -1,6 +1,7 @@
 use Rattle.std.proofs.Common.{◌≡◌, ◌+◌, ◌<◌, true, length, arith, rules, sym, ◌∙◌}
+use Rattle.ln_tree.proofs.KeptLemmas.{laid_out}
 use Rattle.ln_rows.specs.Record.{columns}
-use Rattle.ln_rows.proofs.Fields.RangeLemmas.{shape_columns, sizes}
+use Rattle.ln_rows.proofs.Fields.RangeLemmas.{shape_columns}
 use Rattle.ln_rows.proofs.Records.RowsLemmas.{takes_some, read_cut}
 use Rattle.ln_rows.proofs.rows.Rows.next_fields.Goals as goal
 
@@ -8,7 +9,7 @@ pub overflow_add-most : goal.overflow_add-most
 overflow_add-most c =
     let laid = c.args.p.now.shape.kept in
     let all = shape_columns c.args.p.now.shape.sites c.args.p.now.shape.vars laid in
-    let s = sizes c.args.p.now.shape.sites c.args.p.now.shape.vars laid in
+    let s = laid_out c.args.p.now.shape.sites c.args.p.now.shape.vars laid in
     let count = rw c.as_slice.ensures at c.column_count-most.ensures in
     omega (arith, count, all, s.few_sites, s.few_vars)
 

@@ -17,5 +17,5 @@ invariant_of-result c =
     let read = slice_get_read c.args.c.now.table.preds (length c.args.c.now.table.preds) c.args.i _ refl c.requires.within there in
     record {
       kept = c.blocks-blocks.ensures.kept;
-      answers = c.in_ok-program.ensures _ (slice_get-map pred_of c.args.c.now.table.preds _ ∙ ap (option_map pred_of) read);
+      answers = c.requires.answers _ (slice_get-map pred_of c.args.c.now.table.preds _ ∙ ap (option_map pred_of) read);
     }

@@ -7,7 +7,7 @@ use Rattle.ln_bound.specs.Widths.{no_wider}
 use Rattle.ln_code.specs.Rules.{known}
 use Rattle.ln_verify.specs.Rules.{IsRule, in_range}
 use Rattle.ln_verify.proofs.Values.Limits.{no-ends, none-either, none-left, none-right, not-fit, of-both, the-ends}
-use Rattle.ln_verify.proofs.Values.Ranges.{range-ordered}
+use Rattle.ln_bound.proofs.Soundness.ExactLaws.{two_ordered}
 use Rattle.ln_verify.proofs.ranged.RangedLimits.of_two.Goals as goal
 
 pub returns-in_default : goal.returns-in_default
@@ -32,7 +32,7 @@ returns c v vars p d e m n h =
     let x = range c.args.x.pair in
     let y = range c.args.y.pair in
     let r = range_of t x y in
-    let o = range-ordered t x y c.args.x.pair.ordered c.args.y.pair.ordered in
+    let o = two_ordered t x y c.args.x.pair.ordered c.args.y.pair.ordered in
     of-both in_range (no_wider c.args.x.width c.args.w) (no_wider c.args.y.width c.args.w) (sym c.no_wider.ensures ∙ c.if-not-no_wider.false)
     (sym c.no_wider-2.ensures ∙ c.if-not-no_wider-2.false)
     c.ruled.result (two_of t d e) (bound_of t m n) (known r p c.args.w (bound_of t m n) (two_of t d e))

@@ -1,5 +1,0 @@
-use Rattle.std.proofs.Common.{length}
-use Rattle.ln_poly.proofs.arithmetic.+products.Given as goal
-
-abbrev pub decreases-products : goal.decreases-products
-decreases-products l = length l.f.now

@@ -1,6 +1,0 @@
--- In the loop of `are_below` the remaining pairs decide whether the variables of all pairs are below `v`.
-use Rattle.ln_trace.proofs.Exponents.{BelowDecides}
-use Rattle.ln_trace.proofs.exps.are_below.Given as goal
-
-abbrev pub invariant-pairs : goal.invariant-pairs
-invariant-pairs l = BelowDecides l.a l.v l.p-index
