@@ -2,7 +2,6 @@
 use Rattle.std.specs.Prelude.{◌≡◌, ℕ, true, List, [], ◌∷◌, Some, if◌then◌else◌, ℤ, pos}
 use Rattle.ln_csyn.specs.Meaning.{Counts}
 use Rattle.ln_csyn.specs.declared.tree.CType.TheVariants.{Int64}
-use Rattle.ln_csyn.specs.declared.tree.COp.TheVariants as op
 use Rattle.ln_csyn.specs.Meaning.{Scene, Outcome, Said, is_zero, has, entered, index_at}
 
 -- what the blocks of a list return, one after the other, where each returns a sign and makes its counts

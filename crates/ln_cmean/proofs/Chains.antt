@@ -1,27 +1,14 @@
 -- Chains of declarations: with one more, with one fewer, and with a number; and what the search of a chain passes over.
-use Rattle.std.proofs.Common.{◌≡◌, ℕ, suc, ◌+◌, ◌<◌, ◌≤◌, Bool, true, false, List, [], ◌∷◌, ◌++◌, length, take, reverse, get_or, set, Some, refl, sym, ap}
-use Rattle.std.proofs.Common.{◌∙◌, subst, arith}
+use Rattle.std.proofs.Common.{◌≡◌, ℕ, suc, ◌+◌, ◌<◌, ◌≤◌, List, [], ◌∷◌, ◌++◌, length, take, reverse, get_or, set, Some, refl, sym, ap}
+use Rattle.std.proofs.Common.{◌∙◌, subst, arith, inl, inr}
 use Rattle.std.specs.Prelude.{nat_eq, if◌then◌else◌, slice_get, slice_set}
 use Rattle.std.proofs.lemmas.List.{get_or-set_same, get_or-set_other, length-set, length-reverse}
-use Rattle.std.proofs.lemmas.Bool.Decides.{nat_tests}
+use Rattle.std.proofs.lemmas.Bool.{cases_Bool, cond_both, eqb-false, eqb-true}
 use Rattle.ln_csyn.specs.Meaning.{Seen}
 use Rattle.ln_cmean.specs.declared.slot.Slot.{Slot}
 use Rattle.ln_cmean.specs.Chains.{bucket_of, last_in, IsTopped, IsLinked}
 use Rattle.ln_cmean.specs.Slots.{seen_from}
 use Rattle.ln_cmean.proofs.Slots.{pushed, last_of, last_set, seen_set}
-
--- what holds by both cases of a test
-pub by_if : {X : Type 0} (P : X → Type 0) (t : Bool) (x y : X) → (t ≡ true → P x) → (t ≡ false → P y) → P (if t then x else y)
-by_if P true x y f g = f refl
-by_if P false x y f g = g refl
-
--- numbers that test equal are equal
-pub same_is : (m n : ℕ) → nat_eq m n ≡ true → m ≡ n
-same_is m n h = grind (arith, nat_tests)
-
--- numbers that test unequal are not
-pub other_is : (m n : ℕ) → nat_eq m n ≡ false → m ≡ n → ⊥
-other_is m n h e = grind (arith, nat_tests)
 
 -- ---- tops and links
 
@@ -29,15 +16,16 @@ other_is m n h e = grind (arith, nat_tests)
 pub last_within : (ds : List Slot) (b : ℕ) → last_in ds b ≤ length ds
 last_within [] b = omega arith
 last_within (d ∷ ds) b =
-    by_if (λ n. n ≤ suc (length ds)) (nat_eq d.bucket b) (suc (length ds)) (last_in ds b) (λ h. omega arith) (λ h. omega (arith, last_within ds b))
+    cond_both (nat_eq d.bucket b) (suc (length ds)) (last_in ds b) (λ n. n ≤ suc (length ds)) (λ h. omega arith) (λ h. omega (arith, last_within ds b))
 
 -- with one more declaration
 pub topped_more : (ds : List Slot) (tops : List ℕ) (d : Slot) → IsTopped ds tops → IsTopped (d ∷ ds) (set tops d.bucket (suc (length ds)))
 topped_more ds tops d t = λ b l.
     let l' : b < length tops = omega (arith, l, length-set tops d.bucket (suc (length ds))) in
-    by_if (λ n. get_or (set tops d.bucket (suc (length ds))) b 0 ≡ n) (nat_eq d.bucket b) (suc (length ds)) (last_in ds b)
-    (λ h. subst (λ i. get_or (set tops i (suc (length ds))) b 0 ≡ suc (length ds)) (sym (same_is d.bucket b h)) (get_or-set_same tops b (suc (length ds)) 0 l'))
-    (λ h. get_or-set_other tops d.bucket b (suc (length ds)) 0 (λ e. other_is d.bucket b h (sym e)) ∙ t b l')
+    cond_both (nat_eq d.bucket b) (suc (length ds)) (last_in ds b) (λ n. get_or (set tops d.bucket (suc (length ds))) b 0 ≡ n)
+    (λ h. subst (λ i. get_or (set tops i (suc (length ds))) b 0 ≡ suc (length ds)) (sym (eqb-true d.bucket b h))
+    (get_or-set_same tops b (suc (length ds)) 0 l'))
+    (λ h. get_or-set_other tops d.bucket b (suc (length ds)) 0 (λ e. eqb-false d.bucket b h (sym e)) ∙ t b l')
 
 -- an item that leads to the last one of its bucket keeps a list linked
 pub linked_more : (count : ℕ) (ds : List Slot) (d : Slot) → IsLinked count ds →
@@ -58,11 +46,11 @@ pub topped_fewer : (ds : List Slot) (tops : List ℕ) (d : Slot) → IsTopped (d
     IsTopped ds (set tops d.bucket d.below)
 topped_fewer ds tops d t w = λ b l.
     let l' : b < length tops = omega (arith, l, length-set tops d.bucket d.below) in
-    by_case (nat_eq d.bucket b) refl l' where
-      by_case : {b : ℕ} (v : Bool) → nat_eq d.bucket b ≡ v → b < length tops → get_or (set tops d.bucket d.below) b 0 ≡ last_in ds b
-      by_case {b = b} true h l = subst (λ i. get_or (set tops d.bucket d.below) i 0 ≡ last_in ds i) (same_is d.bucket b h)
-          (get_or-set_same tops d.bucket d.below 0 (subst (λ i. i < length tops) (sym (same_is d.bucket b h)) l) ∙ w)
-      by_case {b = b} false h l = get_or-set_other tops d.bucket b d.below 0 (λ e. other_is d.bucket b h (sym e)) ∙ t b l ∙ (rw h refl)
+    elim (cases_Bool (nat_eq d.bucket b)) [
+      | inl h ↦ subst (λ i. get_or (set tops d.bucket d.below) i 0 ≡ last_in ds i) (eqb-true d.bucket b h)
+          (get_or-set_same tops d.bucket d.below 0 (subst (λ i. i < length tops) (sym (eqb-true d.bucket b h)) l') ∙ w)
+      | inr h ↦ get_or-set_other tops d.bucket b d.below 0 (λ e. eqb-false d.bucket b h (sym e)) ∙ t b l' ∙ (rw h refl)
+    ]
 
 -- with the innermost one changed, which keeps its bucket
 pub topped_same : (ds : List Slot) (tops : List ℕ) (d e : Slot) → IsTopped (d ∷ ds) tops → e.bucket ≡ d.bucket → IsTopped (e ∷ ds) tops

@@ -1,16 +1,15 @@
 -- The search of a chain for a name: what it passes over has other names.
-use Rattle.std.proofs.Common.{◌≡◌, ℕ, zero, suc, ◌+◌, ◌-◌, ◌<◌, ◌≤◌, Bool, true, false, List, [], ◌∷◌, length, drop, reverse, get_or, Some, None, refl, sym, ap}
-use Rattle.std.proofs.Common.{◌∙◌, subst, arith}
-use Rattle.std.specs.Prelude.{nat_eq, nat_le, slice_get}
+use Rattle.std.proofs.Common.{◌≡◌, ℕ, zero, suc, ◌+◌, ◌-◌, ◌<◌, ◌≤◌, true, false, List, [], ◌∷◌, length, drop, reverse, get_or, Some, refl, sym, ap}
+use Rattle.std.proofs.Common.{◌∙◌, subst, arith, inl, inr}
+use Rattle.std.specs.Prelude.{nat_eq, slice_get}
 use Rattle.std.proofs.lemmas.List.{drop-drop, drop_more, length-drop, length-reverse, get_or-reverse}
 use Rattle.std.proofs.lemmas.Option.{get_or_from_slice_get}
-use Rattle.std.proofs.lemmas.Bool.{false_from_ne_true}
-use Rattle.std.proofs.lemmas.Bool.Decides.{nat_tests}
-use Rattle.ln_csyn.specs.Meaning.{Counts, Fails, find, number_in, same_name}
+use Rattle.std.proofs.lemmas.Bool.{cases_lt, cond_both, eqb-false, eqb-true, false_from_ne_true}
+use Rattle.ln_csyn.specs.Meaning.{Counts, find, number_in, same_name}
 use Rattle.ln_cmean.specs.declared.slot.Slot.{Slot}
 use Rattle.ln_cmean.specs.Chains.{bucket_of, last_in, IsLinked}
 use Rattle.ln_cmean.specs.Slots.{seen_from}
-use Rattle.ln_cmean.proofs.Chains.{by_if, same_is, other_is, last_within, linked_fewer}
+use Rattle.ln_cmean.proofs.Chains.{last_within, linked_fewer}
 use Rattle.ln_cmean.proofs.Named.{name_is}
 
 -- the outermost n declarations
@@ -46,39 +45,28 @@ linked_drop count (suc n) (d ∷ ds) l = linked_drop count n ds (linked_fewer co
 
 -- ---- what is passed over
 
-le_is : (m n : ℕ) → nat_le m n ≡ true → m ≤ n
-le_is m n h = grind (arith, nat_tests)
-
-le_not : (m n : ℕ) → nat_le m n ≡ false → n < m
-le_not m n h = grind (arith, nat_tests)
-
 passed : (base : ℕ) (d : Slot) (ds : List Slot) (x : List ℕ) (k : Counts) → same_name d.name.now x ≡ false →
     find (seen_from base (d ∷ ds)) x k ≡ find (seen_from base ds) x k
-passed base d ds x k h = by_case (nat_le base (length ds)) refl where
-  by_case : (v : Bool) → nat_le base (length ds) ≡ v → find (seen_from base (d ∷ ds)) x k ≡ find (seen_from base ds) x k
-  by_case true e =
-      let l = le_is base (length ds) e in
-      let n : suc (length ds) - base ≡ suc (length ds - base) = omega arith in
-      rw (n, h) refl
-  by_case false e =
-      let l = le_not base (length ds) e in
-      let m : suc (length ds) - base ≡ 0 = omega arith in
+passed base d ds x k h = elim (cases_lt (length ds) base) [
+  | inl l ↦ (let m : suc (length ds) - base ≡ 0 = omega arith in
       let n : length ds - base ≡ 0 = omega arith in
-      rw (m, n) refl
+      rw (m, n) refl)
+  | inr l ↦ (let n : suc (length ds) - base ≡ suc (length ds - base) = omega arith in rw (n, h) refl)
+]
 
 -- one of another bucket has another name
 differs : (count : ℕ) (d : Slot) (x : List ℕ) → d.bucket ≡ bucket_of d.name.now count → nat_eq d.bucket (bucket_of x count) ≡ false →
     same_name d.name.now x ≡ false
 differs count d x b h =
     false_from_ne_true (same_name d.name.now x)
-    (λ t. other_is d.bucket (bucket_of x count) h (b ∙ ap (λ y. bucket_of y count) (name_is d.name.now x t)))
+    (λ t. eqb-false d.bucket (bucket_of x count) h (b ∙ ap (λ y. bucket_of y count) (name_is d.name.now x t)))
 
 skip : (count base : ℕ) (x : List ℕ) (k : Counts) (ds : List Slot) → IsLinked count ds →
     find (seen_from base ds) x k ≡ find (seen_from base (bottom (last_in ds (bucket_of x count)) ds)) x k
 skip count base x k [] l = refl
 skip count base x k (d ∷ ds) l =
-    by_if (λ m. find (seen_from base (d ∷ ds)) x k ≡ find (seen_from base (bottom m (d ∷ ds))) x k) (nat_eq d.bucket (bucket_of x count))
-    (suc (length ds)) (last_in ds (bucket_of x count))
+    cond_both (nat_eq d.bucket (bucket_of x count)) (suc (length ds)) (last_in ds (bucket_of x count))
+    (λ m. find (seen_from base (d ∷ ds)) x k ≡ find (seen_from base (bottom m (d ∷ ds))) x k)
     (λ h. ap (λ es. find (seen_from base es) x k) (sym (bottom_all (d ∷ ds))))
     (λ h. passed base d ds x k (differs count d x (l [] d ds refl).1 h) ∙ skip count base x k ds (linked_fewer count ds d l)
     ∙ ap (λ es. find (seen_from base es) x k) (sym (bottom_more d ds (last_in ds (bucket_of x count)) (last_within ds (bucket_of x count)))))
@@ -86,9 +74,9 @@ skip count base x k (d ∷ ds) l =
 last_here : (ds : List Slot) (b : ℕ) (d : Slot) (outer : List Slot) → bottom (last_in ds b) ds ≡ d ∷ outer → d.bucket ≡ b
 last_here [] b d outer h = cc
 last_here (e ∷ es) b d outer z =
-    by_if (λ m. bottom m (e ∷ es) ≡ d ∷ outer → d.bucket ≡ b) (nat_eq e.bucket b) (suc (length es)) (last_in es b)
+    cond_both (nat_eq e.bucket b) (suc (length es)) (last_in es b) (λ m. bottom m (e ∷ es) ≡ d ∷ outer → d.bucket ≡ b)
     (λ h p. let q : e ∷ es ≡ d ∷ outer = sym (bottom_all (e ∷ es)) ∙ p in
-    let r : e ≡ d = cc in ap (λ s. s.bucket) (sym r) ∙ same_is e.bucket b h)
+    let r : e ≡ d = cc in ap (λ s. s.bucket) (sym r) ∙ eqb-true e.bucket b h)
     (λ h p. last_here es b d outer (sym (bottom_more e es (last_in es b) (last_within es b)) ∙ p)) z
 
 -- ---- the search

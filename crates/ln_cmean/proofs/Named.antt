@@ -1,10 +1,9 @@
 -- Proves which function with two parameters has a name, and what a result tells of it.
-use Rattle.std.proofs.Common.{◌≡◌, ℕ, Bool, true, false, List, [], ◌∷◌, ◌++◌, Option, Some, None, refl, sym, ap, ◌∙◌, arith}
+use Rattle.std.proofs.Common.{◌≡◌, ℕ, Bool, true, false, List, [], ◌∷◌, ◌++◌, Option, Some, None, refl, sym, ap, ◌∙◌}
 use Rattle.std.specs.Prelude.{ℤ, nat_eq, Result, Ok, Err}
 use Rattle.std.specs.List.{list_any}
 use Rattle.std.proofs.lemmas.List.Folds.{Any-from_list_any, list_any-from_Any}
-use Rattle.std.proofs.lemmas.Bool.Decides.{nat_tests}
-use Rattle.std.proofs.lemmas.Bool.{and_parts, or_parts, true≢false, false_from_ne_true}
+use Rattle.std.proofs.lemmas.Bool.{and_parts, eq-eqb, eqb-true, or_parts, true≢false, false_from_ne_true}
 use Rattle.ln_csyn.specs.Tree.{Fun}
 use Rattle.ln_csyn.specs.Meaning.{CCall, CNamed, CMeaning, called_behind, called_at, runs_behind, is_wanted, same_bool, same_name}
 use Rattle.ln_csyn.specs.Meaning as m
@@ -13,13 +12,6 @@ use Rattle.ln_cmean.specs.declared.calling.CFault.{CFault}
 use Rattle.ln_cmean.specs.declared.calling.CFault.TheVariants.{NoFunction, Undefined}
 use Rattle.ln_cmean.specs.Answered.{told}
 
--- names are compared letter by letter
-letter_is : (m n : ℕ) → nat_eq m n ≡ true → m ≡ n
-letter_is m n h = grind (arith, nat_tests)
-
-letter_self : (n : ℕ) → nat_eq n n ≡ true
-letter_self n = grind (arith, nat_tests)
-
 -- names that test equal are equal
 pub name_is : (x y : List ℕ) → same_name x y ≡ true → x ≡ y
 name_is [] [] h = refl
@@ -27,13 +19,13 @@ name_is [] (b ∷ bs) h = cc
 name_is (a ∷ as') [] h = cc
 name_is (a ∷ as') (b ∷ bs) h =
     let p = and_parts (nat_eq a b) (same_name as' bs) h in
-    let e = letter_is a b p.0 in
+    let e = eqb-true a b p.0 in
     let f = name_is as' bs p.1 in cc
 
 -- a name tests equal to itself
 pub name_self : (x : List ℕ) → same_name x x ≡ true
 name_self [] = refl
-name_self (a ∷ as') = let e = name_self as' in rw (letter_self a) e
+name_self (a ∷ as') = let e = name_self as' in rw (eq-eqb a a refl) e
 
 -- the function has two parameters
 two_is : (b : Bool) → same_bool b true ≡ true → b ≡ true

@@ -1,5 +1,5 @@
 -- Functions are found by the names of all, of which no two are the same.
-use Rattle.std.proofs.Common.{◌≡◌, ℕ, zero, suc, ◌+◌, ◌<◌, ◌≤◌, ◌||◌, not, Bool, true, false, List, [], ◌∷◌, ◌++◌, Some, None, length, take, map, refl, sym, ap}
+use Rattle.std.proofs.Common.{◌≡◌, ℕ, zero, suc, ◌+◌, ◌<◌, ◌≤◌, not, Bool, true, false, List, [], ◌∷◌, ◌++◌, Some, None, length, take, map, refl, sym, ap}
 use Rattle.std.proofs.Common.{◌∙◌, subst, arith, length-take}
 use Rattle.std.specs.Prelude.{ℤ, slice_get, bytes_eq}
 use Rattle.std.specs.Borrow.{Bor}
@@ -15,7 +15,7 @@ use Rattle.ln_csyn.specs.Words.{among}
 use Rattle.ln_csyn.specs.Tree.{Fun}
 use Rattle.ln_csyn.specs.View.{fun_tree, body_tree}
 use Rattle.ln_csyn.specs.Keeps.{distinct, names_of}
-use Rattle.ln_csyn.specs.Meaning.{Counts, Outcome, Fails, answer_of, runs, called, called_at, called_behind, runs_behind, same_bool, same_name}
+use Rattle.ln_csyn.specs.Meaning.{Counts, Fails, answer_of, runs, called, called_at, called_behind, runs_behind, same_bool, same_name}
 use Rattle.ln_cmean.specs.Places.{IsFirst, test}
 use Rattle.ln_cmean.specs.Room.{slots_in, most_slots}
 use Rattle.ln_cmean.proofs.Named.{name_is, name_self}

@@ -1,6 +1,6 @@
 -- Proves that the value of an expression is a number of its type.
 use Rattle.std.proofs.Common.{◌≡◌, Bool, true, false, List, None, refl, sym, subst, pos}
-use Rattle.std.proofs.lemmas.Bool.{true≢false}
+use Rattle.std.proofs.lemmas.Bool.{cond_both, true≢false}
 use Rattle.std.specs.Prelude.{ℤ, ⊤, if◌then◌else◌, ◌+ℤ◌, ◌-ℤ◌, ◌*ℤ◌, neg_ℤ, int_div, int_lt, not, slice_get}
 use Rattle.ln_csyn.specs.declared.tree.CType.{CType}
 use Rattle.ln_csyn.specs.declared.tree.CType.TheVariants.{Int, Int64, Int128}
@@ -17,10 +17,7 @@ IsWithin (Fails o) = ⊤
 
 -- what the type was tested for
 given_within : (t : CType) (z : ℤ) (k : Counts) → IsWithin (given t z k)
-given_within t z k = by_case (has t z) refl where
-  by_case : (v : Bool) → has t z ≡ v → IsWithin (given t z k)
-  by_case true h = rw h (rw h refl)
-  by_case false h = rw h tt
+given_within t z k = cond_both (has t z) (Gives t z k) (Fails None) IsWithin (λ h. h) (λ h. tt)
 
 -- what goes on
 then_within : (a : Answer) (go : CType → ℤ → Counts → Answer) → ((t : CType) (z : ℤ) (k : Counts) → IsWithin (go t z k)) → IsWithin (then_with a go)
@@ -35,24 +32,16 @@ bool_within : (b : Bool) → has Int (number_of_bool b) ≡ true
 bool_within true = refl
 bool_within false = refl
 
-quotient_within : (t : CType) (x y : ℤ) (k : Counts) (zero : Bool) → IsWithin (if zero then Fails None else given t (int_div x y) (counted t k))
-quotient_within t x y k true = tt
-quotient_within t x y k false = given_within t (int_div x y) (counted t k)
-
 -- each operation
 operated_within : (o : COp) (t : CType) (x y : ℤ) (k : Counts) → IsWithin (operated o t x y k)
 operated_within Add t x y k = given_within t (x +ℤ y) (counted t k)
 operated_within Sub t x y k = given_within t (x -ℤ y) (counted t k)
 operated_within Mul t x y k = given_within t (x *ℤ y) (counted t k)
-operated_within Div t x y k = quotient_within t x y k (is_zero y)
+operated_within Div t x y k = cond_both (is_zero y) _ _ IsWithin (λ h. tt) (λ h. given_within t (int_div x y) (counted t k))
 operated_within Less t x y k = bool_within (int_lt x y)
 operated_within More t x y k = bool_within (int_lt y x)
 operated_within Same t x y k = bool_within (same_number x y)
 operated_within Differ t x y k = bool_within (not (same_number x y))
-
-same_within : (o : COp) (t : CType) (x y : ℤ) (k : Counts) (is : Bool) → IsWithin (if is then operated o t x y k else Fails None)
-same_within o t x y k true = operated_within o t x y k
-same_within o t x y k false = tt
 
 -- each expression ends in a test of its type, or in a comparison
 value_within : (s : Scene) (ds : List Seen) (e : Expr) (k : Counts) → IsWithin (value_of s ds e k)
@@ -65,7 +54,8 @@ value_within s ds (Inner t e) k = cast_within t (value_of s ds e k)
 value_within s ds (Minus e) k = then_within (value_of s ds e k) (λ t z j. negated t z j) (λ t z j. given_within t (neg_ℤ z) (counted t j))
 value_within s ds (Two o a b) k =
     then_within (value_of s ds a k) (λ t x i. then_with (value_of s ds b i) (λ u y j. if is_same t u then operated o t x y j else Fails None))
-    (λ t x i. then_within (value_of s ds b i) (λ u y j. if is_same t u then operated o t x y j else Fails None) (λ u y j. same_within o t x y j (is_same t u)))
+    (λ t x i. then_within (value_of s ds b i) (λ u y j. if is_same t u then operated o t x y j else Fails None)
+    (λ u y j. cond_both (is_same t u) _ _ IsWithin (λ h. operated_within o t x y j) (λ h. tt)))
 
 -- the test on types
 is_same-one : (t u : CType) → true ≡ is_same t u → t ≡ u

@@ -41,6 +41,7 @@ struct Wanted<'e> {
     expr: &'e CExpr,
 }
 
+// The number of a statement's expression, which has the type that is wanted; or the line of the fault.
 fn wanted_value<'a, C: Calls>(
     calls: &C,
     inputs: &Inputs<'a, '_>,

@@ -1,4 +1,5 @@
 -- Proves that what is derived is read, and that what is read is derived.
+pub mod Leaving
 pub mod Complete
 pub mod CompleteFile
 pub mod Sound

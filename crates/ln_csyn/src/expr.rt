@@ -26,16 +26,10 @@ pub fn copied(alloc: Global, name: &[u8]) -> Result<Seq<u8>, CStop>
 fn cast_at<'t, 'a>(tokens: &'t [Token<'a>]) -> Option<(CType, &'t [Token<'a>])>
     ensures { option_map (λ y. (y.0, tokens_of y.1.now)) result ≡ cast_at (tokens_of tokens.now) }
 {
-    let Some(rest) = eat(tokens, b"(".as_slice()) else {
-        return None;
-    };
-    let Some((kind, rest)) = type_at(rest) else {
-        return None;
-    };
-    match eat(rest, b")".as_slice()) {
-        Some(rest) => Some((kind, rest)),
-        None => None,
-    }
+    let rest = eat(tokens, b"(".as_slice())?;
+    let (kind, rest) = type_at(rest)?;
+    let rest = eat(rest, b")".as_slice())?;
+    Some((kind, rest))
 }
 
 // `v[N]` or `x[N]`.
@@ -58,16 +52,10 @@ fn place_rest<'t, 'a>(
 ) -> Option<(CExpr, &'t [Token<'a>])>
     ensures { option_map (λ y. (expr_tree y.0, tokens_of y.1.now)) result ≡ place_rest kind name.now (tokens_of tokens.now) }
 {
-    let Some((n, rest)) = number_at(tokens) else {
-        return None;
-    };
-    let Some(rest) = eat(rest, b"]".as_slice()) else {
-        return None;
-    };
-    match place_of(kind, name, n) {
-        Some(e) => Some((e, rest)),
-        None => None,
-    }
+    let (n, rest) = number_at(tokens)?;
+    let rest = eat(rest, b"]".as_slice())?;
+    let e = place_of(kind, name, n)?;
+    Some((e, rest))
 }
 
 fn call_rest<'t, 'a>(

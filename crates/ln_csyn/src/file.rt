@@ -15,39 +15,25 @@ use std::alloc::Global;
 fn pointer_at<'t, 'a>(tokens: &'t [Token<'a>]) -> Option<&'t [Token<'a>]>
     ensures { option_map (λ r. tokens_of r.now) result ≡ pointer_at (tokens_of tokens.now) }
 {
-    let Some(rest) = eat(tokens, b"const".as_slice()) else {
-        return None;
-    };
-    let Some(rest) = eat(rest, b"int64_t".as_slice()) else {
-        return None;
-    };
+    let rest = eat(tokens, b"const".as_slice())?;
+    let rest = eat(rest, b"int64_t".as_slice())?;
     eat(rest, b"*".as_slice())
 }
 
 fn both_rest<'t, 'a>(tokens: &'t [Token<'a>]) -> Option<(bool, &'t [Token<'a>])>
     ensures { option_map (λ y. (y.0, tokens_of y.1.now)) result ≡ both_rest (tokens_of tokens.now) }
 {
-    let Some(rest) = eat(tokens, b"x".as_slice()) else {
-        return None;
-    };
-    let Some(rest) = eat(rest, b",".as_slice()) else {
-        return None;
-    };
-    let Some(rest) = pointer_at(rest) else {
-        return None;
-    };
-    match eat(rest, b"v".as_slice()) {
-        Some(rest) => Some((true, rest)),
-        None => None,
-    }
+    let rest = eat(tokens, b"x".as_slice())?;
+    let rest = eat(rest, b",".as_slice())?;
+    let rest = pointer_at(rest)?;
+    let rest = eat(rest, b"v".as_slice())?;
+    Some((true, rest))
 }
 
 fn parameters_at<'t, 'a>(tokens: &'t [Token<'a>]) -> Option<(bool, &'t [Token<'a>])>
     ensures { option_map (λ y. (y.0, tokens_of y.1.now)) result ≡ parameters_at (tokens_of tokens.now) }
 {
-    let Some(rest) = pointer_at(tokens) else {
-        return None;
-    };
+    let rest = pointer_at(tokens)?;
     if let Some(rest) = eat(rest, b"v".as_slice()) {
         return Some((false, rest));
     }
@@ -58,22 +44,12 @@ fn parameters_at<'t, 'a>(tokens: &'t [Token<'a>]) -> Option<(bool, &'t [Token<'a
 fn words_at<'t, 'a>(tokens: &'t [Token<'a>]) -> Option<(&'a [u8], bool, &'t [Token<'a>])>
     ensures { option_map (λ y. (y.0.now, y.1, tokens_of y.2.now)) result ≡ words_at (tokens_of tokens.now) }
 {
-    let Some(rest) = eat(tokens, b"int".as_slice()) else {
-        return None;
-    };
-    let Some((name, rest)) = name_at(rest) else {
-        return None;
-    };
-    let Some(rest) = eat(rest, b"(".as_slice()) else {
-        return None;
-    };
-    let Some((indexed, rest)) = parameters_at(rest) else {
-        return None;
-    };
-    match eat(rest, b")".as_slice()) {
-        Some(rest) => Some((name, indexed, rest)),
-        None => None,
-    }
+    let rest = eat(tokens, b"int".as_slice())?;
+    let (name, rest) = name_at(rest)?;
+    let rest = eat(rest, b"(".as_slice())?;
+    let (indexed, rest) = parameters_at(rest)?;
+    let rest = eat(rest, b")".as_slice())?;
+    Some((name, indexed, rest))
 }
 
 fn head_at<'t, 'a>(

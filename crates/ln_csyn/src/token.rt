@@ -28,10 +28,7 @@ pub fn type_at<'t, 'a>(tokens: &'t [Token<'a>]) -> Option<(CType, &'t [Token<'a>
     ensures { option_map (λ y. (y.0, tokens_of y.1.now)) result ≡ type_at (tokens_of tokens.now) }
 {
     match tokens {
-        [t, rest @ ..] => match type_word(t.text) {
-            Some(kind) => Some((kind, rest)),
-            None => None,
-        },
+        [t, rest @ ..] => Some((type_word(t.text)?, rest)),
         [] => None,
     }
 }
@@ -41,10 +38,7 @@ pub fn op_at<'t, 'a>(tokens: &'t [Token<'a>]) -> Option<(COp, &'t [Token<'a>])>
     ensures { option_map (λ y. (y.0, tokens_of y.1.now)) result ≡ op_at (tokens_of tokens.now) }
 {
     match tokens {
-        [t, rest @ ..] => match operation(t.text) {
-            Some(op) => Some((op, rest)),
-            None => None,
-        },
+        [t, rest @ ..] => Some((operation(t.text)?, rest)),
         [] => None,
     }
 }
@@ -54,10 +48,7 @@ pub fn number_at<'t, 'a>(tokens: &'t [Token<'a>]) -> Option<(u64, &'t [Token<'a>
     ensures { option_map (λ y. (y.0, tokens_of y.1.now)) result ≡ number_at (tokens_of tokens.now) }
 {
     match tokens {
-        [t, rest @ ..] => match number(t.text) {
-            Some(n) => Some((n, rest)),
-            None => None,
-        },
+        [t, rest @ ..] => Some((number(t.text)?, rest)),
         [] => None,
     }
 }

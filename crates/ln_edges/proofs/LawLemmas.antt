@@ -1,7 +1,7 @@
 -- The pairs that the machine finds are the edges.
 use Rattle.std.proofs.Common.{◌≡◌, List, pos, refl, subst}
 use Rattle.ln_base.specs.declared.sign.Sign.{Sign}
-use Rattle.ln_base.specs.declared.sign.Sign.TheVariants.{Minus, Zero, Plus}
+use Rattle.ln_base.specs.declared.sign.Sign.TheVariants.{Plus}
 use Rattle.ln_algebra.specs.Orders.{BySmallest}
 use Rattle.ln_algebra.specs.Terms.{Term}
 use Rattle.ln_algebra.specs.Tree.{Tree}
@@ -20,9 +20,8 @@ use Rattle.ln_edges.proofs.PairLemmas.{lines_by}
 use Rattle.ln_edges.proofs.RowLemmas.{for_in_range}
 
 plus_number : (s : Sign) → sign_number s ≡ pos 1 → s ≡ Plus
-plus_number Minus e = absurd (cc)
-plus_number Zero e = absurd (cc)
 plus_number Plus e = refl
+plus_number s e = absurd (cc)
 
 -- the machine's plus on a row in range is the perturbed one, and the other way round
 to_perturbed : (p : Part) (e : Tree) (f : List Term) (row : Row) → Runs p → Carries BySmallest p e f

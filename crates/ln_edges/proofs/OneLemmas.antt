@@ -1,27 +1,24 @@
 -- Records are points, or one is the first that is none.
-use Rattle.std.proofs.Common.{◌≡◌, ◌≢◌, inl, inr, ℕ, zero, suc, ◌<◌, List, [], ◌∷◌, ◌++◌, length, map, get_or, Some}
-use Rattle.std.proofs.Common.{None}
+use Rattle.std.proofs.Common.{◌≡◌, ◌≢◌, inl, inr, ℕ, zero, suc, ◌<◌, List, [], ◌∷◌, ◌++◌, length, map, Some}
 use Rattle.std.proofs.Common.{refl, ap, sym, ◌∙◌, subst, arith}
 use Rattle.std.specs.Prelude.{AllPairs, Contains}
 use Rattle.std.proofs.lemmas.Bool.{cases_lt}
+use Rattle.std.proofs.lemmas.List.{get_or_at, length-append}
+use Rattle.std.proofs.lemmas.Option.{none-some, same_Some}
 use Rattle.ln_tree.specs.Table.{CoordOf}
 use Rattle.ln_rows.specs.Left.{Records}
 use Rattle.ln_edges.specs.Points.{PointOf}
 use Rattle.ln_edges.specs.Read.{IsNoPoint, IsPointFault, PointFaultIsOne, PointsAreOne, PointsHaveNoFault, SayPoints}
 use Rattle.ln_edges.specs.Read.{point_in}
 
-some_same : (p q : PointOf) → Some p ≡ Some q → p ≡ q
-some_same p q e = cc
-
 say_one : (cs : List CoordOf) (rs : Records) (ps qs : List PointOf) → SayPoints cs rs ps → SayPoints cs rs qs → ps ≡ qs
 say_one cs [] [] [] a b = refl
 say_one cs [] [] (q ∷ qs) a b = absurd b
-say_one cs [] (p ∷ ps) qs a b = absurd a
-say_one cs (r ∷ rs) [] qs a b = absurd a
 say_one cs (r ∷ rs) (p ∷ ps) [] a b = absurd b
 say_one cs (r ∷ rs) (p ∷ ps) (q ∷ qs) a b =
-    ap (λ (x : PointOf). x ∷ ps) (some_same p q (sym a.0 ∙ b.0))
+    ap (λ (x : PointOf). x ∷ ps) (same_Some p q (sym a.0 ∙ b.0))
     ∙ ap (λ (l : List PointOf). q ∷ l) (say_one cs rs ps qs a.1 b.1)
+say_one cs rs ps qs a b = absurd a
 
 -- records are at most one list of points
 pub points-one : PointsAreOne
@@ -39,9 +36,7 @@ record Between (cs : List CoordOf) (bs : Records) (r : List (List ℕ)) (ps : Li
 between : (cs : List CoordOf) (bs : Records) (r : List (List ℕ)) (rest : Records) (ps : List PointOf)
     → SayPoints cs (bs ++ r ∷ rest) ps
     → Between cs bs r ps
-between cs [] r rest [] s = absurd s
 between cs [] r rest (p ∷ ps) s = record { front = []; point = p; back = ps; are = refl; says = tt; here = s.0 }
-between cs (b ∷ bs) r rest [] s = absurd s
 between cs (b ∷ bs) r rest (p ∷ ps) s =
     let w = between cs bs r rest ps s.1 in
     record {
@@ -49,28 +44,18 @@ between cs (b ∷ bs) r rest (p ∷ ps) s =
       point = w.point;
       back = w.back;
       are = ap (λ (l : List PointOf). p ∷ l) w.are;
-      says =
-          (s.0, w.says);
+      says = (s.0, w.says);
       here = w.here;
     }
-
-get_mid : (qs : List PointOf) (p : PointOf) (back : List PointOf) (d : PointOf)
-    → get_or (qs ++ p ∷ back) (length qs) d ≡ p
-get_mid [] p back d = refl
-get_mid (q ∷ qs) p back d = get_mid qs p back d
-
-mid_within : (qs : List PointOf) (p : PointOf) (back : List PointOf) → length qs < length (qs ++ p ∷ back)
-mid_within [] p back = omega arith
-mid_within (q ∷ qs) p back = let h = mid_within qs p back in omega (arith, h)
+between cs bs r rest ps s = absurd s
 
 new_index : (front : List PointOf) (p : PointOf) (back : List PointOf)
     → AllPairs (λ x y. x.index ≢ y.index) (front ++ p ∷ back)
     → Contains (map (λ q. q.index) front) p.index → ⊥
 new_index [] p back d (k, h, e) = absurd (omega (arith, h))
 new_index (q ∷ qs) p back d (zero, h, e) =
-    let l = mid_within qs p back in
-    d 0 (suc (length qs)) p (omega arith) (omega (arith, l))
-    (e ∙ ap (λ (x : PointOf). x.index) (sym (get_mid qs p back p)))
+    d 0 (suc (length qs)) p (omega arith) (omega (arith, length-append qs (p ∷ back)))
+    (e ∙ ap (λ (x : PointOf). x.index) (sym (get_or_at qs p back p (length qs) refl)))
 new_index (q ∷ qs) p back d (suc k, h, e) =
     new_index qs p back (λ i j x l m. d (suc i) (suc j) x (omega (arith, l)) (omega (arith, m)))
     (k, omega (arith, h), e)
@@ -81,11 +66,9 @@ points-faultless cs rs ps n a f =
     let w = between cs f.before f.fields f.after ps (subst (λ (x : Records). SayPoints cs x ps) f.are a.say) in
     by_fault w f.fault where
       by_fault : Between cs f.before f.fields ps → IsNoPoint cs f.points f.fields → ⊥
-      by_fault w (inl e) = none_some w.point (sym e ∙ w.here) where
-        none_some : (p : PointOf) → None ≡ Some p → ⊥
-        none_some p q = absurd (cc)
+      by_fault w (inl e) = none-some w.point (sym e ∙ w.here)
       by_fault w (inr (p, e, c)) =
-          let same : p ≡ w.point = some_same p w.point (sym e ∙ w.here) in
+          let same : p ≡ w.point = same_Some p w.point (sym e ∙ w.here) in
           let those : f.points ≡ w.front = say_one cs f.before f.points w.front f.are_points.say w.says in
           let differ : AllPairs (λ x y. x.index ≢ y.index) (w.front ++ w.point ∷ w.back) =
           subst (λ (l : List PointOf). AllPairs (λ x y. x.index ≢ y.index) l) w.are a.differ in

@@ -1,5 +1,5 @@
 -- Proves what the reader of points needs: a point is read field by field, and the records are read one by one.
-use Rattle.std.proofs.Common.{◌≡◌, ◌≢◌, ℕ, zero, suc, ◌+◌, ◌-◌, ◌^◌, ◌<◌, ◌≤◌, List, [], ◌∷◌, ◌++◌, length, get_or}
+use Rattle.std.proofs.Common.{◌≡◌, ◌≢◌, ℕ, suc, ◌+◌, ◌-◌, ◌^◌, ◌<◌, ◌≤◌, List, [], ◌∷◌, ◌++◌, length, get_or}
 use Rattle.std.proofs.Common.{take, drop, set, replicate, ℤ, pos}
 use Rattle.std.proofs.Common.{Option, Some, None, option_map, Result, Ok, Err, refl, ap, sym, ◌∙◌, subst, arith}
 use Rattle.std.proofs.Common.{add-one, drop-cons, append_assoc}
@@ -7,7 +7,8 @@ use Rattle.std.proofs.Common.{inl, inr, map, false, length-append}
 use Rattle.std.specs.Prelude.{IsErr, Contains, is_some}
 use Rattle.std.proofs.lemmas.Bool.{cases_lt}
 use Rattle.std.proofs.lemmas.List.Quantifiers.{all_pairs_push}
-use Rattle.std.proofs.lemmas.List.{length-map, append-nil, drop_all, length-drop, length-set, length-take-le, take_all}
+use Rattle.std.proofs.lemmas.List.Elements.{Contains-get_or}
+use Rattle.std.proofs.lemmas.List.{get_or-map, length-map, append-nil, drop_all, length-drop, length-set, length-take-le, take_all}
 use Rattle.std.proofs.lemmas.List.{take_more_set, get_or-set_other}
 use Rattle.ln_tree.specs.declared.items.Coord.{Coord}
 use Rattle.ln_tree.specs.Table.{CoordOf, coord_of}
@@ -17,7 +18,7 @@ use Rattle.ln_edges.specs.declared.point.Point.{Point}
 use Rattle.ln_edges.specs.Points.{PointOf, point_of}
 use Rattle.ln_rows.specs.Left.{Records}
 use Rattle.ln_rows.proofs.Fields.RowLemmas.{zeros}
-use Rattle.ln_edges.specs.Read.{ArePointsOf, IsNoPoint, IsNextPoint, IsPointFault, SayPoints, AreReadAs, fine, faulty}
+use Rattle.ln_edges.specs.Read.{IsNoPoint, IsNextPoint, SayPoints, AreReadAs, fine, faulty}
 use Rattle.ln_edges.specs.Read.{both, numbers_in, pointed, point_in}
 
 -- the point past the end of a list
@@ -63,6 +64,17 @@ read_none cs fs values h = record {
   zero = λ m k. ap (λ (zs : List ℤ). get_or zs m (pos 0)) h ∙ zeros 32 m;
 }
 
+numbers_from : (cs : List CoordOf) (fs : List (List ℕ)) (k : ℕ) (c : CoordOf) → length fs ≡ length cs → k < length cs → c ≡ get_or cs k c
+    → numbers_in (drop k cs) (drop k fs) ≡ both (number_in c.lo c.hi (get_or fs k [])) (numbers_in (drop (k + 1) cs) (drop (k + 1) fs))
+numbers_from cs fs k c size h e =
+    let front : drop k cs ≡ c ∷ drop (suc k) cs = drop-cons cs k c h
+    ∙ ap (λ (x : CoordOf). x ∷ drop (suc k) cs) (sym e) in
+    let field : drop k fs ≡ get_or fs k [] ∷ drop (suc k) fs = drop-cons fs k [] (omega (arith, h, size)) in
+    let step : numbers_in (drop k cs) (drop k fs) ≡ both (number_in c.lo c.hi (get_or fs k [])) (numbers_in (drop (suc k) cs) (drop (suc k) fs)) =
+    rw (front, field) refl in
+    let next : suc k ≡ k + 1 = omega arith in
+    step ∙ ap (λ (j : ℕ). both (number_in c.lo c.hi (get_or fs k [])) (numbers_in (drop j cs) (drop j fs))) next
+
 -- the step of the loop in `point_over`: one more number is read
 pub read_more : (cs : List CoordOf) (fs : List (List ℕ)) (k : ℕ) (values : List ℤ) (c : CoordOf) (z : ℤ)
     → length cs ≤ 32
@@ -71,23 +83,14 @@ pub read_more : (cs : List CoordOf) (fs : List (List ℕ)) (k : ℕ) (values : L
     → ReadTo cs fs (k + 1) (set values k z)
 read_more cs fs k values c z few size h e n r =
     let there : k < length values = omega (arith, h, few, r.room) in
-    let inner : k < length fs = omega (arith, h, size) in
-    let front : drop k cs ≡ c ∷ drop (suc k) cs = drop-cons cs k c h
-    ∙ ap (λ (x : CoordOf). x ∷ drop (suc k) cs) (sym e) in
-    let field : drop k fs ≡ get_or fs k [] ∷ drop (suc k) fs = drop-cons fs k [] inner in
-    let step : numbers_in (drop k cs) (drop k fs)
-    ≡ both (Ok z) (numbers_in (drop (suc k) cs) (drop (suc k) fs)) = rw (front, field, n) refl in
-    let next : suc k ≡ k + 1 = omega arith in
-    let rest : numbers_in (drop (suc k) cs) (drop (suc k) fs) ≡ numbers_in (drop (k + 1) cs) (drop (k + 1) fs) =
-    subst (λ (m : ℕ). numbers_in (drop (suc k) cs) (drop (suc k) fs) ≡ numbers_in (drop m cs) (drop m fs)) next refl in
+    let more : Option (List ℤ) = numbers_in (drop (k + 1) cs) (drop (k + 1) fs) in
+    let step : numbers_in (drop k cs) (drop k fs) ≡ both (Ok z) (numbers_in (drop (k + 1) cs) (drop (k + 1) fs)) =
+    numbers_from cs fs k c size h e ∙ ap (λ (o : Result ℤ NumberStop). both o more) n in
     record {
       within = omega (arith, h);
       room = length-set values k z ∙ r.room;
-      numbers = r.numbers ∙ ap (ahead (take k values)) step
-          ∙ ahead_both (take k values) z (numbers_in (drop (suc k) cs) (drop (suc k) fs))
-          ∙ ap (ahead (take k values ++ z ∷ [])) rest
-          ∙ ap (λ (xs : List ℤ). ahead xs (numbers_in (drop (k + 1) cs) (drop (k + 1) fs)))
-          (sym (take_more_set values k z there));
+      numbers = r.numbers ∙ ap (ahead (take k values)) step ∙ ahead_both (take k values) z more
+          ∙ ap (λ (xs : List ℤ). ahead xs more) (sym (take_more_set values k z there));
       zero = λ m l. get_or-set_other values k m z (pos 0) (omega (arith, l)) ∙ r.zero m (omega (arith, l));
     }
 
@@ -97,14 +100,7 @@ pub read_stops : (cs : List CoordOf) (fs : List (List ℕ)) (k : ℕ) (values : 
     → ReadTo cs fs k values → numbers_in cs fs ≡ None
 unfolding ahead
 read_stops cs fs k values c size h e n r =
-    let inner : k < length fs = omega (arith, h, size) in
-    let front : drop k cs ≡ c ∷ drop (suc k) cs = drop-cons cs k c h
-    ∙ ap (λ (x : CoordOf). x ∷ drop (suc k) cs) (sym e) in
-    let field : drop k fs ≡ get_or fs k [] ∷ drop (suc k) fs = drop-cons fs k [] inner in
-    let step : numbers_in (drop k cs) (drop k fs) ≡ None =
-    rw (front, field) (both_refused (number_in c.lo c.hi (get_or fs k []))
-    (numbers_in (drop (suc k) cs) (drop (suc k) fs)) n) in
-    r.numbers ∙ ap (ahead (take k values)) step
+    r.numbers ∙ ap (ahead (take k values)) (numbers_from cs fs k c size h e ∙ both_refused (number_in c.lo c.hi (get_or fs k [])) _ n)
 
 -- the end of the loop in `point_over`: the numbers of all fields are read
 pub read_all : (cs : List CoordOf) (fs : List (List ℕ)) (k : ℕ) (values : List ℤ) → length fs ≡ length cs
@@ -124,16 +120,13 @@ read_zero cs fs k values h r m l = let e : k ≡ length cs = omega (arith, h, r.
 -- the coordinate at a place, by what it stands for
 pub coord_at : (coords : List Coord) (k : ℕ) (c : Coord) → k < length coords → c ≡ get_or coords k c
     → coord_of c ≡ get_or (map coord_of coords) k (coord_of c)
-coord_at [] k c h e = refl
-coord_at (x ∷ coords) zero c h e = ap coord_of e
-coord_at (x ∷ coords) (suc k) c h e = coord_at coords k c (omega (arith, h)) e
+coord_at coords k c h e = ap coord_of e ∙ sym (get_or-map coord_of coords k c (coord_of c) h)
 
 -- another number of fields
 other_size : (cs : List CoordOf) (fs : List (List ℕ)) → length fs ≢ length cs → numbers_in cs fs ≡ None
 other_size [] [] h = absurd (h refl)
-other_size [] (f ∷ fs) h = refl
-other_size (c ∷ cs) [] h = refl
 other_size (c ∷ cs) (f ∷ fs) h = rw (other_size cs fs (λ e. h (ap suc e))) (both_none (number_in c.lo c.hi f))
+other_size cs fs h = refl
 
 pointed_none : (r : Result ℤ NumberStop) → pointed r None ≡ None
 pointed_none (Err e) = refl
@@ -184,81 +177,56 @@ point_cut cs fields = elim (cases_lt (length fields) (length cs + 2)) [
 say_push : (cs : List CoordOf) (rs : Records) (ps : List PointOf) (r : List (List ℕ)) (p : PointOf) → SayPoints cs rs ps
     → point_in cs r ≡ Some p → SayPoints cs (rs ++ r ∷ []) (ps ++ p ∷ [])
 say_push cs [] [] r p s e = (e, tt)
-say_push cs [] (q ∷ ps) r p s e = absurd s
-say_push cs (x ∷ rs) [] r p s e = absurd s
 say_push cs (x ∷ rs) (q ∷ ps) r p s e = (s.0, say_push cs rs ps r p s.1 e)
+say_push cs rs ps r p s e = absurd s
 
 -- the empty list of records is the empty list of points
 pub stands_none : (cs : List CoordOf) → AreReadAs cs [] [] None
 stands_none cs = fine (record { say = tt; differ = λ i j d h k. absurd (omega (arith, k)) })
 
 -- a point more
-pub stands_point : (cs : List CoordOf) (done : Records) (ps : List PointOf) (r : List (List ℕ)) (p : PointOf)
-    → point_in cs r ≡ Some p
-    → (Contains (map (λ q. q.index) ps) p.index → ⊥) → ArePointsOf cs done ps
-    → AreReadAs cs (done ++ r ∷ []) (ps ++ p ∷ []) None
-stands_point cs done ps r p e n a = fine (record {
-  say = say_push cs done ps r p a.say e;
-  differ = all_pairs_push (λ x y. x.index ≢ y.index) ps p a.differ (λ k d h q. n (index_there ps k d p h q));
-}) where
-  index_there : (ps : List PointOf) (k : ℕ) (d p : PointOf) → k < length ps → (get_or ps k d).index ≡ p.index
-      → Contains (map (λ q. q.index) ps) p.index
-  index_there ps k d p h q = subst (Contains (map (λ q. q.index) ps)) q (in_map ps k d h) where
-    in_map : (ps : List PointOf) (k : ℕ) (d : PointOf) → k < length ps
-        → Contains (map (λ q. q.index) ps) (get_or ps k d).index
-    in_map [] k d h = absurd (omega (arith, h))
-    in_map (x ∷ ps) zero d h = (0, omega arith, refl)
-    in_map (x ∷ ps) (suc k) d h = let c = in_map ps k d (omega (arith, h)) in (suc c.0, omega (arith, c.1), c.2)
-
--- the first that is none
-pub stands_fault : (cs : List CoordOf) (done : Records) (ps qs : List PointOf) (r : List (List ℕ)) (n : ℕ)
-    → n ≡ length done + 1 → IsNoPoint cs ps r → ArePointsOf cs done ps → AreReadAs cs (done ++ r ∷ []) qs (Some n)
-stands_fault cs done ps qs r n e h a =
-    faulty n (record {
-      before = done;
-      fields = r;
-      after = [];
-      are = refl;
-      number = e;
-      points = ps;
-      are_points =
-          a;
-      fault = h;
-    })
-
--- and whatever follows it
-pub stands_still : (cs : List CoordOf) (done : Records) (ps qs : List PointOf) (r : List (List ℕ)) (n : ℕ)
-    → IsPointFault cs done n
-    → AreReadAs cs (done ++ r ∷ []) qs (Some n)
-stands_still cs done ps qs r n f =
-    faulty n (record {
-      before = f.before;
-      fields = f.fields;
-      after = f.after ++ r ∷ [];
-      are = rw f.are (append_assoc f.before (f.fields ∷ f.after) (r ∷ []));
-      number = f.number;
-      points = f.points;
-      are_points = f.are_points;
-      fault = f.fault;
-    })
-
--- the same from what the records were before
 pub stood_point : (cs : List CoordOf) (done : Records) (ps : List PointOf) (r : List (List ℕ)) (p : PointOf)
     → IsNextPoint cs ps r p
     → AreReadAs cs done ps None → AreReadAs cs (done ++ r ∷ []) (ps ++ p ∷ []) None
-stood_point cs done ps r p n (fine a) = stands_point cs done ps r p n.says n.new a
+stood_point cs done ps r p n (fine a) = fine (record {
+  say = say_push cs done ps r p a.say n.says;
+  differ = all_pairs_push (λ x y. x.index ≢ y.index) ps p a.differ (λ k d h q. n.new (index_there k d h q));
+}) where
+  index_there : (k : ℕ) (d : PointOf) → k < length ps → (get_or ps k d).index ≡ p.index → Contains (map (λ q. q.index) ps) p.index
+  index_there k d h q =
+      let inner : k < length (map (λ q. q.index) ps) = omega (arith, h, length-map ps (λ (q : PointOf). q.index)) in
+      subst (Contains (map (λ q. q.index) ps)) (get_or-map (λ (q : PointOf). q.index) ps k d p.index h ∙ q)
+      (Contains-get_or (map (λ q. q.index) ps) k p.index inner)
 
 -- after points, a record that is no point is the first that is none
 pub stood_fault : (cs : List CoordOf) (done : Records) (ps : List PointOf) (r : List (List ℕ)) (n : ℕ)
     → n ≡ length done + 1 → IsNoPoint cs ps r → AreReadAs cs done ps None → AreReadAs cs (done ++ r ∷ []) ps (Some n)
-stood_fault cs done ps r n e h (fine a) = stands_fault cs done ps ps r n e h a
+stood_fault cs done ps r n e h (fine a) = faulty n (record {
+  before = done;
+  fields = r;
+  after = [];
+  are = refl;
+  number = e;
+  points = ps;
+  are_points = a;
+  fault = h;
+})
 
 -- where a record that is no point was found, it stays the first, whatever follows
 pub stood_still : (cs : List CoordOf) (done : Records) (ps : List PointOf) (r : List (List ℕ)) (o : Option ℕ)
     → (o ≡ None → ⊥)
     → AreReadAs cs done ps o → AreReadAs cs (done ++ r ∷ []) ps o
 stood_still cs done ps r None h s = absurd (h refl)
-stood_still cs done ps r (Some n) h (faulty m f) = stands_still cs done ps ps r n f
+stood_still cs done ps r (Some n) h (faulty m f) = faulty n (record {
+  before = f.before;
+  fields = f.fields;
+  after = f.after ++ r ∷ [];
+  are = rw f.are (append_assoc f.before (f.fields ∷ f.after) (r ∷ []));
+  number = f.number;
+  points = f.points;
+  are_points = f.are_points;
+  fault = f.fault;
+})
 
 -- the first records have been read, and these remain
 pub record Reading (cs : List CoordOf) (all left : Records) (ps : List PointOf) (fault : Option ℕ) (number : ℕ) : Type 0
@@ -279,18 +247,12 @@ pub record IsNowhere (ps : List Point) (i : ℕ) (z : ℤ) : Type 0 where
 pub nowhere_none : (ps : List Point) (z : ℤ) → IsNowhere ps 0 z
 nowhere_none ps z = record { within = omega arith; none = λ k h. absurd (omega (arith, h)) }
 
-index_place : (ps : List Point) (k : ℕ) (z : ℤ) → k < length ps
-    → get_or (map (λ p. p.index) ps) k z ≡ (get_or ps k a_point).index
-index_place [] k z h = absurd (omega (arith, h))
-index_place (q ∷ ps) zero z h = refl
-index_place (q ∷ ps) (suc k) z h = index_place ps k z (omega (arith, h))
-
 -- the end of the loop in `has_index`: no point has the index
 pub nowhere_all : (ps : List Point) (i : ℕ) (z : ℤ) → length ps ≤ i → IsNowhere ps i z
     → Contains (map (λ p. p.index) ps) z → ⊥
 nowhere_all ps i z l w (k, h, e) =
     let inner : k < length ps = omega (arith, h, length-map ps (λ (p : Point). p.index)) in
-    w.none k (omega (arith, inner, l)) (sym (index_place ps k z inner) ∙ e)
+    w.none k (omega (arith, inner, l)) (sym (get_or-map (λ (p : Point). p.index) ps k a_point z inner) ∙ e)
 
 -- the same indices by what the points stand for
 pub indices_of : (n : ℕ) (ps : List Point) → map (λ q. q.index) (map (point_of n) ps) ≡ map (λ p. p.index) ps

@@ -1,5 +1,5 @@
 -- Rows of points: one is written after the others, and the row of three is in range.
-use Rattle.std.proofs.Common.{◌≡◌, ◌≢◌, inl, inr, ℕ, zero, suc, ◌+◌, ◌*◌, ◌/◌, ◌<◌, ◌≤◌, List, [], ◌∷◌, ◌++◌, length}
+use Rattle.std.proofs.Common.{◌≡◌, ◌≢◌, inl, inr, ℕ, suc, ◌+◌, ◌*◌, ◌/◌, ◌<◌, ◌≤◌, List, [], ◌∷◌, ◌++◌, length}
 use Rattle.std.proofs.Common.{map, take}
 use Rattle.std.proofs.Common.{set, get_or, ℤ, pos, refl, ap, sym, ◌∙◌, subst, arith, append_assoc, length-append}
 use Rattle.std.proofs.Common.{AllPairs}
@@ -7,7 +7,7 @@ use Rattle.std.specs.Prelude.{flat_map, ◌≤ℤ◌, ◌^◌, ◌-◌}
 use Rattle.std.proofs.Math.Nat.{mul-div_cancel_left, mul-le-mul_right}
 use Rattle.std.proofs.Math.Arith.{lt_of_le-ne}
 use Rattle.std.proofs.Math.Seq.{take-append_seam}
-use Rattle.std.proofs.lemmas.List.{append-nil, map-append, length-map, length-take-le, take_more_set}
+use Rattle.std.proofs.lemmas.List.{append-nil, get_or-map, map-append, length-map, length-take-le, take_more_set}
 use Rattle.std.proofs.lemmas.List.Concat.{flat_map-append}
 use Rattle.std.proofs.lemmas.List.Elements.{All-nil, All-cons, All-get_or}
 use Rattle.std.proofs.lemmas.Bool.{cases_lt}
@@ -92,16 +92,14 @@ three_width cs = ap (λ (n : ℕ). n / 3) (three_size cs) ∙ mul-div_cancel_lef
 -- values in range for a first site of a type are in range for another one of it
 within_site : (k s c : ℕ) (cs : List CoordOf) (zs : List ℤ) → AreWithin (site_vars 0 0 c cs) zs → AreWithin (site_vars k s c cs) zs
 within_site k s c [] [] h = tt
-within_site k s c [] (z ∷ zs) h = absurd h
-within_site k s c (x ∷ xs) [] h = absurd h
 within_site k s c (x ∷ xs) (z ∷ zs) h = (h.0, h.1, within_site k s (suc c) xs zs h.2)
+within_site k s c cs zs h = absurd h
 
 within_both : (is js : List VarInfo) (ys zs : List ℤ) → AreWithin is ys → AreWithin js zs
     → AreWithin (is ++ js) (ys ++ zs)
 within_both [] js [] zs h g = g
-within_both [] js (y ∷ ys) zs h g = absurd h
-within_both (i ∷ is) js [] zs h g = absurd h
 within_both (i ∷ is) js (y ∷ ys) zs h g = (h.0, h.1, within_both is js ys zs h.2 g)
+within_both is js ys zs h g = absurd h
 
 three_within : (cs : List CoordOf) (a b c : PointOf) → IsPoint cs a → IsPoint cs b → IsPoint cs c
     → AreWithin (three_of cs) (row_with (a ∷ b ∷ c ∷ [])).values
@@ -180,9 +178,7 @@ plus_of part row v w a b e = ap (λ (x : Verdict). x.sign) (verdict-unique part 
 -- the point that is kept at a place is the point at that place
 pub point_there : (vars : List VarInfo) (ps : List Point) (k : ℕ) (d : Point) → k < length ps
     → point_of (width vars) (get_or ps k d) ≡ point_at (points_in vars ps) k
-point_there vars [] k d h = absurd (omega (arith, h))
-point_there vars (p ∷ ps) zero d h = refl
-point_there vars (p ∷ ps) (suc k) d h = point_there vars ps k d (omega (arith, h))
+point_there vars ps k d h = sym (get_or-map (point_of (width vars)) ps k d no_point h)
 
 -- one place more of those that are passed
 pub passed_more : (part : Part) (ps : List PointOf) (i j k : ℕ)

@@ -37,27 +37,23 @@ within_ends lo hi z (Some y) h = go (int_le lo y && int_le y hi) refl h where
 -- a number and those after it
 both_parts : (r : Result ℤ NumberStop) (o : Option (List ℤ)) (zs : List ℤ) → both r o ≡ Some zs
     → (z : ℤ) × (ys : List ℤ) × (r ≡ Ok z) × (o ≡ Some ys) × (zs ≡ z ∷ ys)
-both_parts (Err e) o zs h = absurd (cc)
-both_parts (Ok z) None zs h = absurd (cc)
 both_parts (Ok z) (Some ys) zs h = (z, ys, refl, refl, cc)
+both_parts r o zs h = absurd (cc)
 
 coords_within : (k : ℕ) (cs : List CoordOf) (fs : List (List ℕ)) (zs : List ℤ) → numbers_in cs fs ≡ Some zs → AreWithin (site_vars 0 0 k cs) zs
 coords_within k [] [] [] h = tt
-coords_within k [] [] (z ∷ zs) h = absurd (cc)
-coords_within k [] (f ∷ fs) zs h = absurd (cc)
-coords_within k (c ∷ cs) [] zs h = absurd (cc)
 coords_within k (c ∷ cs) (f ∷ fs) zs h =
     let p = both_parts (number_in c.lo c.hi f) (numbers_in cs fs) zs h in
     let e = within_ends c.lo c.hi p.0 (integer_value f) p.2 in
     subst (AreWithin (site_vars 0 0 k (c ∷ cs))) (sym p.4) (e.0, e.1, coords_within (suc k) cs fs p.1 p.3)
+coords_within k cs fs zs h = absurd (cc)
 
 pointed_parts : (r : Result ℤ NumberStop) (o : Option (List ℤ)) (p : PointOf) → pointed r o ≡ Some p
     → (r ≡ Ok p.index) × (o ≡ Some p.coords)
-pointed_parts (Err e) o p h = absurd (cc)
-pointed_parts (Ok z) None p h = absurd (cc)
 pointed_parts (Ok z) (Some ys) p h =
     let e : record { index = z; coords = ys } ≡ p = cc in
     (ap (λ (q : PointOf). Ok q.index) e, ap (λ (q : PointOf). Some q.coords) e)
+pointed_parts r o p h = absurd (cc)
 
 is_point : (cs : List CoordOf) (fields : List (List ℕ)) (p : PointOf) → point_in cs fields ≡ Some p → IsPoint cs p
 is_point cs [] p h = absurd (cc)
@@ -68,10 +64,9 @@ is_point cs (f ∷ fs) p h =
 
 all_points : (cs : List CoordOf) (rs : Records) (ps : List PointOf) → SayPoints cs rs ps → All (IsPoint cs) ps
 all_points cs [] [] s = All-nil (IsPoint cs)
-all_points cs [] (p ∷ ps) s = absurd s
-all_points cs (r ∷ rs) [] s = absurd s
 all_points cs (r ∷ rs) (p ∷ ps) s = All-cons (IsPoint cs) p ps (is_point cs r p s.0)
     (all_points cs rs ps s.1)
+all_points cs rs ps s = absurd s
 
 -- the points of records of a type are points for a part over three sites of that type
 pub points_fit : PointsSuit

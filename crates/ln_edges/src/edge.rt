@@ -50,29 +50,36 @@ fn pair_row(width: usize, a: &Point, b: &Point) -> Row
     row
 }
 
-// Is point k one of the pair i and j, or is the program's sign on the row of the three plus? The row holds the pair,
-// before and after.
+// An ordered pair of places.
+#[derive(Clone, Copy)]
+struct Pair {
+    from: usize,
+    to: usize,
+}
+
+// Is point k one of the pair, or is the program's sign on the row of the three plus? The row holds the pair, before
+// and after.
 fn is_passed(
     p: &Program,
     s: &mut Scratch,
     row: &mut Row,
     points: &[Point],
-    i: usize,
-    j: usize,
+    pair: Pair,
     k: usize,
 ) -> bool
     requires made { MadeFor p.now s.old }
     requires points { ArePointsFor p.now points.now }
-    requires first { i < length points.now }
-    requires second { j < length points.now }
+    requires first { pair.from < length points.now }
+    requires second { pair.to < length points.now }
     requires third { k < length points.now }
-    requires differ { i ≢ j }
-    requires held { HoldsPair p.now points.now i j row.old }
-    ensures passed { IsTrue result ↔ (k ≢ i → k ≢ j → IsPlusOn p.now (points_in p.now.shape.vars points.now) i j k) }
-    ensures held { HoldsPair p.now points.now i j row.new }
+    requires differ { pair.from ≢ pair.to }
+    requires held { HoldsPair p.now points.now pair.from pair.to row.old }
+    ensures passed { IsTrue result ↔ (k ≢ pair.from → k ≢ pair.to →
+        IsPlusOn p.now (points_in p.now.shape.vars points.now) pair.from pair.to k) }
+    ensures held { HoldsPair p.now points.now pair.from pair.to row.new }
     ensures made { MadeFor p.now s.new }
 {
-    if k == i || k == j {
+    if k == pair.from || k == pair.to {
         return true;
     }
     put_point(row, 2, width(p), &points[k]);
@@ -93,7 +100,7 @@ pub fn is_edge(p: &Program, s: &mut Scratch, points: &[Point], i: usize, j: usiz
 {
     let mut row = pair_row(width(p), &points[i], &points[j]);
     'others: for k in 0..points.len() {
-        if !is_passed(p, s, &mut row, points, i, j, k) {
+        if !is_passed(p, s, &mut row, points, Pair { from: i, to: j }, k) {
             return false;
         }
     }

@@ -23,10 +23,11 @@ use Rattle.std.proofs.Common.{
   arith,
   Some,
 }
-use Rattle.std.specs.Prelude.{None, slice_get}
+use Rattle.std.specs.Prelude.{slice_get}
 use Rattle.std.proofs.lemmas.Bool.{cases_eq, cases_lt}
+use Rattle.std.proofs.lemmas.List.{get_or-set_same}
 use Rattle.std.proofs.Math.ListN.{length-set}
-use Rattle.std.proofs.lemmas.Option.{slice_get-get_or}
+use Rattle.std.proofs.lemmas.Option.{slice_get-get_or, slice_get_within}
 use Rattle.ln_tree.specs.Row.{InRange}
 use Rattle.ln_code.specs.Memory.{MadeFor}
 use Rattle.ln_code.specs.Part.{Part}
@@ -39,9 +40,7 @@ use Rattle.ln_factor.specs.Factors.{AreMadeFor, AreVerdicts, IsFactor, IsRowOfFa
 
 -- ---- lists
 set-same : {A : Type 0} (xs : List A) (k : ℕ) (x : A) → k < length xs → slice_get (set xs k x) k ≡ Some x
-set-same [] k x h = absurd (omega arith)
-set-same (y ∷ xs) zero x h = refl
-set-same (y ∷ xs) (suc k) x h = set-same xs k x (omega arith)
+set-same xs k x h = slice_get-get_or (set xs k x) k x (omega (arith, h, length-set xs k x)) ∙ ap Some (get_or-set_same xs k x x h)
 
 set-other : {A : Type 0} (xs : List A) (k j : ℕ) (x : A) → (j ≡ k → ⊥) → slice_get (set xs k x) j ≡ slice_get xs j
 set-other [] k j x d = refl
@@ -49,6 +48,17 @@ set-other (y ∷ xs) zero zero x d = absurd (d refl)
 set-other (y ∷ xs) zero (suc j) x d = refl
 set-other (y ∷ xs) (suc k) zero x d = refl
 set-other (y ∷ xs) (suc k) (suc j) x d = set-other xs k j x (λ e. d (ap suc e))
+
+-- what holds of each at its place holds where one is set of which it holds
+set-each : {A : Type 0} (P : ℕ → A → Type 0) (xs : List A) (k : ℕ) (x : A) → k < length xs → P k x
+    → ((j : ℕ) (y : A) → (j ≡ k → ⊥) → slice_get xs j ≡ Some y → P j y) → (j : ℕ) (y : A) → slice_get (set xs k x) j ≡ Some y → P j y
+set-each P xs k x h here others j y e = by (cases_eq j k) where
+  by : (j ≡ k) ⊎ (j ≡ k → ⊥) → P j y
+  by (inr d) = others j y d (sym (set-other xs k j x d) ∙ e)
+  by (inl q) =
+      let n : Some x ≡ Some y = sym (set-same xs k x h) ∙ subst (λ (i : ℕ). slice_get (set xs k x) i ≡ Some y) q e in
+      let w : x ≡ y = cc in
+      subst (λ (i : ℕ). P i y) (sym q) (subst (P k) w here)
 
 -- ---- the factor at hand
 module _ (ps : List Part) (which : List ℕ) (r : Row) (k : ℕ) (h : k < length which) where
@@ -75,15 +85,11 @@ module _ (ps : List Part) (which : List ℕ) (r : Row) (k : ℕ) (h : k < length
   -- its scratch is changed, and stays made for it
   pub made-more : (ss : List Scratch) (s : Scratch) → AreMadeFor ps which ss
       → ((p : Part) → slice_get ps (get_or which k 0) ≡ Some p → MadeFor p s) → AreMadeFor ps which (set ss k s)
-  made-more ss s m new = record { size = length-set ss k s ∙ m.size; made = λ j p t f e. by j p t f e (cases_eq j k) } where
-    by : (j : ℕ) (p : Part) (t : Scratch) → IsFactor ps which j p → slice_get (set ss k s) j ≡ Some t → (j ≡ k) ⊎ (j ≡ k → ⊥) → MadeFor p t
-    by j p t f e (inr d) = m.made j p t f (sym (set-other ss k j s d) ∙ e)
-    by j p t f e (inl q) =
-        let g : IsFactor ps which k p = subst (λ (i : ℕ). IsFactor ps which i p) q f in
-        let e' : slice_get (set ss k s) k ≡ Some t = subst (λ (i : ℕ). slice_get (set ss k s) i ≡ Some t) q e in
-        let n : Some s ≡ Some t = sym (set-same ss k s (omega (arith, h, m.size))) ∙ e' in
-        let w : s ≡ t = cc in
-        subst (λ (u : Scratch). MadeFor p u) w (new p (place-here p g))
+  made-more ss s m new = record {
+    size = length-set ss k s ∙ m.size;
+    made = λ j p t f e. set-each (λ i u. IsFactor ps which i p → MadeFor p u) ss k s (omega (arith, h, m.size))
+        (λ g. new p (place-here p g)) (λ i u d z g. m.made i p u g z) j t e f;
+  }
 
   -- the verdicts at the first n places are those of the factors on the row
   abbrev pub AreFilled : ℕ → List Verdict → Type 0
@@ -94,21 +100,9 @@ module _ (ps : List Part) (which : List ℕ) (r : Row) (k : ℕ) (h : k < length
   pub filled-more : (vs : List Verdict) (v : Verdict) → length vs ≡ length which → AreFilled k vs
       → ((p : Part) → slice_get ps (get_or which k 0) ≡ Some p → IsVerdict p (row_of p.shape.sites p.shape.vars r) v)
       → AreFilled (k + 1) (set vs k v)
-  filled-more vs v size old new j p u l f e = by (cases_eq j k) where
-    by : (j ≡ k) ⊎ (j ≡ k → ⊥) → IsVerdict p (row_of p.shape.sites p.shape.vars r) u
-    by (inr d) = old j p u (omega (arith, l, d)) f (sym (set-other vs k j v d) ∙ e)
-    by (inl q) =
-        let g : IsFactor ps which k p = subst (λ (i : ℕ). IsFactor ps which i p) q f in
-        let e' : slice_get (set vs k v) k ≡ Some u = subst (λ (i : ℕ). slice_get (set vs k v) i ≡ Some u) q e in
-        let n : Some v ≡ Some u = sym (set-same vs k v (omega (arith, h, size))) ∙ e' in
-        let w : v ≡ u = cc in
-        subst (λ (x : Verdict). IsVerdict p (row_of p.shape.sites p.shape.vars r) x) w (new p (place-here p g))
-
--- a factor stands at one of the places
-factor-below : (ps : List Part) (which : List ℕ) (k : ℕ) (p : Part) → IsFactor ps which k p → k < length which
-factor-below ps [] k p f = let n : None ≡ Some f.place = f.named in cc
-factor-below ps (i ∷ is) zero p f = omega arith
-factor-below ps (i ∷ is) (suc k) p f = omega (arith, factor-below ps is k p (record { place = f.place; named = f.named; there = f.there }))
+  filled-more vs v size old new j p u l f e =
+      set-each (λ i w. i < k + 1 → IsFactor ps which i p → IsVerdict p (row_of p.shape.sites p.shape.vars r) w) vs k v (omega (arith, h, size))
+      (λ m g. new p (place-here p g)) (λ i w d z m g. old i p w (omega (arith, m, d)) g z) j u e l f
 
 -- all are filled in
 pub all-filled : (ps : List Part) (which : List ℕ) (r : Row) (n : ℕ) (vs : List Verdict) → length vs ≡ length which → (n < length which → ⊥)
@@ -117,7 +111,7 @@ pub all-filled : (ps : List Part) (which : List ℕ) (r : Row) (n : ℕ) (vs : L
 all-filled ps which r n vs size past each = record {
   size = size;
   each = λ j p v f e. each j p v
-      (within j (factor-below ps which j p f)) f e;
+      (within j (slice_get_within which j f.place f.named)) f e;
 } where
   within : (j : ℕ) → j < length which → j < n
   within j l = elim (cases_lt n (length which)) [ inl m ↦ absurd (past m) | inr m ↦ omega (arith, l, m) ]

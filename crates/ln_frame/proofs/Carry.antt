@@ -18,6 +18,10 @@ use Rattle.ln_frame.specs.Given.{Outcome, stops, missing}
 use Rattle.ln_frame.specs.Carried as c
 use Rattle.ln_frame.specs.Carried.{CarriesOut, LeavesFronts, LeavesPart, Halts, Says, PutsText, stop_line}
 
+-- a write of nothing to both streams changes nothing
+pub both_nothing : (was : Option Shown) → put_both [] [] was ≡ was
+both_nothing was = appended-nothing ErrPort (appended Out [] was) ∙ appended-nothing Out was
+
 either : {A B C : Type 0} → (B → C) → A ⊎ B → A ⊎ C
 either f (inl a) = inl a
 either f (inr b) = inr (f b)
@@ -73,10 +77,7 @@ says_carried step s d puts result was now f g (c.tells why h) (c.cut front p n i
     c.cut p (c.of_owed (said_of why) [] front (f why h) (record { rest = []; is = refl }) i e) r
 says_carried step s d puts result was now f g (c.unread u) (c.all q r e) = c.unread q (either g u) r e
 says_carried step s d puts result was now f g (c.unread u) (c.cut front p n i e r) = c.cut p (c.of_read front (either g u) i e) r
-says_carried step s d puts result was now f g c.short (c.all q r e) = c.short q (c.nothing (e ∙ nothing_put was)) r
-  where
-    nothing_put : (was : Option Shown) → put_both [] [] was ≡ was
-    nothing_put was = appended-nothing ErrPort (appended Out [] was) ∙ appended-nothing Out was
+says_carried step s d puts result was now f g c.short (c.all q r e) = c.short q (c.nothing (e ∙ both_nothing was)) r
 says_carried step s d puts result was now f g c.short (c.cut front p n i e r) = absurd (n refl)
 says_carried step s d puts result was now f g h (c.short q n r e) = c.short q (c.nothing e) r
 

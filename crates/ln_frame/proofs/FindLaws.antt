@@ -1,10 +1,11 @@
 -- The predicate of a name, by its number.
-use Rattle.std.proofs.Common.{◌≡◌, ℕ, zero, suc, ◌+◌, ◌<◌, ◌≤◌, cond, Bool, true, false, List, [], ◌∷◌}
+use Rattle.std.proofs.Common.{◌≡◌, ℕ, ◌<◌, ◌≤◌, cond, Bool, true, false, List}
 use Rattle.std.proofs.Common.{map, length, Some, None, option_map, refl, ap, sym, ◌∙◌, subst, arith}
-use Rattle.std.specs.Prelude.{find, slice_get, position, nat_lt, bytes_eq}
+use Rattle.std.specs.Prelude.{slice_get, position, nat_lt, bytes_eq}
 use Rattle.std.specs.List.{position_or_len}
-use Rattle.std.proofs.lemmas.Option.{none-some, same_Some, slice_get-map, slice_get_within}
+use Rattle.std.proofs.lemmas.Option.{same_Some, slice_get-map, slice_get_past, slice_get_within}
 use Rattle.std.proofs.lemmas.List.{length-map}
+use Rattle.std.proofs.lemmas.List.Folds.{find_at}
 use Rattle.std.proofs.lemmas.Bool.Decides.{nat_tests}
 use Rattle.ln_tree.specs.declared.pred.Pred.{Pred}
 use Rattle.ln_tree.specs.Names.{name_bytes}
@@ -14,48 +15,28 @@ use Rattle.ln_compile.specs.Compiled.{number_of}
 use Rattle.ln_frame.specs.Given.{named}
 use Rattle.ln_frame.proofs.Likeness.{named_in, named_like}
 
-one_more : (n : ℕ) → 1 + n ≡ suc n
-one_more n = omega arith
+-- where a number was found, it is the position of the first that passes
+some_position : (test : Pred → Bool) (ps : List Pred) (i : ℕ) → position test ps ≡ Some i → (i ≡ position_or_len test ps) × (i < length ps)
+some_position test ps i e = by_test (nat_lt (position_or_len test ps) (length ps)) refl e
+  where
+    by_test : (b : Bool) → nat_lt (position_or_len test ps) (length ps) ≡ b
+        → cond b (Some (position_or_len test ps)) None ≡ Some i → (i ≡ position_or_len test ps) × (i < length ps)
+    by_test true f e = let same : i ≡ position_or_len test ps = cc in (same, rw same (grind (arith, nat_tests, f)))
+    by_test false f e = cc
 
--- the first that passes is the one at its position
-module _ (test : Pred → Bool) where
-  found_by : (ps : List Pred) → find test ps ≡ slice_get ps (position_or_len test ps)
-  found_by [] = refl
-  found_by (p ∷ ps) = by_test (test p) refl (found_by ps)
-    where
-      by_test : (b : Bool) → test p ≡ b → find test ps ≡ slice_get ps (position_or_len test ps)
-          → find test (p ∷ ps) ≡ slice_get (p ∷ ps) (position_or_len test (p ∷ ps))
-      by_test true e h = rw e refl
-      by_test false e h = rw e (subst (λ (m : ℕ). find test ps ≡ slice_get (p ∷ ps) m) (sym (one_more (position_or_len test ps))) h)
-
-  past : (ps : List Pred) (n : ℕ) → length ps ≤ n → slice_get ps n ≡ None
-  past [] n h = refl
-  past (p ∷ ps) zero h = absurd (omega (arith, h))
-  past (p ∷ ps) (suc n) h = past ps n (omega (arith, h))
-
-  some_position : (ps : List Pred) (i : ℕ) → position test ps ≡ Some i → (i ≡ position_or_len test ps) × (i < length ps)
-  some_position ps i e = by_test (nat_lt (position_or_len test ps) (length ps)) refl e
-    where
-      by_test : (b : Bool) → nat_lt (position_or_len test ps) (length ps) ≡ b
-          → cond b (Some (position_or_len test ps)) None ≡ Some i → (i ≡ position_or_len test ps) × (i < length ps)
-      by_test true f e =
-          let same : position_or_len test ps ≡ i = same_Some
-          (position_or_len test ps) i e in (sym same, rw (← same) (grind (arith, nat_tests, f)))
-      by_test false f e = absurd (none-some i e)
-
-  no_position : (ps : List Pred) → position test ps ≡ None → length ps ≤ position_or_len test ps
-  no_position ps e = by_test (nat_lt (position_or_len test ps) (length ps)) refl e
-    where
-      by_test : (b : Bool) → nat_lt (position_or_len test ps) (length ps) ≡ b
-          → cond b (Some (position_or_len test ps)) None ≡ None → length ps ≤ position_or_len test ps
-      by_test true f e = absurd (none-some (position_or_len test ps) (sym e))
-      by_test false f e = grind (arith, nat_tests, f)
+no_position : (test : Pred → Bool) (ps : List Pred) → position test ps ≡ None → length ps ≤ position_or_len test ps
+no_position test ps e = by_test (nat_lt (position_or_len test ps) (length ps)) refl e
+  where
+    by_test : (b : Bool) → nat_lt (position_or_len test ps) (length ps) ≡ b
+        → cond b (Some (position_or_len test ps)) None ≡ None → length ps ≤ position_or_len test ps
+    by_test true f e = cc
+    by_test false f e = grind (arith, nat_tests, f)
 
 number_named : (name : List ℕ) (ps : List Pred) (i : ℕ) (p : Pred) → number_of name ps ≡ Some i
     → slice_get ps i ≡ Some p → named_in name ps ≡ Some p
 number_named name ps i p e f =
     let test = λ (q : Pred). bytes_eq (name_bytes q.name) name in
-    found_by test ps ∙ ap (slice_get ps) (sym (some_position test ps i e).0) ∙ f
+    find_at test ps ∙ ap (slice_get ps) (sym (some_position test ps i e).0) ∙ f
 
 -- a number that was found is that of the predicate with the name
 pub found_at : (name : List ℕ) (ps : List Pred) (i : ℕ) → number_of name ps ≡ Some i
@@ -72,7 +53,7 @@ pub none_at : (name : List ℕ) (ps : List Pred) → number_of name ps ≡ None 
 none_at name ps e =
     let test = λ (q : Pred). bytes_eq (name_bytes q.name) name in
     sym (named_like name ps) ∙ ap (option_map pred_of)
-    (found_by test ps ∙ past test ps (position_or_len test ps) (no_position test ps e))
+    (find_at test ps ∙ slice_get_past ps (position_or_len test ps) (no_position test ps e))
 
 -- a number that has a predicate is within
 pub within_at : (ps : List Pred) (i : ℕ) (p : PredOf) → slice_get (map pred_of ps) i ≡ Some p → i < length ps

@@ -1,5 +1,5 @@
 -- What is given stands for a table in memory.
-use Rattle.std.proofs.Common.{◌≡◌, ℕ, Bool, true, false, cond, find, bytes_eq, List, [], ◌∷◌, map, Option, Some, None, option_map, ap, ◌∙◌}
+use Rattle.std.proofs.Common.{◌≡◌, ℕ, Bool, true, false, cond, find, bytes_eq, List, [], ◌∷◌, Option, Some, None, option_map, ap, ◌∙◌}
 use Rattle.std.proofs.Common.{subst}
 use Rattle.std.proofs.lemmas.Option.{none-some, same_Some}
 use Rattle.ln_tree.specs.declared.table.Table.{Table}
@@ -40,16 +40,14 @@ each_found Q table [] h f = tt
 each_found Q table (p ∷ ps) h f = (found_has Q f.0.0 table p h f.0.1, each_found Q table ps h f.1)
 
 -- a predicate of it is in memory
-by_named : (ps : List Pred) (name : List ℕ) (p : PredOf) (o : Option Pred) → option_map pred_of o ≡ Some p
-    → (q : Pred) × (pred_of q ≡ p)
-by_named ps name p None e = absurd (none-some p e)
-by_named ps name p (Some q) e = (q, same_Some (pred_of q) p e)
+by_named : (p : PredOf) (o : Option Pred) → option_map pred_of o ≡ Some p → (q : Pred) × (pred_of q ≡ p)
+by_named p None e = cc
+by_named p (Some q) e = (q, same_Some (pred_of q) p e)
 
 -- the first of the given predicates is in memory
 pub in_memory : (g : Given) (p : PredOf) (rest : List PredOf) → IsGrounded g → g.preds ≡ p ∷ rest
     → (q : Pred) × (pred_of q ≡ p)
 in_memory g p rest h e =
     let found : AreFound g.table.preds (p ∷ rest) = subst (AreFound g.table.preds) e h.found in
-    let there : named found.0.0 (map pred_of h.table.preds) ≡ Some p = ap (λ (t : TableOf). named found.0.0 t.preds) h.is
-    ∙ found.0.1 in
-    by_named h.table.preds found.0.0 p (named_in found.0.0 h.table.preds) (named_like found.0.0 h.table.preds ∙ there)
+    by_named p (named_in found.0.0 h.table.preds) (named_like found.0.0 h.table.preds
+    ∙ ap (λ (t : TableOf). named found.0.0 t.preds) h.is ∙ found.0.1)

@@ -7,9 +7,9 @@ use Rattle.ln_frame.specs.declared.status.Early.TheVariants.{Write}
 use Rattle.ln_frame.specs.Said.{Said, put_both}
 use Rattle.ln_frame.specs.Carried as c
 use Rattle.ln_frame.specs.Carried.{CarriesOut, LeavesFronts, LeavesPart, of_owed, of_part, of_read}
-use Rattle.ln_frame.specs.Lines.{Wrote}
+use Rattle.ln_frame.specs.Lines.{Wrote, broke, wrote}
 use Rattle.ln_frame.proofs.Loops.{Streams, faults_in}
-use Rattle.ln_frame.proofs.LinesLaws.{both_twice, broke_off, front_behind, fronts_wider, rises_from, wrote_all}
+use Rattle.ln_frame.proofs.LinesLaws.{both_twice, broke_off, front_behind, fronts_wider, rises_from}
 
 -- what is said after a first text on Out
 abbrev pub after_head : List ℕ → Said → Said
@@ -56,18 +56,15 @@ pub head_carried : {h : Headed} {result : Result End Early} {was mid now : Strea
     → Wrote h.head [] (faults_in was mid) true was.shown mid.shown
     → CarriesOut h.rest h.more ⊥ ⊥ (faults_in mid now) result mid.shown now.shown
     → CarriesOut h.owes h.part ⊥ ⊥ (faults_in was now) result was.shown now.shown
-head_carried {h = h} {was = was} {mid = mid} i w (c.ended said q o r e) =
-    let p = wrote_all h.head [] (faults_in was mid) was.shown mid.shown w in
-    c.ended (after_head h.head said) (q ∙ p.0) (i.whole said o) r
-    (e ∙ ap (put_both said.out said.err) p.1 ∙ both_twice h.head [] said.out said.err was.shown)
-head_carried i w (c.unread q (inl a) r e) = absurd a
-head_carried i w (c.unread q (inr a) r e) = absurd a
-head_carried {h = h} {was = was} {mid = mid} {now = now} i w (c.cut q l r) =
-    let p = wrote_all h.head [] (faults_in was mid) was.shown mid.shown w in
-    c.cut (rises_from was.faults mid.faults now.faults p.0 q) (fronts_after i p.1 l) r
-head_carried {h = h} {was = was} {mid = mid} i w (c.short q l r) =
-    let p = wrote_all h.head [] (faults_in was mid) was.shown mid.shown w in
-    c.short (q ∙ p.0) (part_after i p.1 l) r
+head_carried i (broke d p f) k = cc
+head_carried {h = h} {was = was} i (wrote p d m) (c.ended said q o r e) =
+    c.ended (after_head h.head said) (q ∙ p) (i.whole said o) r
+    (e ∙ ap (put_both said.out said.err) m ∙ both_twice h.head [] said.out said.err was.shown)
+head_carried i (wrote p d m) (c.unread q (inl a) r e) = absurd a
+head_carried i (wrote p d m) (c.unread q (inr a) r e) = absurd a
+head_carried {was = was} {mid = mid} {now = now} i (wrote p d m) (c.cut q l r) =
+    c.cut (rises_from was.faults mid.faults now.faults p q) (fronts_after i m l) r
+head_carried i (wrote p d m) (c.short q l r) = c.short (q ∙ p) (part_after i m l) r
 
 -- the text was cut off
 pub head_cut : {h : Headed} {was now : Streams} → IsHeaded h → Wrote h.head [] (faults_in was now) false was.shown now.shown

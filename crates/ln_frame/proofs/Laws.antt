@@ -1,5 +1,5 @@
 -- The laws that the proofs of the top call rest on, of each command.
-use Rattle.std.proofs.Common.{◌≡◌, ℕ, List, subst}
+use Rattle.std.proofs.Common.{◌≡◌, ◌∙◌, ℕ, List, ap, subst, sym}
 use Rattle.ln_watch.specs.Panel.{State}
 use Rattle.ln_tree.specs.Table.{PredOf}
 use Rattle.ln_frame.specs.declared.status.End.{End}
@@ -24,6 +24,14 @@ pub record IsLawful (suits : Asked) (w : Work) : Type 0 where
   pub objects : IsNoUsage suits
   pub said : w.one → (boxes : List State) (g : Given) → IsGrounded g → suits.asks g.preds → (a b : Said) → w.owes boxes g a
       → w.owes boxes g b → a ≡ b
+
+-- where each end is that of something that is required, and that is one thing, there is one end
+pub one_by_said : {O : Said → Type 0} {E : End → Type 0} → ((e : End) → E e → (a : Said) × O a × (a.end ≡ e))
+    → ((a b : Said) → O a → O b → a ≡ b) → (a b : End) → E a → E b → a ≡ b
+one_by_said back one a b h k =
+    let x = back a h in
+    let y = back b k in
+    sym x.2 ∙ ap (λ (s : Said). s.end) (one x.0 y.0 x.1 y.1) ∙ y.2
 
 -- an end that isn't the usage
 abbrev IsOther : End → Type 0

@@ -1,11 +1,11 @@
 -- Proves what lines that came carry out: once for all commands that write lines as they come.
-use Rattle.std.proofs.Common.{◌≡◌, ℕ, Bool, true, false, List, [], ◌++◌, refl, ap, sym, ◌∙◌, subst, Ok, Err}
+use Rattle.std.proofs.Common.{◌≡◌, ℕ, Bool, true, false, List, [], ◌++◌, refl, ap, sym, ◌∙◌, Ok, Err}
 use Rattle.std.proofs.Common.{append_assoc}
 use Rattle.std.specs.Prelude.{Result}
 use Rattle.ln_frame.specs.declared.status.End.{End}
 use Rattle.ln_frame.specs.declared.status.Early.{Early}
 use Rattle.ln_frame.specs.declared.status.Early.TheVariants.{Write}
-use Rattle.ln_frame.specs.Said.{Said, put_both, IsPrefix}
+use Rattle.ln_frame.specs.Said.{Said, put_both}
 use Rattle.ln_frame.specs.Carried as c
 use Rattle.ln_frame.specs.Carried.{CarriesOut, ended, of_owed, of_part}
 use Rattle.ln_frame.specs.Lines as l
@@ -63,12 +63,10 @@ IsCarriedOut t result was now = CarriesOut t.owes t.part ⊥ ⊥ (faults_in was 
 lines_behind : {S R : Type 0} (t : Task S R) {m : S} {done left : List R} {out err : List ℕ} (behind : HasLines t.work.step m left)
     → t.records ≡ done ++ left → Lines t.work.step t.state done out err m
     → Lines t.work.step t.state t.records (out ++ behind.out) (err ++ behind.err) behind.left
-lines_behind t {m = m} {done = done} {left = left} {out = out} {err = err} behind e d =
-    subst (λ rs. Lines t.work.step t.state rs (out ++ behind.out) (err ++ behind.err) behind.left) (sym e)
-    (lines_join {a = record { out = out; err = err; left = m }} d behind.lines)
+lines_behind t {m = m} {out = out} {err = err} behind e d = rw e (lines_join {a = record { out = out; err = err; left = m }} d behind.lines)
 
 early_as : {T U E : Type 0} {a b : E} → (let r : Result T E = Err a in r ≡ Err b) → (let r : Result U E = Err a in r ≡ Err b)
-early_as {a = a} x = ap Err (ap (λ r. elim r [ Ok y ↦ a | Err y ↦ y ]) x)
+early_as x = cc
 
 -- the records ended early
 pub early_carried : {S R : Type 0} {t : Task S R} {early : Early} {z : S} {was now : Streams} → IsByLines t
@@ -79,14 +77,12 @@ early_carried {t = t} {was = was} {now = now} b (l.cut done left out err m e d q
     let w = fronts_wider out err (behind.out ++ t.last_out behind.left) (behind.err ++ t.last_err behind.left) was.shown now.shown f in
     c.cut q (of_owed (with_last t (out ++ behind.out) (err ++ behind.err) behind.left) w.o w.e
     (b.whole (out ++ behind.out) (err ++ behind.err) behind.left (lines_behind t behind e d))
-    (subst (λ o. IsPrefix o w.o) (sym (append_assoc out behind.out (t.last_out behind.left))) w.of_out)
-    (subst (λ o. IsPrefix o w.e) (sym (append_assoc err behind.err (t.last_err behind.left))) w.of_err) w.shown) (early_as x)
+    (rw append_assoc w.of_out) (rw append_assoc w.of_err) w.shown) (early_as x)
 early_carried {t = t} b (l.short done left out err m v e d f x) =
     let behind = lines_have t.work.step b.has m left in
     c.short v (of_part (with_last t (out ++ behind.out) (err ++ behind.err) behind.left) out err
     (b.first done left out err m e d) (b.whole (out ++ behind.out) (err ++ behind.err) behind.left (lines_behind t behind e d))
-    (record { rest = behind.out ++ t.last_out behind.left; is = append_assoc out behind.out (t.last_out behind.left) })
-    (record { rest = behind.err ++ t.last_err behind.left; is = append_assoc err behind.err (t.last_err behind.left) }) f) (early_as x)
+    (record { rest = _; is = append_assoc out behind.out _ }) (record { rest = _; is = append_assoc err behind.err _ }) f) (early_as x)
 
 -- the records and the watchers' last lines stand
 pub end_carried : {S R : Type 0} {t : Task S R} {right : Bool} {z : S} {was mid now : Streams} → IsByLines t
@@ -115,8 +111,8 @@ pub closes_carried : {S R : Type 0} {t : Task S R} {right : Bool} {result : Resu
 closes_carried {t = t} {right = right} {result = result} {z = z} {was = was} {mid = mid} {now = now} b r k = by_result k.closes
   where
     on_err : {done : Bool} → Wrote [] (t.last_err z) (faults_in mid now) done mid.shown now.shown → EndsWith t done z mid now
-    on_err {done = done} = subst (λ o. Wrote o (t.last_err z) (faults_in mid now) done mid.shown now.shown) (sym k.silent)
+    on_err w = rw k.silent w
 
     by_result : Closes (t.last_err z) (t.ends right) (faults_in mid now) result mid.shown now.shown → IsCarriedOut t result was now
-    by_result (closed e w) = subst (λ x. IsCarriedOut t x was now) (sym e) (end_carried b r (on_err w))
-    by_result (unclosed e w) = subst (λ x. IsCarriedOut t x was now) (sym e) (close_carried b r (on_err w))
+    by_result (closed e w) = rw e (end_carried b r (on_err w))
+    by_result (unclosed e w) = rw e (close_carried b r (on_err w))

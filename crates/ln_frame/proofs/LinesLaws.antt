@@ -3,15 +3,14 @@ use Rattle.std.proofs.Common.{◌≡◌, ℕ, ◌≤◌, length, take, Bool, tru
 use Rattle.std.proofs.Common.{◌++◌, refl, ap, sym, ◌∙◌, subst, Option, Some, None, Ok, Err, append_assoc}
 use Rattle.std.specs.Prelude.{IfSome, Result}
 use Rattle.std.proofs.lemmas.List.{append-nil}
+use Rattle.std.proofs.Math.Bool.{and-true, and_assoc}
 use Rattle.ln_base.specs.Outside.{Shown, appended, refused}
-use Rattle.ln_base.specs.declared.outside.Port.TheVariants.{Out, Err as ErrPort}
-use Rattle.ln_base.proofs.Kept.{appended-nothing}
+use Rattle.ln_base.specs.declared.outside.Port.TheVariants.{Out}
 use Rattle.ln_frame.specs.declared.status.Early.{Early}
 use Rattle.ln_frame.specs.declared.status.Early.TheVariants.{Write, Memory}
 use Rattle.ln_frame.specs.declared.status.Early.TheVariants as early
 use Rattle.ln_frame.specs.Said.{Count, count, Rises, IsCalm, put_both, IsPrefix}
-use Rattle.ln_frame.proofs.Outcomes.{true_false}
-use Rattle.ln_frame.proofs.Carry.{front_of, out_alone}
+use Rattle.ln_frame.proofs.Carry.{both_nothing, front_of, out_alone}
 use Rattle.ln_frame.specs.Lines as l
 use Rattle.ln_frame.specs.Lines.{Step, Lines, none, more, all_good, PutsFronts, every, Wrote, wrote, broke, took, tore, left_off}
 use Rattle.ln_frame.specs.Lines.{worked, torn, given_up, held_on, emptied, stuck, broken, failed, all, cut, short}
@@ -27,21 +26,11 @@ from_some {X = X} o x P h e = subst (λ (q : Option X). IfSome q P) e h
 pub both_twice : (o e out err : List ℕ) (was : Option Shown)
     → put_both out err (put_both o e was) ≡ put_both (o ++ out) (e ++ err) was
 both_twice o e out err None = refl
-both_twice o e out err (Some s) =
-    ap (λ a. Some (record { out = a; err = (s.err ++ e) ++ err })) (append_assoc s.out o out)
-    ∙ ap (λ b. Some (record { out = s.out ++ (o ++ out); err = b })) (append_assoc s.err e err)
-
--- a write of nothing to both streams changes nothing
-pub both_nothing : (was : Option Shown) → put_both [] [] was ≡ was
-both_nothing was = appended-nothing ErrPort (appended Out [] was) ∙ appended-nothing Out was
-
-abbrev IsOkHere : {T E : Type 0} → Result T E → Type 0
-IsOkHere (Ok x) = Unit {0}
-IsOkHere (Err y) = ⊥
+both_twice o e out err (Some s) = rw (append_assoc s.out o out, append_assoc s.err e err) refl
 
 -- a result isn't both Ok and Err
 pub ok_err : {T E : Type 0} {P : Type 0} {a : T} {b : E} → (let r : Result T E = Ok a in r ≡ Err b) → P
-ok_err e = absurd (subst IsOkHere e tt)
+ok_err e = cc
 
 front_all : (text : List ℕ) → IsPrefix text text
 front_all text = record { rest = []; is = sym (append-nil text) }
@@ -80,26 +69,15 @@ pub lines_join : {S R : Type 0} {step : Step S R} {s : S} {xs ys : List R} {a b 
     → LinesTo step a.left ys b → LinesTo step s (xs ++ ys) (and_then a b)
 lines_join (none _) k = k
 lines_join {step = step} {s = s} {xs = _ ∷ xs} {ys = ys} {b = b} (more {out = o2} {err = e2} r o1 e1 n t l) k =
-    let next = lines_join {a = record { out = o2; err = e2; left = _ }} l k in
-    subst (λ x. Lines step s (r ∷ xs ++ ys) x ((e1 ++ e2) ++ b.err) b.left) (sym (append_assoc o1 o2 b.out))
-    (subst (λ x. Lines step s (r ∷ xs ++ ys) (o1 ++ (o2 ++ b.out)) x b.left) (sym (append_assoc e1 e2 b.err)) (more r o1 e1 n t next))
+    rw (append_assoc o1 o2 b.out, append_assoc e1 e2 b.err)
+    (more r o1 e1 n t (lines_join {a = record { out = o2; err = e2; left = _ }} l k))
 
 lines_one : {S R : Type 0} {step : Step S R} {s : S} {r : R} {a : Written S} → StepTo step s r a → LinesTo step s (r ∷ []) a
-lines_one {step = step} {s = s} {r = r} {a = a} t =
-    subst (λ x. Lines step s (r ∷ []) x a.err a.left) (append-nil a.out)
-    (subst (λ x. Lines step s (r ∷ []) (a.out ++ []) x a.left) (append-nil a.err) (more r a.out a.err a.left t (none a.left)))
+lines_one {r = r} {a = a} t = rw (← append-nil a.out, ← append-nil a.err) (more r a.out a.err a.left t (none a.left))
 
 good_join : {R : Type 0} (good : R → Bool) (xs : List R) (r : R) → all_good good (xs ++ r ∷ []) ≡ (all_good good xs && good r)
-good_join good [] r = and_true (good r)
-  where
-    and_true : (b : Bool) → (b && true) ≡ b
-    and_true true = refl
-    and_true false = refl
-good_join good (x ∷ xs) r = ap (λ b. good x && b) (good_join good xs r) ∙ and_assoc (good x) (all_good good xs) (good r)
-  where
-    and_assoc : (a b c : Bool) → (a && (b && c)) ≡ ((a && b) && c)
-    and_assoc true b c = refl
-    and_assoc false b c = refl
+good_join good [] r = and-true (good r)
+good_join good (x ∷ xs) r = ap (λ b. good x && b) (good_join good xs r) ∙ sym (and_assoc (good x) (all_good good xs) (good r))
 
 -- a count that rose after one that stood still has risen
 pub rises_from : (a b d : ℕ) → b ≡ a → Rises (count b d) → Rises (count a d)
@@ -107,28 +85,20 @@ rises_from a b d e h = subst (λ k. Rises (count k d)) e h
 
 -- equal results that are Ok have equal values
 pub ok_same : {T E : Type 0} {a b : T} → (let q : Result T E = Ok a in q ≡ Ok b) → a ≡ b
-ok_same {a = a} e = ap (λ q. elim q [ Ok x ↦ x | Err y ↦ a ]) e
+ok_same e = cc
 
 -- what was held, after what was written
 behind : (sent err held : List ℕ) (was mid now : Option Shown) → mid ≡ put_both sent err was → now ≡ put_both held [] mid
     → now ≡ put_both (sent ++ held) err was
-behind sent err held was mid now f g =
-    g ∙ ap (put_both held []) f ∙ both_twice sent err held [] was ∙ ap (λ x. put_both (sent ++ held) x was) (append-nil err)
+behind sent err held was mid now f g = rw (g, f, both_twice sent err held [] was, append-nil) refl
 
 broke_behind : (sent err held : List ℕ) (was mid now : Option Shown) → mid ≡ put_both sent err was
     → PutsFronts held [] mid now → PutsFronts (sent ++ held) err was now
-broke_behind sent err held was mid now f w =
-    subst (λ x. PutsFronts (sent ++ held) x was now) (append-nil err) (fronts_behind sent err held [] was mid now f w)
-
-abbrev IsMemory : {T : Type 0} → Result T Early → Type 0
-IsMemory (Ok x) = ⊥
-IsMemory (Err (early.Memory m)) = Unit {0}
-IsMemory (Err early.Write) = ⊥
-IsMemory (Err early.Read) = ⊥
+broke_behind sent err held was mid now f w = rw (← append-nil err) (fronts_behind sent err held [] was mid now f w)
 
 -- a failed allocation isn't a failed write
 pub memory_write : {T : Type 0} {P : Type 0} → (let r : Result T Early = Err (early.Memory refused) in r ≡ Err early.Write) → P
-memory_write e = absurd (subst IsMemory e tt)
+memory_write e = cc
 
 -- the lines of the first records are written, or the last of them are held, and the rest remains: what was written and what is held
 -- are the lines so far
@@ -169,12 +139,8 @@ running_takes {w = w} {from = from} {now = now} {next = next} {r = r} k l (took 
   parts = k.parts ∙ rw (l, append_assoc) refl;
   sent = k.sent;
   err = k.err ++ e;
-  lines =
-      subst (λ t. Lines w.step from.state (k.done ++ r ∷ []) t (k.err ++ e) next.at.state)
-      (append_assoc k.sent now.at.held o ∙ ap (λ t. k.sent ++ t) (sym g)) (lines_more k.lines t);
-  shown =
-      f ∙ ap (put_both [] e) k.shown ∙ both_twice k.sent k.err [] e from.streams.shown
-      ∙ ap (λ t. put_both t (k.err ++ e) from.streams.shown) (append-nil k.sent);
+  lines = rw (g, ← append_assoc k.sent now.at.held o) (lines_more k.lines t);
+  shown = rw (f, k.shown, both_twice k.sent k.err [] e from.streams.shown, append-nil) refl;
   goods = h ∙ rw (k.goods, good_join) (ap (λ b. all_good w.good k.done && b) (ok_same x));
   calm = q ∙ k.calm;
 }
@@ -191,43 +157,34 @@ running_stops {w = w} {from = from} {now = now} {r = r} {rest = rest} {end = end
     let later = end.streams.shown in
     let wide = fronts_wider (k.sent ++ []) (k.err ++ e) (held ++ o) [] was later
     (fronts_behind k.sent k.err [] e was now.at.streams.shown later k.shown f) in
-    let out = subst (λ t. PutsFronts t ((k.err ++ e) ++ []) was later)
-    (ap (λ t. t ++ (held ++ o)) (append-nil k.sent) ∙ sym (append_assoc k.sent held o)) wide in
+    let out = rw (append-nil k.sent, ← append_assoc k.sent held o, append-nil (k.err ++ e)) at wide in
     torn (k.done ++ r ∷ []) rest ((k.sent ++ held) ++ o) (k.err ++ e) n (k.parts ∙ rw (l, append_assoc) refl)
-    (lines_more k.lines t) (rises_from from.streams.faults now.at.streams.faults end.streams.faults k.calm p)
-    (subst (λ t. PutsFronts ((k.sent ++ held) ++ o) t was later) (append-nil (k.err ++ e)) out) x
+    (lines_more k.lines t) (rises_from from.streams.faults now.at.streams.faults end.streams.faults k.calm p) out x
 running_stops {w = w} {from = from} {now = now} k l (left_off q x g f) =
-    given_up k.done now.left k.sent k.err now.at.state (q ∙ k.calm) k.parts
-    (subst (λ t. Lines w.step from.state k.done (k.sent ++ t) k.err now.at.state) (sym g) k.lines) (f ∙ k.shown) x
+    given_up k.done now.left k.sent k.err now.at.state (q ∙ k.calm) k.parts (rw g k.lines) (f ∙ k.shown) x
 
 -- what was held is held on, or it was written
 pub running_empties : {S R : Type 0} {w : Work S R} {from : Stand S R} {now : Loop S R} {kept : List ℕ} {later : Streams}
     → Running w from now → EmptiesTo now.at true kept later → Running w from (with_held now kept later)
-running_empties k (stuck x p f) = absurd (true_false x)
-running_empties {w = w} {from = from} {now = now} k (held_on q x e n) = record {
+running_empties k (stuck x p f) = cc
+running_empties k (held_on q x e n) = record {
   done = k.done;
   parts = k.parts;
   sent = k.sent;
   err = k.err;
-  lines = subst (λ h. Lines w.step from.state k.done (k.sent ++ h) k.err now.at.state) (sym e) k.lines;
+  lines = rw e k.lines;
   shown = n ∙ k.shown;
   goods = k.goods;
   calm = q ∙ k.calm;
 }
-running_empties {w = w} {from = from} {now = now} k (emptied q x e n) =
-    let held = now.at.held in
-    let was = from.streams.shown in
+running_empties {from = from} {now = now} {later = later} k (emptied q x e n) =
     record {
       done = k.done;
       parts = k.parts;
-      sent = k.sent ++ held;
+      sent = k.sent ++ now.at.held;
       err = k.err;
-      lines =
-          subst (λ h. Lines w.step from.state k.done h k.err now.at.state)
-          (sym (append-nil (k.sent ++ held)) ∙ ap (λ h. (k.sent ++ held) ++ h) (sym e)) k.lines;
-      shown =
-          n ∙ ap (put_both held []) k.shown ∙ both_twice k.sent k.err held [] was
-          ∙ ap (λ x. put_both (k.sent ++ held) x was) (append-nil k.err);
+      lines = rw (e, append-nil (k.sent ++ now.at.held)) k.lines;
+      shown = behind k.sent k.err now.at.held from.streams.shown now.at.streams.shown later.shown k.shown n;
       goods = k.goods;
       calm = q ∙ k.calm;
     }
@@ -235,15 +192,12 @@ running_empties {w = w} {from = from} {now = now} k (emptied q x e n) =
 -- a piece was cut off
 pub running_breaks : {S R : Type 0} {w : Work S R} {from : Stand S R} {now : Loop S R} {kept : List ℕ} {end : Point S}
     → Running w from now → EmptiesTo now.at false kept end.streams → GathersTo w from (Err Write) end
-running_breaks k (held_on q x e n) = absurd (true_false (sym x))
-running_breaks k (emptied q x e n) = absurd (true_false (sym x))
+running_breaks k (held_on q x e n) = cc
+running_breaks k (emptied q x e n) = cc
 running_breaks {from = from} {now = now} {end = end} k (stuck x p f) =
-    let held = now.at.held in
-    let was = from.streams.shown in
-    let w = fronts_behind k.sent k.err held [] was now.at.streams.shown end.streams.shown k.shown f in
-    torn k.done now.left (k.sent ++ held) k.err now.at.state k.parts k.lines
+    torn k.done now.left (k.sent ++ now.at.held) k.err now.at.state k.parts k.lines
     (rises_from from.streams.faults now.at.streams.faults end.streams.faults k.calm p)
-    (subst (λ x. PutsFronts (k.sent ++ held) x was end.streams.shown) (append-nil k.err) w) refl
+    (broke_behind k.sent k.err now.at.held from.streams.shown now.at.streams.shown end.streams.shown k.shown f) refl
 
 -- they were given up
 pub running_gives_up : {S R : Type 0} {w : Work S R} {from : Stand S R} {now : Loop S R} (z : S) → Running w from now
@@ -259,8 +213,7 @@ pub running_all : {S R : Type 0} {w : Work S R} {from : Stand S R} {now : Loop S
     → GathersTo w from (Ok now.good) now.at
 running_all {w = w} {from = from} {now = now} k e =
     let whole = whole_done k e in
-    worked k.sent k.err k.calm (subst (λ rs. Lines w.step from.state rs (k.sent ++ now.at.held) k.err now.at.state) whole k.lines)
-    (ap Ok (k.goods ∙ ap (all_good w.good) whole)) k.shown
+    worked k.sent k.err k.calm (rw (← whole) k.lines) (ap Ok (k.goods ∙ ap (all_good w.good) whole)) k.shown
 
 -- what was held was written after the records, and so all of it is written
 pub sends_ran : {S R : Type 0} {w : Work S R} {from : Stand S R} {ran result : Result Bool Early} {end : Point S} {now : Streams}
@@ -339,12 +292,12 @@ out_broke text puts was now h p =
 pub wrote_all : (out err : List ℕ) (puts : Count) (was now : Option Shown) → Wrote out err puts true was now
     → IsCalm puts × (now ≡ put_both out err was)
 wrote_all out err puts was now (wrote q d e) = (q, e)
-wrote_all out err puts was now (broke d p f) = absurd (true_false d)
+wrote_all out err puts was now (broke d p f) = cc
 
 -- for a write that was reported cut off a fault was counted, and prefixes were written
 pub broke_off : (out err : List ℕ) (puts : Count) (was now : Option Shown) → Wrote out err puts false was now
     → Rises puts × PutsFronts out err was now
-broke_off out err puts was now (wrote q d e) = absurd (true_false (sym d))
+broke_off out err puts was now (wrote q d e) = cc
 broke_off out err puts was now (broke d p f) = (p, f)
 
 -- nothing comes last on a stream
@@ -365,16 +318,13 @@ pub running_puts : {S R : Type 0} {step : Step S R} {from now next : Stand S R} 
     → now.left ≡ r ∷ next.left → PutsTo step r true now next.state next.streams → Writing step from next
 running_puts {step = step} {from = from} {now = now} {next = next} {r = r} k l p =
     let w = wrote_all p.out p.err (faults_in now.streams next.streams) now.streams.shown next.streams.shown p.wrote in
-    let t : step now.state r p.out p.err next.state =
-    subst (λ y. step now.state r p.out p.err y) (sym (p.stays refl)) p.stepped in
+    let t : step now.state r p.out p.err next.state = rw (p.stays refl) p.stepped in
     record {
       done = k.done ++ r ∷ [];
       parts = k.parts ∙ rw (l, append_assoc) refl;
       sent = k.sent ++ p.out;
       err = k.err ++ p.err;
-      lines =
-          subst (λ t. Lines step from.state (k.done ++ r ∷ []) t (k.err ++ p.err) next.state)
-          (ap (λ t. t ++ p.out) (append-nil k.sent) ∙ sym (append-nil (k.sent ++ p.out))) (lines_more k.lines t);
+      lines = rw (append-nil (k.sent ++ p.out)) (rw (append-nil k.sent) at (lines_more k.lines t));
       shown = w.1 ∙ ap (put_both p.out p.err) k.shown ∙ both_twice k.sent k.err p.out p.err from.streams.shown;
       goods = sym (all_every (k.done ++ r ∷ []));
       calm = w.0 ∙ k.calm;
@@ -384,18 +334,16 @@ running_puts {step = step} {from = from} {now = now} {next = next} {r = r} k l p
 pub running_tears : {S R : Type 0} {step : Step S R} {from now : Stand S R} {r : R} {rest : List R} {z : S} {later : Streams}
     → Writing step from now → now.left ≡ r ∷ rest → PutsTo step r false now z later → PutsAllTo step false from z later
 running_tears {step = step} {from = from} {now = now} {r = r} {rest = rest} {later = later} k l p =
-    let was = from.streams.shown in
     let mid = now.streams.shown in
     let w = broke_off p.out p.err (faults_in now.streams later) mid later.shown p.wrote in
     cut (k.done ++ r ∷ []) rest (k.sent ++ p.out) (k.err ++ p.err) p.left (k.parts ∙ rw (l, append_assoc) refl)
-    (subst (λ t. Lines step from.state (k.done ++ r ∷ []) (t ++ p.out) (k.err ++ p.err) p.left) (append-nil k.sent)
-    (lines_more k.lines p.stepped)) (rises_from from.streams.faults now.streams.faults later.faults k.calm w.0)
-    (fronts_behind k.sent k.err p.out p.err was mid later.shown k.shown w.1) refl
+    (rw (append-nil k.sent) at (lines_more k.lines p.stepped))
+    (rises_from from.streams.faults now.streams.faults later.faults k.calm w.0)
+    (fronts_behind k.sent k.err p.out p.err from.streams.shown mid later.shown k.shown w.1) refl
 
 -- all of them were written
 pub running_done : {S R : Type 0} {step : Step S R} {from now : Stand S R} → Writing step from now → now.left ≡ []
     → PutsAllTo step true from now.state now.streams
 running_done {step = step} {from = from} {now = now} k e =
     let whole = whole_done k e in
-    all k.sent k.err k.calm (subst (λ rs. Lines step from.state rs k.sent k.err now.state) whole
-    (subst (λ t. Lines step from.state k.done t k.err now.state) (append-nil k.sent) k.lines)) (ap Ok (sym (all_every from.left))) k.shown
+    all k.sent k.err k.calm (rw (← whole) (rw (append-nil k.sent) at k.lines)) (ap Ok (sym (all_every from.left))) k.shown

@@ -1,5 +1,5 @@
 -- What is ready stands for what is given: its one number, its one file or two.
-use Rattle.std.proofs.Common.{◌≡◌, ℕ, ◌≤◌, ◌<◌, List, [], ◌∷◌, length, map, ap, sym, ◌∙◌, subst, arith, Some, get_or}
+use Rattle.std.proofs.Common.{◌≡◌, ℕ, ◌≤◌, ◌<◌, List, [], ◌∷◌, length, map, ap, sym, subst, arith, Some, get_or}
 use Rattle.std.specs.Prelude.{All, slice_get, slice_index_or}
 use Rattle.std.proofs.lemmas.List.Elements.{All-nil, All-cons}
 use Rattle.ln_tree.specs.declared.pred.Pred.{Pred}
@@ -28,7 +28,7 @@ pub two_texts : {A : Type 0} (f : A → List ℕ) (xs : List A) (x y : A) → le
     → map f xs ≡ f x ∷ f y ∷ []
 two_texts f [] x y l e g = absurd (omega (arith, l))
 two_texts f (z ∷ []) x y l e g = absurd (omega (arith, l))
-two_texts f (z ∷ w ∷ []) x y l e g = ap (λ a. f a ∷ f w ∷ []) (sym e) ∙ ap (λ b. f x ∷ f b ∷ []) (sym g)
+two_texts f (z ∷ w ∷ []) x y l e g = cc
 two_texts f (z ∷ w ∷ v ∷ rest) x y l e g = absurd (omega (arith, l))
 
 -- the one number is within, and is that of the one predicate
@@ -51,10 +51,7 @@ one_numbered ps (i ∷ j ∷ rest) preds p h l e = absurd (omega (arith, l))
 
 -- a command that takes exactly one name has one
 pub one_name : (f : Form) (numbers texts : ℕ) → IsFit f numbers texts → f.least ≡ 1 → f.most ≡ 1 → numbers ≡ 1
-one_name f n t h l m =
-    let a : 1 ≤ n = subst (λ (k : ℕ). k ≤ n) l h.least in
-    let b : n ≤ 1 = subst (λ (k : ℕ). n ≤ k) m h.most in
-    omega (arith, a, b)
+one_name f n t h l m = omega (arith, h.least, h.most)
 
 -- the one further file
 pub one_short : (texts : List (List ℕ)) (bytes : List ℕ) → texts ≡ bytes ∷ [] → AreShort texts → length bytes ≤ most_file

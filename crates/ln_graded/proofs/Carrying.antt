@@ -1,7 +1,9 @@
 -- A part made of the stages by total degree has their lists, and carries its expression.
-use Rattle.std.proofs.Common.{◌≡◌, ℕ, zero, suc, ◌<◌, List, [], ◌∷◌, length, map, get_or, refl, sym, ◌∙◌, ap, subst, arith}
+use Rattle.std.proofs.Common.{◌≡◌, ℕ, ◌<◌, List, [], ◌∷◌, length, map, get_or, refl, sym, ◌∙◌, ap, subst, arith}
 use Rattle.std.specs.Prelude.{◌≢◌}
-use Rattle.std.proofs.lemmas.List.{get_or-map, get_or_default, length-map}
+use Rattle.std.proofs.Math.ListN.{get_or-map}
+use Rattle.std.proofs.lemmas.List.{get_or_default, length-map}
+use Rattle.std.proofs.lemmas.List.{get_or-map as get_or-map-within}
 use Rattle.ln_algebra.specs.Orders.{Before, ByDegree, GradedEarlier}
 use Rattle.ln_algebra.specs.Stage.{IsMonomial, IsStageListBy}
 use Rattle.ln_algebra.specs.Terms.{IsNormalOf}
@@ -20,6 +22,7 @@ use Rattle.ln_stage.specs.StageList.{IsMonomialOf}
 use Rattle.ln_stage.specs.Staged.{Staged, block_vector, vectors_of}
 use Rattle.ln_stage.proofs.Monomials.LawLemmas.{of_tree, to_tree}
 use Rattle.ln_stage.proofs.Sights.Members as members
+use Rattle.std.proofs.lemmas.Simd.{map-map}
 use Rattle.ln_code.specs.Carried.{Carries}
 use Rattle.ln_code.specs.Kept.{IsList}
 use Rattle.ln_code.specs.Lists.{list_of}
@@ -29,16 +32,9 @@ use Rattle.ln_graded.specs.Made.{IsMadeOf}
 -- ---- exponents with the same vectors
 same-at : (n : ℕ) (blocks : List Code) (exps : List Pairs) → map (λ (c : Code). vector n c.exps) blocks ≡ map (vector n) exps → (i : ℕ)
     → block_vector n (map (λ (c : Code). c.exps) blocks) i ≡ block_vector n exps i
-same-at n [] [] e i = refl
-same-at n [] (x ∷ xs) e i = cc
-same-at n (c ∷ cs) [] e i = cc
-same-at n (c ∷ cs) (x ∷ xs) e zero = (heads (vector n c.exps) (vector n x) (map (λ (d : Code). vector n d.exps) cs) (map (vector n) xs) e) where
-  heads : (a b : List ℕ) (as' bs : List (List ℕ)) → a ∷ as' ≡ b ∷ bs → a ≡ b
-  heads a b as' bs q = cc
-same-at n (c ∷ cs) (x ∷ xs) e (suc i) = same-at n cs xs (tails (vector n c.exps) (vector n x) (map (λ (d : Code). vector n d.exps) cs) (map (vector n) xs) e) i
-  where
-    tails : (a b : List ℕ) (as' bs : List (List ℕ)) → a ∷ as' ≡ b ∷ bs → as' ≡ bs
-    tails a b as' bs q = cc
+same-at n blocks exps e i =
+    sym (get_or-map (vector n) (map (λ (c : Code). c.exps) blocks) i [])
+    ∙ ap (λ z. get_or z i (vector n [])) (map-map (vector n) (λ (c : Code). c.exps) blocks ∙ e) ∙ get_or-map (vector n) exps i []
 
 map-same : {A B : Type 0} (g h : A → B) (xs : List A) → ((x : A) → g x ≡ h x) → map g xs ≡ map h xs
 map-same g h [] e = refl
@@ -60,9 +56,9 @@ module _ (k : ℕ) (vars : List VarInfo) (f : Sparse) (st : Staged) (blocks : Li
       let m = is-member k o p in
       let here : get_or (orders_of k) m.0 [] ≡ o = sym (get_or_default (orders_of k) m.0 o [] m.1) ∙ m.2 in
       let w : m.0 < length st.lists = omega (arith, m.1, ap length own-lists, length-map (orders_of k) own) in
-      let x : get_or st.lists m.0 [] ≡ own o = ap (λ z. get_or z m.0 []) own-lists ∙ get_or-map own (orders_of k) m.0 [] [] m.1 ∙ ap own here in
+      let x : get_or st.lists m.0 [] ≡ own o = ap (λ z. get_or z m.0 []) own-lists ∙ get_or-map-within own (orders_of k) m.0 [] [] m.1 ∙ ap own here in
       let v : get_or (vectors_of (length vars) st) m.0 [] ≡ map (block_vector (length vars) st.exps) (own o) =
-      get_or-map (λ list. map (block_vector (length vars) st.exps) list) st.lists m.0 [] [] w ∙ ap (map (block_vector (length vars) st.exps)) x in
+      get_or-map-within (λ list. map (block_vector (length vars) st.exps) list) st.lists m.0 [] [] w ∙ ap (map (block_vector (length vars) st.exps)) x in
       let u : map (block_vector (length vars) st.exps) (own o) ≡ map (block_vector (length vars) (map (λ (c : Code). c.exps) blocks)) (own o) =
       map-same (block_vector (length vars) st.exps) (block_vector (length vars) (map (λ (c : Code). c.exps) blocks)) (own o)
       (λ i. sym (same-at (length vars) blocks st.exps made i)) in
@@ -94,7 +90,7 @@ module _ (k : ℕ) (vars : List VarInfo) (f : Sparse) (st : Staged) (blocks : Li
       let m = is-member k o p in
       let here : get_or (orders_of k) m.0 [] ≡ o = sym (get_or_default (orders_of k) m.0 o [] m.1) ∙ m.2 in
       let w : m.0 < length st.lists = omega (arith, m.1, ap length own-lists, length-map (orders_of k) own) in
-      let x : get_or st.lists m.0 [] ≡ own o = ap (λ z. get_or z m.0 []) own-lists ∙ get_or-map own (orders_of k) m.0 [] [] m.1 ∙ ap own here in
+      let x : get_or st.lists m.0 [] ≡ own o = ap (λ z. get_or z m.0 []) own-lists ∙ get_or-map-within own (orders_of k) m.0 [] [] m.1 ∙ ap own here in
       let a : IsList (length st.exps) (get_or st.lists m.0 []) = record {
         within = stages.numbers m.0 [] w;
         once = members.list-once ByDegree k vars f st stages.lists poly below some stages.first_sight m.0 [] w;

@@ -1,5 +1,5 @@
 -- `audit`: what it requires is carried out by a whole text; a trace is agreed or has one first line that is wrong, and where it ends.
-use Rattle.std.proofs.Common.{◌≡◌, ℕ, List, [], ◌∷◌, length, refl, ap, sym, ◌∙◌, subst, Option, Some, Result}
+use Rattle.std.proofs.Common.{◌≡◌, ℕ, List, [], ◌∷◌, length, refl, ap, sym, ◌∙◌, Option, Some, Result}
 use Rattle.std.specs.Prelude.{slice_get, slice_index_or}
 use Rattle.ln_base.specs.Outside.{Shown}
 use Rattle.ln_algebra.specs.Tree.{InputsBelow, Tree}
@@ -14,7 +14,7 @@ use Rattle.ln_trace.specs.declared.judged.Judged.{Judged}
 use Rattle.ln_trace.specs.declared.judged.Judged.TheVariants.{Agreed, Wrong}
 use Rattle.ln_trace.specs.Here.{HasPoly}
 use Rattle.ln_trace.specs.Here as traced
-use Rattle.ln_trace.specs.Judge.{IsAnswer, IsFirstFault}
+use Rattle.ln_trace.specs.Judge.{IsAnswer}
 use Rattle.ln_trace.specs.Judged.{fault_of}
 use Rattle.ln_trace.specs.Unread.{AreLeft, IsOpened, Unread}
 use Rattle.ln_trace.proofs.Reading.Whole.{no_text, one_fault, one_text}
@@ -44,50 +44,36 @@ use Rattle.ln_frame.proofs.HeaderLaws.{tail_same}
 use Rattle.ln_frame.proofs.Carry.{text_carried, told_carried}
 use Rattle.ln_frame.proofs.Likeness.{columns_like}
 use Rattle.ln_frame.proofs.ReadyLaws.{one_numbered}
-use Rattle.ln_frame.proofs.Laws.{IsLawful, shape_objects}
+use Rattle.ln_frame.proofs.Laws.{IsLawful, one_by_said, shape_objects}
 use Rattle.ln_frame.specs.Signature.{asks_nothing}
 
 -- ---- two ways to see what is given are one
-module _ (g : Given) (p q : PredOf) (names others : List (List ℕ)) (rs ss : Records) (t u : List ℕ)
+module _ {g : Given} {p q : PredOf} {names others : List (List ℕ)} {rs ss : Records} {t u : List ℕ}
     (h : HasTrace g p names rs t) (k : HasTrace g q others ss u) where
   -- a trace is audited by only one predicate
   pub same_pred : p ≡ q
-  same_pred = ap (λ (xs : List PredOf). elim xs [ [] ↦ p | x ∷ rest ↦ x ]) (sym h.pred ∙ k.pred)
+  same_pred = let e = h.pred in let f = k.pred in cc
 
   -- the columns have only one list of names
   pub same_names : names ≡ others
   same_names = h.columns ∙ ap (columns_of g.table) same_pred ∙ sym k.columns
 
-  texts : h.rows ∷ t ∷ [] ≡ k.rows ∷ u ∷ []
-  texts = sym h.texts ∙ k.texts
-
   -- the rows file has only one list of records
   pub same_records : rs ≡ ss
   same_records =
-      sym h.are ∙ ap records_in (ap (λ (xs : List (List ℕ)). elim xs [ [] ↦ h.rows | x ∷ rest ↦ x ]) texts) ∙ k.are
+      let e = h.texts in
+      let f = k.texts in
+      let same : h.rows ≡ k.rows = cc in
+      sym h.are ∙ ap records_in same ∙ k.are
 
   -- only one text is the trace
   pub same_trace : t ≡ u
-  same_trace = ap (λ (xs : List (List ℕ)). elim xs [ [] ↦ t | x ∷ rest ↦ elim rest [ [] ↦ t | y ∷ more ↦ y ] ]) texts
-
--- a predicate with the names of its columns, records, and the bytes of a trace
-record Judging : Type 0 where
-  pred : PredOf
-  names : List (List ℕ)
-  records : Records
-  trace : List ℕ
-
-abbrev judging : PredOf → List (List ℕ) → Records → List ℕ → Judging
-judging p names records trace = record { pred = p; names = names; records = records; trace = trace }
+  same_trace = let e = h.texts in let f = k.texts in cc
 
 -- the header is right or wrong
-wrong_right : {P : Type 0} (g : Given) (x y : Judging) → HasTrace g x.pred x.names x.records x.trace → IsWrongHeader x.names x.records
-    → HasTrace g y.pred y.names (y.names ∷ y.records) y.trace → P
-wrong_right g x y h w k =
-    let ys = y.names ∷ y.records in
-    let wrong : IsWrongHeader x.names ys = subst (IsWrongHeader x.names)
-    (same_records g x.pred y.pred x.names y.names x.records ys x.trace y.trace h k) w in
-    absurd (wrong (sym (same_names g x.pred y.pred x.names y.names x.records ys x.trace y.trace h k)))
+wrong_right : {P : Type 0} {g : Given} {p q : PredOf} {names others : List (List ℕ)} {rs ss : Records} {t u : List ℕ}
+    → HasTrace g p names rs t → IsWrongHeader names rs → HasTrace g q others (others ∷ ss) u → P
+wrong_right h w k = absurd ((rw (same_records h k) at w) (sym (same_names h k)))
 
 -- ---- one output
 -- a trace isn't agreed and wrong
@@ -95,7 +81,7 @@ right_wrong : (p : PredOf) (records : Records) (trace : List ℕ) (at : ℕ) →
 right_wrong p records trace at h (form f) = no_text trace at h.lines f h.text
 right_wrong p records trace at h (rule lines t f) =
     not-both (subject_of p) records h.lines at h.agreed
-    (subst (λ (ls : List TraceLine). IsFirstFault (subject_of p) records ls at) (one_text trace lines h.lines t h.text) f)
+    (rw (one_text trace lines h.lines t h.text) at f)
 
 -- and is wrong first at one line
 one_line : (p : PredOf) (records : Records) (trace : List ℕ) (m n : ℕ) → IsWrongAt p records trace m → IsWrongAt p records trace n → m ≡ n
@@ -104,50 +90,34 @@ one_line p records trace m n (form f) (rule lines t k) = absurd (no_text trace m
 one_line p records trace m n (rule lines t f) (form k) = absurd (no_text trace n lines k t)
 one_line p records trace m n (rule lines t f) (rule others u k) =
     one-fault (subject_of p) records lines m n f
-    (subst (λ (ls : List TraceLine). IsFirstFault (subject_of p) records ls n) (one_text trace others lines u t) k)
+    (rw (one_text trace others lines u t) at k)
 
-module _ (g : Given) (p q : PredOf) (names others : List (List ℕ)) (rs ss : Records) (t u : List ℕ)
+module _ {g : Given} {p q : PredOf} {names others : List (List ℕ)} {rs ss : Records} {t u : List ℕ}
     (h : HasTrace g p names (names ∷ rs) t) (k : HasTrace g q others (others ∷ ss) u) where
   rows : rs ≡ ss
-  rows = tail_same (same_records g p q names others (names ∷ rs) (others ∷ ss) t u h k)
+  rows = tail_same (same_records h k)
 
   -- whether the trace is agreed doesn't depend on the way to see what is given
   pub moved_right : IsRightTrace p rs t → IsRightTrace q ss u
-  moved_right r =
-      subst (λ (v : List ℕ). IsRightTrace q ss v) (same_trace g p q names others (names ∷ rs) (others ∷ ss) t u h k)
-      (subst (λ (xs : Records). IsRightTrace q xs t) rows
-      (subst (λ (x : PredOf). IsRightTrace x rs t) (same_pred g p q names others (names ∷ rs) (others ∷ ss) t u h k) r))
+  moved_right r = rw (same_pred h k, rows, same_trace h k) at r
 
   -- the line at which the trace is first wrong doesn't depend on the way to see what is given
   pub moved_wrong : (at : ℕ) → IsWrongAt p rs t at → IsWrongAt q ss u at
-  moved_wrong at r =
-      subst (λ (v : List ℕ). IsWrongAt q ss v at) (same_trace g p q names others (names ∷ rs) (others ∷ ss) t u h k)
-      (subst (λ (xs : Records). IsWrongAt q xs t at) rows
-      (subst (λ (x : PredOf). IsWrongAt x rs t at) (same_pred g p q names others (names ∷ rs) (others ∷ ss) t u h k) r))
-
-  -- the text of the line `agreed N` doesn't depend on the way to see what is given
-  pub same_count : agreed_text (length rs) ≡ agreed_text (length ss)
-  same_count = ap (λ (xs : Records). agreed_text (length xs)) rows
+  moved_wrong at r = rw (same_pred h k, rows, same_trace h k) at r
 
 -- what it requires is one
 pub one_said : (g : Given) (a b : Said) → AuditSaid g a → AuditSaid g b → a ≡ b
 one_said g a b (audit.header p names rs t h x) (audit.header q others ss u k y) = refl
-one_said g a b (audit.header p names rs t h x) (audit.agreed q others ss u k y) =
-    wrong_right g (judging p names rs t) (judging q others ss u) h x k
-one_said g a b (audit.header p names rs t h x) (audit.wrong q others ss u n k y) =
-    wrong_right g (judging p names rs t) (judging q others ss u) h x k
-one_said g a b (audit.agreed p names rs t h x) (audit.header q others ss u k y) =
-    wrong_right g (judging q others ss u) (judging p names rs t) k y h
+one_said g a b (audit.header p names rs t h x) (audit.agreed q others ss u k y) = wrong_right h x k
+one_said g a b (audit.header p names rs t h x) (audit.wrong q others ss u n k y) = wrong_right h x k
+one_said g a b (audit.agreed p names rs t h x) (audit.header q others ss u k y) = wrong_right k y h
 one_said g a b (audit.agreed p names rs t h x) (audit.agreed q others ss u k y) =
-    ap (whole Done) (same_count g p q names others rs ss t u h k)
-one_said g a b (audit.agreed p names rs t h x) (audit.wrong q others ss u n k y) =
-    absurd (right_wrong q ss u n (moved_right g p q names others rs ss t u h k x) y)
-one_said g a b (audit.wrong p names rs t m h x) (audit.header q others ss u k y) =
-    wrong_right g (judging q others ss u) (judging p names rs t) k y h
-one_said g a b (audit.wrong p names rs t m h x) (audit.agreed q others ss u k y) =
-    absurd (right_wrong q ss u m y (moved_wrong g p q names others rs ss t u h k m x))
+    ap (λ (xs : Records). whole Done (agreed_text (length xs))) (rows h k)
+one_said g a b (audit.agreed p names rs t h x) (audit.wrong q others ss u n k y) = absurd (right_wrong q ss u n (moved_right h k x) y)
+one_said g a b (audit.wrong p names rs t m h x) (audit.header q others ss u k y) = wrong_right k y h
+one_said g a b (audit.wrong p names rs t m h x) (audit.agreed q others ss u k y) = absurd (right_wrong q ss u m y (moved_wrong h k m x))
 one_said g a b (audit.wrong p names rs t m h x) (audit.wrong q others ss u n k y) =
-    ap (λ (z : ℕ). whole Invalid (wrong_text z)) (one_line q ss u m n (moved_wrong g p q names others rs ss t u h k m x) y)
+    ap (λ (z : ℕ). whole Invalid (wrong_text z)) (one_line q ss u m n (moved_wrong h k m x) y)
 
 -- ---- where it ends
 tells : (boxes : List State) (g : Given) (a : Said) → AuditSaid g a → AuditEnds g a.end
@@ -155,22 +125,10 @@ tells boxes g a (audit.header p names rs t h x) = audit.header p names rs t h x
 tells boxes g a (audit.agreed p names rs t h x) = audit.agreed p names rs t h x
 tells boxes g a (audit.wrong p names rs t m h x) = audit.wrong p names rs t m h x
 
-one : (g : Given) (a b : End) → AuditEnds g a → AuditEnds g b → a ≡ b
-one g a b (audit.header p names rs t h x) (audit.header q others ss u k y) = refl
-one g a b (audit.header p names rs t h x) (audit.agreed q others ss u k y) =
-    wrong_right g (judging p names rs t) (judging q others ss u) h x k
-one g a b (audit.header p names rs t h x) (audit.wrong q others ss u n k y) =
-    wrong_right g (judging p names rs t) (judging q others ss u) h x k
-one g a b (audit.agreed p names rs t h x) (audit.header q others ss u k y) =
-    wrong_right g (judging q others ss u) (judging p names rs t) k y h
-one g a b (audit.agreed p names rs t h x) (audit.agreed q others ss u k y) = refl
-one g a b (audit.agreed p names rs t h x) (audit.wrong q others ss u n k y) =
-    absurd (right_wrong q ss u n (moved_right g p q names others rs ss t u h k x) y)
-one g a b (audit.wrong p names rs t m h x) (audit.header q others ss u k y) =
-    wrong_right g (judging q others ss u) (judging p names rs t) k y h
-one g a b (audit.wrong p names rs t m h x) (audit.agreed q others ss u k y) =
-    absurd (right_wrong q ss u m y (moved_wrong g p q names others rs ss t u h k m x))
-one g a b (audit.wrong p names rs t m h x) (audit.wrong q others ss u n k y) = refl
+said_at : (g : Given) (e : End) → AuditEnds g e → (a : Said) × AuditSaid g a × (a.end ≡ e)
+said_at g e (audit.header p names rs t h x) = (_, audit.header p names rs t h x, refl)
+said_at g e (audit.agreed p names rs t h x) = (_, audit.agreed p names rs t h x, refl)
+said_at g e (audit.wrong p names rs t m h x) = (_, audit.wrong p names rs t m h x, refl)
 
 kind : (g : Given) (e : End) → AuditEnds g e → IsWorkEnd e
 kind g e (audit.header p names rs t h x) = kind_of.rows
@@ -181,7 +139,7 @@ kind g e (audit.wrong p names rs t m h x) = kind_of.invalid
 pub lawful : IsLawful asks_nothing audit_work
 lawful = record {
   tells = tells;
-  single = one;
+  single = λ g. one_by_said (said_at g) (one_said g);
   kind = kind;
   objects = shape_objects;
   said = λ v boxes g i q. one_said g;
@@ -208,7 +166,7 @@ pub agreed_carried : {g : Given} {p : PredOf} {names : List (List ℕ)} {records
     → CarriesOut (AuditSaid g) NoPart ⊥ ⊥ (faults_in was now) result was.shown now.shown
 agreed_carried {g = g} {p = p} {names = names} {records = records} {trace = trace} {n = n} {was = was} {now = now} h (r, e) s =
     put_carried g Done (agreed_text n) (faults_in was now) _ was.shown now.shown
-    (subst (λ (k : ℕ). AuditSaid g (whole Done (agreed_text k))) (sym e) (audit.agreed p names records trace h r)) s
+    (rw e (audit.agreed p names records trace h r)) s
 
 -- where the trace is wrong, writing the line `wrong N` carries out what is required
 pub wrong_carried : {g : Given} {p : PredOf} {names : List (List ℕ)} {records : Records} {trace : List ℕ} {at : ℕ} {result : Result End Early}
@@ -259,4 +217,4 @@ has_trace r g p rows trace records s one e t q =
 pub puts_text : (text wanted : List ℕ) (end : End) (puts : Count) (result : Result End Early) (was now : Option Shown) → text ≡ wanted
     → PutsText text end puts result was now → PutsOrStops wanted end puts result was now
 puts_text text wanted end puts result was now e s =
-    puts_it (subst (λ (x : List ℕ). PutsText x end puts result was now) e s)
+    puts_it (rw e at s)

@@ -1,5 +1,5 @@
 -- Three arguments of one type.
-use Rattle.std.proofs.Common.{◌≡◌, ℕ, Bool, false, List, [], ◌∷◌, length, map, refl, ap, sym, arith, Some, ◌∙◌}
+use Rattle.std.proofs.Common.{◌≡◌, ℕ, Bool, false, List, [], ◌∷◌, length, map, refl, Some}
 use Rattle.std.specs.Prelude.{slice_get, slice_index_or}
 use Rattle.std.proofs.lemmas.Option.{slice_get_read}
 use Rattle.ln_tree.specs.declared.items.Arg.{Arg}
@@ -7,7 +7,7 @@ use Rattle.ln_tree.specs.declared.pred.Pred.{Pred}
 use Rattle.ln_tree.specs.Table.{PredOf, arg_of, pred_of}
 use Rattle.ln_judges.specs.Three.{is_one_of_three, is_three}
 use Rattle.ln_frame.specs.Ready.{AreNumbered}
-use Rattle.ln_frame.proofs.FindLaws.{within_at, same_at}
+use Rattle.ln_frame.proofs.ReadyLaws.{one_numbered, one_within}
 
 -- three arguments, or fewer or more
 pub not_three : (xs : List Arg) → (length xs ≡ 3 → ⊥) → false ≡ is_three (map arg_of xs)
@@ -21,10 +21,7 @@ not_three (x ∷ y ∷ z ∷ w ∷ rest) h = refl
 pub one_tested : (preds : List Pred) (numbers : List ℕ) (ps : List PredOf) (p : Pred) (r : Bool) → length numbers ≡ 1
     → AreNumbered (map pred_of preds) numbers ps → p ≡ slice_index_or preds (slice_index_or numbers 0 0) p
     → r ≡ is_three (map arg_of p.args) → r ≡ is_one_of_three ps
-one_tested preds [] ps p r l h e t = absurd (omega (arith, l))
-one_tested preds (i ∷ []) [] p r l h e t = absurd h
-one_tested preds (i ∷ []) (q ∷ []) p r l h e t =
-    let there : slice_get preds i ≡ Some p = slice_get_read preds (length preds) i p refl (within_at preds i q h.0) e in
-    t ∙ ap (λ (x : PredOf). is_three x.args) (sym (same_at preds i p q there h.0))
-one_tested preds (i ∷ []) (q ∷ w ∷ rest) p r l h e t = absurd h.1
-one_tested preds (i ∷ j ∷ rest) ps p r l h e t = absurd (omega (arith, l))
+one_tested preds numbers ps p r l h e t =
+    let there : slice_get preds (slice_index_or numbers 0 0) ≡ Some p =
+    slice_get_read preds (length preds) (slice_index_or numbers 0 0) p refl (one_within preds numbers ps h l) e in
+    rw (one_numbered preds numbers ps p h l there) t

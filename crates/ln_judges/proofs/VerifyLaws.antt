@@ -1,14 +1,13 @@
 -- `verify`: what it requires is carried out by a whole text; a listing is valid or has one fault, and where it ends.
-use Rattle.std.proofs.Common.{◌≡◌, ℕ, List, [], ◌∷◌, ◌++◌, refl, ap, sym, ◌∙◌, subst, Option, Some, None}
+use Rattle.std.proofs.Common.{◌≡◌, ℕ, List, [], ◌∷◌, ◌++◌, refl, ap, subst, Option, Some, None}
 use Rattle.std.specs.Prelude.{MatchOption, Result, codes, decimal}
 use Rattle.ln_base.specs.Outside.{Shown}
 use Rattle.ln_tree.specs.Table.{PredOf}
-use Rattle.ln_cert.specs.declared.part.Part.{Part}
-use Rattle.ln_cert.specs.Listing.{IsFormFault, ListText, Listed, parts_of}
+use Rattle.ln_cert.specs.Listing.{IsFormFault, Listed, parts_of}
 use Rattle.ln_cert.proofs.Reading.Whole.{no_text, one_fault, one_text}
 use Rattle.ln_verify.specs.Judge.{IsFirstFault}
 use Rattle.ln_verify.specs.Line.{Subject}
-use Rattle.ln_verify.specs.Verified.{IsFaultFor, IsTextFaultFor, IsValidFor, IsValidTextFor, rules_of}
+use Rattle.ln_verify.specs.Verified.{AreSubjectsOf, IsFaultFor, IsTextFaultFor, IsValidFor, IsValidTextFor, rules_of}
 use Rattle.ln_verify.specs.Verified as of_text
 use Rattle.ln_verify.proofs.Judging.Subjects.{subjects-one}
 use Rattle.ln_verify.proofs.Validity.One.{one-answer}
@@ -25,48 +24,37 @@ use Rattle.ln_frame.proofs.Laws.{IsLawful, shape_objects}
 use Rattle.ln_judges.specs.Verify.{IsListed, HasValid, HasFault, form, rule, VerifySaid, valid, invalid, VerifyEnds, done, faulty, verify_work}
 use Rattle.ln_frame.specs.Signature.{asks_nothing}
 
--- equal lists have equal first texts
-pub head_of : (a b : List ℕ) (xs ys : List (List ℕ)) → a ∷ xs ≡ b ∷ ys → a ≡ b
-head_of a b xs ys e = ap (λ (t : List (List ℕ)). elim t [ [] ↦ a | z ∷ zs ↦ z ]) e
-
 -- one file has one text
 same_file : (g : Given) (a b : List ℕ) → g.texts ≡ a ∷ [] → g.texts ≡ b ∷ [] → a ≡ b
-same_file g a b h k = head_of a b [] [] (sym h ∙ k)
+same_file g a b h k = cc
 
 -- two listings of one file are one
 same_listed : (g : Given) (l k : Listed) → IsListed g l → IsListed g k
     → (l.version ≡ k.version) × (parts_of l.entries ≡ parts_of k.entries)
 same_listed g l k a b =
     one_text a.bytes l.version k.version (parts_of l.entries) (parts_of k.entries) a.text
-    (subst (λ (x : List ℕ). ListText x k.version (parts_of k.entries)) (sym (same_file g a.bytes b.bytes a.file b.file)) b.text)
+    (rw (same_file g a.bytes b.bytes a.file b.file) b.text)
 
--- a fault is one of any listing of the file
-fault_of : (ps : List PredOf) (l k : Listed) (n : ℕ) → l.version ≡ k.version → parts_of l.entries ≡ parts_of k.entries
-    → (h : IsFaultFor ps k n) → IsFirstFault (rules_of l.version) h.subjects (parts_of l.entries) n
-fault_of ps l k n a b h =
-    subst (λ (w : ℕ). IsFirstFault (rules_of w) h.subjects (parts_of l.entries) n) (sym a)
-    (subst (λ (xs : List Part). IsFirstFault (rules_of k.version) h.subjects xs n) (sym b) h.fault)
+-- a fault is one of any listing of the file, over any subjects of the predicates
+fault_of : (ps : List PredOf) (l k : Listed) (n : ℕ) (ss : List Subject) → AreSubjectsOf ps ss → l.version ≡ k.version
+    → parts_of l.entries ≡ parts_of k.entries → IsFaultFor ps k n → IsFirstFault (rules_of l.version) ss (parts_of l.entries) n
+fault_of ps l k n ss those a b f = rw (a, b, subjects-one ps ss f.subjects those f.those) f.fault
 
 -- a listing isn't valid and at fault
 neither : (ps : List PredOf) (l k : Listed) (n : ℕ) → l.version ≡ k.version → parts_of l.entries ≡ parts_of k.entries
     → IsValidFor ps l → IsFaultFor ps k n → ⊥
 neither ps l k n a b h f =
-    one-answer.not_both (rules_of l.version) h.subjects (parts_of l.entries) n h.valid
-    (subst (λ (ss : List Subject). IsFirstFault (rules_of l.version) ss (parts_of l.entries) n)
-    (subjects-one ps f.subjects h.subjects f.those h.those) (fault_of ps l k n a b f))
+    one-answer.not_both (rules_of l.version) h.subjects (parts_of l.entries) n h.valid (fault_of ps l k n h.subjects h.those a b f)
 
 -- and has one first fault
 one_rule : (ps : List PredOf) (l k : Listed) (m n : ℕ) → l.version ≡ k.version → parts_of l.entries ≡ parts_of k.entries
     → IsFaultFor ps l m → IsFaultFor ps k n → m ≡ n
 one_rule ps l k m n a b h f =
-    one-answer.one (rules_of l.version) h.subjects (parts_of l.entries) m n h.fault
-    (subst (λ (ss : List Subject). IsFirstFault (rules_of l.version) ss (parts_of l.entries) n)
-    (subjects-one ps f.subjects h.subjects f.those h.those) (fault_of ps l k n a b f))
+    one-answer.one (rules_of l.version) h.subjects (parts_of l.entries) m n h.fault (fault_of ps l k n h.subjects h.those a b f)
 
 formed : (g : Given) (bytes : List ℕ) (l : Listed) (n : ℕ) → g.texts ≡ bytes ∷ [] → IsFormFault bytes n → IsListed g l → ⊥
 formed g bytes l n e f a =
-    no_text bytes n l.version (parts_of l.entries) f (subst (λ (x : List ℕ). ListText x l.version (parts_of l.entries))
-    (same_file g a.bytes bytes a.file e) a.text)
+    no_text bytes n l.version (parts_of l.entries) f (rw (same_file g bytes a.bytes e a.file) a.text)
 
 not_valid : (g : Given) (n : ℕ) → HasValid g → HasFault g n → ⊥
 not_valid g n h (form bytes e f) = formed g bytes h.listing n e f h.listed
@@ -74,7 +62,7 @@ not_valid g n h (rule k b f) = let s = same_listed g h.listing k h.listed b in n
 
 one_line : (g : Given) (m n : ℕ) → HasFault g m → HasFault g n → m ≡ n
 one_line g m n (form bytes e f) (form others h k) =
-    one_fault bytes m n f (subst (λ (x : List ℕ). IsFormFault x n) (sym (same_file g bytes others e h)) k)
+    one_fault bytes m n f (rw (same_file g bytes others e h) k)
 one_line g m n (form bytes e f) (rule l b k) = absurd (formed g bytes l m e f b)
 one_line g m n (rule l a h) (form bytes e f) = absurd (formed g bytes l n e f a)
 one_line g m n (rule l a h) (rule k b f) = let s = same_listed g l k a b in one_rule g.table.preds l k m n s.0 s.1 h f
@@ -133,9 +121,6 @@ none_of : (g : Given) (o : Option ℕ) → ((at : ℕ) → o ≡ Some at → ⊥
 none_of g None n h = h
 none_of g (Some at) n h = absurd (n at refl)
 
-some_of : (g : Given) (o : Option ℕ) (at : ℕ) → o ≡ Some at → MatchOption o (HasValid g) (λ k. HasFault g k) → HasFault g at
-some_of g o at e h = subst (λ (x : Option ℕ). MatchOption x (HasValid g) (λ k. HasFault g k)) e h
-
 -- where no fault was found, writing the line `valid` carries out what is required
 pub valid_carried : (g : Given) (o : Option ℕ) (puts : Count) (result : Result End Early) (was now : Option Shown)
     → ((at : ℕ) → o ≡ Some at → ⊥) → MatchOption o (HasValid g) (λ at. HasFault g at)
@@ -150,4 +135,4 @@ pub fault_carried : (g : Given) (o : Option ℕ) (at : ℕ) (text : List ℕ) (p
     → CarriesOut (VerifySaid g) NoPart ⊥ ⊥ puts result was now
 fault_carried g o at text puts result was now e h t p =
     text_carried (VerifySaid g) NoPart ⊥ ⊥ puts Invalid (line (codes "invalid " ++ decimal at)) result was now
-    (invalid at (some_of g o at e h)) (subst (λ (x : List ℕ). PutsText x Invalid puts result was now) t p)
+    (invalid at (rw e at h)) (rw t at p)

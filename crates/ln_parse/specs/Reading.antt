@@ -1,8 +1,6 @@
 -- What the reader of an expression returns.
-use Rattle.std.specs.Prelude.{◌≡◌, ℕ, ◌≤◌, List, length, Option, Some, None}
-use Rattle.ln_base.specs.declared.span.Span.{Span}
+use Rattle.std.specs.Prelude.{◌≡◌, ℕ, ◌≤◌, List, length}
 use Rattle.ln_lex.specs.declared.token.Token.{Token}
-use Rattle.ln_syntax.specs.Raw.{Item, SiteItem, ParamItem}
 use Rattle.ln_syntax.specs.Expression.{Tree, Sort, Derives}
 use Rattle.ln_syntax.specs.Stops.{Stops}
 use Rattle.ln_names.specs.Rules.{Scope}
@@ -14,13 +12,3 @@ pub record Reads (bytes : List ℕ) (ts : List Token) (s : Scope) (o : Sort) (i 
   pub same : (to : ℕ) (e : Tree) → Derives ts o i to e → Stops ts o to → (j ≡ to) × (resolved bytes s e ≡ x)
   pub within : j ≤ length ts
   pub later : i ≤ j
-
--- the name of a site type; of another item none
-abbrev pub site_name : Item → Option Span
-site_name (SiteItem name cs) = Some name
-site_name i = None
-
--- the name of a param; of another item none
-abbrev pub param_name : Item → Option Span
-param_name (ParamItem name r) = Some name
-param_name i = None

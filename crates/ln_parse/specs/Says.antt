@@ -1,6 +1,6 @@
 -- What tokens say: the table of items and expressions, once names are resolved.
 use Rattle.std.specs.Prelude.{◌≡◌, ℕ, pos, ◌&&◌, Bool, true, false, List, [], ◌∷◌, ◌++◌}
-use Rattle.std.specs.Prelude.{Option, Some, None, map, position, unwrap_or, count_by}
+use Rattle.std.specs.Prelude.{if◌then◌else◌, Option, Some, None, map, filter_map, position, unwrap_or, count_by}
 use Rattle.ln_base.specs.declared.span.Span.{Span}
 use Rattle.ln_lex.specs.declared.token.Token.{Token}
 use Rattle.ln_lex.specs.declared.token.Kind.TheVariants.{Semi}
@@ -24,17 +24,19 @@ place p xs = unwrap_or (position p xs) 0
 abbrev pub ranged : List ℕ → Span → RawRange → CoordOf
 ranged bytes name r = record { name = text bytes name; lo = end_value bytes r.low; hi = end_value bytes r.high }
 
+-- the name of a param where the test says so, and else of a site type; of another item none
+abbrev pub name_if : Bool → Item → Option Span
+name_if is_param (SiteItem name cs) = if is_param then None else Some name
+name_if is_param (ParamItem name r) = if is_param then Some name else None
+name_if is_param (PredItem name args ls root) = None
+
 -- the names of the site types among the items
 abbrev pub site_names : List Item → List Span
-site_names [] = []
-site_names (SiteItem name coords ∷ is) = name ∷ site_names is
-site_names (i ∷ is) = site_names is
+site_names is = filter_map (name_if false) is
 
 -- the names of the params among the items
 abbrev pub param_names : List Item → List Span
-param_names [] = []
-param_names (ParamItem name range ∷ is) = name ∷ param_names is
-param_names (i ∷ is) = param_names is
+param_names is = filter_map (name_if true) is
 
 -- a bare name: an earlier let, else a param argument
 abbrev pub name_of : List ℕ → Scope → Span → Option ℕ → Formula
@@ -86,18 +88,23 @@ pub record PredSays (bytes : List ℕ) (ts : List Token) (is : List Item) (t : T
   pub lets_are : LetsSay bytes ts is args [] ls p.lets
   pub root_is : Says bytes ts (scope is args ls) root p.root
 
+-- the site type that an item is, if it is one
+abbrev pub site_said : List ℕ → Item → Option SiteOf
+site_said bytes (SiteItem name coords) = Some (record { name = text bytes name; coords = map (λ c. ranged bytes c.name c.range) coords })
+site_said bytes i = None
+
+-- the param that an item is, if it is one
+abbrev pub param_said : List ℕ → Item → Option CoordOf
+param_said bytes (ParamItem name range) = Some (ranged bytes name range)
+param_said bytes i = None
+
 -- the site types among the items
 abbrev pub sites_said : List ℕ → List Item → List SiteOf
-sites_said bytes [] = []
-sites_said bytes (SiteItem name coords ∷ is) =
-    record { name = text bytes name; coords = map (λ c. ranged bytes c.name c.range) coords } ∷ sites_said bytes is
-sites_said bytes (i ∷ is) = sites_said bytes is
+sites_said bytes is = filter_map (site_said bytes) is
 
 -- the params among the items
 abbrev pub params_said : List ℕ → List Item → List CoordOf
-params_said bytes [] = []
-params_said bytes (ParamItem name range ∷ is) = ranged bytes name range ∷ params_said bytes is
-params_said bytes (i ∷ is) = params_said bytes is
+params_said bytes is = filter_map (param_said bytes) is
 
 -- the predicates among the items, after others
 abbrev pub PredsSay : List ℕ → List Token → List Item → TableOf → List Item → List PredOf → Type 0

@@ -50,6 +50,7 @@ fn sites(alloc: Global, bytes: &[u8], its: &[RawItem]) -> Result<Seq<Site>, NoMe
     Ok(sites)
 }
 
+#[tactic(auto, using(crate::proofs::Building::Turns::one_mapped, crate::proofs::Building::Turns::all_mapped, crate::proofs::Building::Turns::same_site_of))]
 fn site(alloc: Global, bytes: &[u8], name: Span, raw: &[RawCoord]) -> Result<Site, NoMemory>
     requires { ReadySite bytes.now name raw.now }
     ensures { IfOk result (λ s. site_of s
@@ -74,6 +75,7 @@ fn coord(bytes: &[u8], c: RawCoord) -> Coord
     }
 }
 
+#[tactic(auto, using(crate::proofs::Building::Said::said_more, crate::proofs::Building::Said::said_skip))]
 fn params(alloc: Global, bytes: &[u8], its: &[RawItem]) -> Result<Seq<Param>, NoMemory>
     requires { AreReady bytes.now (items its.now) }
     ensures { IfOk result (λ xs. map param_of xs ≡ params_said bytes.now (items its.now)) }

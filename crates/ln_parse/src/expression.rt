@@ -174,9 +174,10 @@ fn product(alloc: Global, ts: &[Token], left: Read, right: Read) -> Result<Read,
     ensures end { IfOk result (λ x. x.end ≡ right.end) }
     ensures value { IfOk result (λ x. formula x.expr ≡ FMul (span_at ts.now left.end) (formula left.expr) (formula right.expr)) }
 {
-    let expr = multiplied(alloc, span_of(ts, left.end), left.expr, right.expr)?;
+    let at = span_of(ts, left.end);
+    let node = Node::Mul(Box::new(alloc, left.expr)?, Box::new(alloc, right.expr)?);
     Ok(Read {
-        expr,
+        expr: Expr { at, node },
         end: right.end,
     })
 }
@@ -186,8 +187,12 @@ fn opposite(alloc: Global, ts: &[Token], at: usize, of: Read) -> Result<Read, No
     ensures end { IfOk result (λ x. x.end ≡ of.end) }
     ensures value { IfOk result (λ x. formula x.expr ≡ FNeg (span_at ts.now at) (formula of.expr)) }
 {
-    let expr = negated(alloc, span_of(ts, at), of.expr)?;
-    Ok(Read { expr, end: of.end })
+    let at = span_of(ts, at);
+    let node = Node::Neg(Box::new(alloc, of.expr)?);
+    Ok(Read {
+        expr: Expr { at, node },
+        end: of.end,
+    })
 }
 
 // The base before a caret, to the power of the number after it.
@@ -199,9 +204,10 @@ fn to_power(alloc: Global, bytes: &[u8], ts: &[Token], base: Read) -> Result<Rea
         ≡ FPow (span_at ts.now base.end) (formula base.expr) (number bytes.now (span_at ts.now (base.end + 1)))) }
 {
     let by = exponent(bytes, span_of(ts, base.end + 1));
-    let expr = raised(alloc, span_of(ts, base.end), base.expr, by)?;
+    let at = span_of(ts, base.end);
+    let node = Node::Pow(Box::new(alloc, base.expr)?, by);
     Ok(Read {
-        expr,
+        expr: Expr { at, node },
         end: base.end + 2,
     })
 }
@@ -321,15 +327,6 @@ pub fn or_zero(place: Option<usize>) -> u8
     }
 }
 
-fn negated(alloc: Global, at: Span, of: Expr) -> Result<Expr, NoMemory>
-    ensures { IfOk result (λ e. formula e ≡ FNeg at (formula of)) }
-{
-    Ok(Expr {
-        at,
-        node: Node::Neg(Box::new(alloc, of)?),
-    })
-}
-
 fn added(alloc: Global, at: Span, left: Expr, right: Expr) -> Result<Expr, NoMemory>
     ensures { IfOk result (λ e. formula e ≡ FAdd at (formula left) (formula right)) }
 {
@@ -345,23 +342,5 @@ fn taken_off(alloc: Global, at: Span, left: Expr, right: Expr) -> Result<Expr, N
     Ok(Expr {
         at,
         node: Node::Sub(Box::new(alloc, left)?, Box::new(alloc, right)?),
-    })
-}
-
-fn multiplied(alloc: Global, at: Span, left: Expr, right: Expr) -> Result<Expr, NoMemory>
-    ensures { IfOk result (λ e. formula e ≡ FMul at (formula left) (formula right)) }
-{
-    Ok(Expr {
-        at,
-        node: Node::Mul(Box::new(alloc, left)?, Box::new(alloc, right)?),
-    })
-}
-
-fn raised(alloc: Global, at: Span, of: Expr, by: u8) -> Result<Expr, NoMemory>
-    ensures { IfOk result (λ e. formula e ≡ FPow at (formula of) by) }
-{
-    Ok(Expr {
-        at,
-        node: Node::Pow(Box::new(alloc, of)?, by),
     })
 }

@@ -4,9 +4,8 @@ ghost use Rattle.std.specs.List.{filter_map, position_from, list_all};
 ghost use Rattle.ln_syntax.specs.Raw.{item, items, same};
 ghost use Rattle.ln_tree.specs.Table.{ArgOf, arg_of, coord_of, site_of, param_of};
 ghost use Rattle.ln_names.specs.Limits.{Each};
-ghost use Rattle.ln_parse.specs.Reading.{site_name, param_name};
 ghost use Rattle.ln_parse.specs.Ready.{ReadyArg, is_good_site};
-ghost use Rattle.ln_parse.specs.Says.{arg_said, site_names, param_names, site_vars, param_vars, coords_or, vars_behind, is_site_said};
+ghost use Rattle.ln_parse.specs.Says.{arg_said, name_if, site_names, param_names, site_vars, param_vars, coords_or, vars_behind, is_site_said};
 
 use crate::expression::{Scene, or_zero};
 use crate::name::name_at;
@@ -24,6 +23,7 @@ pub struct Layout {
 }
 
 /// The arguments of a predicate, resolved among the items before it.
+#[tactic(auto, using(crate::proofs::Building::Turns::one_mapped, crate::proofs::Building::Turns::all_mapped))]
 pub fn args(alloc: Global, s: &Scene) -> Result<Seq<Arg>, NoMemory>
     requires ready { Each (λ before a. ReadyArg s.now.bytes.now (items s.now.items.now) a) [] s.now.args.now }
     requires sites { length (site_names (items s.now.items.now)) ≤ 16 }
@@ -45,21 +45,22 @@ fn arg(bytes: &[u8], before: &[RawItem], a: RawArg) -> Arg
     ensures { arg_of result ≡ arg_said bytes.now (items before.now) a a.is_param }
 {
     if a.is_param {
-        return Arg::Param(or_zero(param_number(bytes, before, a.name)));
+        return Arg::Param(or_zero(number_of(bytes, before, true, a.name)));
     }
     Arg::Site(
         name_at(bytes, a.name),
-        or_zero(site_number(bytes, before, a.kind)),
+        or_zero(number_of(bytes, before, false, a.kind)),
     )
 }
 
-// The number of the site type of this name.
-fn site_number(bytes: &[u8], before: &[RawItem], at: Span) -> Option<usize>
-    ensures { result ≡ position_from (λ n. same bytes.now n at) 0 (filter_map (λ i. site_name (item i)) before.now) }
+// The number of the param of this name, or of the site type.
+#[tactic(auto, using(crate::proofs::Building::Places::number_found, crate::proofs::Building::Places::number_on, crate::proofs::Building::Places::number_skip))]
+fn number_of(bytes: &[u8], before: &[RawItem], is_param: bool, at: Span) -> Option<usize>
+    ensures { result ≡ position_from (λ n. same bytes.now n at) 0 (filter_map (λ i. name_if is_param (item i)) before.now) }
 {
     let mut n = 0usize;
     'items: for it in before {
-        let Some(name) = site_name(it) else {
+        let Some(name) = name_if(it, is_param) else {
             continue;
         };
         if same(bytes, name, at) {
@@ -70,42 +71,19 @@ fn site_number(bytes: &[u8], before: &[RawItem], at: Span) -> Option<usize>
     None
 }
 
-fn site_name(it: &RawItem) -> Option<Span>
-    ensures { result ≡ site_name (item it.now) }
+// The name of a param, or of a site type.
+fn name_if(it: &RawItem, is_param: bool) -> Option<Span>
+    ensures { result ≡ name_if is_param (item it.now) }
 {
     match it {
-        RawItem::Site(name, _) => Some(*name),
-        _ => None,
-    }
-}
-
-// The number of the param of this name.
-fn param_number(bytes: &[u8], before: &[RawItem], at: Span) -> Option<usize>
-    ensures { result ≡ position_from (λ n. same bytes.now n at) 0 (filter_map (λ i. param_name (item i)) before.now) }
-{
-    let mut n = 0usize;
-    'items: for it in before {
-        let Some(name) = param_name(it) else {
-            continue;
-        };
-        if same(bytes, name, at) {
-            return Some(n);
-        }
-        n += 1;
-    }
-    None
-}
-
-fn param_name(it: &RawItem) -> Option<Span>
-    ensures { result ≡ param_name (item it.now) }
-{
-    match it {
-        RawItem::Param(name, _) => Some(*name),
-        _ => None,
+        RawItem::Site(name, _) => if is_param { None } else { Some(*name) },
+        RawItem::Param(name, _) => if is_param { Some(*name) } else { None },
+        RawItem::Pred(_, _, _, _) => None,
     }
 }
 
 /// The variables of arguments, in order of the arguments, for a site its coordinates in declared order.
+#[tactic(auto, using(crate::proofs::Building::Turns::arguments))]
 pub fn laid_out(
     alloc: Global,
     sites: &[Site],
@@ -127,6 +105,7 @@ pub fn laid_out(
 }
 
 // Appends the variables of one argument, and returns how many sites there are with it.
+#[tactic(auto, using(crate::proofs::Building::Turns::site_arg, crate::proofs::Building::Turns::param_arg))]
 fn arg_vars(
     vars: &mut Seq<VarInfo>,
     sites: &[Site],
@@ -167,6 +146,7 @@ fn coords_of(sites: &[Site], t: u8) -> &[Coord]
     }
 }
 
+#[tactic(auto, using(crate::proofs::Building::Turns::one_coord))]
 fn coords_vars(vars: &mut Seq<VarInfo>, k: u8, s: u8, coords: &[Coord]) -> Result<(), NoMemory>
     requires { length coords.now ≤ 32 }
     ensures { OnOk result (vars.new ≡ vars.old ++ site_vars k s 0 (map coord_of coords.now)) }
@@ -183,6 +163,7 @@ fn coords_vars(vars: &mut Seq<VarInfo>, k: u8, s: u8, coords: &[Coord]) -> Resul
     Ok(())
 }
 
+#[tactic(auto, using(crate::proofs::Texts::Putting::found))]
 fn param_var(vars: &mut Seq<VarInfo>, k: u8, params: &[Param], p: u8) -> Result<(), NoMemory>
     ensures { OnOk result (vars.new ≡ vars.old ++ param_vars k (slice_get (map param_of params.now) p)) }
 {

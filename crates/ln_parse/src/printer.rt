@@ -73,6 +73,7 @@ fn put_signed(out: &mut Vec<u8>, z: i64) -> Result<(), NoMemory>
     put_digits(out, u128::from(z.unsigned_abs()))
 }
 
+#[tactic(auto, using(crate::proofs::Texts::Putting::each_more, crate::proofs::Texts::Putting::each_done))]
 fn put_sites(out: &mut Vec<u8>, sites: &[Site]) -> Result<(), NoMemory>
     ensures { IfOk result (λ x. Puts out.old.items out.new.items (each site (map site_of sites.now))) }
 {
@@ -92,6 +93,7 @@ fn put_site(out: &mut Vec<u8>, s: &Site) -> Result<(), NoMemory>
     put(out, b"}\n")
 }
 
+#[tactic(auto, using(crate::proofs::Texts::Putting::each_more, crate::proofs::Texts::Putting::each_done))]
 fn put_coords(out: &mut Vec<u8>, coords: &[Coord]) -> Result<(), NoMemory>
     ensures { IfOk result (λ x. Puts out.old.items out.new.items (each coord (map coord_of coords.now))) }
 {
@@ -119,6 +121,7 @@ fn put_range(out: &mut Vec<u8>, name: &Name, lo: i64, hi: i64) -> Result<(), NoM
     put(out, b";")
 }
 
+#[tactic(auto, using(crate::proofs::Texts::Putting::each_more, crate::proofs::Texts::Putting::each_done))]
 fn put_params(out: &mut Vec<u8>, params: &[Param]) -> Result<(), NoMemory>
     ensures { IfOk result (λ x. Puts out.old.items out.new.items (each param (map param_of params.now))) }
 {
@@ -136,6 +139,7 @@ fn put_param(out: &mut Vec<u8>, p: &Param) -> Result<(), NoMemory>
     put(out, b"\n")
 }
 
+#[tactic(auto, using(crate::proofs::Texts::Putting::each_more, crate::proofs::Texts::Putting::each_done))]
 fn put_preds(out: &mut Vec<u8>, t: &Table) -> Result<(), NoMemory>
     ensures { IfOk result (λ x. Puts out.old.items out.new.items (each (pred (table_of t.now.sites t.now.params t.now.preds))
         (map pred_of t.now.preds))) }
@@ -200,6 +204,7 @@ fn put_arg(out: &mut Vec<u8>, t: &Table, a: &Arg) -> Result<(), NoMemory>
 }
 
 // The name of the site type of this number.
+#[tactic(auto, using(crate::proofs::Texts::Putting::found, crate::proofs::Texts::Putting::missing))]
 fn site_name(t: &Table, s: u8) -> &[u8]
     ensures { result.now ≡ site_name (slice_get (map site_of t.now.sites) s) }
 {
@@ -210,6 +215,7 @@ fn site_name(t: &Table, s: u8) -> &[u8]
 }
 
 // The name of the param of this number.
+#[tactic(auto, using(crate::proofs::Texts::Putting::found, crate::proofs::Texts::Putting::missing))]
 fn param_name(t: &Table, p: u8) -> &[u8]
     ensures { result.now ≡ range_name (slice_get (map param_of t.now.params) p) }
 {
@@ -220,6 +226,7 @@ fn param_name(t: &Table, p: u8) -> &[u8]
 }
 
 // The name of coordinate c of a site type.
+#[tactic(auto, using(crate::proofs::Texts::Putting::found, crate::proofs::Texts::Putting::missing))]
 fn coord_of_site(s: &Site, c: u8) -> &[u8]
     ensures { result.now ≡ range_name (slice_get (map coord_of s.now.coords) c) }
 {
@@ -230,6 +237,7 @@ fn coord_of_site(s: &Site, c: u8) -> &[u8]
 }
 
 // The name of coordinate c of the site type of this number.
+#[tactic(auto, using(crate::proofs::Texts::Putting::found, crate::proofs::Texts::Putting::missing))]
 fn coord_name(t: &Table, s: u8, c: u8) -> &[u8]
     ensures { result.now ≡ coord_name (slice_get (map site_of t.now.sites) s) c }
 {
@@ -240,6 +248,7 @@ fn coord_name(t: &Table, s: u8, c: u8) -> &[u8]
 }
 
 // The name of the let of this number.
+#[tactic(auto, using(crate::proofs::Texts::Putting::found, crate::proofs::Texts::Putting::missing))]
 fn let_name(p: &Pred, j: u8) -> &[u8]
     ensures { result.now ≡ unwrap_or (slice_get (map name_bytes p.now.let_names) j) [] }
 {

@@ -1,5 +1,6 @@
 -- Scaled derivatives, by one variable and by several.
-use Rattle.std.specs.Prelude.{◌≡◌, ℕ, ◌+◌, ◌-◌, ◌<◌, ◌≤◌, ◌*ℤ◌, ℤ, pos, List, [], ◌∷◌, ◌++◌, length, slice_index, slice_index_or, take, All, count_by}
+use Rattle.std.specs.Prelude.{◌≡◌, ℕ, ◌+◌, ◌-◌, ◌<◌, ◌≤◌, ◌+ℤ◌, ◌*ℤ◌, ℤ, pos, List, [], ◌∷◌, ◌++◌, length, slice_index, slice_index_or}
+use Rattle.std.specs.Prelude.{drop, take, All, count_by}
 use Rattle.std.specs.declared.cmp.Ordering.TheVariants.{Less}
 use Rattle.ln_algebra.specs.Terms.{Term, binomial, derived, factor_at}
 use Rattle.ln_algebra.specs.Vector.{covers}
@@ -34,8 +35,8 @@ pub record IsDerivedPut (out old : Sparse) (t : Pairs × ℤ) (v n : ℕ) : Type
 
 -- out has the derivatives of the first i terms, in order, and is before the derivative of what comes after these terms
 pub record IsDeriving (out f : Sparse) (k v n i : ℕ) (w : ℕ → ℕ) : Type 0 where
-  pub coefficients : (m : List ℕ) → coefficient_at k out m ≡ factor_at (derivative k v n (take i f)) m
-  pub size : size_of out ≤ weighted_sum w (derivative k v n (take i f))
+  pub coefficients : (m : List ℕ) → coefficient_at k out m +ℤ factor_at (derivative k v n (drop i f)) m ≡ factor_at (derivative k v n f) m
+  pub size : size_of out + weighted_sum w (derivative k v n (drop i f)) ≤ weighted_sum w (derivative k v n f)
   pub rising : AreRising out
   pub below : AreBelow k out
   pub sorted : AreSorted out

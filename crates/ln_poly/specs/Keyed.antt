@@ -1,6 +1,7 @@
 -- Terms whose monomials are numbers, and their sums and products.
 use Rattle.std.specs.Prelude.{◌≡◌, ◌≢◌, ◌⊎◌, ℕ, ◌+◌, ◌*◌, ◌^◌, ◌<◌, ◌≤◌, ℤ, All, pos, ◌+ℤ◌, ◌*ℤ◌, unsigned_abs, Bool, List, [], ◌∷◌, length, map, take, ◌-◌}
 use Rattle.std.specs.Prelude.{if◌then◌else◌}
+use Rattle.std.specs.List.{AllByRecursion}
 use Rattle.ln_algebra.specs.Vector.{sum_over}
 
 -- terms, each a number and a factor
@@ -28,8 +29,7 @@ AreAscending (t ∷ f) = AreOver t.0 f × AreAscending f
 
 -- no factor is 0
 abbrev pub HaveFactors : Keyed → Type 0
-HaveFactors [] = Unit {0}
-HaveFactors (t ∷ f) = (t.1 ≢ pos 0) × HaveFactors f
+HaveFactors f = AllByRecursion (λ (t : ℕ × ℤ). t.1 ≢ pos 0) f
 
 -- no number of a product of f with g reaches twice `left` and no size 2 ^ 127; no factor is 0, and the numbers of g rise
 pub record ProductsFit (left : ℕ) (f g : Keyed) : Type 0 where

@@ -31,7 +31,7 @@ impl<const N: usize> Buffers<N> {
         }
     }
 
-    // Grows to so many times as many terms as g has.
+    // Makes each list at least `times` times as long as g.
     fn grow(&mut self, alloc: Global, times: usize, g: &[(Key<N>, i128)]) -> Result<(), NoMemory>
         requires { times * length g.now < 2 ^ 64 }
         ensures out { OnOk result (times * length g.now ≤ length self.new.out.items) }

@@ -13,7 +13,7 @@ use Rattle.ln_code.specs.declared.verdict.Verdict.{Verdict}
 use Rattle.ln_watch.specs.declared.watch.Keep.{Keep}
 use Rattle.ln_watch.specs.declared.watch.Keep.TheVariants.{Stay, Done}
 use Rattle.ln_watch.specs.Fold.{tally_after, keep_after, watch_text}
-use Rattle.ln_watch.specs.Panel.{State, states_of, state_after, answer, feed, line_of, left_of, said_of, left_after, lines_at}
+use Rattle.ln_watch.specs.Panel.{State, states_of, state_after, feed, line_of, left_after, lines_at}
 use Rattle.ln_watch.specs.Panel.{last_lines, FailsAfter, StopsAt}
 use Rattle.ln_signs.proofs.PutLemmas.{fails_first, fails_behind}
 use Rattle.ln_frame.proofs.Loops.{Streams}
@@ -35,12 +35,6 @@ left-append row v (x ∷ xs) ys = let e = left-append row v xs ys in rw (e, appe
 pub lines-append : (row : ℕ) (v : Verdict) (xs ys : List State) → lines_at row v (xs ++ ys) ≡ lines_at row v xs ++ lines_at row v ys
 lines-append row v [] ys = refl
 lines-append row v (x ∷ xs) ys = let e = lines-append row v xs ys in rw (e, append_assoc) refl
-
--- the last lines of one list of watchers followed by another are those of each
-pub last-append : (xs ys : List State) → last_lines (xs ++ ys) ≡ last_lines xs ++ last_lines ys
-last-append [] ys = refl
-last-append (x ∷ xs) ys =
-    let e = last-append xs ys in ap (λ q. line_of x ++ q) e ∙ sym (append_assoc (line_of x) (last_lines xs) (last_lines ys))
 
 -- where a call returns an error, what holds whatever it returns
 pub on_err : {T E P : Type 0} (r : Result T E) → P → OnErr r P
@@ -104,18 +98,6 @@ pub record Showing {B : Type 0} (w : Reading B) (d : Display) (from : Bench B) (
   pub fine : now.streams.faults ≡ from.streams.faults
   pub within : i ≤ length now.items
 
-one-left : (row : ℕ) (v : Verdict) (s : State) (k : Keep) → k ≡ answer row v s
-    → left_after row v (s ∷ []) ≡ left_of k (state_after row v s)
-one-left row v s k e = append-nil _ ∙ rw e refl
-
-one-line : (row : ℕ) (v : Verdict) (s : State) (k : Keep) → k ≡ answer row v s
-    → lines_at row v (s ∷ []) ≡ said_of k (state_after row v s)
-one-line row v s k e = append-nil _ ∙ rw e refl
-
--- the states before a place and the one there
-put-one : (seen : List State) (s : State) (rest : List State) → seen ++ s ∷ rest ≡ (seen ++ s ∷ []) ++ rest
-put-one seen s rest = sym (append_assoc seen (s ∷ []) rest)
-
 -- the watcher at a place and those after it
 from-here : {B : Type 0} {items : List B} {i : ℕ} {here : B} → IsAt items i here → drop i items ≡ here ∷ drop (i + 1) items
 from-here {items = items} {i = i} {here = here} p = rw (← p.is) at (drop_more items i here p.within)
@@ -124,25 +106,20 @@ from-here {items = items} {i = i} {here = here} p = rw (← p.is) at (drop_more 
 with-one : {B : Type 0} (w : Reading B) (states : List State) {items : List B} {i : ℕ} {here : B} (seen : List State)
     → IsAt items i here → states ≡ seen ++ states_in w (drop i items)
     → states ≡ (seen ++ state_in w here ∷ []) ++ states_in w (drop (i + 1) items)
-with-one w states {items = items} {i = i} {here = here} seen p s =
-    s ∙ ap (λ q. seen ++ states_in w q) (from-here p) ∙ put-one seen (state_in w here) (states_in w (drop (i + 1) items))
+with-one w states seen p s = rw append_assoc (s ∙ ap (λ q. seen ++ states_in w q) (from-here p))
 
 -- a watcher that stays
 pub stays : {B : Type 0} {w : Reading B} {d : Display} {from now : Bench B} {i : ℕ} → Showing w d from i now
     → (s : Sees w d now.items i Stay) → Showing w d from (i + 1) (record { items = set now.items i s.new; streams = now.streams })
 stays {w = w} {d = d} {from = from} {now = now} {i = i} k s =
-    let st : State = state_in w s.old in
     let items = now.items in
     let front : take (i + 1) (set items i s.new) ≡ take i items ++ s.new ∷ [] = take_more_set items i s.new s.place.within in
     let back : drop (i + 1) (set items i s.new) ≡ drop (i + 1) items = drop-set-lt (i + 1) items i s.new (omega arith) in
-    let is_new : state_in w s.new ≡ state_after d.row d.verdict st = rw (s.kind, s.tally) refl in
-    let one : left_after d.row d.verdict (st ∷ []) ≡ state_after d.row d.verdict st ∷ [] = one-left d.row d.verdict st Stay s.keeps in
-    let none : lines_at d.row d.verdict (st ∷ []) ≡ [] = one-line d.row d.verdict st Stay s.keeps in
     record {
-      seen = k.seen ++ st ∷ [];
+      seen = k.seen ++ state_in w s.old ∷ [];
       split = rw back (with-one w (states_in w from.items) k.seen s.place k.split);
-      left = rw (front, states-append w.kind w.tally (take i items) (s.new ∷ []), k.left, left-append, one, ← is_new) refl;
-      puts = rw (lines-append, none, append-nil) k.puts;
+      left = rw (front, states-append w.kind w.tally (take i items) (s.new ∷ []), k.left, left-append, ← s.keeps, s.kind, s.tally) refl;
+      puts = rw (lines-append, ← s.keeps, append-nil (lines_at d.row d.verdict k.seen)) k.puts;
       fine = k.fine;
       within = let w1 : i < length items = s.place.within in omega (arith, length-set items i s.new, w1);
     }
@@ -170,20 +147,15 @@ pub leaves : {B : Type 0} {w : Reading B} {d : Display} {from now next : Bench B
     → Showing w d from i next
 leaves {w = w} {d = d} {from = from} {now = now} {next = next} {i = i} k s t p c =
     let items = now.items in
-    let st : State = state_in w s.old in
     let size : length (take i items) ≡ i = length-take i items ∙ min-eq_left k.within in
     let parts : next.items ≡ take i items ++ drop (i + 1) items = taken items next.items i s.new s.place.within t.rest_is in
     let front : take i next.items ≡ take i items = rw parts (take_at (take i items) (drop (i + 1) items) i size) in
     let back : drop i next.items ≡ drop (i + 1) items = rw parts (drop_at (take i items) (drop (i + 1) items) i size) in
-    let one : lines_at d.row d.verdict (st ∷ []) ≡ line_of (state_after d.row d.verdict st) = one-line d.row d.verdict st Done s.keeps in
-    let none : left_after d.row d.verdict (st ∷ []) ≡ [] = one-left d.row d.verdict st Done s.keeps in
     record {
-      seen = k.seen ++ st ∷ [];
+      seen = k.seen ++ state_in w s.old ∷ [];
       split = rw back (with-one w (states_in w from.items) k.seen s.place k.split);
-      left = rw (front, left-append, none, append-nil) k.left;
-      puts =
-          p ∙ rw (taken-line s t, k.puts, lines-append, one) (appended-twice d.port (lines_at d.row d.verdict k.seen)
-          (line_of (state_after d.row d.verdict st)) from.streams.shown);
+      left = rw (front, left-append, ← s.keeps, append-nil (left_after d.row d.verdict k.seen)) k.left;
+      puts = p ∙ rw (taken-line s t, k.puts, appended-twice, lines-append, ← s.keeps, append-nil) refl;
       fine = c ∙ k.fine;
       within = omega (arith, ap length parts, length-append (take i items) (drop (i + 1) items), size);
     }
@@ -210,40 +182,34 @@ stopped {w = w} {d = d} {from = from} {now = now} {i = i} {rest = rest} k s t p 
 
 -- the lines of the watchers before place i are written
 pub record Closing {B : Type 0} (w : Reading B) (port : Port) (items : List B) (i : ℕ) (was now : Streams) : Type 0 where
-  pub seen : List State
-  pub split : states_in w items ≡ seen ++ states_in w (drop i items)
-  pub puts : now.shown ≡ appended port (last_lines seen) was.shown
+  pub sent : List ℕ
+  pub split : last_lines (states_in w items) ≡ sent ++ last_lines (states_in w (drop i items))
+  pub puts : now.shown ≡ appended port sent was.shown
   pub fine : now.faults ≡ was.faults
 
-last-one : (seen : List State) (s : State) → last_lines (seen ++ s ∷ []) ≡ last_lines seen ++ line_of s
-last-one seen s = last-append seen (s ∷ []) ∙ ap (λ q. last_lines seen ++ q) (append-nil (line_of s))
+last-from : {B : Type 0} {w : Reading B} {port : Port} {items : List B} {i : ℕ} {here : B} {was now : Streams}
+    (k : Closing w port items i was now) → IsAt items i here
+    → last_lines (states_in w items) ≡ (k.sent ++ line_in w here) ++ last_lines (states_in w (drop (i + 1) items))
+last-from {w = w} {items = items} {i = i} {here = here} k p =
+    k.split ∙ ap (λ q. k.sent ++ last_lines (states_in w q)) (from-here p)
+    ∙ sym (append_assoc k.sent (line_in w here) (last_lines (states_in w (drop (i + 1) items))))
 
 -- the next line stands too
 pub closes : {B : Type 0} {w : Reading B} {port : Port} {items : List B} {i : ℕ} {here : B} {was now next : Streams}
     → Closing w port items i was now → IsAt items i here
     → (next.shown ≡ appended port (line_in w here) now.shown) × (next.faults ≡ now.faults)
     → Closing w port items (i + 1) was next
-closes {w = w} {port = port} {items = items} {here = here} {was = was} k p n =
-    let st : State = state_in w here in
-    record {
-      seen = k.seen ++ st ∷ [];
-      split = with-one w (states_in w items) k.seen p k.split;
-      puts =
-          n.0 ∙ ap (appended port (line_of st)) k.puts ∙ appended-twice port (last_lines k.seen) (line_of st) was.shown
-          ∙ ap (λ q. appended port q was.shown) (sym (last-one k.seen st));
-      fine = n.1 ∙ k.fine;
-    }
+closes {w = w} {here = here} k p n = record {
+  sent = k.sent ++ line_in w here;
+  split = last-from k p;
+  puts = n.0 ∙ rw (k.puts, appended-twice) refl;
+  fine = n.1 ∙ k.fine;
+}
 
 -- where the write of the next line fails, a prefix of all last lines was written
 pub cut_at : {B : Type 0} {w : Reading B} {port : Port} {items : List B} {i : ℕ} {here : B} {was now : Streams} {later : Option Shown}
     → Closing w port items i was now → IsAt items i here → FailsAfter port (line_in w here) now.shown later
     → FailsAfter port (last_lines (states_in w items)) was.shown later
 cut_at {w = w} {port = port} {items = items} {i = i} {here = here} {was = was} {now = now} {later = later} k p f =
-    let st : State = state_in w here in
-    let rest = states_in w (drop (i + 1) items) in
-    let behind = fails_behind port (last_lines k.seen) (line_of st) was.shown now.shown later k.puts f in
-    let all = fails_first port (last_lines k.seen ++ line_of st) (last_lines rest) was.shown later behind in
-    let e : last_lines (states_in w items) ≡ (last_lines k.seen ++ line_of st) ++ last_lines rest =
-    ap last_lines (with-one w (states_in w items) k.seen p k.split) ∙ last-append (k.seen ++ st ∷ []) rest
-    ∙ ap (λ q. q ++ last_lines rest) (last-one k.seen st) in
-    rw e all
+    rw (last-from k p) (fails_first port (k.sent ++ line_in w here) (last_lines (states_in w (drop (i + 1) items))) was.shown later
+    (fails_behind port k.sent (line_in w here) was.shown now.shown later k.puts f))

@@ -1,8 +1,7 @@
 -- Each row of an accepted predicate has lines that explain it.
-use Rattle.std.proofs.Common.{◌≡◌, ◌<◌, ◌≤◌, inl, inr, ℕ, zero, suc, ◌+◌, true, List, [], ◌∷◌, ◌++◌, length, map, get_or, refl, ap, sym}
-use Rattle.std.proofs.Common.{◌∙◌, subst, arith, Ok, Err, Bool, false, ◌&&◌, leb, Option, None, Result}
+use Rattle.std.proofs.Common.{◌≡◌, ◌<◌, inl, inr, ℕ, zero, suc, List, [], ◌∷◌, ◌++◌, length, map, get_or, refl, ap, sym}
+use Rattle.std.proofs.Common.{◌∙◌, subst, arith, Ok, Err, None}
 use Rattle.std.specs.Prelude.{slice_get, Some}
-use Rattle.std.proofs.lemmas.Bool.{leb-true}
 use Rattle.std.proofs.lemmas.List.{append-nil}
 use Rattle.std.proofs.lemmas.Option.{none-some, same_Some}
 use Rattle.std.proofs.Math.IntN.{ℤ, pos, negsuc}
@@ -14,7 +13,8 @@ use Rattle.ln_algebra.specs.Orders.{BySmallest}
 use Rattle.ln_algebra.specs.Sign.{or_else, perturbed, sign_along, sign_of}
 use Rattle.ln_algebra.specs.Stage.{IsMonomial}
 use Rattle.ln_algebra.specs.Tree.{Tree}
-use Rattle.ln_algebra.specs.Vector.{In, covers}
+use Rattle.ln_algebra.specs.Vector.{In}
+use Rattle.ln_algebra.proofs.Walking.Stages.{covers-get}
 use Rattle.ln_tree.specs.declared.pred.Pred.{Pred}
 use Rattle.ln_tree.specs.declared.shape.VarInfo.{VarInfo}
 use Rattle.ln_tree.specs.Exps.{IsAbove, IsRising, Pairs, vector}
@@ -51,7 +51,7 @@ use Rattle.ln_trace.specs.declared.line.TraceLine.TheVariants as line
 use Rattle.ln_trace.proofs.BlockLaw.{blocks-explained}
 use Rattle.ln_trace.specs.Explain.{BlocksTell, IsToldBehind}
 use Rattle.ln_trace.specs.Signs.{AreOf, Explains, a_row, at_lines, no_row}
-use Rattle.ln_trace.specs.Text.{text_of_line}
+use Rattle.ln_trace.specs.Text.{text_of_line, text_of_lines}
 use Rattle.ln_trace.specs.Told.{stop_at, up_to_first}
 use Rattle.ln_frame.specs.Subject.{subject_of}
 use Rattle.ln_frame.specs.declared.ready.Ready.{Ready}
@@ -59,25 +59,11 @@ use Rattle.ln_frame.specs.Ready.{AreNumbered, StandsFor}
 use Rattle.ln_frame.specs.Given.{Given}
 use Rattle.ln_signs.specs.Target.{Belongs, IsGivenBy, TargetOf, pred_in}
 use Rattle.ln_frame.proofs.Lightness.{light_of}
-use Rattle.ln_code.specs.declared.verdict.Verdict.{Verdict}
 use Rattle.ln_signs.specs.Explain.{ExplainLine}
+use Rattle.ln_signs.proofs.OneLine.{by_read, line_of}
+use Rattle.ln_signs.proofs.RowsLaws.{HasLines}
 
 -- ---- exponents are small
-left : (a b : Bool) → (a && b) ≡ true → a ≡ true
-left true b h = refl
-left false b h = cc
-
-right : (a b : Bool) → (a && b) ≡ true → b ≡ true
-right true b h = h
-right false b h = cc
-
-covers-below : (m a : List ℕ) (v : ℕ) → covers m a ≡ true → get_or a v 0 ≤ get_or m v 0
-covers-below [] [] v h = omega arith
-covers-below [] (k ∷ a) v h = cc
-covers-below (n ∷ m) [] v h = omega arith
-covers-below (n ∷ m) (k ∷ a) zero h = leb-true k n (left (leb k n) (covers m a) h)
-covers-below (n ∷ m) (k ∷ a) (suc v) h = covers-below m a v (right (leb k n) (covers m a) h)
-
 in-small : (n : ℕ) (f : Sparse) (m : List ℕ) (v : ℕ) → AreRising f → In (vectors (terms_of n f)) m → get_or m v 0 < 128
 in-small n [] m v r i = absurd i
 in-small n (t ∷ f) m v r (inl e) = rw e (vector-small n t.0 v (All-head (λ u. IsRising u.0) t f r))
@@ -134,7 +120,7 @@ module _ (q : Pred) (f : Sparse) (normal : IsNormal (length q.shape.vars) (root_
   stage-paired row list s a i =
       let stage = s.stages a i in
       let c = stage.covered in (
-        rising-from 0 a (λ w. omega (arith, covers-below c.0 a w c.2, monomial-small c.0 w c.1)),
+        rising-from 0 a (λ w. omega (arith, covers-get c.0 a c.2 w, monomial-small c.0 w c.1)),
         above-pairs a (length q.shape.vars) stage.over.size,
         vector-pairs_of (length q.shape.vars) a stage.over.size,
       )
@@ -168,20 +154,13 @@ row-list q part fields row b read =
       row-stages BySmallest q.shape row o.0 (root_of (pred_of q)) (carried.vectors part (list_of part o.0)) range o.1 stages1,
     )
 
-module _ (t : TargetOf) (sound : IsSound (pred_in t)) (belongs : Belongs BySmallest t.pred t.program) where
-  -- each record of a predicate without a fault, with a program that has its verdicts, has lines that explain it
-  pub line_there : (number : ℕ) (fields : List (List ℕ))
-      → (shown : Option Verdict) × (text : List ℕ) × ExplainLine (pred_in t) t.names number fields shown text
-  line_there number fields = by_read (read_row t.pred.shape.sites t.pred.shape.vars fields) refl
-    where
-      by_read : (r : Result Row RowStop) → read_row t.pred.shape.sites t.pred.shape.vars fields ≡ r
-          → (shown : Option Verdict) × (text : List ℕ) × ExplainLine (pred_in t) t.names number fields shown text
-      by_read (Ok row) e =
-          let normal = tree-normal (length t.pred.shape.vars) (root_of (pred_in t)) (light_of t.pred sound) in
-          let list = row-list t.pred t.program fields row belongs e in
-          let told = row-told t.pred normal.0 normal.1 number fields row list.0 e list.1 in
-          (_, _, record { lines = told.0; explains = told.1; shows = refl; is = refl })
-      by_read (Err x) e = (_, _, record { lines = line.Refused number ∷ []; explains = no_row x e; shows = refl; is = refl })
+-- each record of a predicate without a fault, with a program that has its verdicts, has lines that explain it
+pub line_there : (t : TargetOf) → IsSound (pred_in t) → Belongs BySmallest t.pred t.program → HasLines ExplainLine (pred_in t) t.names
+line_there t sound belongs number fields =
+    line_of (λ lines. None) text_of_lines (by_read (pred_in t) fields (λ row e.
+    let normal = tree-normal (length t.pred.shape.vars) (root_of (pred_in t)) (light_of t.pred sound) in
+    let list = row-list t.pred t.program fields row belongs e in
+    row-told t.pred normal.0 normal.1 number fields row list.0 e list.1) (λ stop e. (line.Refused number ∷ [], no_row stop e)))
 
 -- the predicate that is run has no fault
 numbered_sound : (table : List PredOf) (is : List ℕ) (p : PredOf) (rest : List PredOf) → AreSound table → AreNumbered table is (p ∷ rest)
@@ -219,15 +198,13 @@ blocks_say q part names fields r n old new b read t =
     let range1 : InRange part.shape.sites part.shape.vars (row_of q.shape.sites q.shape.vars r) = rw (b.answers.sites, b.answers.vars) range in
     let explains = blocks-explained part root (terms_of (length q.shape.vars) b.answers.poly) fields (row_of q.shape.sites q.shape.vars r) n t.lines
     (programs-run part b.kept) b.answers.carries read1 range1 told in
-    let vars = subst (λ (vs : List VarInfo). Explains (record { sites = part.shape.sites; vars = vs; tree = root }) n fields t.lines) b.answers.vars explains in
-    let both = subst (λ (k : ℕ). Explains (record { sites = k; vars = q.shape.vars; tree = root }) n fields t.lines) b.answers.sites vars in
-    (_, record { lines = t.lines; explains = both; shows = refl; is = refl }, t.put)
+    (_, record { said = t.lines; says = rw (b.answers.vars, b.answers.sites) at explains; shows = refl; is = refl }, t.put)
 
 -- the line of an invalid record
 pub refused_says : (q : Pred) (names fields : List (List ℕ)) (x : RowStop) (n : ℕ) (old new : List ℕ)
     → read_row q.shape.sites q.shape.vars fields ≡ Err x → new ≡ old ++ text_of_line (line.Refused n) → Grows (pred_of q) names n fields old new
 refused_says q names fields x n old new e t = (
   _,
-  record { lines = line.Refused n ∷ []; explains = no_row x e; shows = refl; is = refl },
+  record { said = line.Refused n ∷ []; says = no_row x e; shows = refl; is = refl },
   t ∙ ap (λ z. old ++ z) (sym (append-nil (text_of_line (line.Refused n)))),
 )

@@ -1,10 +1,10 @@
 -- The factors of a product: their programs, the places of these, and their common variables.
 use Rattle.std.proofs.Common.{◌≡◌, ◌≢◌, ℕ, zero, suc, ◌+◌, ◌<◌, ◌≤◌, true, false, true≢false, List, [], ◌∷◌, ◌++◌, map, length, take}
-use Rattle.std.proofs.Common.{Some, refl, ap, sym, ◌∙◌, subst, arith, All, ◌⊎◌, inl, inr, length-append}
+use Rattle.std.proofs.Common.{Some, refl, ap, sym, ◌∙◌, subst, arith, All}
 use Rattle.std.specs.Prelude.{bytes_eq, nat_eq, slice_get, slice_index_or, count_by}
 use Rattle.std.proofs.lemmas.Bool.{and_parts}
 use Rattle.std.proofs.lemmas.Bool.Decides.{nat_tests}
-use Rattle.std.proofs.lemmas.List.{length-map}
+use Rattle.std.proofs.lemmas.List.{length-map, take_more}
 use Rattle.std.proofs.lemmas.List.Elements.{All-nil, All-cons, All-head, All-tail}
 use Rattle.std.proofs.lemmas.Option.{none-some, slice_get_within}
 use Rattle.std.proofs.lemmas.Slice.Eq.{bytes_eq-Decides}
@@ -26,11 +26,11 @@ use Rattle.ln_code.specs.Memory.{MadeFor}
 use Rattle.ln_code.specs.Part.{Part}
 use Rattle.ln_compile.specs.Compiled.{IsProgramAt, IsProgramOf}
 use Rattle.ln_compile.proofs.Making.BuildingLemmas.{names-differ}
-use Rattle.ln_factor.specs.Factors.{AreOver, IsFactor}
+use Rattle.ln_factor.specs.Factors.{AreMadeFor, AreOver}
 use Rattle.ln_signs.specs.Alike.{are_alike, same_arg, same_args}
 use Rattle.ln_frame.specs.Columns.{columns_of, names_of}
 use Rattle.ln_signs.specs.Factors.{AreFactors, AreGivenBy, AreMade, AreMadeAt, AreProgramsAt}
-use Rattle.ln_signs.specs.Factors.{FactorsOf, Grows, HaveOneShape, IsMadeOf, StandAt, factors_of}
+use Rattle.ln_signs.specs.Factors.{FactorsOf, Grows, HaveOneShape, IsMadeOf, Paired, StandAt, factors_of}
 use Rattle.ln_frame.specs.Ready.{AreNumbered}
 use Rattle.ln_frame.specs.Source.{view}
 use Rattle.ln_frame.specs.Given.{Given}
@@ -38,20 +38,32 @@ use Rattle.ln_frame.proofs.Outcomes.{some_same}
 use Rattle.ln_frame.proofs.FindLaws.{same_at}
 use Rattle.ln_frame.proofs.Likeness.{columns_like}
 
--- ---- lists
-take_next : (xs : List ℕ) (n : ℕ) → n < length xs → take (suc n) xs ≡ take n xs ++ slice_index_or xs n 0 ∷ []
-take_next [] n l = absurd (omega (arith, l))
-take_next (x ∷ xs) zero l = refl
-take_next (x ∷ xs) (suc n) l = ap (λ (ys : List ℕ). x ∷ ys) (take_next xs n (omega (arith, l)))
+-- ---- lists that are related place by place
+module _ {A B : Type 0} (R : A → B → Type 0) where
+  -- lists that are related place by place have one length
+  pub paired_length : (xs : List A) (ys : List B) → Paired R xs ys → length xs ≡ length ys
+  paired_length [] [] h = refl
+  paired_length [] (y ∷ ys) h = absurd h
+  paired_length (x ∷ xs) [] h = absurd h
+  paired_length (x ∷ xs) (y ∷ ys) h = ap (λ (n : ℕ). suc n) (paired_length xs ys h.1)
+
+  -- one pair more at the end
+  pub paired_more : (xs : List A) (ys : List B) (x : A) (y : B) → Paired R xs ys → R x y → Paired R (xs ++ x ∷ []) (ys ++ y ∷ [])
+  paired_more [] [] x y h r = (r, tt)
+  paired_more [] (z ∷ ys) x y h r = absurd h
+  paired_more (z ∷ xs) [] x y h r = absurd h
+  paired_more (z ∷ xs) (w ∷ ys) x y h r = (h.0, paired_more xs ys x y h.1 r)
+
+  -- what an element of the second list is related to
+  pub paired_there : (xs : List A) (ys : List B) (k : ℕ) (y : B) → Paired R xs ys → slice_get ys k ≡ Some y
+      → (x : A) × (slice_get xs k ≡ Some x) × R x y
+  paired_there [] [] k y h e = absurd (none-some y e)
+  paired_there [] (z ∷ ys) k y h e = absurd h
+  paired_there (x ∷ xs) [] k y h e = absurd h
+  paired_there (x ∷ xs) (z ∷ ys) zero y h e = (x, refl, subst (R x) (some_same z y e) h.0)
+  paired_there (x ∷ xs) (z ∷ ys) (suc k) y h e = paired_there xs ys k y h.1 e
 
 -- ---- numbers at their places
--- one number more at its place, after numbers that are at theirs
-pub stand_more : (ns ks is : List ℕ) (k i : ℕ) → StandAt ns ks is → slice_get ns k ≡ Some i → StandAt ns (ks ++ k ∷ []) (is ++ i ∷ [])
-stand_more ns [] [] k i s e = (e, tt)
-stand_more ns [] (j ∷ is) k i s e = absurd s
-stand_more ns (l ∷ ks) [] k i s e = absurd s
-stand_more ns (l ∷ ks) (j ∷ is) k i s e = (s.0, stand_more ns ks is k i s.1 e)
-
 -- numbers at their places stay there where more are appended
 pub stand_grown : (ns ms ks is : List ℕ) → StandAt ns ks is → StandAt (ns ++ ms) ks is
 stand_grown ns ms [] [] s = tt
@@ -63,51 +75,10 @@ stand_grown ns ms (l ∷ ks) (j ∷ is) s = (get_longer ns ms l j s.0, stand_gro
 pub stand_next : (old new ks more wanted : List ℕ) (n k : ℕ) → StandAt old ks (take n wanted) → Grows old new
     → slice_get new k ≡ Some (slice_index_or wanted n 0) → n < length wanted → more ≡ ks ++ k ∷ [] → StandAt new more (take (n + 1) wanted)
 stand_next old new ks more wanted n k s g t l m =
-    let grown : StandAt new ks (take n wanted) = subst (λ (xs : List ℕ). StandAt xs ks (take n wanted)) (sym g.is)
-    (stand_grown old g.more ks (take n wanted) s) in
-    let next = stand_more new ks (take n wanted) k (slice_index_or wanted n 0) grown t in
-    let one : suc n ≡ n + 1 = omega arith in
-    subst (λ (xs : List ℕ). StandAt new xs (take (n + 1) wanted)) (sym m)
-    (subst (λ (xs : List ℕ). StandAt new (ks ++ k ∷ []) xs) (sym (take_next wanted n l) ∙ ap (λ (i : ℕ). take i wanted) one) next)
-
-stand_length : (ns ks is : List ℕ) → StandAt ns ks is → length ks ≡ length is
-stand_length ns [] [] s = refl
-stand_length ns [] (j ∷ is) s = absurd s
-stand_length ns (l ∷ ks) [] s = absurd s
-stand_length ns (l ∷ ks) (j ∷ is) s = ap (λ (n : ℕ). suc n) (stand_length ns ks is s.1)
+    rw (m, take_more wanted n 0 l) (paired_more (λ k i. slice_get new k ≡ Some i) ks (take n wanted) k (slice_index_or wanted n 0)
+    (rw g.is (stand_grown old g.more ks (take n wanted) s)) t)
 
 -- ---- programs that were made
--- one program more that was made for its predicate, after programs that were made for theirs
-pub made_more : (table : List PredOf) (ns : List ℕ) (cs : List Part) (n : ℕ) (c : Part) → AreMade table ns cs → IsMadeOf table n c
-    → AreMade table (ns ++ n ∷ []) (cs ++ c ∷ [])
-made_more table [] [] n c a m = (m, tt)
-made_more table [] (d ∷ cs) n c a m = absurd a
-made_more table (j ∷ ns) [] n c a m = absurd a
-made_more table (j ∷ ns) (d ∷ cs) n c a m = (a.0, made_more table ns cs n c a.1 m)
-
-made_at : (table : List PredOf) (ns : List ℕ) (cs : List Part) (k i : ℕ) (c : Part) → AreMade table ns cs
-    → slice_get ns k ≡ Some i → slice_get cs k ≡ Some c → IsMadeOf table i c
-made_at table [] [] k i c a e f = absurd (none-some i e)
-made_at table [] (d ∷ cs) k i c a e f = absurd a
-made_at table (j ∷ ns) [] k i c a e f = absurd a
-made_at table (j ∷ ns) (d ∷ cs) zero i c a e f =
-    subst (λ (m : ℕ). IsMadeOf table m c) (some_same j i e) (subst (λ (x : Part). IsMadeOf table j x) (some_same d c f) a.0)
-made_at table (j ∷ ns) (d ∷ cs) (suc k) i c a e f = made_at table ns cs k i c a.1 e f
-
-made_kept : (table : List PredOf) (ns : List ℕ) (cs : List Part) → AreMade table ns cs → (k : ℕ) (c : Part)
-    → slice_get cs k ≡ Some c → IsProgram c
-made_kept table [] [] a k c e = absurd (none-some c e)
-made_kept table [] (d ∷ cs) a k c e = absurd a
-made_kept table (j ∷ ns) [] a k c e = absurd a
-made_kept table (j ∷ ns) (d ∷ cs) a zero c e = subst IsProgram (some_same d c e) a.0.kept
-made_kept table (j ∷ ns) (d ∷ cs) a (suc k) c e = made_kept table ns cs a.1 k c e
-
-made_length : (table : List PredOf) (ns : List ℕ) (cs : List Part) → AreMade table ns cs → length ns ≡ length cs
-made_length table [] [] a = refl
-made_length table [] (d ∷ cs) a = absurd a
-made_length table (j ∷ ns) [] a = absurd a
-made_length table (j ∷ ns) (d ∷ cs) a = ap (λ (n : ℕ). suc n) (made_length table ns cs a.1)
-
 -- a program that the compiler made
 pub new_made : (preds : List Pred) (i : ℕ) (c : Part) → i < length preds → IsProgramAt (map pred_of preds) i c → IsProgram c
     → IsMadeOf (map pred_of preds) i c
@@ -121,7 +92,7 @@ places_within table ns cs [] [] a s = All-nil (λ k. k < length cs)
 places_within table ns cs [] (i ∷ is) a s = absurd s
 places_within table ns cs (k ∷ ks) [] a s = absurd s
 places_within table ns cs (k ∷ ks) (i ∷ is) a s =
-    All-cons (λ (n : ℕ). n < length cs) k ks (subst (λ (n : ℕ). k < n) (made_length table ns cs a) (slice_get_within ns k i s.0))
+    All-cons (λ (n : ℕ). n < length cs) k ks (subst (λ (n : ℕ). k < n) (paired_length (IsMadeOf table) ns cs a) (slice_get_within ns k i s.0))
     (places_within table ns cs ks is a s.1)
 
 -- they are those of the predicates with these numbers
@@ -134,8 +105,9 @@ programs_at table ns cs (k ∷ ks) [] ps a s n = absurd s
 programs_at table ns cs (k ∷ ks) (i ∷ is) [] a s n = absurd n
 programs_at table ns cs (k ∷ ks) (i ∷ is) (p ∷ ps) a s n = (
   λ part e.
-      let m = made_at table ns cs k i part a s.0 e in
-      subst (λ (q : PredOf). IsProgramOf q part) (some_same m.pred p (sym m.there ∙ n.0)) m.carries,
+      let m = paired_there (IsMadeOf table) ns cs k part a e in
+      let same : m.2.pred ≡ p = cc (m.1, s.0, m.2.there, n.0) in
+      subst (λ (q : PredOf). IsProgramOf q part) same m.2.carries,
   programs_at table ns cs ks is ps a s.1 n.1,
 )
 
@@ -244,25 +216,21 @@ pub some_of_two : (n : ℕ) → 2 ≤ n → 1 ≤ n
 some_of_two n h = omega arith
 
 -- ---- all of it
-module _ (t : Table) (numbers : List ℕ) (pred : Pred) where
-  -- the first predicate is that of the first number
-  first_pred : (ps : List PredOf) → AreNumbered (map pred_of t.preds) numbers ps → 1 ≤ length numbers
-      → slice_get t.preds (slice_index_or numbers 0 0) ≡ Some pred → (others : List PredOf) × (ps ≡ pred_of pred ∷ others)
-  first_pred ps n l e = by_numbers numbers ps n l e
-    where
-      by_numbers : (is : List ℕ) (ps : List PredOf) → AreNumbered (map pred_of t.preds) is ps → 1 ≤ length is
-          → slice_get t.preds (slice_index_or is 0 0) ≡ Some pred → (others : List PredOf) × (ps ≡ pred_of pred ∷ others)
-      by_numbers [] ps n l e = absurd (omega (arith, l))
-      by_numbers (i ∷ is) [] n l e = absurd n
-      by_numbers (i ∷ is) (p ∷ ps) n l e = (ps, ap (λ (x : PredOf). x ∷ ps) (same_at t.preds i pred p e n.0))
+-- the first predicate is that of the first number
+first_pred : (preds : List Pred) (p : Pred) (is : List ℕ) (ps : List PredOf) → AreNumbered (map pred_of preds) is ps → 1 ≤ length is
+    → slice_get preds (slice_index_or is 0 0) ≡ Some p → (others : List PredOf) × (ps ≡ pred_of p ∷ others)
+first_pred preds p [] ps n l e = absurd (omega (arith, l))
+first_pred preds p (i ∷ is) [] n l e = absurd n
+first_pred preds p (i ∷ is) (q ∷ ps) n l e = (ps, ap (λ (x : PredOf). x ∷ ps) (same_at preds i p q e n.0))
 
+module _ (t : Table) (numbers : List ℕ) (pred : Pred) where
   -- named predicates of one shape, from one to eight, are factors: their programs keep the rules, over the same variables
   pub factors_fit : (names : List (List ℕ)) (programs : List Part) (which : List ℕ)
       → AreMadeAt (map pred_of t.preds) programs which numbers → HaveOneShape (map pred_of t.preds) numbers → 1 ≤ length numbers
       → length numbers ≤ 8 → slice_get t.preds (slice_index_or numbers 0 0) ≡ Some pred
       → AreFactors (factors_of pred names programs which)
   factors_fit names programs which m s l few e =
-      let first = first_pred s.preds s.numbered l e in
+      let first = first_pred t.preds pred numbers s.preds s.numbered l e in
       let v : TableOf = view t in
       let parts : Every (PredParts v.sites v.params) (pred_of pred ∷ first.0) =
       subst (λ (ps : List PredOf). Every (PredParts v.sites v.params) ps) first.1
@@ -273,9 +241,9 @@ module _ (t : Table) (numbers : List ℕ) (pred : Pred) where
       (programs_at (map pred_of t.preds) m.numbers programs which numbers s.preds m.made m.stand s.numbered) in
       record {
         places = places_within (map pred_of t.preds) m.numbers programs which numbers m.made m.stand;
-        kept = λ i part there. made_kept (map pred_of t.preds) m.numbers programs m.made i part there;
+        kept = λ i part there. (paired_there (IsMadeOf (map pred_of t.preds)) m.numbers programs i part m.made there).2.kept;
         over = over_programs pred.shape.sites pred.shape.vars programs which (pred_of pred ∷ first.0) at over;
-        few = subst (λ (n : ℕ). n ≤ 8) (sym (stand_length m.numbers which numbers m.stand)) few;
+        few = rw (paired_length (λ k i. slice_get m.numbers k ≡ Some i) which numbers m.stand) few;
       }
 
   -- they are the predicates that are given, with the names of the columns and, for each, its program
@@ -283,7 +251,7 @@ module _ (t : Table) (numbers : List ℕ) (pred : Pred) where
       → 1 ≤ length numbers → slice_get t.preds (slice_index_or numbers 0 0) ≡ Some pred → f.pred ≡ pred → f.names ≡ names_of t f.pred
       → ((ps : List PredOf) → AreNumbered (map pred_of t.preds) numbers ps → AreProgramsAt f.programs f.which ps) → AreGivenBy g f
   factors_given g f e n l there same names programs =
-      let first = first_pred g.preds n l there in
+      let first = first_pred t.preds pred numbers g.preds n l there in
       record {
         others = first.0;
         preds = first.1 ∙ ap (λ (p : Pred). pred_of p ∷ first.0) (sym same);
@@ -292,36 +260,19 @@ module _ (t : Table) (numbers : List ℕ) (pred : Pred) where
       }
 
 -- ---- scratches
-last_or_before : {A : Type 0} (xs : List A) (x : A) (k : ℕ) (y : A) → slice_get (xs ++ x ∷ []) k ≡ Some y
-    → (slice_get xs k ≡ Some y) ⊎ ((k ≡ length xs) × (x ≡ y))
-last_or_before [] x zero y e = inr (refl, some_same x y e)
-last_or_before [] x (suc k) y e = absurd (none-some y e)
-last_or_before (z ∷ xs) x zero y e = inl e
-last_or_before (z ∷ xs) x (suc k) y e =
-    elim (last_or_before xs x k y e) [ inl f ↦ inl f | inr f ↦ inr (ap (λ (n : ℕ). suc n) f.0, f.1) ]
+-- a scratch is made for the program at a place
+abbrev pub IsMadeAt : List Part → ℕ → Scratch → Type 0
+IsMadeAt programs i s = (p : Part) → slice_get programs i ≡ Some p → MadeFor p s
 
--- those of the first factors
-pub record AreMadeSoFar (programs : List Part) (which : List ℕ) (scratches : List Scratch) (count : ℕ) : Type 0 where
-  pub size : length scratches ≡ count
-  pub made : (k : ℕ) (p : Part) (s : Scratch) → IsFactor programs which k p → slice_get scratches k ≡ Some s → MadeFor p s
-
--- the step of `scratches`: one more, made for the program of the next factor
-pub one_more_made : (programs : List Part) (which : List ℕ) (ss : List Scratch) (s : Scratch) (n i : ℕ) (x : Part)
-    → AreMadeSoFar programs which ss n → slice_get which n ≡ Some i → slice_get programs i ≡ Some x → MadeFor x s
-    → AreMadeSoFar programs which (ss ++ s ∷ []) (n + 1)
-one_more_made programs which ss s n i x h w p m = record {
-  size = omega (arith, length-append ss (s ∷ []), h.size);
-  made = λ k q t f e. by k q t f (last_or_before ss s k t e);
+-- scratches for the programs at the factors' places are those of the factors
+pub made_for : (programs : List Part) (which : List ℕ) (ss : List Scratch) → Paired (IsMadeAt programs) which ss → AreMadeFor programs which ss
+made_for programs which ss h = record {
+  size = sym (paired_length (IsMadeAt programs) which ss h);
+  made = λ k p s f e.
+      let r = paired_there (IsMadeAt programs) which ss k s h e in
+      let same : r.0 ≡ f.place = cc (r.1, f.named) in
+      r.2 p (rw same f.there);
 }
-  where
-    by : (k : ℕ) (q : Part) (t : Scratch) → IsFactor programs which k q
-        → (slice_get ss k ≡ Some t) ⊎ ((k ≡ length ss) × (s ≡ t)) → MadeFor q t
-    by k q t f (inl e) = h.made k q t f e
-    by k q t f (inr e) =
-        let here : slice_get which k ≡ Some i = subst (λ (j : ℕ). slice_get which j ≡ Some i) (sym (e.0 ∙ h.size)) w in
-        let place : i ≡ f.place = some_same i f.place (sym here ∙ f.named) in
-        let same : x ≡ q = some_same x q (sym p ∙ subst (λ (j : ℕ). slice_get programs j ≡ Some q) (sym place) f.there) in
-        subst (λ (u : Scratch). MadeFor q u) e.1 (subst (λ (y : Part). MadeFor y s) same m)
 
 -- a row in range, by equal sites and variables
 pub range_as : (s t : ℕ) (v w : List VarInfo) (row : Row) → s ≡ t → v ≡ w → InRange s v row → InRange t w row

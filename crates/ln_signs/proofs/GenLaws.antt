@@ -1,6 +1,6 @@
 -- `gen`: what it requires is carried out by lines, and one step is one.
-use Rattle.std.proofs.Common.{◌≡◌, ◌≢◌, ℕ, suc, ◌+◌, ◌-◌, ◌<◌, ◌≤◌, Bool, true, false, List, []}
-use Rattle.std.proofs.Common.{◌∷◌, ◌++◌, length, refl, ap, sym, ◌∙◌, subst, arith, Option, Ok, Err}
+use Rattle.std.proofs.Common.{◌≡◌, ◌≢◌, ℕ, suc, ◌+◌, ◌-◌, ◌<◌, ◌≤◌, Bool, true, List, []}
+use Rattle.std.proofs.Common.{◌∷◌, ◌++◌, length, refl, ap, sym, ◌∙◌, subst, arith, Option, Err}
 use Rattle.std.specs.Prelude.{Result}
 use Rattle.rand_pcg.specs.Lcg.{Lcg}
 use Rattle.ln_base.specs.Outside.{Shown, refused}
@@ -19,7 +19,7 @@ use Rattle.ln_compile.proofs.Listing.FilteredLemmas.{one_due}
 use Rattle.ln_frame.specs.declared.status.End.{End}
 use Rattle.ln_frame.specs.declared.status.End.TheVariants.{Done}
 use Rattle.ln_frame.specs.declared.status.Early.{Early}
-use Rattle.ln_frame.specs.declared.status.Early.TheVariants.{Write, Memory}
+use Rattle.ln_frame.specs.declared.status.Early.TheVariants.{Memory}
 use Rattle.ln_frame.specs.Said.{Said, Count, whole}
 use Rattle.ln_frame.specs.Given.{Given}
 use Rattle.ln_frame.specs.Carried as c
@@ -32,9 +32,9 @@ use Rattle.ln_signs.specs.Target.{Belongs, TargetOf, pred_in}
 use Rattle.ln_frame.specs.Work as kind_of
 use Rattle.ln_frame.specs.Work.{IsWorkEnd}
 use Rattle.ln_signs.proofs.TargetLaws.{owed_there}
-use Rattle.ln_frame.proofs.Loops.{Written, StepTo, Streams, faults_in, each_good, LinesTo}
-use Rattle.ln_frame.proofs.LinesLaws.{Writing, running_none, no_last, SameLines, ok_err, memory_write, one_lines}
-use Rattle.ln_frame.proofs.LinesCarry.{Task, IsByLines, HasRun, EndsWith, early_carried, end_carried, close_carried}
+use Rattle.ln_frame.proofs.Loops.{Written, StepTo, Streams, faults_in, each_good}
+use Rattle.ln_frame.proofs.LinesLaws.{Writing, running_none, no_last, SameLines, one_lines}
+use Rattle.ln_frame.proofs.LinesCarry.{Task, IsByLines}
 use Rattle.ln_gen.proofs.MadeRangeLemmas.{words_in_range, words_length}
 use Rattle.ln_signs.proofs.WatchingLaws.{lines_alike, left_alike}
 use Rattle.ln_frame.proofs.Laws.{IsLawful, shape_objects}
@@ -100,12 +100,13 @@ silent_lines p s z (d ∷ ds) out err (l.more {out = o2} {err = e2} _ o e m t k)
 abbrev pub AnyPart : List ℕ → List ℕ → Type 0
 AnyPart out err = Unit {0}
 
-no_part : (owes : Said → Type 0) (puts : Count) (result : Result End Early) (was now : Option Shown) → result ≢ Err (Memory refused)
+-- where memory didn't run out, no part is left
+pub no_part : {owes : Said → Type 0} {puts : Count} {result : Result End Early} {was now : Option Shown} → result ≢ Err (Memory refused)
     → CarriesOut owes AnyPart ⊥ ⊥ puts result was now → CarriesOut owes NoPart ⊥ ⊥ puts result was now
-no_part owes puts result was now n (c.ended s q o r e) = c.ended s q o r e
-no_part owes puts result was now n (c.unread q u r e) = c.unread q u r e
-no_part owes puts result was now n (c.cut p l r) = c.cut p l r
-no_part owes puts result was now n (c.short q l r) = absurd (n r)
+no_part n (c.ended s q o r e) = c.ended s q o r e
+no_part n (c.unread q u r e) = c.unread q u r e
+no_part n (c.cut p l r) = c.cut p l r
+no_part n (c.short q l r) = absurd (n r)
 
 module _ (t : TargetOf) (rank : t.rank ≡ BySmallest) (belongs : Belongs t.rank t.pred t.program) where
   has : (s : List State) (d : Draw) → (out : List ℕ) × (err : List ℕ) × (z : List State) × GenStep (pred_in t) s d out err z
@@ -139,32 +140,8 @@ module _ (t : TargetOf) (rank : t.rank ≡ BySmallest) (belongs : Belongs t.rank
     }
 
     -- what it requires is by lines
-    by_lines : IsByLines task
+    pub by_lines : IsByLines task
     by_lines = record { has = has; whole = said_whole; first = λ done left out err z q d. tt }
-
-    -- what is carried out without a part that may be left
-    abbrev IsDone : Result End Early → Streams → Streams → Type 0
-    IsDone result was now = CarriesOut (GenSaid seed count boxes g) NoPart ⊥ ⊥ (faults_in was now) result was.shown now.shown
-
-    -- a write of a row's lines failed
-    pub rows_cut : {z : List State} {was now : Streams} → HasRun task (Err Write) z was now → IsDone (Err Write) was now
-    rows_cut {was = was} {now = now} r =
-        no_part (GenSaid seed count boxes g) (faults_in was now) (Err Write) was.shown now.shown (λ x. memory_write (sym x))
-        (early_carried by_lines r)
-
-    -- one of the last lines failed
-    pub close_cut : {z : List State} {was mid now : Streams} → HasRun task (Ok true) z was mid → EndsWith task false z mid now
-        → IsDone (Err Write) was now
-    close_cut {was = was} {now = now} r w =
-        no_part (GenSaid seed count boxes g) (faults_in was now) (Err Write) was.shown now.shown (λ x. memory_write (sym x))
-        (close_carried by_lines r w)
-
-    -- all lines stand
-    pub all_put : {z : List State} {was mid now : Streams} → HasRun task (Ok true) z was mid → EndsWith task true z mid now
-        → IsDone (Ok Done) was now
-    all_put {was = was} {now = now} r w =
-        no_part (GenSaid seed count boxes g) (faults_in was now) (Ok Done) was.shown now.shown (λ x. ok_err x)
-        (end_carried by_lines r w)
 
 -- the step of a row is one
 pub one_step : (q : Pred) (s : List State) (d : Draw) (a b : Written (List State)) → StepTo (GenStep (pred_of q)) s d a
@@ -187,22 +164,14 @@ kind : (g : Given) (e : End) → GenEnds g e → IsWorkEnd e
 kind g e done = kind_of.done
 
 -- `gen` requires one output
-gen_same : (seed count : ℕ) (boxes : List State) (q : Pred) (p r : PredOf) (a b : Written (List State)) → pred_of q ≡ r → p ≡ r
-    → LinesTo (GenStep p) boxes (draws count 0 p.vars (seeded seed)) a
-    → LinesTo (GenStep r) boxes (draws count 0 r.vars (seeded seed)) b
-    → whole Done (a.out ++ last_lines a.left) ≡ whole Done (b.out ++ last_lines b.left)
-gen_same seed count boxes q p r a b i f x k =
-    let x1 = subst (λ (t : PredOf). LinesTo (GenStep t) boxes (draws count 0 t.vars (seeded seed)) a) (f ∙ sym i) x in
-    let k1 = subst (λ (t : PredOf). LinesTo (GenStep t) boxes (draws count 0 t.vars (seeded seed)) b) (sym i) k in
-    let same = one_lines (GenStep (pred_of q)) (one_step q) boxes (draws count 0 q.shape.vars (seeded seed)) a b x1 k1 in
-    ap (λ t. whole Done (t ++ last_lines a.left)) same.outs ∙ ap (λ t. whole Done (b.out ++ last_lines t)) same.lefts
-
 gen_one : (seed count : ℕ) (boxes : List State) (g : Given) → IsGrounded g → (a b : Said) → GenSaid seed count boxes g a
     → GenSaid seed count boxes g b → a ≡ b
 gen_one seed count boxes g i a b (made p o y e x) (made r out z f k) =
-    let q = in_memory g r [] i f in
-    gen_same seed count boxes q.0 p r (record { out = o; err = []; left = y }) (record { out = out; err = []; left = z }) q.1
-    (ap (λ (xs : List PredOf). elim xs [ [] ↦ p | t ∷ rest ↦ t ]) (sym e ∙ f)) x k
+    let q = in_memory g p [] i e in
+    let other : r ≡ pred_of q.0 = cc (e, f, q.1) in
+    let same = one_lines (GenStep (pred_of q.0)) (one_step q.0) boxes (draws count 0 q.0.shape.vars (seeded seed))
+    (record { out = o; err = []; left = y }) (record { out = out; err = []; left = z }) (rw (← q.1) at x) (rw other at k) in
+    ap (λ t. whole Done (t ++ last_lines y)) same.outs ∙ ap (λ t. whole Done (out ++ last_lines t)) same.lefts
 
 -- the laws of a work hold for `gen`
 pub lawful : (seed count : ℕ) → IsLawful asks_nothing (gen_work seed count)

@@ -1,8 +1,8 @@
 -- `graded`: a predicate with few stages by total degree has a program in that order, with its verdicts.
 use Rattle.std.proofs.Common.{◌≡◌, inl, inr, ℕ, ◌≤◌, ◌<◌, List, [], ◌∷◌, length, map, option_map, refl, ap, sym, ◌∙◌, subst, arith}
-use Rattle.std.proofs.Common.{Some, Ok, Err, None, Result}
-use Rattle.std.specs.Prelude.{IfErr, IfOk, IfSome, slice_get, slice_index_or}
-use Rattle.std.proofs.lemmas.Option.{none-some, same_Some, slice_get-map}
+use Rattle.std.proofs.Common.{Some, Ok, Err, Result}
+use Rattle.std.specs.Prelude.{IfErr, IfOk, IfSome, IsSomeAnd, Option, slice_get, slice_index_or}
+use Rattle.std.proofs.lemmas.Option.{slice_get-map}
 use Rattle.ln_algebra.specs.Orders.{ByDegree}
 use Rattle.ln_algebra.specs.Terms.{IsNormalOf}
 use Rattle.ln_tree.specs.declared.pred.Pred.{Pred}
@@ -25,14 +25,7 @@ use Rattle.ln_graded.specs.declared.stop.GradedStop.{GradedStop}
 use Rattle.ln_graded.specs.declared.stop.GradedStop.TheVariants.{NoMemory, Stages}
 use Rattle.ln_graded.proofs.Joining.{all-at}
 use Rattle.ln_verify.proofs.Polynomials.SamePoly.{one-normal}
-use Rattle.ln_frame.specs.declared.stop.Stop.TheVariants.{Tell}
-use Rattle.ln_frame.specs.declared.stop.Why.TheVariants as why
-use Rattle.ln_signs.specs.Graded.{FirstHasFew, HasFewGraded, KeepsGraded}
-use Rattle.ln_signs.specs.Run.{graded_signature}
-use Rattle.ln_frame.specs.Ready.{AreNumbered}
-use Rattle.ln_frame.specs.Signature.{Refuses}
-use Rattle.ln_frame.specs.Source.{place_at}
-use Rattle.ln_frame.proofs.FindLaws.{same_at}
+use Rattle.ln_signs.specs.Graded.{HasFewGraded, KeepsGraded}
 
 -- ---- the first of the named predicates
 -- a predicate by its number has few stages, and this program by total degree
@@ -43,53 +36,17 @@ IsFewBy table i q = (p : PredOf) → slice_get table i ≡ Some p → HasFewGrad
 abbrev pub IsMany : List PredOf → ℕ → Type 0
 IsMany table i = (p : PredOf) → slice_get table i ≡ Some p → HasFewGraded p → ⊥
 
--- where none is named, nothing is asked
-pub none_first : (table : List PredOf) (numbers : List ℕ) (preds : List PredOf) → None ≡ slice_get numbers 0
-    → AreNumbered table numbers preds → FirstHasFew preds
-none_first table [] [] e n = tt
-none_first table [] (p ∷ ps) e n = absurd n
-none_first table (j ∷ js) preds e n = absurd (none-some j e)
-
--- and nothing is kept
-pub none_kept : (table : List PredOf) (numbers : List ℕ) → None ≡ slice_get numbers 0 → KeepsGraded table numbers None
-none_kept table [] e = tt
-none_kept table (j ∷ js) e = absurd (none-some j e)
-
--- where the predicate with the first number has few stages, the first named one has
-pub few_first : (table : List PredOf) (numbers : List ℕ) (i : ℕ) (q : Part) (preds : List PredOf) → Some i ≡ slice_get numbers 0
-    → IsFewBy table i q → AreNumbered table numbers preds → FirstHasFew preds
-few_first table [] i q preds e h n = absurd (none-some i (sym e))
-few_first table (j ∷ js) i q [] e h n = absurd n
-few_first table (j ∷ js) i q (p ∷ ps) e h n = (h p (subst (λ k. slice_get table k ≡ Some p) (sym (same_Some i j e)) n.0)).0
-
--- and its program is kept
-pub first_kept : (table : List PredOf) (numbers : List ℕ) (i : ℕ) (q : Part) → Some i ≡ slice_get numbers 0 → IsFewBy table i q
+-- the program of the first named predicate is kept
+pub first_kept : (table : List PredOf) (numbers : List ℕ) (q : Part) → IsFewBy table (slice_index_or numbers 0 0) q
     → KeepsGraded table numbers (Some q)
-first_kept table [] i q e h = absurd (none-some i (sym e))
-first_kept table (j ∷ js) i q e h = λ p a. (h p (subst (λ k. slice_get table k ≡ Some p) (sym (same_Some i j e)) a)).1
+first_kept table [] q h = tt
+first_kept table (i ∷ is) q h = λ p a. (h p a).1
 
--- where the predicate with the first number has too many stages, the objection is at the place of the first named one
-pub many_first : (preds : List Pred) (numbers : List ℕ) (i : ℕ) (q : Pred) (bytes : List ℕ) (ps : List PredOf) → Some i ≡ slice_get numbers 0
-    → slice_get preds i ≡ Some q → IsMany (map pred_of preds) i → AreNumbered (map pred_of preds) numbers ps
-    → Refuses graded_signature.suits bytes ps (Tell (why.Stages (place_at bytes q.at)))
-many_first preds [] i q bytes ps e a h n = absurd (none-some i (sym e))
-many_first preds (j ∷ js) i q bytes [] e a h n = absurd n
-many_first preds (j ∷ js) i q bytes (p ∷ ps) e a h n =
-    let there : slice_get (map pred_of preds) i ≡ Some p =
-    subst (λ k. slice_get (map pred_of preds) k ≡ Some p) (sym (same_Some i j e)) n.0 in
-    let s : p ≡ pred_of q = same_at preds i q p a there in
-    (ap (λ (x : PredOf). why.Stages (place_at bytes x.at)) (sym s), h p there)
-
--- where a predicate is named, the program that is kept is that of the first number
-pub kept_named : (table : List PredOf) (numbers : List ℕ) (q : Part) → 1 ≤ length numbers → KeepsGraded table numbers (Some q)
-    → (p : PredOf) → slice_get table (slice_index_or numbers 0 0) ≡ Some p → AnswersFor ByDegree p q
-kept_named table [] q l h p e = absurd (omega (arith, l))
-kept_named table (i ∷ is) q l h p e = h p e
-
--- and there is one
-pub is_kept : (table : List PredOf) (numbers : List ℕ) → 1 ≤ length numbers → KeepsGraded table numbers None → ⊥
-is_kept table [] l h = omega (arith, l)
-is_kept table (i ∷ is) l h = h
+-- where a predicate is named, a program of that of the first number is kept
+pub kept_first : (table : List PredOf) (numbers : List ℕ) (kept : Option Part) → 1 ≤ length numbers → KeepsGraded table numbers kept
+    → IsSomeAnd kept (λ q. (p : PredOf) → slice_get table (slice_index_or numbers 0 0) ≡ Some p → AnswersFor ByDegree p q)
+kept_first table [] kept l h = absurd (omega (arith, l))
+kept_first table (i ∷ is) kept l h = h
 
 -- ---- few stages
 -- stage lists that pass a limit

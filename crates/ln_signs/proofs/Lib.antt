@@ -7,12 +7,9 @@ pub mod ProductLaws
 pub mod RowsLaws
 pub mod SignsLaws
 pub mod RunLaws
-pub mod SaysLaws
 pub mod TargetLaws
 pub mod BoxLemmas
 pub mod FewRecords
 pub mod OneLine
-pub mod OneProduct
 pub mod WatchingLaws
-pub mod AlikeLaws
 pub mod PutLemmas

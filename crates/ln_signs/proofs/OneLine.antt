@@ -1,27 +1,12 @@
--- A record requires one line, and a predicate one stage count.
-use Rattle.std.proofs.Common.{◌≡◌, ℕ, List, ◌∷◌, ◌++◌, Option, Result, Ok, Err, refl, ap, sym, ◌∙◌, subst}
-use Rattle.ln_algebra.specs.Orders.{Rank}
-use Rattle.ln_tree.specs.declared.pred.Pred.{Pred}
+-- What is said of a record: each record has something that is said of it, and that is one.
+use Rattle.std.proofs.Common.{◌≡◌, ℕ, List, Result, Ok, Err, Option, refl, ap, sym, subst}
 use Rattle.ln_tree.specs.Row.{Row}
-use Rattle.ln_tree.specs.Table.{pred_of}
-use Rattle.ln_order.proofs.Signs.SitesLemmas.{kept}
-use Rattle.ln_rows.specs.Record.{read_row}
-use Rattle.ln_rows.proofs.Fields.RangeLemmas.{row_in_range}
-use Rattle.ln_rows.specs.declared.record.RowStop.{RowStop}
+use Rattle.ln_tree.specs.Table.{PredOf}
 use Rattle.ln_code.specs.declared.verdict.Verdict.{Verdict}
-use Rattle.ln_signs.specs.Watching.{Watching, next_lines, next}
-use Rattle.ln_signs.proofs.WatchingLaws.{alike_lines, alike_next}
-use Rattle.ln_compile.specs.Filtered.{IsDueIn}
-use Rattle.ln_due.specs.DueLaw.{Agree}
-use Rattle.ln_compile.proofs.Listing.FilteredLemmas.{one_due_in}
-use Rattle.ln_signs.specs.Line.{sign_text, decider_text, said_text, Says, due, refused_}
-use Rattle.ln_signs.specs.Signs.{RunLine, shown_of}
-use Rattle.ln_frame.specs.Said.{line}
-
--- verdicts that agree have one text
-agree_text : (names : List (List ℕ)) (v w : Verdict) → Agree v w → said_text names (Ok v) ≡ said_text names (Ok w)
-agree_text names v w a =
-    ap (λ s. sign_text s ++ 32 ∷ decider_text v.by) a.sign ∙ ap (λ b. sign_text w.sign ++ 32 ∷ decider_text b) a.by
+use Rattle.ln_rows.specs.Record.{read_row}
+use Rattle.ln_rows.specs.declared.record.RowStop.{RowStop}
+use Rattle.ln_signs.specs.Line.{SaysOf, due, is_bare, refused_}
+use Rattle.ln_signs.specs.Rows.{SaysLine}
 
 -- a record is read as one row
 pub same_row : (r s : Row) (o : Result Row RowStop) → o ≡ Ok r → o ≡ Ok s → r ≡ s
@@ -35,31 +20,39 @@ same_stop r s o e f = cc
 pub not_both : (r : Row) (s : RowStop) (o : Result Row RowStop) → o ≡ Ok r → o ≡ Err s → ⊥
 not_both r s o e f = cc
 
-says_one : (rank : Rank) (p : Pred) (names fields : List (List ℕ)) {x y : Result Verdict RowStop} → Says rank (pred_of p) fields x
-    → Says rank (pred_of p) fields y → said_text names x ≡ said_text names y
-says_one rank p names fields (due r v e d) (due s w f g) =
-    let q : s ≡ r = same_row s r (read_row p.shape.sites p.shape.vars fields) f e in
-    agree_text names v w (one_due_in rank p.shape (pred_of p) r v w refl refl
-    (row_in_range p.shape.sites p.shape.vars fields r p.shape.kept e) d (subst (λ (z : Row). IsDueIn rank (pred_of p) z w) q g))
-says_one rank p names fields (due r v e d) (refused_ s f) = absurd (not_both r s (read_row p.shape.sites p.shape.vars fields) e f)
-says_one rank p names fields (refused_ s f) (due r v e d) = absurd (not_both r s (read_row p.shape.sites p.shape.vars fields) e f)
-says_one rank p names fields (refused_ s e) (refused_ t f) =
-    ap (λ (z : RowStop). said_text names (Err z)) (same_stop s t (read_row p.shape.sites p.shape.vars fields) e f)
+-- a record is read as a row, or not
+pub by_read : {X : Type 0} (p : PredOf) (fields : List (List ℕ)) → ((row : Row) → read_row p.sites p.vars fields ≡ Ok row → X)
+    → ((stop : RowStop) → read_row p.sites p.vars fields ≡ Err stop → X) → X
+by_read {X = X} p fields f g = go (read_row p.sites p.vars fields) refl
+  where
+    go : (o : Result Row RowStop) → read_row p.sites p.vars fields ≡ o → X
+    go (Ok row) e = f row e
+    go (Err stop) e = g stop e
 
--- a record has one line
-pub one_line : (rank : Rank) (p : Pred) (names : List (List ℕ)) {n : ℕ} {fields : List (List ℕ)} {x y : Option Verdict} {a b : List ℕ}
-    → RunLine rank (pred_of p) names n fields x a → RunLine rank (pred_of p) names n fields y b → a ≡ b
-one_line rank p names {fields = fields} l k = l.is ∙ ap line (says_one rank p names fields l.says k.says) ∙ sym k.is
+-- where each row is owed something, a record is
+pub said_there : {T : Type 0} (IsOwed : Row → T → Type 0) (p : PredOf) (fields : List (List ℕ))
+    → ((row : Row) → read_row p.sites p.vars fields ≡ Ok row → (v : T) × IsOwed row v) → (said : Result T RowStop) × SaysOf IsOwed p fields said
+said_there IsOwed p fields f =
+    by_read p fields (λ row e. let v = f row e in (Ok v.0, due row v.0 e v.1)) (λ stop e. (Err stop, refused_ stop e))
 
--- watchers write the same and remain the same
-pub says_alike : (rank : Rank) (p : Pred) (fields : List (List ℕ)) {x y : Result Verdict RowStop} → Says rank (pred_of p) fields x
-    → Says rank (pred_of p) fields y → (w : Watching)
-    → (next_lines (shown_of x) w ≡ next_lines (shown_of y) w) × (next (shown_of x) w ≡ next (shown_of y) w)
-says_alike rank p fields (due r v e d) (due s u f g) w =
-    let q : s ≡ r = same_row s r (read_row p.shape.sites p.shape.vars fields) f e in
-    let a = one_due_in rank p.shape (pred_of p) r v u refl refl (row_in_range p.shape.sites p.shape.vars fields r p.shape.kept e) d
-    (subst (λ (z : Row). IsDueIn rank (pred_of p) z u) q g) in
-    (alike_lines v u w a.sign a.by, alike_next v u w a.sign a.by)
-says_alike rank p fields (due r v e d) (refused_ s f) w = absurd (not_both r s (read_row p.shape.sites p.shape.vars fields) e f)
-says_alike rank p fields (refused_ s f) (due r v e d) w = absurd (not_both r s (read_row p.shape.sites p.shape.vars fields) e f)
-says_alike rank p fields (refused_ s e) (refused_ t f) w = (refl, refl)
+-- what is said has a line
+pub line_of : {T : Type 0} {IsTrueOf : T → Type 0} (verdict_in : T → Option Verdict) (text_for : T → List ℕ) → (said : T) × IsTrueOf said
+    → (shown : Option Verdict) × (text : List ℕ) × SaysLine IsTrueOf verdict_in text_for shown text
+line_of verdict_in text_for s = (_, _, record { said = s.0; says = s.1; shows = refl; is = refl })
+
+-- two things that are said of a record are alike, where what rows are owed is
+pub says_alike : {T : Type 0} {IsOwed : Row → T → Type 0} (p : PredOf) (fields : List (List ℕ)) (R : Result T RowStop → Result T RowStop → Type 0)
+    → ((row : Row) (v w : T) → read_row p.sites p.vars fields ≡ Ok row → IsOwed row v → IsOwed row w → R (Ok v) (Ok w))
+    → ((stop : RowStop) → R (Err stop) (Err stop)) → (x y : Result T RowStop) → SaysOf IsOwed p fields x → SaysOf IsOwed p fields y → R x y
+says_alike {IsOwed = IsOwed} p fields R f g (Ok v) (Ok w) (due r _ e d) (due s _ h k) =
+    f r v w e d (subst (λ z. IsOwed z w) (same_row s r (read_row p.sites p.vars fields) h e) k)
+says_alike p fields R f g (Ok v) (Err s) (due r _ e d) (refused_ _ h) = absurd (not_both r s (read_row p.sites p.vars fields) e h)
+says_alike p fields R f g (Err s) (Ok v) (refused_ _ h) (due r _ e d) = absurd (not_both r s (read_row p.sites p.vars fields) e h)
+says_alike p fields R f g (Err s) (Err t) (refused_ _ e) (refused_ _ h) =
+    subst (λ z. R (Err s) (Err z)) (same_stop s t (read_row p.sites p.vars fields) e h) (g s)
+
+-- what is said of a record names a column where the record's fault does
+pub bare_same : {T : Type 0} {IsOwed : Row → T → Type 0} (p : PredOf) (fields : List (List ℕ)) {said : Result T RowStop}
+    → SaysOf IsOwed p fields said → is_bare said ≡ is_bare (read_row p.sites p.vars fields)
+bare_same p fields (due row v read d) = sym (ap is_bare read)
+bare_same p fields (refused_ stop read) = sym (ap is_bare read)

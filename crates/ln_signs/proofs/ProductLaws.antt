@@ -1,23 +1,23 @@
 -- `product`: each record has a line, and one line, and so what it requires is one.
 use Rattle.std.proofs.Common.{◌≡◌, ℕ, zero, suc, ◌<◌, List, [], ◌∷◌, ◌++◌, length, take, refl, ap, sym, ◌∙◌, true}
-use Rattle.std.proofs.Common.{subst, arith, Some, Result, Ok, Err, Option, All}
+use Rattle.std.proofs.Common.{subst, arith, Some, None, Ok, All}
 use Rattle.std.specs.Prelude.{slice_get, ◌*ℤ◌}
 use Rattle.std.proofs.lemmas.List.Elements.{All-head, All-tail}
 use Rattle.ln_base.specs.declared.sign.Sign.{Sign}
 use Rattle.ln_base.specs.declared.sign.Sign.TheVariants.{Minus, Zero, Plus}
 use Rattle.ln_algebra.specs.Product.{multiplied_numbers}
+use Rattle.ln_tree.specs.declared.shape.Shape.{Shape}
 use Rattle.ln_tree.specs.declared.shape.VarInfo.{VarInfo}
 use Rattle.ln_tree.specs.Row.{InRange, Row}
 use Rattle.ln_tree.specs.Table.{PredOf, pred_of, TableOf}
 use Rattle.ln_tree.specs.declared.pred.Pred.{Pred}
-use Rattle.ln_frame.specs.Said.{Said}
+use Rattle.ln_frame.specs.Said.{line}
 use Rattle.ln_frame.specs.Given.{Given}
-use Rattle.ln_signs.specs.Run.{HasRecords}
-use Rattle.ln_signs.specs.Factors.{AreFactors, AreGivenBy, AreProgramsAt, FactorsOf, IsInRangeOf}
-use Rattle.ln_signs.specs.Product.{AreDue, ProductSaid, due, refused_, product_work, ProductLine}
+use Rattle.ln_signs.specs.Factors.{AreFactors, AreProgramsAt, FactorsOf, IsInRangeOf}
+use Rattle.ln_signs.specs.Line.{decider_text}
+use Rattle.ln_signs.specs.Product.{AreDue, IsMultiplied, Multiplied, ProductLine, deciders_after, product_text, product_work}
 use Rattle.ln_frame.proofs.Laws.{IsLawful, shape_objects}
-use Rattle.ln_frame.proofs.Grounded.{IsGrounded, each_found, in_memory}
-use Rattle.ln_signs.proofs.OneProduct.{one_product}
+use Rattle.ln_frame.proofs.Grounded.{IsGrounded, each_found}
 use Rattle.ln_code.specs.declared.row.Row as code
 use Rattle.ln_code.specs.declared.verdict.Verdict.{Verdict}
 use Rattle.ln_code.specs.Kept.{IsProgram}
@@ -26,23 +26,21 @@ use Rattle.ln_code.specs.RowOf.{row_of}
 use Rattle.ln_code.specs.Verdict.{IsVerdict}
 use Rattle.ln_code.proofs.Verdicts.Machine.{programs-run, rows-have}
 use Rattle.ln_due.specs.Due.{sign_number}
+use Rattle.ln_due.specs.DueLaw.{Agree}
+use Rattle.ln_due.proofs.Verdicts.UniqueLemmas.{sign-number-same}
 use Rattle.ln_factor.specs.Factors.{AreOver, AreVerdicts, IsFactor, IsRowOfFactors, numbers_of}
 use Rattle.ln_compile.specs.Compiled.{IsProgramOf}
-use Rattle.ln_compile.proofs.Listing.FilteredLemmas.{programs_answer}
-use Rattle.ln_rows.specs.Left.{records_in}
-use Rattle.ln_rows.specs.Record.{read_row}
-use Rattle.ln_rows.specs.declared.record.RowStop.{RowStop}
+use Rattle.ln_compile.proofs.Listing.FilteredLemmas.{one_due, programs_answer}
 use Rattle.ln_rows.proofs.Fields.RangeLemmas.{row_in_range}
 use Rattle.ln_parse.specs.ReadsBack.{Every}
 use Rattle.ln_parse.proofs.Wholes.WholeParts.{PredParts, table_parts}
 use Rattle.ln_parse.proofs.ReadBack.InputsThere.{at_place}
-use Rattle.ln_signs.proofs.RunLaws as run_laws
 use Rattle.ln_signs.proofs.FactorsLaws.{range_as, IsOver, alike_over}
 use Rattle.ln_frame.specs.Signature.{asks_shape}
 use Rattle.ln_signs.specs.Alike.{are_alike}
 use Rattle.ln_frame.specs.Source.{view}
-use Rattle.ln_signs.specs.Watching.{next, next_lines}
-use Rattle.ln_signs.proofs.RowsLaws.{HasOneLine, rows_one, tells}
+use Rattle.ln_signs.proofs.OneLine.{line_of, said_there, says_alike}
+use Rattle.ln_signs.proofs.RowsLaws.{HasLines, HasOneLine, SameLine, lawful_rows, one_line, unseen}
 
 -- ---- verdicts
 module _ (sites : ℕ) (vars : List VarInfo) (programs : List Part)
@@ -133,25 +131,15 @@ sign_there (v ∷ vs) =
     (u.0, u.1 ∙ ap (λ z. sign_number v.sign *ℤ z) t.1)
 
 -- ---- lines
--- what stands ready for the factors has the records of the one file
-pub has_records : (g : Given) (t : FactorsOf) (rows : List ℕ) → AreGivenBy g t → g.texts ≡ rows ∷ []
-    → HasRecords g (pred_of t.pred) t.names (records_in rows)
-has_records g t rows h text = record { others = h.others; pred = h.preds; columns = h.names; rows = rows; text = text; are = refl }
-
-module _ (t : FactorsOf) (fits : AreFactors t) (ps : List PredOf) (programs : AreProgramsAt t.programs t.which ps) where
-  -- each record has a line
-  pub line_there : (number : ℕ) (fields : List (List ℕ))
-      → (shown : Option Verdict) × (text : List ℕ) × ProductLine ps (pred_of t.pred) t.names number fields shown text
-  line_there number fields = by_read (read_row t.pred.shape.sites t.pred.shape.vars fields) refl
-    where
-      by_read : (r : Result Row RowStop) → read_row t.pred.shape.sites t.pred.shape.vars fields ≡ r
-          → (shown : Option Verdict) × (text : List ℕ) × ProductLine ps (pred_of t.pred) t.names number fields shown text
-      by_read (Ok row) e =
-          let v = owed_all t.pred.shape.sites t.pred.shape.vars t.programs fits.kept row t.which ps fits.over
-          (row_in_range t.pred.shape.sites t.pred.shape.vars fields row t.pred.shape.kept e) fits.places programs in
-          let sign = sign_there v.0 in
-          (_, _, record { said = Ok (record { sign = sign.0; verdicts = v.0 }); says = due row _ e v.1 sign.1; shows = refl; is = refl })
-      by_read (Err x) e = (_, _, record { said = Err x; says = refused_ x e; shows = refl; is = refl })
+-- each record has a line
+pub line_there : (t : FactorsOf) → AreFactors t → (ps : List PredOf) → AreProgramsAt t.programs t.which ps
+    → HasLines (ProductLine ps) (pred_of t.pred) t.names
+line_there t fits ps programs number fields =
+    line_of (λ said. None) (λ said. line (product_text t.names said)) (said_there _ (pred_of t.pred) fields (λ row e.
+    let v = owed_all t.pred.shape.sites t.pred.shape.vars t.programs fits.kept row t.which ps fits.over
+    (row_in_range t.pred.shape.sites t.pred.shape.vars fields row t.pred.shape.kept e) fits.places programs in
+    let sign = sign_there v.0 in
+    (record { sign = sign.0; verdicts = v.0 }, (v.1, sign.1))))
 
 -- predicates with the same arguments are over the variables of the first
 pub all_over : (g : Given) → IsGrounded g → are_alike g.preds ≡ true → (p : PredOf) (others : List PredOf) → g.preds ≡ p ∷ others
@@ -165,31 +153,46 @@ all_over g i a p others e =
     alike_over t.sites t.params p others (subst (λ (ps : List PredOf). Every (PredParts t.sites t.params) ps) e found)
     (subst (λ (ps : List PredOf). are_alike ps ≡ true) e a)
 
--- a record has one line
-one_of_product : (q : Pred) (ps : List PredOf) → Every (IsOver q.shape.sites q.shape.vars) ps → (names : List (List ℕ))
-    → HasOneLine (ProductLine ps) (pred_of q) names
-one_of_product q ps over names n fields x y a b l k = record {
-  text = one_product q ps over names l k;
-  lines = λ w. ap (λ s. next_lines s w) (l.shows ∙ sym k.shows);
-  lefts = λ w. ap (λ s. next s w) (l.shows ∙ sym k.shows);
-}
+-- verdicts that the factors owe a row have the same signs and deciders
+record AreAlike (vs ws : List Verdict) : Type 0 where
+  deciders : (byte : ℕ) → deciders_after byte vs ≡ deciders_after byte ws
+  numbers : numbers_of vs ≡ numbers_of ws
 
-product_one : (g : Given) → IsGrounded g → are_alike g.preds ≡ true → (a b : Said) → ProductSaid g a → ProductSaid g b → a ≡ b
-product_one g i v = rows_one [] (ProductLine g.preds) [] g one
-  where
-    one : (p : PredOf) (others : List PredOf) → g.preds ≡ p ∷ others → (names : List (List ℕ)) → HasOneLine (ProductLine g.preds) p names
-    one p others f names =
-        let q = in_memory g p others i f in
-        let over : Every (IsOver p.sites p.vars) g.preds = subst (Every (IsOver p.sites p.vars)) (sym f) (all_over g i v p others f) in
-        let here = one_of_product q.0 g.preds (subst (λ (t : PredOf). Every (IsOver t.sites t.vars) g.preds) (sym q.1) over) names in
-        subst (λ (t : PredOf). HasOneLine (ProductLine g.preds) t names) q.1 here
+agree_all : (s : Shape) (row : Row) → InRange s.sites s.vars row → (ps : List PredOf) (vs ws : List Verdict)
+    → Every (IsOver s.sites s.vars) ps → AreDue ps row vs → AreDue ps row ws → AreAlike vs ws
+agree_all s row r [] [] [] o d g = record { deciders = λ byte. refl; numbers = refl }
+agree_all s row r [] (v ∷ vs) ws o d g = absurd d
+agree_all s row r [] [] (w ∷ ws) o d g = absurd g
+agree_all s row r (p ∷ ps) [] ws o d g = absurd d
+agree_all s row r (p ∷ ps) (v ∷ vs) [] o d g = absurd g
+agree_all s row r (p ∷ ps) (v ∷ vs) (w ∷ ws) o d g =
+    let range = range_as s.sites p.sites s.vars p.vars row (sym o.0.0) (sym o.0.1) r in
+    let a : Agree v w = one_due s p row v w o.0.1 o.0.0 range d.0 g.0 in
+    let rest = agree_all s row r ps vs ws o.1 d.1 g.1 in
+    record {
+      deciders = λ byte. ap (λ x. byte ∷ decider_text x ++ deciders_after 44 vs) a.by
+          ∙ ap (λ t. byte ∷ decider_text w.by ++ t) (rest.deciders 44);
+      numbers = ap (λ x. sign_number x ∷ numbers_of vs) a.sign ∙ ap (λ t. sign_number w.sign ∷ t) rest.numbers;
+    }
+
+-- verdicts that a row requires have one line
+agreed : (q : Pred) (ps : List PredOf) → Every (IsOver q.shape.sites q.shape.vars) ps → (names : List (List ℕ)) (row : Row) (m k : Multiplied)
+    → InRange q.shape.sites q.shape.vars row → AreDue ps row m.verdicts × IsMultiplied m → AreDue ps row k.verdicts × IsMultiplied k
+    → SameLine None None (line (product_text names (Ok m))) (line (product_text names (Ok k)))
+agreed q ps over names row m k range d g =
+    let same = agree_all q.shape row range ps m.verdicts k.verdicts over d.0 g.0 in
+    let sign : m.sign ≡ k.sign = sign-number-same m.sign k.sign (d.1 ∙ ap multiplied_numbers same.numbers ∙ sym g.1) in
+    unseen (rw (sign, same.deciders 32) refl)
+
+-- a record has one line
+one_product : (q : Pred) (ps : List PredOf) → Every (IsOver q.shape.sites q.shape.vars) ps → (names : List (List ℕ))
+    → HasOneLine (ProductLine ps) (pred_of q) names
+one_product q ps over names n fields x y a b =
+    one_line (says_alike (pred_of q) fields (λ s t. SameLine None None (line (product_text names s)) (line (product_text names t)))
+    (λ row m k e. agreed q ps over names row m k (row_in_range q.shape.sites q.shape.vars fields row q.shape.kept e)) (λ stop. unseen refl))
 
 -- the laws of a work hold for `product`
 pub lawful : IsLawful (asks_shape (λ preds. are_alike preds ≡ true)) product_work
-lawful = record {
-  tells = λ boxes g. tells [] (ProductLine g.preds) [] g;
-  single = run_laws.one;
-  kind = run_laws.kind;
-  objects = shape_objects;
-  said = λ v boxes. product_one;
-}
+lawful =
+    lawful_rows (asks_shape (λ preds. are_alike preds ≡ true)) [] ProductLine (λ boxes. []) shape_objects (λ g i s q others f.
+    one_product q g.preds (subst (Every (IsOver q.shape.sites q.shape.vars)) (sym f) (all_over g i s (pred_of q) others f)))

@@ -1,37 +1,35 @@
 -- Work on records: what it requires is carried out by lines, has one end, and is one where each line is.
-use Rattle.std.proofs.Common.{◌≡◌, ℕ, Bool, true, false, List, [], ◌∷◌, ◌++◌, refl, ap, sym, ◌∙◌, subst, Option, Result, Ok, Err, arith}
+use Rattle.std.proofs.Common.{◌≡◌, ℕ, Bool, true, false, List, [], ◌∷◌, ◌++◌, refl, ap, sym, ◌∙◌, subst, Option, None, Ok, Err, arith}
 use Rattle.std.proofs.lemmas.List.{append-nil}
 use Rattle.ln_base.specs.Outside.{Shown}
-use Rattle.ln_tree.specs.Table.{PredOf}
+use Rattle.ln_tree.specs.declared.pred.Pred.{Pred}
+use Rattle.ln_tree.specs.Table.{PredOf, pred_of}
 use Rattle.ln_code.specs.declared.verdict.Verdict.{Verdict}
 use Rattle.ln_rows.specs.Left.{Records}
 use Rattle.ln_watch.specs.Panel.{State, last_lines}
-use Rattle.ln_frame.specs.declared.status.End.{End}
-use Rattle.ln_frame.specs.declared.status.Early.{Early}
 use Rattle.ln_frame.specs.declared.status.Early.TheVariants.{Write}
-use Rattle.ln_frame.specs.declared.stop.Stop.TheVariants as stop
-use Rattle.ln_frame.specs.declared.stop.Why.TheVariants.{Header}
-use Rattle.ln_frame.specs.Said.{Said, Count, count}
+use Rattle.ln_frame.specs.Said.{Said, count}
 use Rattle.ln_frame.specs.Given.{Given}
 use Rattle.ln_signs.specs.Line.{is_row}
 use Rattle.ln_frame.specs.Lines as l
 use Rattle.ln_frame.specs.Lines.{Lines, Takes, Wrote, all_good, took, tore}
-use Rattle.ln_frame.specs.Carried as carried
-use Rattle.ln_frame.specs.Carried.{CarriesOut}
 use Rattle.ln_signs.specs.Run as run
 use Rattle.ln_signs.specs.Run.{HasRecords, RunEnds, end_of}
-use Rattle.ln_frame.specs.Columns.{IsWrongHeader}
 use Rattle.ln_signs.specs.Rows as rows
-use Rattle.ln_signs.specs.Rows.{LineOf, RowStep, RowsPart, RowsSaid, said_of_rows}
+use Rattle.ln_signs.specs.Rows.{LineOf, RowStep, RowsPart, RowsSaid, SaysLine, rows_work, said_of_rows}
 use Rattle.ln_signs.specs.Watching.{Watching, watching, next_lines, next, last_of}
-use Rattle.ln_frame.proofs.Carry.{told_carried}
-use Rattle.ln_signs.proofs.RunLaws.{Sheet, ends_by, same_sheet, sheet, wrong_right}
+use Rattle.ln_frame.proofs.HeaderLaws.{tail_same}
+use Rattle.ln_signs.proofs.RunLaws.{ends_by, same_given, wrong_right}
 use Rattle.ln_frame.proofs.Loops.{StepTo, Written}
 use Rattle.ln_signs.proofs.WatchingLaws.{none_left, none_told}
 use Rattle.ln_frame.proofs.LinesLaws.{SameLines, no_last, one_lines, wrote_all, broke_off, lines_have}
 use Rattle.ln_frame.proofs.LinesCarry.{IsByLines, Task}
 use Rattle.std.proofs.Common.{◌+◌, ◌<◌, length}
 use Rattle.ln_frame.proofs.HeadCarry.{IsHeaded, after_head}
+use Rattle.ln_frame.proofs.Laws.{IsLawful, IsNoUsage}
+use Rattle.ln_frame.proofs.Grounded.{IsGrounded, in_memory}
+use Rattle.ln_frame.specs.Signature.{Asked}
+use Rattle.ln_signs.proofs.RunLaws as run_laws
 
 -- a record was taken
 pub takes_all : (line : LineOf) (p : PredOf) (names : List (List ℕ)) {fields : List (List ℕ)} {shown : Option Verdict} {out held grown : List ℕ}
@@ -50,14 +48,6 @@ pub takes_cut : (line : LineOf) (p : PredOf) (names : List (List ℕ)) {fields :
 takes_cut line p names {shown = shown} {out = out} {before = before} {n = n} {m = m} {was = was} {now = now} l g w =
     let e = broke_off [] (next_lines shown before) (count n m) was now w in
     tore out (next_lines shown before) (next shown before) (record { shown = shown; is = l; told = refl; left = refl }) e.0 refl e.1
-
--- the header is wrong
-pub header_carried : (first : List ℕ) (line : LineOf) (boxes : List State) (g : Given) (p : PredOf) (names : List (List ℕ)) (records : Records)
-    (puts : Count) (result : Result End Early) (was now : Option Shown) → HasRecords g p names records → IsWrongHeader names records
-    → carried.Says (stop.Tell Header) puts result was now
-    → CarriesOut (RowsSaid first line boxes g) (RowsPart first line boxes g) ⊥ ⊥ puts result was now
-header_carried first line boxes g p names records puts result was now h w s =
-    told_carried (RowsSaid first line boxes g) (RowsPart first line boxes g) ⊥ ⊥ puts Header result was now (rows.header p names records h w) s
 
 -- each record has a line
 abbrev pub HasLines : LineOf → PredOf → List (List ℕ) → Type 0
@@ -134,6 +124,22 @@ HasOneLine line p names =
     (n : ℕ) (fields : List (List ℕ)) (x y : Option Verdict) (a b : List ℕ) → line p names n fields x a → line p names n fields y b
     → SameLine x y a b
 
+-- nothing is shown with one text
+pub unseen : {a b : List ℕ} → a ≡ b → SameLine None None a b
+unseen e = record { text = e; lines = λ w. refl; lefts = λ w. refl }
+
+-- a line of what is said is one where two things that are true of the record are shown and written alike
+pub one_line : {T : Type 0} {IsTrueOf : T → Type 0} {verdict_in : T → Option Verdict} {text_for : T → List ℕ} {x y : Option Verdict}
+    {a b : List ℕ} → ((s t : T) → IsTrueOf s → IsTrueOf t → SameLine (verdict_in s) (verdict_in t) (text_for s) (text_for t))
+    → SaysLine IsTrueOf verdict_in text_for x a → SaysLine IsTrueOf verdict_in text_for y b → SameLine x y a b
+one_line o l k =
+    let same = o l.said k.said l.says k.says in
+    record {
+      text = l.is ∙ same.text ∙ sym k.is;
+      lines = λ w. ap (λ s. next_lines s w) l.shows ∙ same.lines w ∙ ap (λ s. next_lines s w) (sym k.shows);
+      lefts = λ w. ap (λ s. next s w) l.shows ∙ same.lefts w ∙ ap (λ s. next s w) (sym k.shows);
+    }
+
 one_step : (line : LineOf) (p : PredOf) (names : List (List ℕ)) → HasOneLine line p names → (w : Watching) (fields : List (List ℕ))
     (a b : Written Watching) → StepTo (RowStep (line p names)) w fields a → StepTo (RowStep (line p names)) w fields b → SameLines a b
 one_step line p names o w fields a b s t =
@@ -148,37 +154,52 @@ pub record IsOfRows (first : List ℕ) (line : LineOf) (boxes : List State) (p :
   pub lines : Lines (RowStep (line p names)) (watching 0 boxes) records out err left
   pub is : a ≡ said_of_rows first p records out err left
 
-module _ (first : List ℕ) (line : LineOf) (boxes : List State) (g : Given) where
-  of_sheet : (x y : Sheet) {out err : List ℕ} {z : Watching} → x ≡ y
-      → Lines (RowStep (line x.pred x.names)) (watching 0 boxes) x.records out err z
-      → IsOfRows first line boxes y.pred y.names y.records (said_of_rows first x.pred x.records out err z)
-  of_sheet x y {out = out} {err = err} {z = z} e d = record {
-    out = out;
-    err = err;
-    left = z;
-    lines = subst (λ (t : Sheet). Lines (RowStep (line t.pred t.names)) (watching 0 boxes) t.records out err z) e d;
-    is = ap (λ (t : Sheet). said_of_rows first t.pred t.records out err z) e;
-  }
+-- a record of what is given has one line
+abbrev pub HaveOneLine : LineOf → Given → Type 0
+HaveOneLine line g =
+    (q : Pred) (others : List PredOf) → g.preds ≡ pred_of q ∷ others → (names : List (List ℕ)) → HasOneLine line (pred_of q) names
 
+module _ (first : List ℕ) (line : LineOf) (boxes : List State) (g : Given) where
   -- what is required of given records is of their lines
   pub of_rows : {p : PredOf} {names : List (List ℕ)} {records : Records} {a : Said} → RowsSaid first line boxes g a
       → HasRecords g p names (names ∷ records) → IsOfRows first line boxes p names records a
-  of_rows {p = p} {names = names} {records = records} (rows.header q ns rs h x) k = wrong_right g q p ns names rs records h x k
+  of_rows (rows.header q ns rs h x) k = wrong_right h x k
   of_rows {p = p} {names = names} {records = records} (rows.ran q ns rs out err z h d) k =
-      of_sheet (sheet q ns rs) (sheet p names records) (same_sheet g (sheet q ns rs) (sheet p names records) h k) d
+      let same = same_given h k in
+      let rest : rs ≡ records = tail_same same.2 in
+      record {
+        out = out;
+        err = err;
+        left = z;
+        lines = rw (same.0, same.1, rest) at d;
+        is = rw (same.0, rest) refl;
+      }
 
   -- where a record has one line, one thing is required
-  pub rows_one : ((p : PredOf) (others : List PredOf) → g.preds ≡ p ∷ others → (names : List (List ℕ)) → HasOneLine line p names) → (a b : Said)
-      → RowsSaid first line boxes g a → RowsSaid first line boxes g b → a ≡ b
-  rows_one o a b (rows.header p names rs h x) (rows.header q ns ss k y) = refl
-  rows_one o a b (rows.header p names rs h x) (rows.ran q ns ss out err z k d) = wrong_right g p q names ns rs ss h x k
-  rows_one o a b (rows.ran p names rs out err z h d) y =
+  pub rows_one : IsGrounded g → HaveOneLine line g → (a b : Said) → RowsSaid first line boxes g a → RowsSaid first line boxes g b → a ≡ b
+  rows_one i o a b (rows.header p names rs h x) (rows.header q ns ss k y) = refl
+  rows_one i o a b (rows.header p names rs h x) (rows.ran q ns ss out err z k d) = wrong_right h x k
+  rows_one i o a b (rows.ran p names rs out err z h d) y =
       let there = of_rows y h in
-      let same = one_lines (RowStep (line p names)) (one_step line p names (o p h.others h.pred names)) (watching 0 boxes) rs
+      let q = in_memory g p h.others i h.pred in
+      let one : HasOneLine line p names =
+      subst (λ t. HasOneLine line t names) q.1 (o q.0 h.others (h.pred ∙ ap (λ t. t ∷ h.others) (sym q.1)) names) in
+      let same = one_lines (RowStep (line p names)) (one_step line p names one) (watching 0 boxes) rs
       (record { out = out; err = err; left = z }) (record { out = there.out; err = there.err; left = there.left }) d there.lines in
       ap (λ (t : List ℕ). said_of_rows first p rs t err z) same.outs
       ∙ ap (λ (t : List ℕ). said_of_rows first p rs there.out t z) same.errs
       ∙ ap (λ (t : Watching). said_of_rows first p rs there.out there.err t) same.lefts ∙ sym there.is
+
+-- the laws of a work hold for a command that writes lines of records, where a record has one line
+pub lawful_rows : (suits : Asked) (first : List ℕ) (line : List PredOf → LineOf) (seers : List State → List State) → IsNoUsage suits
+    → ((g : Given) → IsGrounded g → suits.asks g.preds → HaveOneLine (line g.preds) g) → IsLawful suits (rows_work first line seers)
+lawful_rows suits first line seers n o = record {
+  tells = λ boxes g. tells first (line g.preds) (seers boxes) g;
+  single = run_laws.one;
+  kind = run_laws.kind;
+  objects = n;
+  said = λ v boxes g i s. rows_one first (line g.preds) (seers boxes) g i (o g i s);
+}
 
 -- where no watcher is handed in, none remains and nothing comes to Err
 pub lines_err : (line : ℕ → List (List ℕ) → Option Verdict → List ℕ → Type 0) (records : Records) (out err : List ℕ) (w z : Watching) → w.boxes ≡ []

@@ -109,76 +109,43 @@ ends_by p names records g h = by_good (all_good (is_row p) records) refl
         let s = some_is_none p records e in
         run.refused p names s.before s.after s.fields (subst (λ (rs : Records). HasRecords g p names (names ∷ rs)) s.stands h) s.none
 
--- two ways to see what is given are one
-pub same_pred : (g : Given) (p q : PredOf) (names others : List (List ℕ)) (rs ss : Records) → HasRecords g p names rs
-    → HasRecords g q others ss → p ≡ q
-same_pred g p q names others rs ss h k = ap (λ (xs : List PredOf). elim xs [ [] ↦ p | x ∷ rest ↦ x ]) (sym h.pred ∙ k.pred)
+-- what is given has the records of its one file
+pub has_records : {g : Given} {p : PredOf} {others : List PredOf} {names : List (List ℕ)} {rows : List ℕ} → g.preds ≡ p ∷ others
+    → names ≡ columns_of g.table p → g.texts ≡ rows ∷ [] → HasRecords g p names (records_in rows)
+has_records {others = others} {rows = rows} pred columns text =
+    record { others = others; pred = pred; columns = columns; rows = rows; text = text; are = refl }
 
--- two ways to see what is given have the same names of columns
-pub same_names : (g : Given) (p q : PredOf) (names others : List (List ℕ)) (rs ss : Records) → HasRecords g p names rs
-    → HasRecords g q others ss → names ≡ others
-same_names g p q names others rs ss h k = h.columns ∙ ap (columns_of g.table) (same_pred g p q names others rs ss h k) ∙ sym k.columns
-
--- two ways to see what is given have the same records
-pub same_records : (g : Given) (p q : PredOf) (names others : List (List ℕ)) (rs ss : Records) → HasRecords g p names rs
-    → HasRecords g q others ss → rs ≡ ss
-same_records g p q names others rs ss h k =
-    sym h.are ∙ ap records_in (ap (λ (xs : List (List ℕ)). elim xs [ [] ↦ h.rows | x ∷ rest ↦ x ])
-    (sym h.text ∙ k.text)) ∙ k.are
-
--- a predicate with the names of its columns, and the records after the right header
-pub record Sheet : Type 0 where
-  pub pred : PredOf
-  pub names : List (List ℕ)
-  pub records : Records
-
--- a sheet from its parts
-abbrev pub sheet : PredOf → List (List ℕ) → Records → Sheet
-sheet p names records = record { pred = p; names = names; records = records }
-
--- what is given has this predicate and these records
-abbrev pub HasSheet : Given → Sheet → Type 0
-HasSheet g x = HasRecords g x.pred x.names (x.names ∷ x.records)
-
--- two ways to see what is given have the same predicate, names and records
-pub same_sheet : (g : Given) (x y : Sheet) → HasSheet g x → HasSheet g y → x ≡ y
-same_sheet g x y h k =
-    let xs = x.names ∷ x.records in
-    let ys = y.names ∷ y.records in
-    ap (λ (p : PredOf). sheet p x.names x.records) (same_pred g x.pred y.pred x.names y.names xs ys h k)
-    ∙ ap (λ (names : List (List ℕ)). sheet y.pred names x.records) (same_names g x.pred y.pred x.names y.names xs ys h k)
-    ∙ ap (λ (rs : Records). sheet y.pred y.names rs) (tail_same (same_records g x.pred y.pred x.names y.names xs ys h k))
+-- two ways to see what is given have the same predicate, the same names of columns and the same records
+pub same_given : {g : Given} {p q : PredOf} {names others : List (List ℕ)} {rs ss : Records} → HasRecords g p names rs
+    → HasRecords g q others ss → (p ≡ q) × (names ≡ others) × (rs ≡ ss)
+same_given {g = g} {p = p} {q = q} h k =
+    let pred : p ≡ q = cc (h.pred, k.pred) in (pred, h.columns ∙ ap (columns_of g.table) pred ∙ sym k.columns, cc (h.text, k.text, h.are, k.are))
 
 -- the header is right or wrong
-pub wrong_right : {P : Type 0} (g : Given) (p q : PredOf) (names others : List (List ℕ)) (rs rest : Records)
+pub wrong_right : {P : Type 0} {g : Given} {p q : PredOf} {names others : List (List ℕ)} {rs rest : Records}
     → HasRecords g p names rs → IsWrongHeader names rs → HasRecords g q others (others ∷ rest) → P
-wrong_right g p q names others rs rest h w k =
-    let wrong : IsWrongHeader names (others ∷ rest) = subst (IsWrongHeader names)
-    (same_records g p q names others rs (others ∷ rest) h k) w in
-    absurd (wrong (sym (same_names g p q names others rs (others ∷ rest) h k)))
+wrong_right {names = names} h w k = let same = same_given h k in absurd (subst (IsWrongHeader names) same.2 w (sym same.1))
 
--- the records after the header are one, and are all rows or not
-good_or_not : {P : Type 0} (g : Given) (p q : PredOf) (names others : List (List ℕ)) (xs ys : Records)
-    → HasRecords g p names (names ∷ xs) → HasRecords g q others (others ∷ ys) → all_good (is_row p) xs ≡ true
-    → all_good (is_row q) ys ≡ false → P
-good_or_not g p q names others xs ys h k x y =
-    let rows : xs ≡ ys = tail_same (same_records g p q names others (names ∷ xs) (others ∷ ys) h k) in
-    absurd (true≢false (sym x ∙ ap (λ r. all_good (is_row r) xs)
-    (same_pred g p q names others (names ∷ xs) (others ∷ ys) h k) ∙ ap (all_good (is_row q)) rows ∙ y))
+-- two ways to see the records after the right header end alike
+ends_alike : {g : Given} {p q : PredOf} {names others : List (List ℕ)} {rs ss : Records} → HasRecords g p names (names ∷ rs)
+    → HasRecords g q others (others ∷ ss) → end_of (all_good (is_row p) rs) ≡ end_of (all_good (is_row q) ss)
+ends_alike {q = q} {rs = rs} h k =
+    let same = same_given h k in
+    ap (λ r. end_of (all_good (is_row r) rs)) same.0 ∙ ap (λ xs. end_of (all_good (is_row q) xs)) (tail_same same.2)
+
+ends_as : {g : Given} {p : PredOf} {names : List (List ℕ)} {rs : Records} (e : End) → RunEnds g e → HasRecords g p names (names ∷ rs)
+    → e ≡ end_of (all_good (is_row p) rs)
+ends_as e (run.wrong q others ss h x) k = wrong_right h x k
+ends_as e (run.done q others ss h x) k = sym (ap end_of (all_is q ss x)) ∙ ends_alike h k
+ends_as e (run.refused q others bs as' fields h x) k = sym (ap end_of (not_all q bs as' fields x)) ∙ ends_alike h k
 
 -- they end in one way
 pub one : (g : Given) (a b : End) → RunEnds g a → RunEnds g b → a ≡ b
-one g a b (run.done p names rs h x) (run.done q others ss k y) = refl
-one g a b (run.done p names rs h x) (run.wrong q others ss k y) = wrong_right g q p others names ss rs k y h
-one g a b (run.done p names rs h x) (run.refused q others bs as' fields k y) =
-    good_or_not g p q names others rs (bs ++ fields ∷ as') h k (all_is p rs x) (not_all q bs as' fields y)
-one g a b (run.wrong p names rs h x) (run.done q others ss k y) = wrong_right g p q names others rs ss h x k
+one g a b (run.done p names rs h x) y = sym (ap end_of (all_is p rs x)) ∙ sym (ends_as b y h)
+one g a b (run.refused p names bs as' fields h x) y = sym (ap end_of (not_all p bs as' fields x)) ∙ sym (ends_as b y h)
+one g a b (run.wrong p names rs h x) (run.done q others ss k y) = wrong_right h x k
 one g a b (run.wrong p names rs h x) (run.wrong q others ss k y) = refl
-one g a b (run.wrong p names rs h x) (run.refused q others bs as' fields k y) = refl
-one g a b (run.refused p names bs as' fields h x) (run.done q others ss k y) =
-    good_or_not g q p others names ss (bs ++ fields ∷ as') k h (all_is q ss y) (not_all p bs as' fields x)
-one g a b (run.refused p names bs as' fields h x) (run.wrong q others ss k y) = refl
-one g a b (run.refused p names bs as' fields h x) (run.refused q others cs ds other k y) = refl
+one g a b (run.wrong p names rs h x) (run.refused q others cs ds other k y) = refl
 
 -- by an end of works
 pub kind : (g : Given) (e : End) → RunEnds g e → IsWorkEnd e

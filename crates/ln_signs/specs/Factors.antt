@@ -36,13 +36,16 @@ pub record AreFactors (t : FactorsOf) : Type 0 where
   pub over : AreOver t.pred.shape.sites t.pred.shape.vars t.programs t.which
   pub few : length t.which ≤ 8
 
+-- two lists of one length, related place by place
+abbrev pub Paired : {A B : Type 0} → (A → B → Type 0) → List A → List B → Type 0
+Paired R [] [] = Unit {0}
+Paired R [] (y ∷ ys) = ⊥
+Paired R (x ∷ xs) [] = ⊥
+Paired R (x ∷ xs) (y ∷ ys) = R x y × Paired R xs ys
+
 -- the program at each of these places is that of the predicate at the same place of the list
 abbrev pub AreProgramsAt : List Part → List ℕ → List PredOf → Type 0
-AreProgramsAt programs [] [] = Unit {0}
-AreProgramsAt programs [] (p ∷ ps) = ⊥
-AreProgramsAt programs (i ∷ is) [] = ⊥
-AreProgramsAt programs (i ∷ is) (p ∷ ps) =
-    ((part : Part) → slice_get programs i ≡ Some part → IsProgramOf p part) × AreProgramsAt programs is ps
+AreProgramsAt programs = Paired (λ i p. (part : Part) → slice_get programs i ≡ Some part → IsProgramOf p part)
 
 -- for each factor there are a scratch, made for its program, and a verdict
 pub record IsRoomFor (t : FactorsOf) (scratches : List Scratch) (verdicts : List Verdict) : Type 0 where
@@ -80,17 +83,11 @@ pub record IsMadeOf (table : List PredOf) (number : ℕ) (part : Part) : Type 0 
 
 -- programs that were made for the predicates with these numbers
 abbrev pub AreMade : List PredOf → List ℕ → List Part → Type 0
-AreMade table [] [] = Unit {0}
-AreMade table [] (c ∷ cs) = ⊥
-AreMade table (n ∷ ns) [] = ⊥
-AreMade table (n ∷ ns) (c ∷ cs) = IsMadeOf table n c × AreMade table ns cs
+AreMade table = Paired (IsMadeOf table)
 
 -- each of these numbers is at its place
 abbrev pub StandAt : List ℕ → List ℕ → List ℕ → Type 0
-StandAt numbers [] [] = Unit {0}
-StandAt numbers [] (i ∷ is) = ⊥
-StandAt numbers (k ∷ ks) [] = ⊥
-StandAt numbers (k ∷ ks) (i ∷ is) = (slice_get numbers k ≡ Some i) × StandAt numbers ks is
+StandAt numbers = Paired (λ k i. slice_get numbers k ≡ Some i)
 
 -- more were added at the end
 pub record Grows (old new : List ℕ) : Type 0 where

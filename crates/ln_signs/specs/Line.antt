@@ -38,11 +38,14 @@ abbrev pub said_text : List (List ℕ) → Result Verdict RowStop → List ℕ
 said_text names (Ok v) = sign_text v.sign ++ 32 ∷ decider_text v.by
 said_text names (Err stop) = stop_text names stop
 
--- the result of a predicate on a record in an order of infinitesimals: a verdict that the record's row requires, or why the
--- record is invalid
-pub data Says (rank : Rank) (p : PredOf) (fields : List (List ℕ)) : Result Verdict RowStop → Type 0 where
-  due : (row : Row) (v : Verdict) → read_row p.sites p.vars fields ≡ Ok row → IsDueIn rank p row v → Says rank p fields (Ok v)
-  refused_ : (stop : RowStop) → read_row p.sites p.vars fields ≡ Err stop → Says rank p fields (Err stop)
+-- the result on a record, by the columns of a predicate: what the record's row requires, or why the record is invalid
+pub data SaysOf {T : Type 0} (IsOwed : Row → T → Type 0) (p : PredOf) (fields : List (List ℕ)) : Result T RowStop → Type 0 where
+  due : (row : Row) (v : T) → read_row p.sites p.vars fields ≡ Ok row → IsOwed row v → SaysOf IsOwed p fields (Ok v)
+  refused_ : (stop : RowStop) → read_row p.sites p.vars fields ≡ Err stop → SaysOf IsOwed p fields (Err stop)
+
+-- the result of a predicate on a record in an order of infinitesimals: a verdict, or why the record is invalid
+abbrev pub Says : Rank → PredOf → List (List ℕ) → Result Verdict RowStop → Type 0
+Says rank p = SaysOf (IsDueIn rank p) p
 
 -- is the result of reading a record a row?
 abbrev pub is_read : Result Row RowStop → Bool

@@ -1,5 +1,5 @@
 -- `product FILE NAME NAME.. ROWS`: a line for each record after the header, with the sign of the product and each factor's decider.
-use Rattle.std.specs.Prelude.{◌≡◌, ℕ, List, [], ◌∷◌, ◌++◌, Result, Ok, Err, codes, true, Option, None}
+use Rattle.std.specs.Prelude.{◌≡◌, ℕ, List, [], ◌∷◌, ◌++◌, Result, Ok, Err, codes, true, None}
 use Rattle.ln_base.specs.declared.sign.Sign.{Sign}
 use Rattle.ln_algebra.specs.Product.{multiplied_numbers}
 use Rattle.ln_tree.specs.Row.{Row}
@@ -8,23 +8,19 @@ use Rattle.ln_code.specs.declared.verdict.Verdict.{Verdict}
 use Rattle.ln_due.specs.Due.{sign_number}
 use Rattle.ln_factor.specs.Factors.{numbers_of}
 use Rattle.ln_compile.specs.Filtered.{IsDue}
-use Rattle.ln_rows.specs.Record.{read_row}
 use Rattle.ln_rows.specs.declared.record.RowStop.{RowStop}
 use Rattle.ln_frame.specs.Said.{Said, line}
 use Rattle.ln_frame.specs.Given.{Given}
-use Rattle.ln_signs.specs.Line.{decider_text, sign_text, stop_text}
-use Rattle.ln_signs.specs.Run.{RunEnds}
+use Rattle.ln_signs.specs.Line.{SaysOf, decider_text, sign_text, stop_text}
 use Rattle.ln_frame.specs.Work.{Work}
 use Rattle.ln_frame.specs.Signature.{Signature, asks_shape}
 use Rattle.ln_signs.specs.Alike.{are_alike}
-use Rattle.ln_signs.specs.Rows.{RowsPart, RowsSaid}
+use Rattle.ln_signs.specs.Factors.{Paired}
+use Rattle.ln_signs.specs.Rows.{LineOf, RowsPart, RowsSaid, SaysLine, rows_work}
 
 -- each factor has a verdict that the row requires of it
 abbrev pub AreDue : List PredOf → Row → List Verdict → Type 0
-AreDue [] row [] = Unit {0}
-AreDue [] row (v ∷ vs) = ⊥
-AreDue (p ∷ ps) row [] = ⊥
-AreDue (p ∷ ps) row (v ∷ vs) = IsDue p row v × AreDue ps row vs
+AreDue ps row = Paired (λ p. IsDue p row) ps
 
 -- a sign and the verdicts of the factors
 pub record Multiplied : Type 0 where
@@ -37,10 +33,8 @@ IsMultiplied m = sign_number m.sign ≡ multiplied_numbers (numbers_of m.verdict
 
 -- the result of the factors on a record, by the first predicate's columns: the sign of their product and their verdicts on its
 -- row, or why the record is invalid
-pub data SaysProduct (p : PredOf) (ps : List PredOf) (fields : List (List ℕ)) : Result Multiplied RowStop → Type 0 where
-  due : (row : Row) (m : Multiplied) → read_row p.sites p.vars fields ≡ Ok row → AreDue ps row m.verdicts → IsMultiplied m
-      → SaysProduct p ps fields (Ok m)
-  refused_ : (stop : RowStop) → read_row p.sites p.vars fields ≡ Err stop → SaysProduct p ps fields (Err stop)
+abbrev pub SaysProduct : PredOf → List PredOf → List (List ℕ) → Result Multiplied RowStop → Type 0
+SaysProduct p ps = SaysOf (λ row m. AreDue ps row m.verdicts × IsMultiplied m) p
 
 -- the deciders of verdicts: this byte before the first, and a comma before each further one
 abbrev pub deciders_after : ℕ → List Verdict → List ℕ
@@ -62,12 +56,8 @@ abbrev pub deciders_room : ℕ
 deciders_room = 328
 
 -- the line of a record of a product of these predicates; watchers are shown nothing
-pub record ProductLine (ps : List PredOf) (p : PredOf) (names : List (List ℕ)) (number : ℕ) (fields : List (List ℕ)) (shown : Option Verdict)
-    (text : List ℕ) : Type 0 where
-  pub said : Result Multiplied RowStop
-  pub says : SaysProduct p ps fields said
-  pub shows : shown ≡ None
-  pub is : text ≡ line (product_text names said)
+abbrev pub ProductLine : List PredOf → LineOf
+ProductLine ps p names number fields = SaysLine (SaysProduct p ps fields) (λ said. None) (λ said. line (product_text names said))
 
 -- what is required: nothing comes to Err but the error line of a wrong header
 abbrev pub ProductSaid : Given → Said → Type 0
@@ -87,4 +77,4 @@ product_signature = record {
 
 -- the work of `product`
 abbrev pub product_work : Work
-product_work = record { owes = λ boxes. ProductSaid; part = λ boxes. ProductPart; ends = RunEnds; one = Unit {0} }
+product_work = rows_work [] ProductLine (λ boxes. [])

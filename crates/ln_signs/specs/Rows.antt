@@ -11,14 +11,23 @@ use Rattle.ln_frame.specs.Stop.{said_of}
 use Rattle.ln_frame.specs.Given.{Given}
 use Rattle.ln_signs.specs.Line.{is_row}
 use Rattle.ln_frame.specs.Lines.{Lines, all_good}
-use Rattle.ln_signs.specs.Run.{HasRecords, end_of}
+use Rattle.ln_signs.specs.Run.{HasRecords, RunEnds, end_of}
 use Rattle.ln_frame.specs.Columns.{IsWrongHeader}
+use Rattle.ln_frame.specs.Work.{Work}
 use Rattle.ln_signs.specs.Watching.{Watching, watching, next_lines, next, last_of}
 
 -- what a record's line is, for a predicate and the names of its columns: of the record with this number and these fields watchers are shown this
 -- verdict, or none, and this text is written
 abbrev pub LineOf : Type 1
 LineOf = PredOf → List (List ℕ) → ℕ → List (List ℕ) → Option Verdict → List ℕ → Type 0
+
+-- a line by what is said of its record, which is true of it: watchers are shown the verdict in that, or none, and the text is written that it has
+pub record SaysLine {T : Type 0} (IsTrueOf : T → Type 0) (verdict_in : T → Option Verdict) (text_for : T → List ℕ) (shown : Option Verdict)
+    (text : List ℕ) : Type 0 where
+  pub said : T
+  pub says : IsTrueOf said
+  pub shows : shown ≡ verdict_in said
+  pub is : text ≡ text_for said
 
 -- what is written for a record: its line on Out, and on Err the lines of the watchers that are done after it
 pub record RowStep (line : ℕ → List (List ℕ) → Option Verdict → List ℕ → Type 0)
@@ -47,3 +56,12 @@ pub data RowsPart (first : List ℕ) (line : LineOf) (boxes : List State) (g : G
   begun : (p : PredOf) (names : List (List ℕ)) (done left : Records) (lines : List ℕ) (z : Watching)
       → HasRecords g p names (names ∷ done ++ left) → Lines (RowStep (line p names)) (watching 0 boxes) done lines err z
       → out ≡ first ++ lines → RowsPart first line boxes g out err
+
+-- the work of a command that writes lines of records: the first text, the line of a record by the predicates, and the watchers that see the records
+abbrev pub rows_work : List ℕ → (List PredOf → LineOf) → (List State → List State) → Work
+rows_work first line seers = record {
+  owes = λ boxes g. RowsSaid first (line g.preds) (seers boxes) g;
+  part = λ boxes g. RowsPart first (line g.preds) (seers boxes) g;
+  ends = RunEnds;
+  one = Unit {0};
+}

@@ -1,16 +1,14 @@
 -- `run FILE NAME ROWS`: a line on Out for each record after the header, and the watchers' lines on Err. `graded FILE NAME ROWS` is the
 -- same in the other order of infinitesimals, without watchers.
-use Rattle.std.specs.Prelude.{◌≡◌, ℕ, List, [], Option, Some, None, Result, Ok, Err}
+use Rattle.std.specs.Prelude.{ℕ, List, [], Option, Some, None, Result, Ok, Err}
 use Rattle.ln_algebra.specs.Orders.{ByDegree, BySmallest, Rank}
-use Rattle.ln_tree.specs.Table.{PredOf}
 use Rattle.ln_code.specs.declared.verdict.Verdict.{Verdict}
 use Rattle.ln_rows.specs.declared.record.RowStop.{RowStop}
 use Rattle.ln_watch.specs.Panel.{State}
 use Rattle.ln_frame.specs.Said.{Said, line}
 use Rattle.ln_frame.specs.Given.{Given}
 use Rattle.ln_signs.specs.Line.{Says, said_text}
-use Rattle.ln_signs.specs.Rows.{RowsPart, RowsSaid}
-use Rattle.ln_signs.specs.Run.{RunEnds}
+use Rattle.ln_signs.specs.Rows.{LineOf, RowsPart, RowsSaid, SaysLine, rows_work}
 use Rattle.ln_frame.specs.Work.{Work}
 
 -- watchers are shown the verdict on a row, and nothing of a record that is refused
@@ -19,12 +17,8 @@ shown_of (Ok v) = Some v
 shown_of (Err stop) = None
 
 -- the line of a record of one predicate, in an order of infinitesimals
-pub record RunLine (rank : Rank) (p : PredOf) (names : List (List ℕ)) (number : ℕ) (fields : List (List ℕ)) (shown : Option Verdict)
-    (text : List ℕ) : Type 0 where
-  pub said : Result Verdict RowStop
-  pub says : Says rank p fields said
-  pub shows : shown ≡ shown_of said
-  pub is : text ≡ line (said_text names said)
+abbrev pub RunLine : Rank → LineOf
+RunLine rank p names number fields = SaysLine (Says rank p fields) shown_of (λ said. line (said_text names said))
 
 -- what is required in an order of infinitesimals
 abbrev pub RunSaid : Rank → List State → Given → Said → Type 0
@@ -36,8 +30,8 @@ RunPart rank = RowsPart [] (RunLine rank)
 
 -- the work of `run`
 abbrev pub run_work : Work
-run_work = record { owes = RunSaid BySmallest; part = RunPart BySmallest; ends = RunEnds; one = Unit {0} }
+run_work = rows_work [] (λ preds. RunLine BySmallest) (λ boxes. boxes)
 
 -- the work of `graded`
 abbrev pub graded_work : Work
-graded_work = record { owes = λ boxes. RunSaid ByDegree []; part = λ boxes. RunPart ByDegree []; ends = RunEnds; one = Unit {0} }
+graded_work = rows_work [] (λ preds. RunLine ByDegree) (λ boxes. [])

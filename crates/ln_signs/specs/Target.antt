@@ -1,16 +1,14 @@
 -- A predicate of a source as it is run, in an order of infinitesimals.
-use Rattle.std.specs.Prelude.{◌≡◌, ℕ, List, [], ◌∷◌, Result}
+use Rattle.std.specs.Prelude.{◌≡◌, ℕ, List, [], ◌∷◌}
 use Rattle.ln_algebra.specs.Orders.{BySmallest, ByDegree, Rank}
 use Rattle.ln_tree.specs.declared.pred.Pred.{Pred}
-use Rattle.ln_tree.specs.Row.{InRange, Row}
+use Rattle.ln_tree.specs.Row.{Row}
 use Rattle.ln_tree.specs.Table.{PredOf, pred_of}
 use Rattle.ln_code.specs.declared.row.Row as code
 use Rattle.ln_code.specs.Kept.{IsProgram}
 use Rattle.ln_code.specs.Part.{Part}
 use Rattle.ln_code.specs.RowOf.{row_of}
 use Rattle.ln_compile.specs.Filtered.{AnswersFor}
-use Rattle.ln_rows.specs.Record.{IsReadAs}
-use Rattle.ln_rows.specs.declared.record.RowStop.{RowStop}
 use Rattle.ln_signs.specs.declared.target.Order.{Order}
 use Rattle.ln_signs.specs.declared.target.Order.TheVariants.{Smallest, Degree}
 use Rattle.ln_frame.specs.Columns.{columns_of}
@@ -40,14 +38,6 @@ pred_in t = pred_of t.pred
 -- the row of the predicate that these arrays hold
 abbrev pub row_in : TargetOf → code.Row → Row
 row_in t r = row_of t.pred.shape.sites t.pred.shape.vars r
-
--- that row is in range
-abbrev pub IsInRange : TargetOf → code.Row → Type 0
-IsInRange t r = InRange t.pred.shape.sites t.pred.shape.vars (row_in t r)
-
--- what is returned for a record with these fields, and the arrays hold the row that it says
-abbrev pub IsReadFor : {T : Type 0} → TargetOf → List (List ℕ) → Result T RowStop → code.Row → Type 0
-IsReadFor t fields read r = IsReadAs t.pred.shape.sites t.pred.shape.vars fields read r
 
 -- it is the one predicate that is given, with the names of its columns
 pub record IsGivenBy (g : Given) (t : TargetOf) : Type 0 where

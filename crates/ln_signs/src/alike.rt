@@ -1,6 +1,6 @@
 //! What `product` asks of its predicates: that their arguments are the same.
 ghost use Rattle.std.specs.Prelude.{◌≡◌, ◌<◌, All, List, length, map, slice_get, Some};
-ghost use Rattle.ln_tree.specs.declared.pred.Pred.{Pred as pred};
+ghost use Rattle.std.specs.List.{list_all};
 ghost use Rattle.ln_tree.specs.Table.{PredOf, arg_of, pred_of};
 ghost use Rattle.ln_signs.specs.Alike.{are_alike, same_arg, same_args};
 ghost use Rattle.ln_frame.specs.Ready.{AreNumbered};
@@ -27,23 +27,33 @@ fn same_arg(a: &Arg, b: &Arg) -> bool
 fn same_args(a: &[Arg], b: &[Arg]) -> bool
     ensures { result ≡ same_args (map arg_of a.now) (map arg_of b.now) }
 {
-    if a.len() != b.len() {
-        return false;
+    match a {
+        [] => b.is_empty(),
+        [x, xs @ ..] => match b {
+            [] => false,
+            [y, ys @ ..] => same_arg(x, y) && same_args(xs, ys),
+        },
     }
-    'pairs: for (i, x) in a.iter().enumerate() {
-        if !same_arg(x, &b[i]) {
-            return false;
-        }
-    }
-    true
 }
 
-// Returns whether predicate number `i` has these arguments.
-fn has_args(preds: &[Pred], args: &[Arg], i: usize) -> bool
+// Returns the arguments of predicate number `i`.
+fn args_at(preds: &[Pred], i: usize) -> &[Arg]
     requires { i < length preds.now }
-    ensures { (p : pred) → slice_get preds.now i ≡ Some p → result ≡ same_args (map arg_of args.now) (map arg_of p.args) }
+    ensures { (p : PredOf) → slice_get (map pred_of preds.now) i ≡ Some p → p.args ≡ map arg_of result.now }
 {
-    same_args(args, preds[i].args.as_slice())
+    preds[i].args.as_slice()
+}
+
+// Returns whether the predicates with these numbers have these arguments.
+fn all_have(preds: &[Pred], args: &[Arg], numbers: &[usize]) -> bool
+    requires { All (λ i. i < length preds.now) numbers.now }
+    ensures { (ps : List PredOf) → AreNumbered (map pred_of preds.now) numbers.now ps
+        → result ≡ list_all (λ p. same_args (map arg_of args.now) p.args) ps }
+{
+    match numbers {
+        [] => true,
+        [i, rest @ ..] => same_args(args, args_at(preds, *i)) && all_have(preds, args, rest),
+    }
 }
 
 /// Returns whether the predicates with these numbers have the same arguments, in order: sites of the same name and type, and the same
@@ -52,13 +62,8 @@ pub fn alike(preds: &[Pred], numbers: &[usize]) -> bool
     requires { All (λ i. i < length preds.now) numbers.now }
     ensures { (ps : List PredOf) → AreNumbered (map pred_of preds.now) numbers.now ps → result ≡ are_alike ps }
 {
-    let Some(first) = numbers.first() else {
-        return true;
-    };
-    'each: for i in numbers {
-        if !has_args(preds, preds[*first].args.as_slice(), *i) {
-            return false;
-        }
+    match numbers {
+        [] => true,
+        [i, ..] => all_have(preds, args_at(preds, *i), numbers),
     }
-    true
 }

@@ -1,5 +1,5 @@
 //! The work of `explain`: a trace, which for each record after the header tells the stages that were looked at and the sign.
-ghost use Rattle.std.specs.Prelude.{◌≡◌, [], ℕ, List, Option};
+ghost use Rattle.std.specs.Prelude.{◌≡◌};
 ghost use Rattle.ln_algebra.specs.Orders.{BySmallest};
 ghost use Rattle.ln_code.specs.Memory.{MadeFor};
 ghost use Rattle.ln_compile.specs.Accepted.{IsSound};
@@ -9,8 +9,7 @@ ghost use Rattle.ln_frame.specs.Ready.{IsReadyFor, StandsFor};
 ghost use Rattle.ln_frame.specs.Said.{count};
 ghost use Rattle.ln_frame.specs.Given.{Given};
 ghost use Rattle.ln_signs.specs.Target.{Belongs};
-ghost use Rattle.ln_tree.specs.Table.{PredOf, pred_of};
-ghost use Rattle.ln_code.specs.declared.verdict.Verdict.{Verdict as verdict};
+ghost use Rattle.ln_tree.specs.Table.{pred_of};
 ghost use Rattle.ln_trace.specs.Text.{first_line};
 
 use crate::records::{RecordWriter, put_lines};
@@ -61,8 +60,7 @@ impl<'a> RecordWriter for Explainer<'a> {
     }
 
     fn make_room(&self, alloc: Global) -> Result<Scratch, NoMemory> {
-        let scratch = self.target.scratch(alloc)?;
-        Ok(scratch)
+        self.target.scratch(alloc)
     }
 
     fn add(

@@ -15,11 +15,11 @@ ghost use Rattle.ln_signs.specs.Signs.{RunPart, RunSaid};
 use crate::records::put_lines;
 use crate::target::degree_target;
 use crate::watching::no_watchers;
-use ln_base::Console;
+use ln_base::{Console, Span};
 use ln_code::Program;
 use ln_compile::Checked;
 use ln_frame::place::place_at;
-use ln_frame::ready::{Ready, pred_at, short_text};
+use ln_frame::ready::{Ready, short_text};
 use ln_frame::status::{Early, End};
 use ln_frame::stop::{Stop, Why};
 use ln_graded::{GradedStop, graded};
@@ -44,6 +44,14 @@ fn graded_program(alloc: Global, c: &Checked, i: usize) -> Result<Program, Grade
     graded(alloc, &f, p.shape(), &p, MOST, HEAVY)
 }
 
+// Returns the place of the name of the predicate with this number, from 0.
+fn name_at(c: &Checked, i: usize) -> Span
+    requires { i < length c.now.table.preds }
+    ensures { (p : PredOf) → slice_get (map pred_of c.now.table.preds) i ≡ Some p → result ≡ p.at }
+{
+    c.table().preds.as_slice()[i].at
+}
+
 /// Returns the program by total degree of the first of the named predicates; or stops where it has too many stages in that order, at its
 /// name's place in the source.
 pub fn graded_first(
@@ -60,13 +68,16 @@ pub fn graded_first(
         → Refuses graded_signature.suits bytes.now preds s) }
     ensures quiet { result ≢ Err Stop.Read }
 {
-    let Some(i) = numbers.first() else {
-        return Ok(None);
-    };
-    match graded_program(alloc, c, *i) {
-        Ok(program) => Ok(Some(program)),
-        Err(GradedStop::NoMemory(e)) => Err(Stop::Memory(e)),
-        Err(GradedStop::Stages) => Err(Stop::Tell(Why::Stages(place_at(bytes, pred_at(c, *i).at)))),
+    match numbers {
+        [] => Ok(None),
+        [i, ..] => match graded_program(alloc, c, *i) {
+            Ok(program) => Ok(Some(program)),
+            Err(GradedStop::NoMemory(e)) => Err(Stop::Memory(e)),
+            Err(GradedStop::Stages) => Err(Stop::Tell(Why::Stages(place_at(
+                bytes,
+                name_at(c, *i),
+            )))),
+        },
     }
 }
 

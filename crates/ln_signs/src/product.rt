@@ -1,6 +1,6 @@
 //! The work of `product`: a line for each record after the header, with the sign of the product of the predicates on its row and what
 //! decides each of them. The product isn't formed.
-ghost use Rattle.std.specs.Prelude.{◌≡◌, ◌≤◌, ◌+◌, ◌++◌, [], ◌∷◌, ℕ, List, length, Option, IfOk, OnOk, OnErr};
+ghost use Rattle.std.specs.Prelude.{◌≡◌, ◌≤◌, ◌+◌, ◌++◌, [], ℕ, List, length, OnOk, OnErr};
 ghost use Rattle.std.specs.Prelude.{vec_len, vec_capacity};
 ghost use Rattle.ln_tree.specs.Table.{PredOf, pred_of};
 ghost use Rattle.ln_frame.specs.Carried.{CarriesOut};
@@ -11,7 +11,6 @@ ghost use Rattle.ln_signs.specs.Product.{deciders_after, deciders_room, product_
 ghost use Rattle.ln_frame.specs.Ready.{IsReadyFor, StandsFor};
 ghost use Rattle.ln_frame.specs.Said.{count, line};
 ghost use Rattle.ln_frame.specs.Given.{Given};
-ghost use Rattle.ln_code.specs.declared.verdict.Verdict.{Verdict as verdict};
 ghost use Rattle.ln_signs.specs.Run.{row_room, piece_room};
 
 use crate::factors::{Factors, Room, product_factors};
@@ -126,8 +125,7 @@ impl<'a> RecordWriter for Factors<'a> {
     }
 
     fn make_room(&self, alloc: Global) -> Result<Room, NoMemory> {
-        let room = Factors::make_room(self, alloc)?;
-        Ok(room)
+        Factors::make_room(self, alloc)
     }
 
     fn add(

@@ -1,5 +1,5 @@
 //! The work of `run`: a line for each record after the header, and the lines of the watchers.
-ghost use Rattle.std.specs.Prelude.{◌≡◌, ◌≤◌, ◌+◌, ◌++◌, [], ◌∷◌, ℕ, List, true, Option};
+ghost use Rattle.std.specs.Prelude.{◌≡◌, ◌≤◌, ◌+◌, ◌++◌, [], ℕ, List, true};
 ghost use Rattle.std.specs.Prelude.{vec_len, vec_capacity, IfOk, IsOk, OnOk, OnErr};
 ghost use Rattle.ln_algebra.specs.Orders.{BySmallest};
 ghost use Rattle.ln_code.specs.Memory.{MadeFor};
@@ -9,10 +9,9 @@ ghost use Rattle.ln_frame.specs.Ready.{IsReadyFor, StandsFor};
 ghost use Rattle.ln_signs.specs.Run.{run_signature, piece_room};
 ghost use Rattle.ln_frame.specs.Said.{count, line};
 ghost use Rattle.ln_frame.specs.Given.{Given};
-ghost use Rattle.ln_signs.specs.Target.{IsInRange, IsReadFor, pred_in};
+ghost use Rattle.ln_signs.specs.Factors.{IsInRangeOf, IsReadOf};
+ghost use Rattle.ln_signs.specs.Target.{pred_in};
 ghost use Rattle.ln_watch.specs.Panel.{states_of};
-ghost use Rattle.ln_tree.specs.Table.{PredOf};
-ghost use Rattle.ln_code.specs.declared.verdict.Verdict.{Verdict as verdict};
 ghost use Rattle.ln_signs.specs.Signs.{RunLine, RunPart, RunSaid, shown_of};
 
 use crate::line::add_line;
@@ -35,8 +34,8 @@ fn verdict_of(
     row: &Row,
 ) -> Result<Verdict, RowStop>
     requires made { MadeFor target.now.program s.old }
-    requires range { OnOk read (IsInRange target.now row.now) }
-    ensures says { (fields : List (List ℕ)) → IsReadFor target.now fields read row.now
+    requires range { OnOk read (IsInRangeOf target.now.pred row.now) }
+    ensures says { (fields : List (List ℕ)) → IsReadOf target.now.pred fields read row.now
         → Says target.now.rank (pred_in target.now) fields result }
     ensures made { MadeFor target.now.program s.new }
 {
@@ -66,15 +65,15 @@ fn add_record(
     text: &mut Vec<u8>,
 ) -> Result<Result<Verdict, RowStop>, NoMemory>
     requires made { MadeFor target.now.program s.old }
-    requires range { OnOk read (IsInRange target.now row.now) }
+    requires range { OnOk read (IsInRangeOf target.now.pred row.now) }
     requires room { vec_len text.old + line_room ≤ vec_capacity text.old }
-    ensures says { IfOk result (λ said. (fields : List (List ℕ)) → IsReadFor target.now fields read row.now
+    ensures says { IfOk result (λ said. (fields : List (List ℕ)) → IsReadOf target.now.pred fields read row.now
         → Says target.now.rank (pred_in target.now) fields said) }
     ensures line { IfOk result (λ said. text.new.items ≡ text.old.items ++ line (said_text target.now.names said)) }
     ensures err { OnErr result (text.new.items ≡ text.old.items) }
     ensures made { MadeFor target.now.program s.new }
     ensures room { vec_capacity text.old ≤ vec_capacity text.new }
-    ensures steady { (fields : List (List ℕ)) → IsReadFor target.now fields read row.now
+    ensures steady { (fields : List (List ℕ)) → IsReadOf target.now.pred fields read row.now
         → is_bare_record (pred_in target.now) fields ≡ true → IsOk result }
 {
     let said = verdict_of(target, s, read, row);
@@ -112,8 +111,7 @@ impl<'a> RecordWriter for Target<'a> {
     }
 
     fn make_room(&self, alloc: Global) -> Result<Scratch, NoMemory> {
-        let scratch = self.scratch(alloc)?;
-        Ok(scratch)
+        self.scratch(alloc)
     }
 
     fn add(

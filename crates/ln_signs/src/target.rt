@@ -7,7 +7,8 @@ ghost use Rattle.ln_compile.specs.Filtered.{AnswersFor, IsDueIn};
 ghost use Rattle.ln_tree.specs.Table.{PredOf, pred_of};
 ghost use Rattle.ln_frame.specs.Columns.{names_of, HeaderIs};
 ghost use Rattle.ln_signs.specs.Graded.{KeepsGraded};
-ghost use Rattle.ln_signs.specs.Target.{Belongs, IsInRange, pred_in, row_in, IsGivenBy};
+ghost use Rattle.ln_signs.specs.Factors.{IsInRangeOf};
+ghost use Rattle.ln_signs.specs.Target.{Belongs, pred_in, row_in, IsGivenBy};
 ghost use Rattle.ln_frame.specs.Source.{view};
 ghost use Rattle.ln_frame.specs.Given.{Given};
 ghost use Rattle.ln_signs.specs.Run.{graded_signature};
@@ -16,7 +17,7 @@ ghost use Rattle.ln_frame.specs.Ready.{HasStanding, IsReadyFor, StandsFor};
 use ln_base::NoMemory;
 use ln_code::{Program, Row, Scratch, Verdict, run_row};
 use ln_compile::Checked;
-use ln_frame::ready::Ready;
+use ln_frame::ready::{Ready, pred_at};
 use ln_rows::Rows;
 use ln_tree::{Pred, Table};
 use std::alloc::Global;
@@ -76,7 +77,7 @@ impl<'a> Target<'a> {
         let _blocks = program.blocks();
         Ok(Target {
             table: c.table(),
-            pred: &c.table().preds.as_slice()[i],
+            pred: pred_at(c, i),
             program: Cow::Owned(program),
             order: Order::Smallest,
         })
@@ -94,7 +95,7 @@ impl<'a> Target<'a> {
         let _blocks = program.blocks();
         Target {
             table: c.table(),
-            pred: &c.table().preds.as_slice()[i],
+            pred: pred_at(c, i),
             program: Cow::Borrowed(program),
             order: Order::Degree,
         }
@@ -141,7 +142,7 @@ impl<'a> Target<'a> {
     /// Returns the verdict that a row in range requires in its order. Allocates nothing and refuses nothing.
     pub fn verdict(&self, s: &mut Scratch, row: &Row) -> Verdict
         requires made { MadeFor self.now.program s.old }
-        requires range { IsInRange self.now row.now }
+        requires range { IsInRangeOf self.now.pred row.now }
         ensures due { IsDueIn self.now.rank (pred_in self.now) (row_in self.now row.now) result }
         ensures made { MadeFor self.now.program s.new }
     {

@@ -2,6 +2,7 @@
 pub mod PairsLemmas
 pub mod StartLemmas
 pub mod StepLemmas
+pub mod TurnLemmas
 pub mod WalkLemmas
 pub mod SiteLemmas
 pub mod SiteWalkLemmas

@@ -1,12 +1,13 @@
 -- The stages of a predicate, as contracts see them.
 use Rattle.std.specs.Prelude.{◌≡◌, ◌≢◌, ℕ, ◌+◌, ◌<◌, ◌≤◌, All, List, [], ◌∷◌, length, map, slice_index_or, take}
+use Rattle.ln_algebra.specs.Orders.{BySmallest, Rank}
 use Rattle.ln_tree.specs.declared.shape.VarInfo.{VarInfo}
 use Rattle.ln_tree.specs.Exps.{IsAbove, Pairs, vector}
 use Rattle.ln_order.specs.Orders.{IsOrderOf, orders_of}
 use Rattle.ln_order.specs.Prefixes.{beside, prefixes_of, segments_from}
 use Rattle.ln_order.specs.Sites.{sites_of}
 use Rattle.ln_poly.specs.Sparse.{Sparse}
-use Rattle.ln_stage.specs.Lists.{AreStageLists, Passes, first_seen}
+use Rattle.ln_stage.specs.Lists.{AreStageLists, AreStageListsIn, Passes, first_seen}
 use Rattle.ln_stage.specs.Segments.{IsSegmentOf}
 use Rattle.ln_stage.specs.declared.stop.StageStop.{StageStop}
 use Rattle.ln_stage.specs.declared.stop.StageStop.TheVariants.{Zero, Stages, NoMemory}
@@ -58,10 +59,14 @@ pub record AreStagesOf (k : ℕ) (vars : List VarInfo) (f : Sparse) (st : Staged
   pub numbers : All (λ list. All (λ i. i < length st.exps) list) st.lists
   pub segments : AreSegmentsOf k vars f st
 
--- why there are no stages: f is 0, or it isn't and the stage count or the stage weight of its lists exceeds its limit; out of memory isn't
--- described here
+-- why there are no stages by an order of infinitesimals: f is 0, or it isn't and the stage count or the stage weight of its lists exceeds its
+-- limit; out of memory isn't described here
+abbrev pub StopsListingIn : Rank → ℕ → List VarInfo → Sparse → ℕ → ℕ → StageStop → Type 0
+StopsListingIn rank k vars f most heavy Zero = f ≡ []
+StopsListingIn rank k vars f most heavy Stages = (f ≢ [])
+    × ((lists : List (List (List ℕ))) × AreStageListsIn rank k vars f lists × Passes (length vars) f most heavy lists)
+StopsListingIn rank k vars f most heavy (NoMemory _) = Unit {0}
+
+-- the same by the smallest infinitesimal in which two vectors differ
 abbrev pub StopsListing : ℕ → List VarInfo → Sparse → ℕ → ℕ → StageStop → Type 0
-StopsListing k vars f most heavy Zero = f ≡ []
-StopsListing k vars f most heavy Stages = (f ≢ [])
-    × ((lists : List (List (List ℕ))) × AreStageLists k vars f lists × Passes (length vars) f most heavy lists)
-StopsListing k vars f most heavy (NoMemory _) = Unit {0}
+StopsListing k vars f most heavy x = StopsListingIn BySmallest k vars f most heavy x

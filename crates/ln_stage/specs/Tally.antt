@@ -1,6 +1,7 @@
 -- What is kept while stages are listed.
-use Rattle.std.specs.Prelude.{ℕ, ◌+◌, ◌<◌, ◌⊎◌, ◌==◌, List, [], ◌∷◌, ◌++◌, length, if◌then◌else◌}
+use Rattle.std.specs.Prelude.{◌≡◌, ℕ, ◌+◌, ◌<◌, ◌⊎◌, ◌==◌, List, [], ◌∷◌, ◌++◌, length, if◌then◌else◌}
 use Rattle.std.specs.List.{position_or_len}
+use Rattle.ln_algebra.specs.Walk.{Found}
 use Rattle.ln_tree.specs.Exps.{Pairs, same_pairs}
 use Rattle.ln_poly.specs.Packed.{pairs_from}
 use Rattle.ln_poly.specs.Sparse.{Sparse}
@@ -50,6 +51,11 @@ pairs_of a = pairs_from 0 a
 abbrev pub see_all : ℕ → Sparse → Tallied → List (List ℕ) → Tallied
 see_all n f t [] = t
 see_all n f t (a ∷ as') = see_all n f (see (covering n f a) t (pairs_of a)) as'
+
+-- what is found after u ends as what is found after t does: the same is kept, and the cut ends both or neither
+pub record EndsAs (n : ℕ) (f : Sparse) (u : Tallied) (rest : Found) (t : Tallied) (all : Found) : Type 0 where
+  pub seen : see_all n f u rest.0 ≡ see_all n f t all.0
+  pub cut : rest.1 ≡ all.1
 
 -- a new list is begun
 abbrev pub next_list : Tallied → Tallied

@@ -1,16 +1,15 @@
 //! Stages of one total degree, listed depth first, from the smallest infinitesimal to the largest.
-ghost use Rattle.std.specs.Prelude.{◌≡◌, ◌<◌, ◌≤◌, ◌*◌, All, IfOk, IfErr, length, OnOk};
+ghost use Rattle.std.specs.Prelude.{◌≡◌, ◌<◌, ◌≤◌, ◌*◌, All, IfOk, IfErr, length, OnOk, []};
 ghost use Rattle.ln_tree.specs.Exps.{IsRising};
 ghost use Rattle.ln_poly.specs.Sparse.{AreRising};
 ghost use Rattle.ln_stage.specs.Degrees.{any_reaches, largest_degree, listed_degree, listed_graded, pairs_degree};
 ghost use Rattle.ln_stage.specs.Kept.{IsStep};
-ghost use Rattle.ln_stage.specs.Tally.{IsOver, IsStoppedBy, see_all};
+ghost use Rattle.ln_stage.specs.Tally.{EndsAs, IsOver, IsStoppedBy, see_all};
 
 use crate::stop::StageStop;
 use crate::tally::Tally;
 use crate::walk::{leaf, with_exponent, with_set};
 use ln_tree::{Exps, exponent_of};
-use std::alloc::Global;
 
 // The sum of the exponents of these variables.
 fn degree_on(pairs: &[(u8, u8)], vs: &[u8]) -> u64
@@ -62,7 +61,6 @@ fn largest_degree(f: &[(Exps, i128)], vs: &[u8], kept: &[usize]) -> u64
 // The stages from p on in the variables vs whose exponents there sum up to d, depth first, with the terms at these places, which are those that
 // cover p. Returns whether the cut ended them.
 pub(crate) fn walk_at(
-    alloc: Global,
     f: &[(Exps, i128)],
     vs: &[u8],
     kept: &[usize],
@@ -73,12 +71,11 @@ pub(crate) fn walk_at(
     requires step { IsStep f.now vs.now kept.now p.now }
     requires few { length p.now ≤ 168 }
     requires vars { length vs.now ≤ 168 }
-    ensures ok { IfOk result (λ cut. cut ≡ (listed_degree f.now vs.now kept.now p.now d).1) }
-    ensures seen { OnOk result (tally.new ≡ see_all (length p.now) f.now tally.old (listed_degree f.now vs.now kept.now p.now d).0) }
+    ensures ok { IfOk result (λ cut. EndsAs (length p.now) f.now tally.new ([], cut) tally.old (listed_degree f.now vs.now kept.now p.now d)) }
     ensures err { IfErr result (λ e. IsStoppedBy e (IsOver (see_all (length p.now) f.now tally.old (listed_degree f.now vs.now kept.now p.now d).0))) }
 {
     if d == 0 {
-        return leaf(alloc, f, kept, p, tally);
+        return leaf(f, kept, p, tally);
     }
     if vs.is_empty() {
         return Ok(false);
@@ -86,21 +83,21 @@ pub(crate) fn walk_at(
     let v = vs[0];
     let rest = &vs[1..];
     // Where v has the exponent 0, all of these terms remain and p is as it was.
-    if walk_at(alloc, f, rest, kept, p, d, tally)? {
+    if walk_at(f, rest, kept, p, d, tally)? {
         return Ok(true);
     }
     'exponents: for e in 1..128u8 {
         if u64::from(e) > d {
             return Ok(false);
         }
-        let high = with_exponent(alloc, f, kept, v, e)?;
+        let high = with_exponent(tally.alloc(), f, kept, v, e)?;
         if high.is_empty() {
             return Ok(false);
         }
         let left = d - u64::from(e);
         if reaches(f, rest, left, high.as_slice()) {
-            let q = with_set(alloc, p, v, e)?;
-            if walk_at(alloc, f, rest, high.as_slice(), q.as_slice(), left, tally)? {
+            let q = with_set(tally.alloc(), p, v, e)?;
+            if walk_at(f, rest, high.as_slice(), q.as_slice(), left, tally)? {
                 return Ok(true);
             }
         }
@@ -111,7 +108,6 @@ pub(crate) fn walk_at(
 // The stages from p on in the variables vs by total degree first, with the terms at these places, which are those that
 // cover p.
 pub(crate) fn layers(
-    alloc: Global,
     f: &[(Exps, i128)],
     vs: &[u8],
     kept: &[usize],
@@ -126,7 +122,7 @@ pub(crate) fn layers(
 {
     let limit = largest_degree(f, vs, kept) + 1;
     'degrees: for d in 0..limit {
-        if walk_at(alloc, f, vs, kept, p, d, tally)? {
+        if walk_at(f, vs, kept, p, d, tally)? {
             return Ok(());
         }
     }

@@ -8,7 +8,6 @@
 //! numbered in order of first sight, or exactly why there is none; `Stages` has its five readers.
 #![tactic(auto)]
 
-pub mod graded;
 pub mod laws;
 pub(crate) mod layers;
 pub mod lists;
@@ -16,14 +15,14 @@ pub mod segments;
 pub mod stop;
 pub mod table;
 pub(crate) mod tally;
+pub(crate) mod visits;
 pub(crate) mod walk;
 
-pub use graded::graded_stages;
 pub use laws::{
     cut_loses_nothing, derivatives_are_coefficients, first_seen_are_sighted, list_is_unique,
     lists_are_those_of_trees, product_rule, there_is_a_first,
 };
-pub use lists::stages;
+pub use lists::{graded_stages, stages};
 pub use segments::{
     first_sight_by_prefixes, list_has_its_segments, segment_is_of_the_prefix, segment_is_unique,
     segments_make_the_list, walk_goes_site_by_site,

@@ -1,95 +1,27 @@
-//! The segments of all prefixes of orders of the sites.
-ghost use Rattle.std.specs.Prelude.{◌≡◌, ◌≢◌, ◌<◌, ◌≤◌, ◌+◌, ◌*◌, ◌^◌, ◌⊎◌, IfOk, IfErr, OnOk, length, map, replicate, []};
-ghost use Rattle.std.specs.List.{range_with_len};
+//! The segments of all prefixes of orders of the sites, and the stage lists by total degree first.
+ghost use Rattle.std.specs.Prelude.{◌≡◌, ◌≢◌, ◌<◌, ◌≤◌, ◌+◌, ◌*◌, ◌^◌, ◌⊎◌, IfOk, IfErr, OnOk, length, map, []};
+ghost use Rattle.ln_algebra.specs.Orders.{ByDegree};
 ghost use Rattle.ln_order.specs.Fronts.{front_places};
 ghost use Rattle.ln_order.specs.Orders.{orders_of};
 ghost use Rattle.ln_order.specs.Prefixes.{IsPrefixOf, prefixes_of};
 ghost use Rattle.ln_poly.specs.Sparse.{AreBelow, AreRising};
 ghost use Rattle.ln_stage.specs.FirstSight.{shared_count};
-ghost use Rattle.ln_stage.specs.Kept.{numbers_by, tallied_by};
+ghost use Rattle.ln_stage.specs.Graded.{AreGradedStagesOf, AreStagesBy, cut_by, rank_of, segment_by};
+ghost use Rattle.ln_stage.specs.Kept.{tallied_by};
 ghost use Rattle.ln_stage.specs.Lists.{stage_count, stage_weight};
-ghost use Rattle.ln_stage.specs.Staged.{AreStagesOf, StopsListing, vectors_of};
+ghost use Rattle.ln_stage.specs.Staged.{AreStagesOf, StopsListing, StopsListingIn, vectors_of};
 ghost use Rattle.ln_stage.specs.Tally.{IsOver, IsStoppedBy, next_list, see_all};
-ghost use Rattle.ln_stage.specs.Visit.{AreCuts, cut_before, cut_in, is_cut_at, segment_at};
+ghost use Rattle.ln_stage.specs.Visit.{AreCuts, AreListed, cut_in};
 
 use crate::stop::StageStop;
 use crate::table::Stages;
 use crate::tally::Tally;
-use crate::walk::{walk, walk_site};
-use ln_base::{NoMemory, Seq};
-use ln_order::{Front, all_prefixes, front_ranking, vars_of_site};
+use crate::visits::visit_by;
+use ln_base::Seq;
+use ln_order::{Front, all_prefixes};
 use ln_poly::Poly;
 use ln_tree::{Exps, Shape};
 use std::alloc::Global;
-
-// The places of n terms.
-pub(crate) fn places(alloc: Global, n: usize) -> Result<Vec<usize>, NoMemory>
-    ensures { IfOk result (λ r. r.items ≡ range_with_len 0 n) }
-{
-    let mut places = Vec::new(alloc);
-    'places: for i in 0..n {
-        places.push(i)?;
-    }
-    Ok(places)
-}
-
-// The vector of n exponents that are all 0.
-pub(crate) fn zeros(alloc: Global, n: usize) -> Result<Vec<u8>, NoMemory>
-    ensures { IfOk result (λ r. r.items ≡ replicate n 0) }
-{
-    Ok(vec![in alloc; 0u8; n]?)
-}
-
-// The stages at a prefix of the orders, in order: those that need its last site and none after it. Nothing is listed where the cut is before;
-// returns whether the cut is here or before.
-fn visit(
-    alloc: Global,
-    f: &[(Exps, i128)],
-    s: &Shape,
-    p: &Front,
-    cut: bool,
-    tally: &mut Tally,
-) -> Result<bool, StageStop>
-    requires prefix { IsPrefixOf s.now.sites (front_places p.now) }
-    requires below { AreBelow (length s.now.vars) f.now }
-    requires rising { AreRising f.now }
-    requires some { 0 < length f.now }
-    requires before { cut ≡ cut_before s.now.vars f.now (front_places p.now) }
-    ensures ok { IfOk result (λ c. c ≡ is_cut_at s.now.vars f.now (front_places p.now)) }
-    ensures seen { OnOk result (tally.new ≡ see_all (length s.now.vars) f.now tally.old
-        (segment_at s.now.vars f.now (front_places p.now))) }
-    ensures err { IfErr result (λ e. IsStoppedBy e
-        (IsOver (see_all (length s.now.vars) f.now tally.old (segment_at s.now.vars f.now (front_places p.now))))) }
-{
-    if cut {
-        return Ok(true);
-    }
-    let vars = front_ranking(alloc, p, s)?;
-    let kept = places(alloc, f.len())?;
-    let start = zeros(alloc, s.vars.len())?;
-    let sites = p.places();
-    if sites.is_empty() {
-        return walk(
-            alloc,
-            f,
-            vars.as_slice(),
-            kept.as_slice(),
-            start.as_slice(),
-            0,
-            tally,
-        );
-    }
-    let last = vars_of_site(alloc, s, sites[sites.len() - 1])?;
-    walk_site(
-        alloc,
-        f,
-        vars.as_slice(),
-        last.len(),
-        kept.as_slice(),
-        start.as_slice(),
-        tally,
-    )
-}
 
 // Is the cut before the prefix of this length?
 fn before(cuts: &[bool], n: usize) -> bool
@@ -104,10 +36,10 @@ fn before(cuts: &[bool], n: usize) -> bool
 
 // The segment of a prefix, as numbers of blocks.
 fn segment(
-    alloc: Global,
     f: &[(Exps, i128)],
     s: &Shape,
     p: &Front,
+    by_degree: bool,
     cuts: &mut [bool; 6],
     tally: &mut Tally,
 ) -> Result<Seq<u32>, StageStop>
@@ -115,24 +47,25 @@ fn segment(
     requires below { AreBelow (length s.now.vars) f.now }
     requires rising { AreRising f.now }
     requires some { 0 < length f.now }
-    requires cuts { AreCuts s.now.vars f.now (length (front_places p.now)) (front_places p.now) cuts.old }
-    ensures list { IfOk result (λ l. l
-        ≡ (see_all (length s.now.vars) f.now tally.old (segment_at s.now.vars f.now (front_places p.now))).list) }
-    ensures rest { OnOk result (tally.new
-        ≡ next_list (see_all (length s.now.vars) f.now tally.old (segment_at s.now.vars f.now (front_places p.now)))) }
-    ensures cuts { OnOk result (AreCuts s.now.vars f.now (length (front_places p.now) + 1) (front_places p.now) cuts.new) }
-    ensures err { IfErr result (λ e. IsStoppedBy e
-        (IsOver (see_all (length s.now.vars) f.now tally.old (segment_at s.now.vars f.now (front_places p.now))))) }
+    requires cuts { AreCuts (cut_by by_degree s.now.sites s.now.vars f.now) (length (front_places p.now)) (front_places p.now) cuts.old }
+    ensures list { IfOk result (λ l. l ≡ (see_all (length s.now.vars) f.now tally.old
+        (segment_by by_degree s.now.sites s.now.vars f.now (front_places p.now))).list) }
+    ensures rest { OnOk result (tally.new ≡ next_list (see_all (length s.now.vars) f.now tally.old
+        (segment_by by_degree s.now.sites s.now.vars f.now (front_places p.now)))) }
+    ensures cuts { OnOk result (AreCuts (cut_by by_degree s.now.sites s.now.vars f.now)
+        (length (front_places p.now) + 1) (front_places p.now) cuts.new) }
+    ensures err { IfErr result (λ e. IsStoppedBy e (IsOver (see_all (length s.now.vars) f.now tally.old
+        (segment_by by_degree s.now.sites s.now.vars f.now (front_places p.now))))) }
 {
     let n = p.places().len();
     let cut = before(cuts, n);
-    let here = visit(alloc, f, s, p, cut, tally)?;
+    let here = visit_by(f, s, p, by_degree, cut, tally)?;
     cuts[n] = here;
-    Ok(tally.take_list(alloc))
+    Ok(tally.take_list())
 }
 
 // How many orders k sites have.
-pub(crate) fn orders(k: u8) -> u64
+fn orders(k: u8) -> u64
     requires { k ≤ 5 }
     ensures value { result ≡ length (orders_of k) }
     ensures few { result ≤ 120 }
@@ -147,12 +80,7 @@ pub(crate) fn orders(k: u8) -> u64
 }
 
 // The count with the stages of one segment more, which is in `lists` lists.
-pub(crate) fn with_segment(
-    count: u64,
-    stages: usize,
-    lists: u64,
-    most: u64,
-) -> Result<u64, StageStop>
+fn with_segment(count: u64, stages: usize, lists: u64, most: u64) -> Result<u64, StageStop>
     requires few { lists ≤ 120 }
     ensures ok { IfOk result (λ n. n ≡ count + lists * stages) }
     ensures within { IfOk result (λ n. n ≤ most) }
@@ -167,11 +95,11 @@ pub(crate) fn with_segment(
 
 // The segments of these prefixes, and how many stages there are in all lists.
 fn listed(
-    alloc: Global,
     f: &[(Exps, i128)],
     s: &Shape,
     prefixes: &[Front],
     most: u64,
+    by_degree: bool,
     tally: &mut Tally,
 ) -> Result<(Seq<Seq<u32>>, u64), StageStop>
     requires prefixes { map front_places prefixes.now ≡ prefixes_of s.now.sites }
@@ -179,27 +107,52 @@ fn listed(
     requires rising { AreRising f.now }
     requires some { 0 < length f.now }
     requires empty { tally.old.list ≡ [] }
-    ensures segments { IfOk result (λ r. r.0 ≡ numbers_by (segment_at s.now.vars f.now)
-        (length s.now.vars) f.now tally.old (prefixes_of s.now.sites)) }
-    ensures count { IfOk result (λ r. r.1 ≡ shared_count s.now.sites (segment_at s.now.vars f.now) (prefixes_of s.now.sites)) }
-    ensures within { IfOk result (λ r. r.1 ≤ most) }
-    ensures rest { OnOk result (tally.new ≡ tallied_by (segment_at s.now.vars f.now)
-        (length s.now.vars) f.now tally.old (prefixes_of s.now.sites)) }
+    ensures ok { IfOk result (λ r. AreListed (segment_by by_degree s.now.sites s.now.vars f.now) s.now.sites (length s.now.vars) f.now
+        tally.old most r.0 r.1 tally.new) }
     ensures err { IfErr result (λ e. IsStoppedBy e
-        (IsOver (tallied_by (segment_at s.now.vars f.now) (length s.now.vars) f.now tally.old (prefixes_of s.now.sites))
-        ⊎ (most < shared_count s.now.sites (segment_at s.now.vars f.now) (prefixes_of s.now.sites)))) }
+        (IsOver (tallied_by (segment_by by_degree s.now.sites s.now.vars f.now) (length s.now.vars) f.now tally.old (prefixes_of s.now.sites))
+        ⊎ (most < shared_count s.now.sites (segment_by by_degree s.now.sites s.now.vars f.now) (prefixes_of s.now.sites)))) }
 {
     let mut cuts = [false; 6];
-    let mut segments = Seq::new(alloc);
+    let mut segments = Seq::new(tally.alloc());
     let mut count = 0;
     'prefixes: for p in prefixes {
-        let list = segment(alloc, f, s, p, &mut cuts, tally)?;
+        let list = segment(f, s, p, by_degree, &mut cuts, tally)?;
         let left = s.sites - p.places().len() as u8;
         let more = with_segment(count, list.len(), orders(left), most)?;
         count = more;
         segments.push(list)?;
     }
     Ok((segments, count))
+}
+
+// The stages of a polynomial over a shape, by one order of infinitesimals or the other.
+fn stages_by(
+    alloc: Global,
+    f: &Poly,
+    s: &Shape,
+    most: u64,
+    heavy: u64,
+    by_degree: bool,
+) -> Result<Stages, StageStop>
+    requires below { AreBelow (length s.now.vars) f.now }
+    requires heavy { heavy < 2 ^ 32 }
+    ensures some { IfOk result (λ st. f.now ≢ []) }
+    ensures stages { IfOk result (λ st. AreStagesBy by_degree s.now.sites s.now.vars f.now st) }
+    ensures count { IfOk result (λ st. stage_count (vectors_of (length s.now.vars) st) ≤ most) }
+    ensures weight { IfOk result (λ st. stage_weight (length s.now.vars) f.now (vectors_of (length s.now.vars) st) ≤ heavy) }
+    ensures err { IfErr result (StopsListingIn (rank_of by_degree) s.now.sites s.now.vars f.now most heavy) }
+{
+    if f.is_zero() {
+        return Err(StageStop::Zero);
+    }
+    let terms = f.terms();
+    let prefixes = all_prefixes(alloc, s.sites)?;
+    let mut tally = Tally::new(alloc, most, heavy);
+    let found = listed(terms, s, prefixes.as_slice(), most, by_degree, &mut tally)?;
+    let (segments, count) = found;
+    let (_, blocks) = tally.into_blocks();
+    Ok(Stages::of(s.sites, blocks, segments, count))
 }
 
 /// The stages of a polynomial over a shape: for each order of the sites its stage list, kept in segments, with the blocks
@@ -223,14 +176,28 @@ pub fn stages(
     ensures weight { IfOk result (λ st. stage_weight (length s.now.vars) f.now (vectors_of (length s.now.vars) st) ≤ heavy) }
     ensures err { IfErr result (StopsListing s.now.sites s.now.vars f.now most heavy) }
 {
-    if f.is_zero() {
-        return Err(StageStop::Zero);
-    }
-    let terms = f.terms();
-    let prefixes = all_prefixes(alloc, s.sites)?;
-    let mut tally = Tally::new(alloc, most, heavy);
-    let found = listed(alloc, terms, s, prefixes.as_slice(), most, &mut tally)?;
-    let (segments, count) = found;
-    let (_, blocks) = tally.into_blocks();
-    Ok(Stages::of(s.sites, blocks, segments, count))
+    stages_by(alloc, f, s, most, heavy, false)
+}
+
+/// The stages of a polynomial over a shape by total degree first: for each order of the sites its stage list in that order of infinitesimals,
+/// with the blocks numbered in order of first sight. A list is kept whole at its order; shorter prefixes have nothing.
+///
+/// `Zero` says that the polynomial has no term, `Stages` that it has one and the count of these stages exceeds `most` or their weight exceeds
+/// `heavy`.
+pub fn graded_stages(
+    alloc: Global,
+    f: &Poly,
+    s: &Shape,
+    most: u64,
+    heavy: u64,
+) -> Result<Stages, StageStop>
+    requires below { AreBelow (length s.now.vars) f.now }
+    requires heavy { heavy < 2 ^ 32 }
+    ensures some { IfOk result (λ st. f.now ≢ []) }
+    ensures stages { IfOk result (λ st. AreGradedStagesOf s.now.sites s.now.vars f.now st) }
+    ensures count { IfOk result (λ st. stage_count (vectors_of (length s.now.vars) st) ≤ most) }
+    ensures weight { IfOk result (λ st. stage_weight (length s.now.vars) f.now (vectors_of (length s.now.vars) st) ≤ heavy) }
+    ensures err { IfErr result (StopsListingIn ByDegree s.now.sites s.now.vars f.now most heavy) }
+{
+    stages_by(alloc, f, s, most, heavy, true)
 }

@@ -10,10 +10,11 @@ use ln_tree::Exps;
 use std::alloc::Global;
 use std::marker::Model;
 
-// The blocks so far, by their exponents in order of first sight; the numbers of the list at hand; how many stages so far
-// in all lists; how many monomials cover each block, taken together; and the limits of both.
+// Where memory comes from; the blocks so far, by their exponents in order of first sight; the numbers of the list at hand; how many
+// stages so far in all lists; how many monomials cover each block, taken together; and the limits of both.
 #[derive(Drop)]
 pub(crate) struct Tally {
+    alloc: Global,
     blocks: IndexMap<Exps, ()>,
     list: Vec<u32>,
     count: u64,
@@ -53,6 +54,7 @@ impl Tally {
         ensures { result ≡ record { exps = []; list = []; count = 0; weight = 0; most = most; heavy = heavy } }
     {
         Tally {
+            alloc,
             blocks: IndexMap::new(alloc),
             list: Vec::new(alloc),
             count: 0,
@@ -110,12 +112,17 @@ impl Tally {
         (self.count, self.blocks)
     }
 
+    // Where memory comes from.
+    pub(crate) fn alloc(&self) -> Global {
+        self.alloc
+    }
+
     // The list at hand, after which a new one is begun.
-    pub(crate) fn take_list(&mut self, alloc: Global) -> Seq<u32>
+    pub(crate) fn take_list(&mut self) -> Seq<u32>
         ensures list { result ≡ self.old.list }
         ensures rest { self.new ≡ next_list self.old }
     {
-        let list = std::mem::replace(&mut self.list, Vec::new(alloc));
+        let list = std::mem::replace(&mut self.list, Vec::new(self.alloc));
         Seq::from_vec(list)
     }
 }

@@ -1,29 +1,18 @@
--- `check`: its lines one after the other; what it requires is carried out by a whole text, and where it ends.
+-- `check`: its lines one after the other, and its laws.
 use Rattle.std.proofs.Common.{◌≡◌, ℕ, ◌+◌, ◌<◌, List, [], ◌∷◌, ◌++◌, map, length, option_map, take}
-use Rattle.std.proofs.Common.{get_or, refl, ap, sym, ◌∙◌, subst, append_assoc, Option, Some}
-use Rattle.std.specs.Prelude.{slice_get, Result}
+use Rattle.std.proofs.Common.{get_or, refl, ap, sym, ◌∙◌, subst, append_assoc, Some}
+use Rattle.std.specs.Prelude.{slice_get}
 use Rattle.std.proofs.lemmas.List.{append-nil, map-append, take_more}
 use Rattle.std.proofs.lemmas.Option.{slice_get-map, slice_get_read}
-use Rattle.ln_base.specs.Outside.{Shown}
 use Rattle.ln_tree.specs.declared.pred.Pred.{Pred}
 use Rattle.ln_tree.specs.Table.{PredOf, pred_of, TableOf}
 use Rattle.ln_compile.specs.Compiled.{IsStageCount, IsStageCountAt}
-use Rattle.ln_frame.specs.declared.status.End.{End}
-use Rattle.ln_frame.specs.declared.status.End.TheVariants.{Done}
-use Rattle.ln_frame.specs.declared.status.Early.{Early}
-use Rattle.ln_frame.specs.declared.ready.Ready.{Ready}
-use Rattle.ln_frame.specs.Said.{Said, Count, line, whole}
-use Rattle.ln_frame.specs.Given.{Given}
-use Rattle.ln_frame.specs.Work as kind_of
-use Rattle.ln_frame.specs.Work.{IsWorkEnd}
-use Rattle.ln_frame.specs.Carried.{CarriesOut, NoPart, PutsText}
-use Rattle.ln_frame.specs.Ready.{StandsFor}
-use Rattle.ln_texts.specs.Check.{AreCounts, none, more, count_text, CheckSaid, counted, CheckEnds, done, check_work}
-use Rattle.ln_frame.proofs.Carry.{text_carried}
-use Rattle.ln_frame.proofs.Laws.{IsLawful, shape_objects}
-use Rattle.ln_frame.proofs.Grounded.{IsGrounded}
+use Rattle.ln_frame.specs.Said.{line}
 use Rattle.ln_frame.specs.Signature.{asks_nothing}
+use Rattle.ln_texts.specs.Check.{AreCounts, none, more, count_text, check_work}
+use Rattle.ln_frame.proofs.Laws.{IsLawful}
 use Rattle.ln_texts.proofs.OneCounts.{one_counts}
+use Rattle.ln_texts.proofs.TextLaws.{lawful as text_lawful}
 
 count_behind : (ps : List PredOf) (p : PredOf) (n : ℕ) {texts : List ℕ} → AreCounts ps texts → IsStageCount p n
     → AreCounts (ps ++ p ∷ []) (texts ++ line (count_text p n))
@@ -51,35 +40,8 @@ counts_more ps i p n texts new h e a at q =
     ∙ map-append pred_of (take i ps) (p ∷ []) in
     rw (behind, q) (count_behind (map pred_of (take i ps)) (pred_of p) n a (at (pred_of p) there))
 
--- the lines were written as a whole text
-pub carried : (r : Ready) (g : Given) (text : List ℕ) (puts : Count) (result : Result End Early) (was now : Option Shown)
-    → StandsFor r g → AreCounts (map pred_of r.compiled.table.preds) text → PutsText text Done puts result was now
-    → CarriesOut (CheckSaid g) NoPart ⊥ ⊥ puts result was now
-carried r g text puts result was now s a p =
-    text_carried (CheckSaid g) NoPart ⊥ ⊥ puts Done text result was now
-    (counted text (subst (λ t. AreCounts t text) (sym (ap (λ t. t.preds) s.table)) a)) p
-
-tells : (g : Given) (a : Said) → CheckSaid g a → CheckEnds g a.end
-tells g a (counted text h) = done
-
-one : (g : Given) (a b : End) → CheckEnds g a → CheckEnds g b → a ≡ b
-one g a b done done = refl
-
-kind : (g : Given) (e : End) → CheckEnds g e → IsWorkEnd e
-kind g e done = kind_of.done
-
--- `check` requires one output
-check_one : (g : Given) → IsGrounded g → (a b : Said) → CheckSaid g a → CheckSaid g b → a ≡ b
-check_one g h a b (counted x c) (counted y d) =
-    let preds : g.table.preds ≡ map pred_of h.table.preds = sym (ap (λ (t : TableOf). t.preds) h.is) in
-    ap (whole Done) (one_counts h.table.preds (subst (λ ps. AreCounts ps x) preds c) (subst (λ ps. AreCounts ps y) preds d))
-
 -- the laws of a work hold for `check`
 pub lawful : IsLawful asks_nothing check_work
-lawful = record {
-  tells = λ boxes. tells;
-  single = one;
-  kind = kind;
-  objects = shape_objects;
-  said = λ v boxes g i q a b x y. check_one g i a b x y;
-}
+lawful = text_lawful AreCounts (Unit {0}) (λ v g i x y c d.
+    let preds : g.table.preds ≡ map pred_of i.table.preds = sym (ap (λ (t : TableOf). t.preds) i.is) in
+    one_counts i.table.preds (rw preds at c) (rw preds at d))

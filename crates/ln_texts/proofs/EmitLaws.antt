@@ -1,9 +1,8 @@
--- `emit`: the calls of the C return what rows require; what it requires is carried out by a whole text, and where it ends.
-use Rattle.std.proofs.Common.{◌≡◌, ℕ, suc, ◌+◌, ◌<◌, ◌≤◌, List, [], ◌∷◌, ◌++◌, length, take, map, refl, ap, sym, ◌∙◌, subst, arith, Option, Some}
-use Rattle.std.specs.Prelude.{All, Result}
+-- `emit`: the calls of the C return what rows require, and its laws.
+use Rattle.std.proofs.Common.{◌≡◌, ℕ, suc, ◌+◌, ◌<◌, ◌≤◌, List, [], ◌∷◌, ◌++◌, length, take, map, refl, ◌∙◌, subst, arith}
+use Rattle.std.specs.Prelude.{All}
 use Rattle.std.proofs.lemmas.List.{length-map, take_all}
 use Rattle.std.proofs.lemmas.List.Elements.{All-cons, All-nil}
-use Rattle.ln_base.specs.Outside.{Shown}
 use Rattle.ln_base.specs.declared.sign.Sign.{Sign}
 use Rattle.ln_base.specs.declared.sign.Sign.TheVariants.{Minus, Zero, Plus}
 use Rattle.ln_tree.specs.declared.pred.Pred.{Pred}
@@ -19,24 +18,12 @@ use Rattle.ln_compile.specs.Compiled.{AreProgramsOf, IsProgramAt, IsProgramOf}
 use Rattle.ln_compile.proofs.Making.BuildingLemmas.{program-more, programs-of-table}
 use Rattle.ln_compile.proofs.Listing.FilteredLemmas.{programs_answer}
 use Rattle.ln_csyn.specs.Tree.{Fun}
-use Rattle.ln_csyn.specs.Meaning.{CCall, Signed}
-use Rattle.ln_cemit.specs.Names.{call_name}
 use Rattle.ln_cemit.specs.Whole.{part_name}
 use Rattle.ln_cemit.specs.Emitted.{AllSay, AreKept, BeginsFile, CallSays, IsEmitted, number_of}
-use Rattle.ln_frame.specs.declared.status.End.{End}
-use Rattle.ln_frame.specs.declared.status.End.TheVariants.{Done}
-use Rattle.ln_frame.specs.declared.status.Early.{Early}
-use Rattle.ln_frame.specs.declared.ready.Ready.{Ready}
-use Rattle.ln_frame.specs.Said.{Said, Count}
-use Rattle.ln_frame.specs.Given.{Given}
-use Rattle.ln_frame.specs.Work as kind_of
-use Rattle.ln_frame.specs.Work.{IsWorkEnd}
-use Rattle.ln_frame.specs.Carried.{CarriesOut, NoPart, PutsText}
-use Rattle.ln_frame.specs.Ready.{StandsFor}
-use Rattle.ln_texts.specs.Emit.{AllAreDue, BeginsCOfFirst, CallIsDue, IsCOf, EmitSaid, emitted, EmitEnds, done, emit_work}
-use Rattle.ln_frame.proofs.Carry.{text_carried}
-use Rattle.ln_frame.proofs.Laws.{IsLawful, shape_objects}
 use Rattle.ln_frame.specs.Signature.{asks_nothing}
+use Rattle.ln_texts.specs.Emit.{AllAreDue, BeginsCOfFirst, CallIsDue, IsCOf, emit_work}
+use Rattle.ln_frame.proofs.Laws.{IsLawful}
+use Rattle.ln_texts.proofs.TextLaws.{lawful as text_lawful}
 
 -- the shape of each predicate has the predicate's name
 abbrev pub AreNamed : List PredOf → Type 0
@@ -67,10 +54,7 @@ call_due file p part row k o n range s =
       verdict = s.verdict;
       due = programs_answer p part row s.verdict k o range s.machine;
       counts = s.counts;
-      called =
-          subst (λ (x : List ℕ). CCall file (call_name x) row.index row.values ≡ Some
-          (Signed (sign_number s.verdict.sign) s.counts)) (o.name ∙ n)
-          (s.called ∙ ap (λ z. Some (Signed z s.counts)) (same_number s.verdict.sign));
+      called = rw (← n, ← o.name, ← same_number s.verdict.sign) s.called;
       calls = s.calls;
       narrow = s.narrow;
     }
@@ -146,28 +130,6 @@ all t i text h ends f =
     let a : AreProgramsOf (map pred_of t.preds) f.programs = subst (λ ps. AreProgramsOf ps f.programs) e f.are_programs in
     c_of (map pred_of t.preds) f.programs text a (names_there t) f.begins.kept (ends f.programs (programs-of-table t f.programs a f.small) f.begins)
 
--- the C was written as a whole text
-pub carried : (r : Ready) (g : Given) (text : List ℕ) (puts : Count) (result : Result End Early) (was now : Option Shown)
-    → StandsFor r g → IsCOf (map pred_of r.compiled.table.preds) text → PutsText text Done puts result was now
-    → CarriesOut (EmitSaid g) NoPart ⊥ ⊥ puts result was now
-carried r g text puts result was now s c p = text_carried (EmitSaid g) NoPart ⊥ ⊥ puts Done text result was now
-    (emitted text (subst (λ t. IsCOf t text) (sym (ap (λ t. t.preds) s.table)) c)) p
-
-tells : (g : Given) (a : Said) → EmitSaid g a → EmitEnds g a.end
-tells g a (emitted text h) = done
-
-one : (g : Given) (a b : End) → EmitEnds g a → EmitEnds g b → a ≡ b
-one g a b done done = refl
-
-kind : (g : Given) (e : End) → EmitEnds g e → IsWorkEnd e
-kind g e done = kind_of.done
-
 -- the laws of a work hold for `emit`
 pub lawful : IsLawful asks_nothing emit_work
-lawful = record {
-  tells = λ boxes. tells;
-  single = one;
-  kind = kind;
-  objects = shape_objects;
-  said = λ v boxes g i q a b. absurd v;
-}
+lawful = text_lawful IsCOf ⊥ (λ v. absurd v)

@@ -1,3 +1,4 @@
+pub mod TextLaws
 pub mod CheckLaws
 pub mod EmitLaws
 pub mod ListLaws

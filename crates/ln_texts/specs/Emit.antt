@@ -15,13 +15,12 @@ use Rattle.ln_cemit.specs.Emitted.{BeginsFile}
 use Rattle.ln_cemit.specs.Heads.{head, heads_of}
 use Rattle.ln_cemit.specs.Names.{call_name}
 use Rattle.ln_cemit.specs.Whole.{part_name}
-use Rattle.ln_frame.specs.declared.status.End.{End}
-use Rattle.ln_frame.specs.declared.status.End.TheVariants.{Done}
-use Rattle.ln_frame.specs.Said.{Said, whole}
+use Rattle.ln_frame.specs.Said.{Said}
 use Rattle.ln_frame.specs.Given.{Given}
-use Rattle.ln_frame.specs.Carried.{NoPart}
 use Rattle.ln_frame.specs.Work.{Work}
-use Rattle.ln_frame.specs.Signature.{Signature, asks_nothing}
+use Rattle.ln_frame.specs.Signature.{Signature}
+use Rattle.ln_texts.specs.Text.{Prints, source_signature, text_work}
+pub use Rattle.ln_texts.specs.Text.{done}
 
 -- on this row the call of `ln_NAME` returns the sign of the verdict that the row requires, with its calls, and with no wide operation where
 -- the filter decides
@@ -57,17 +56,13 @@ pub record BeginsCOfFirst (preds : List PredOf) (i : ℕ) (bytes : List ℕ) : T
   pub begins : BeginsFile bytes programs
 
 -- what may be said: C for the predicates of the source
-pub data EmitSaid (g : Given) : Said → Type 0 where
-  emitted : (text : List ℕ) → IsCOf g.table.preds text → EmitSaid g (whole Done text)
-
--- how it ends, and where
-pub data EmitEnds (g : Given) : End → Type 0 where
-  done : EmitEnds g Done
+abbrev pub EmitSaid : Given → Said → Type 0
+EmitSaid g = Prints (IsCOf g.table.preds)
 
 -- the signature of `emit`
 abbrev pub emit_signature : Signature
-emit_signature = record { word = codes "emit"; form = record { least = 0; most = 0; files = 0 }; suits = asks_nothing }
+emit_signature = source_signature (codes "emit")
 
 -- the work of `emit`
 abbrev pub emit_work : Work
-emit_work = record { owes = λ boxes. EmitSaid; part = λ boxes g. NoPart; ends = EmitEnds; one = ⊥ }
+emit_work = text_work IsCOf ⊥

@@ -1,3 +1,4 @@
+pub mod Text
 pub mod Check
 pub mod Listing
 pub mod Emit

@@ -16,13 +16,11 @@ use Rattle.ln_cert.specs.Written.{IsListable, listing_of}
 use Rattle.ln_verify.specs.AsPart.{part_of}
 use Rattle.ln_verify.specs.Line.{Written}
 use Rattle.ln_verify.specs.Verified.{IsValidFor}
-use Rattle.ln_frame.specs.declared.status.End.{End}
-use Rattle.ln_frame.specs.declared.status.End.TheVariants.{Done}
-use Rattle.ln_frame.specs.Said.{Said, whole}
+use Rattle.ln_frame.specs.Said.{Said}
 use Rattle.ln_frame.specs.Given.{Given}
-use Rattle.ln_frame.specs.Carried.{NoPart}
 use Rattle.ln_frame.specs.Work.{Work}
-use Rattle.ln_frame.specs.Signature.{Signature, asks_nothing}
+use Rattle.ln_frame.specs.Signature.{Signature}
+use Rattle.ln_texts.specs.Text.{Prints, source_signature, text_work}
 
 -- ---- what a listing can state
 -- each of these programs can be listed
@@ -76,17 +74,13 @@ pub record IsListingOfFirst (preds : List PredOf) (i : ℕ) (bytes : List ℕ) :
   pub text : ListText bytes 2 (listing_of programs)
 
 -- what may be said: such a listing of the source's predicates
-pub data ListSaid (g : Given) : Said → Type 0 where
-  listed : (text : List ℕ) → IsListingOf g.table.preds text → ListSaid g (whole Done text)
-
--- how it ends, and where
-pub data ListEnds (g : Given) : End → Type 0 where
-  done : ListEnds g Done
+abbrev pub ListSaid : Given → Said → Type 0
+ListSaid g = Prints (IsListingOf g.table.preds)
 
 -- the signature of `list`
 abbrev pub list_signature : Signature
-list_signature = record { word = codes "list"; form = record { least = 0; most = 0; files = 0 }; suits = asks_nothing }
+list_signature = source_signature (codes "list")
 
 -- the work of `list`
 abbrev pub list_work : Work
-list_work = record { owes = λ boxes. ListSaid; part = λ boxes g. NoPart; ends = ListEnds; one = ⊥ }
+list_work = text_work IsListingOf ⊥

@@ -50,10 +50,6 @@ module _ (s : Subject) (inputs : InputsBelow (length s.vars) s.tree) (differ : R
   right (line.Row n ∷ lines) (Between seen left) h (t, r, g) =
       subst (λ l. AreRight s l (signs_in lines)) (sym r.next)
       (right lines (Within (seen + 1) r.behind r.row []) (r.fields, r.read, tt) (subst (λ p. Go s p lines (Between m [])) r.to g))
-  right (line.At exps z ∷ lines) (Between seen left) h (t, r, g) = absurd r
-  right (line.Sign u ∷ lines) (Between seen left) h (t, r, g) = absurd r
-  right (line.Refused n ∷ lines) (Within seen left row stood) h (t, r, g) = absurd r
-  right (line.Row n ∷ lines) (Within seen left row stood) h (t, r, g) = absurd r
   right (line.At exps z ∷ lines) (Within seen left row stood) (fields, read, told) (t, r, g) =
       right lines (Within seen left row ((vector (length s.vars) exps, z) ∷ stood)) (fields, read, (r.next, told))
       (subst (λ p. Go s p lines (Between m [])) r.to g)
@@ -65,6 +61,7 @@ module _ (s : Subject) (inputs : InputsBelow (length s.vars) s.tree) (differ : R
     ),
     right lines (Between seen left) tt (subst (λ p. Go s p lines (Between m [])) r.to g),
   )
+  right (l ∷ lines) here h (t, r, g) = absurd r
 
 -- an agreed trace says of each record what is right
 pub agreed-right : (s : Subject) (records : Records) (lines : List TraceLine) → InputsBelow (length s.vars) s.tree → RowsDiffer s
@@ -105,8 +102,6 @@ module _ (s : Subject) (row : Row) (seen : ℕ) (left : Records) where
       → Leads (length s.vars) (row_sites s.vars row.index) (values row.values) s.tree stood ts q
       → Go s (Within seen left row stood) (at_lines ps) (Within seen left row q)
   ats-go [] [] stood q a l = ap (Within seen left row) l
-  ats-go [] (t ∷ ts) stood q a l = absurd a
-  ats-go (p ∷ ps) [] stood q a l = absurd a
   ats-go (p ∷ ps) (t ∷ ts) stood q (rising, above, e, f, a) (next, l) =
       let n : ℕ = length s.vars in
       let pair : (vector n p.0, p.1) ≡ t = rw (e, f) refl in
@@ -119,6 +114,7 @@ module _ (s : Subject) (row : Row) (seen : ℕ) (left : Records) where
         record { rising = rising; of_sites = over-of-sites s.vars row.index p.0 rising above over; next = here; to = refl },
         ats-go ps ts ((vector n p.0, p.1) ∷ stood) q a on,
       )
+  ats-go ps ts stood q a l = absurd a
 
 module _ (s : Subject) (differ : RowsDiffer s) (some : HaveStages s) where
   record-go : (k n : ℕ) (fields : List (List ℕ)) (left : Records) (front : List TraceLine) → n ≡ k + 1 → Explains s n fields front

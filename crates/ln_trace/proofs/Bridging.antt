@@ -1,5 +1,5 @@
 -- The order of a row's sites in place of the row's own indices.
-use Rattle.std.proofs.Common.{◌≡◌, ◌↔◌, ℕ, refl, sym, ◌∙◌, Bool, true, false, List, [], ◌∷◌, length}
+use Rattle.std.proofs.Common.{◌≡◌, ◌↔◌, ℕ, refl, sym, ◌∙◌, Bool, true, false, true≢false, List, [], ◌∷◌, length}
 use Rattle.std.specs.Prelude.{IsTrue}
 use Rattle.std.proofs.Math.IntN.{ℤ}
 use Rattle.ln_algebra.proofs.Walking.Cut.{of_sites, within}
@@ -62,13 +62,7 @@ module _ (s : Shape) (row : Row) (places : List ℕ) (range : InRange s.sites s.
   -- what may not stand by the order fails
   pub not-next : (zs : List ℤ) (a : List ℕ) (z : ℤ) (r : Bool) → r ≡ false
       → (IsTrue r ↔ MayBeNext (length s.vars) (sites_of s.vars places) e stood a) → IsTrue false ↔ Next zs a z
-  not-next zs a z r f h = (
-    λ t. cc,
-    λ n. absurd (true-false r
-        (h.1 (record { zeros = n.zeros; later = last-to stood a n.later; members = λ b k l. n.members b (stage-from b k) ((same b a).1 l) })) f),
-  ) where
-    true-false : (b : Bool) → b ≡ true → b ≡ false → ⊥
-    true-false b p q = cc
+  not-next zs a z r f h = (λ t. cc, λ n. absurd (true≢false (sym (h.1 (next-may zs a z n)) ∙ f)))
 
   coefficient : (zs : List ℤ) (f : List Term) (a : List ℕ) → InputsBelow (length s.vars) e → IsNormalOf (length s.vars) e f
       → IsOver (length s.vars) (row_sites s.vars row.index) a → value (values zs) (derived a f) ≡ perturbed (row_sites s.vars row.index) (values zs) e a

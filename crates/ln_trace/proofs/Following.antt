@@ -1,7 +1,8 @@
 -- Proves what may stand next, by the last vector and the first remaining one.
-use Rattle.std.proofs.Common.{◌≡◌, ◌↔◌, ℕ, refl, sym, ◌∙◌, ap, subst, Bool, true, false, List, [], ◌∷◌, Some, None, inl, inr}
+use Rattle.std.proofs.Common.{◌≡◌, ◌↔◌, ℕ, refl, sym, ◌∙◌, ap, subst, Bool, true, List, [], ◌∷◌, Some, None, inl, inr}
 use Rattle.std.specs.Prelude.{Option, IsTrue}
 use Rattle.std.proofs.Math.IntN.{ℤ}
+use Rattle.std.proofs.lemmas.Option.{same_Some}
 use Rattle.ln_algebra.specs.Earlier.{Earlier, IndicesDiffer, IsOver, Sites}
 use Rattle.ln_algebra.specs.Tree.{Tree}
 use Rattle.ln_algebra.specs.Vector.{In}
@@ -11,10 +12,6 @@ use Rattle.ln_trace.specs.ToldLaw.{IsLeft, NoneIsEarlier}
 use Rattle.ln_trace.proofs.Telling.{first-left, first-stands, other-stands}
 use Rattle.ln_trace.specs.Next.{IsLastOf, MayBeNext}
 
--- no test is both true and false
-pub true-false : (b : Bool) → b ≡ true → b ≡ false → ⊥
-true-false b e f = cc
-
 -- ---- the last
 -- where exponents were kept as the last, the test of them decides whether the last vector is earlier than a
 pub behind-some : (n : ℕ) (sites : Sites) (o : Option Pairs) (a b : Pairs) (zero r : Bool) → o ≡ Some b
@@ -22,10 +19,8 @@ pub behind-some : (n : ℕ) (sites : Sites) (o : Option Pairs) (a b : Pairs) (ze
 behind-some n sites None a b zero r e h stood l = cc
 behind-some n sites (Some c) a b zero r e h [] l = absurd l
 behind-some n sites (Some c) a b zero r e h (p ∷ stood) l =
-    let q : p.0 ≡ vector n b = l.0 ∙ ap (vector n) (same c b e) in
-    subst (λ v. IsTrue r ↔ Earlier sites v (vector n a)) (sym q) h where
-      same : (c b : Pairs) → Some c ≡ Some b → c ≡ b
-      same c b e = cc
+    let q : p.0 ≡ vector n b = l.0 ∙ ap (vector n) (same_Some c b e) in
+    subst (λ v. IsTrue r ↔ Earlier sites v (vector n a)) (sym q) h
 
 zeros-of : (n : ℕ) (o : Option Pairs) (zero : Bool) (stood : Stood) → IsLastOf n o zero stood → zero ≡ true → AreZero stood
 zeros-of n o zero [] l e = tt

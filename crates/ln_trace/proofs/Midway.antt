@@ -1,5 +1,6 @@
 -- The loop over lines that are judged as they are read.
-use Rattle.std.proofs.Common.{◌≡◌, ℕ, ◌<◌, ◌+◌, ◌≤◌, zero, suc, true, false, List, [], ◌∷◌, length, take, drop, get_or, Bool, refl, sym, ◌∙◌, ap, arith, subst}
+use Rattle.std.proofs.Common.{◌≡◌, ℕ, ◌<◌, ◌+◌, ◌≤◌, suc, true, false, List, [], ◌∷◌, length, take, drop, get_or, refl, sym, ◌∙◌, ap, arith, subst}
+use Rattle.std.proofs.Common.{drop-cons, length-drop, true≢false}
 use Rattle.std.specs.Prelude.{None}
 use Rattle.ln_algebra.specs.Tree.{Tree}
 use Rattle.ln_tree.specs.declared.shape.Shape.{Shape}
@@ -28,15 +29,10 @@ record Front (xs : List TraceLine) (i : ℕ) (p : TraceLine) (ys : List TraceLin
   behind : ys ≡ drop (suc i) xs
 
 front : (xs : List TraceLine) (i : ℕ) (p : TraceLine) (ys : List TraceLine) → drop i xs ≡ p ∷ ys → Front xs i p ys
-front [] zero p ys e = absurd (cc)
-front [] (suc i) p ys e = absurd (cc)
-front (x ∷ xs) zero p ys e = record { less = omega arith; here = cc; behind = cc }
-front (x ∷ xs) (suc i) p ys e = let f = front xs i p ys e in record { less = omega (arith, f.less); here = f.here; behind = f.behind }
-
-none-left : (xs : List TraceLine) (i : ℕ) → drop i xs ≡ [] → i ≤ length xs → i ≡ length xs
-none-left [] i e l = omega arith
-none-left (x ∷ xs) zero e l = absurd (cc)
-none-left (x ∷ xs) (suc i) e l = omega (arith, none-left xs i e (omega (arith, l)))
+front xs i p ys e =
+    let l : i < length xs = omega (arith, ap length e, length-drop i xs) in
+    let d = sym (drop-cons xs i p l) ∙ e in
+    record { less = l; here = cc; behind = cc }
 
 -- ---- the loop
 -- the first lines lead to a place that the state of the judge stands for
@@ -44,9 +40,6 @@ pub record IsReached (s : Shape) (e : Tree) (st : Staged) (records : Records) (l
   pub here : Place
   pub come : Go (subject_of s e) (Between 0 records) (take at ls) here
   pub is : IsHere s e st rows d here
-
-bool-apart : (x : Bool) → x ≡ true → x ≡ false → ⊥
-bool-apart x y z = cc
 
 module _ (s : Shape) (e : Tree) (f : Sparse) (st : Staged) (records : Records) (ls : List TraceLine) (d : Progress) where
   -- with no row open and no record seen, what is held is for the place before the first line
@@ -93,7 +86,7 @@ module _ (s : Shape) (e : Tree) (f : Sparse) (st : Staged) (records : Records) (
     stands-ends q a b = go m.here m.is (come-all q) where
       go : (here : Place) → IsHere s e st rows d here → Go (subject_of s e) (Between 0 records) (take (length ls) ls) here
           → IsJudged (subject_of s e) records ls (Agreed d.seen)
-      go (Within seen left row stood) i c = absurd (bool-apart d.inside i.0 a)
+      go (Within seen left row stood) i c = absurd (true≢false (sym i.0 ∙ a))
       go (Between seen left) i c =
           let z : left ≡ [] = sym i.2 ∙ b in
           let k : Go (subject_of s e) (Between 0 records) (take (length ls) ls) (Between seen []) =
@@ -139,7 +132,7 @@ module _ (s : Shape) (e : Tree) (f : Sparse) (st : Staged) (records : Records) (
         stands-stops s e f st records ls d rows p m.at m.stands l left new n y.less y.here h (omega (arith, q, t.next, m.number))
 
     at-end : (w : Unread) → Takes u None w → m.at ≡ length ls
-    at-end w t = none-left ls m.at (t.0 (drop m.at ls) m.left) m.within
+    at-end w t = omega (arith, ap length (t.0 (drop m.at ls) m.left), length-drop m.at ls, m.within)
 
     -- where the lines end within a row, or with records to come, the first fault is at the end of the file
     pub midway-lacks : (w : Unread) (n : ℕ) → Takes u None w → n ≡ w.line → ((d.inside ≡ false) × (rows ≡ []) → ⊥) → IsFirstFault (subject_of s e) records ls n

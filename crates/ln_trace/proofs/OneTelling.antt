@@ -24,13 +24,12 @@ use Rattle.ln_trace.specs.Signs.{AreOf, Explains, RowsDiffer, at_lines, no_row, 
 pairs-one : (vars : List VarInfo) (ps qs : List (Pairs × ℤ)) (ts : List (List ℕ × ℤ)) → AreOf vars ps ts → AreOf vars qs ts → ps ≡ qs
 pairs-one vars [] [] ts h k = refl
 pairs-one vars [] (q ∷ qs) [] h k = absurd k
-pairs-one vars [] (q ∷ qs) (t ∷ ts) h k = absurd h
-pairs-one vars (p ∷ ps) qs [] h k = absurd h
 pairs-one vars (p ∷ ps) [] (t ∷ ts) h k = absurd k
 pairs-one vars ((a, y) ∷ ps) ((b, z) ∷ qs) (t ∷ ts) (r, u, v, w, h) (r2, u2, v2, w2, k) =
     let e : a ≡ b = vectors-same (length vars) a b r r2 u u2 (v ∙ sym v2) in
     let f : y ≡ z = w ∙ sym w2 in
     ap (λ (c : Pairs). (c, y) ∷ ps) e ∙ ap (λ (x : ℤ). (b, x) ∷ ps) f ∙ ap (λ xs. (b, z) ∷ xs) (pairs-one vars ps qs ts h k)
+pairs-one vars ps qs ts h k = absurd h
 
 same-row : (r s : Row) (o : Result Row RowStop) → o ≡ Ok r → o ≡ Ok s → s ≡ r
 same-row r s o e f = cc

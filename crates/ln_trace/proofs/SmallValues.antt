@@ -35,10 +35,9 @@ use Rattle.ln_trace.specs.Trace.{Subject}
 -- the value of a variable is at most its M; one that there isn't is 0
 value-small : (vars : List VarInfo) (zs : List ℤ) (v : ℕ) → AreWithin vars zs → unsigned_abs (values zs v) ≤ sizes vars v
 value-small [] [] v h = omega arith
-value-small [] (z ∷ zs) v h = absurd h
-value-small (i ∷ is) [] v h = absurd h
 value-small (i ∷ is) (z ∷ zs) zero h = let s = in_size (i ∷ is) (z ∷ zs) h 0 i refl in rw (← s.same) s.small
 value-small (i ∷ is) (z ∷ zs) (suc v) h = value-small is zs v h.2
+value-small is zs v h = absurd h
 
 -- the coefficient is the value of a scaled derivative, which is at most the sum of it weighted by M
 coefficient-small : (s : Subject) (row : Row) (a : List ℕ) → HasSmallSum s → AreWithin s.vars row.values
@@ -78,10 +77,9 @@ ats-small : (vars : List VarInfo) (ps : List (Pairs × ℤ)) (ts : List (List �
     → Each HasSmallValue rest → Each HasSmallValue (at_lines ps ++ rest)
 unfolding AreSmall
 ats-small vars [] [] rest o h r = r
-ats-small vars [] (t ∷ ts) rest o h r = absurd o
-ats-small vars (p ∷ ps) [] rest o h r = absurd o
 ats-small vars (p ∷ ps) (t ∷ ts) rest o h r =
     (subst (λ (z : ℤ). unsigned_abs z < 2 ^ 127) (sym o.3) h.0, ats-small vars ps ts rest o.4 h.1 r)
+ats-small vars ps ts rest o h r = absurd o
 
 joined-small : (xs ys : List TraceLine) → Each HasSmallValue xs → Each HasSmallValue ys → Each HasSmallValue (xs ++ ys)
 joined-small [] ys h k = k

@@ -1,9 +1,11 @@
 -- Proves what each kind of line does to what is held.
-use Rattle.std.proofs.Common.{◌≡◌, ◌↔◌, ℕ, zero, suc, ◌+◌, Bool, true, false, List, [], ◌∷◌, length, map, take, refl, sym, ◌∙◌, ap, subst, Some, None}
-use Rattle.std.specs.Prelude.{Option, Ok, Err, Result, IsTrue}
+use Rattle.std.proofs.Common.{◌≡◌, ◌↔◌, ℕ, zero, suc, ◌+◌, Bool, true, false, true≢false, List, [], ◌∷◌, length, map, take}
+use Rattle.std.proofs.Common.{refl, sym, ◌∙◌, ap, subst, Some, None}
+use Rattle.std.specs.Prelude.{Option, Ok, Err, IsTrue}
 use Rattle.std.proofs.Math.IntN.{ℤ, pos, negsuc}
 use Rattle.ln_base.specs.declared.sign.Sign.{Sign}
 use Rattle.ln_base.specs.declared.sign.Sign.TheVariants.{Zero}
+use Rattle.ln_base.proofs.Texts.Lists.{head}
 use Rattle.ln_algebra.proofs.Ordering.Order.{earlier-irreflexive}
 use Rattle.ln_algebra.specs.Earlier.{IndicesDiffer, IsOver, Sites}
 use Rattle.ln_algebra.specs.Sign.{sign_of}
@@ -45,23 +47,6 @@ use Rattle.ln_trace.proofs.Bridging.{all-from, all-to, next-may}
 use Rattle.ln_trace.proofs.Premises.{left-first, sites-over, spot-first}
 use Rattle.ln_trace.proofs.Telling.{none-left}
 
--- false isn't true
-pub false-true : false ≡ true → ⊥
-false-true e = cc
-
--- no test is both true and false
-pub clash : (b : Bool) → b ≡ true → b ≡ false → ⊥
-clash b e f = cc
-
-nil-cons : {A : Type 0} (x : A) (xs : List A) → [] ≡ x ∷ xs → ⊥
-nil-cons x xs e = cc
-
-heads : (f g : List (List ℕ)) (a b : Records) → f ∷ a ≡ g ∷ b → f ≡ g
-heads f g a b e = cc
-
-ok-err : (o : Result Row RowStop) (row : Row) (stop : RowStop) → o ≡ Ok row → o ≡ Err stop → ⊥
-ok-err o row stop p q = cc
-
 -- the order of a row in range is one of its sites
 pub order-of : (s : Shape) (r : code.Row) (places : List ℕ) → InRange s.sites s.vars (row_of s.sites s.vars r)
     → IsOrder (row_of s.sites s.vars r).index places → IsOrderOf s.sites places
@@ -83,7 +68,7 @@ zero-where b0 t z h e = (
 some-last : (n : ℕ) (o : Option Pairs) (b0 : Bool) (stood : Stood) → IsLastOf n o b0 stood → (o ≡ None → ⊥) → stood ≡ [] → ⊥
 some-last n None b0 stood l h e = h refl
 some-last n (Some a) b0 [] l h e = l
-some-last n (Some a) b0 (p ∷ stood) l h e = nil-cons p stood (sym e)
+some-last n (Some a) b0 (p ∷ stood) l h e = cc
 
 none-last : (n : ℕ) (o : Option Pairs) (b0 : Bool) (p : List ℕ × ℤ) (stood : Stood) → IsLastOf n o b0 (p ∷ stood) → o ≡ None → ⊥
 none-last n None b0 p stood l e = l
@@ -108,36 +93,43 @@ row-range s x old rows r q y = (subst (λ (z : Next). IsNextOf s.sites s.vars z 
 module _ (s : Shape) (f : Sparse) (st : Staged) (old : Records) (d : Progress) where
   refuses : (l : TraceLine) (rows : Records) (new : Progress)
       → ((e : Tree) (here : Place) → IsHere s e st old d here → (q : Place) → Rule (subject_of s e) here l q → ⊥) → Step s f st old d l false rows new
-  refuses l rows new h = record { holds = λ e. absurd (false-true e); gone = λ e here p i. h e here i }
+  refuses l rows new h = record { holds = λ e. cc; gone = λ e here p i. h e here i }
+
+  -- a line fails that fails between records and within a row
+  fails : (l : TraceLine) (rows : Records) (new : Progress)
+      → ((e : Tree) (left : Records) → (d.inside ≡ false) × (old ≡ left) → (q : Place) → Rule (subject_of s e) (Between d.seen left) l q → ⊥)
+      → ((e : Tree) (seen : ℕ) (left : Records) (row : Row) (stood : Stood) → d.inside ≡ true → IsInRow s e st d row stood → (q : Place)
+      → Rule (subject_of s e) (Within seen left row stood) l q → ⊥) → Step s f st old d l false rows new
+  fails l rows new h g = refuses l rows new go where
+    go : (e : Tree) (here : Place) → IsHere s e st old d here → (q : Place) → Rule (subject_of s e) here l q → ⊥
+    go e (Between seen left) i = subst (λ (k : ℕ). (q : Place) → Rule (subject_of s e) (Between k left) l q → ⊥) i.1 (h e left (i.0, i.2))
+    go e (Within seen left row stood) i = g e seen left row stood i.0 i.3
 
   -- ---- `refused`
   -- `refused` fails within a row, or where its number isn't the next one
   pub refused-elsewhere : (n : ℕ) (rows : Records) (new : Progress) → ((d.inside ≡ false) × (n ≡ d.seen + 1) → ⊥)
       → Step s f st old d (line.Refused n) false rows new
-  refused-elsewhere n rows new h = refuses (line.Refused n) rows new go where
-    go : (e : Tree) (here : Place) → IsHere s e st old d here → (q : Place) → Rule (subject_of s e) here (line.Refused n) q → ⊥
-    go e (Between seen left) i q r = h (i.0, r.number ∙ ap (λ k. k + 1) (sym i.1))
-    go e (Within seen left row stood) i q r = r
+  refused-elsewhere n rows new h = fails (line.Refused n) rows new (λ e left i q r. h (i.0, r.number)) (λ e seen left row stood i k q r. r)
 
   -- `refused` fails where no record is next, or the next one is a row
   pub refused-other : (n : ℕ) (x : Next) (rows : Records) (r : code.Row) (new : Progress) → (x ≡ next.Fault → ⊥)
       → IsNextOf s.sites s.vars x old rows r → Step s f st old d (line.Refused n) false rows new
-  refused-other n x rows r new other k = refuses (line.Refused n) rows new (go x other k) where
-    go : (x : Next) → (x ≡ next.Fault → ⊥) → IsNextOf s.sites s.vars x old rows r → (e : Tree) (here : Place) → IsHere s e st old d here
-        → (q : Place) → Rule (subject_of s e) here (line.Refused n) q → ⊥
-    go x other k e (Within seen left row stood) i q r = r
-    go next.Nothing other k e (Between seen left) i q r = nil-cons r.fields r.behind (sym k ∙ i.2 ∙ r.next)
-    go next.Fault other k e (Between seen left) i q r = other refl
-    go next.Read other k e (Between seen left) i q r =
-        let same : k.0 ≡ r.fields = heads k.0 r.fields rows r.behind (sym k.1 ∙ i.2 ∙ r.next) in
-        ok-err (read_row s.sites s.vars k.0) _ r.stop k.2 (ap (read_row s.sites s.vars) same ∙ r.refused)
+  refused-other n x rows r new other k = fails (line.Refused n) rows new
+      (λ e left i q z. go x other k z.fields z.behind (i.1 ∙ z.next) z.stop z.refused) (λ e seen left row stood i k q r. r) where
+        go : (x : Next) → (x ≡ next.Fault → ⊥) → IsNextOf s.sites s.vars x old rows r → (fields : List (List ℕ)) (behind : Records) → old ≡ fields ∷ behind
+            → (stop : RowStop) → read_row s.sites s.vars fields ≡ Err stop → ⊥
+        go next.Nothing other k fields behind e stop t = cc
+        go next.Fault other k fields behind e stop t = other refl
+        go next.Read other k fields behind e stop t =
+            let same : k.0 ≡ fields = head (sym k.1 ∙ e) in
+            let both : Ok (row_of s.sites s.vars r) ≡ Err stop = sym k.2 ∙ ap (read_row s.sites s.vars) same ∙ t in cc
 
   -- where no row is open, `refused` with the number of the next record leads on if that record is invalid
   pub refused-goes : (n : ℕ) (x : Next) (rows : Records) (r : code.Row) → d.inside ≡ false → n ≡ d.seen + 1 → x ≡ next.Fault
       → IsNextOf s.sites s.vars x old rows r
       → Step s f st old d (line.Refused n) true rows
       (record { inside = d.inside; seen = n; row = r; order = d.order; spot = d.spot; last = d.last; sign = d.sign })
-  refused-goes n x rows r b m q y = record { holds = λ t i. absurd (clash d.inside i b); gone = go } where
+  refused-goes n x rows r b m q y = record { holds = λ t i. cc; gone = go } where
     k : IsNextOf s.sites s.vars next.Fault old rows r
     k = subst (λ (z : Next). IsNextOf s.sites s.vars z old rows r) q y
 
@@ -146,28 +138,25 @@ module _ (s : Shape) (f : Sparse) (st : Staged) (old : Records) (d : Progress) w
     go e (Between seen left) p i =
         let c : n ≡ seen + 1 = m ∙ ap (λ j. j + 1) i.1 in
         (Between (seen + 1) rows, record { number = c; fields = k.0; behind = rows; next = sym i.2 ∙ k.1; stop = k.2; refused = k.3; to = refl }, (b, c, refl))
-    go e (Within seen left row stood) p i = absurd (clash d.inside i.0 b)
+    go e (Within seen left row stood) p i = cc
 
   -- ---- `row`
   -- `row` fails within a row, or where its number isn't the next one
   pub row-elsewhere : (n : ℕ) (rows : Records) (new : Progress) → ((d.inside ≡ false) × (n ≡ d.seen + 1) → ⊥) → Step s f st old d (line.Row n) false rows new
-  row-elsewhere n rows new h = refuses (line.Row n) rows new go where
-    go : (e : Tree) (here : Place) → IsHere s e st old d here → (q : Place) → Rule (subject_of s e) here (line.Row n) q → ⊥
-    go e (Between seen left) i q r = h (i.0, r.number ∙ ap (λ k. k + 1) (sym i.1))
-    go e (Within seen left row stood) i q r = r
+  row-elsewhere n rows new h = fails (line.Row n) rows new (λ e left i q r. h (i.0, r.number)) (λ e seen left row stood i k q r. r)
 
   -- `row` fails where no record is next, or the next one is invalid
   pub row-other : (n : ℕ) (x : Next) (rows : Records) (r : code.Row) (new : Progress) → (x ≡ next.Read → ⊥)
       → IsNextOf s.sites s.vars x old rows r → Step s f st old d (line.Row n) false rows new
-  row-other n x rows r new other k = refuses (line.Row n) rows new (go x other k) where
-    go : (x : Next) → (x ≡ next.Read → ⊥) → IsNextOf s.sites s.vars x old rows r → (e : Tree) (here : Place) → IsHere s e st old d here
-        → (q : Place) → Rule (subject_of s e) here (line.Row n) q → ⊥
-    go x other k e (Within seen left row stood) i q r = r
-    go next.Nothing other k e (Between seen left) i q r = nil-cons r.fields r.behind (sym k ∙ i.2 ∙ r.next)
-    go next.Read other k e (Between seen left) i q r = other refl
-    go next.Fault other k e (Between seen left) i q r =
-        let same : k.0 ≡ r.fields = heads k.0 r.fields rows r.behind (sym k.1 ∙ i.2 ∙ r.next) in
-        ok-err (read_row s.sites s.vars r.fields) r.row k.2 r.read (ap (read_row s.sites s.vars) (sym same) ∙ k.3)
+  row-other n x rows r new other k = fails (line.Row n) rows new
+      (λ e left i q z. go x other k z.fields z.behind (i.1 ∙ z.next) z.row z.read) (λ e seen left row stood i k q r. r) where
+        go : (x : Next) → (x ≡ next.Read → ⊥) → IsNextOf s.sites s.vars x old rows r → (fields : List (List ℕ)) (behind : Records) → old ≡ fields ∷ behind
+            → (row : Row) → read_row s.sites s.vars fields ≡ Ok row → ⊥
+        go next.Nothing other k fields behind e row t = cc
+        go next.Read other k fields behind e row t = other refl
+        go next.Fault other k fields behind e row t =
+            let same : k.0 ≡ fields = head (sym k.1 ∙ e) in
+            let both : Err k.2 ≡ Ok row = sym k.3 ∙ ap (read_row s.sites s.vars) same ∙ t in cc
 
   -- what is held after `row`: an open row with its number and order, at the beginning of the order's list, where no vector stood
   abbrev pub opened : ℕ → code.Row → Order → Progress
@@ -194,23 +183,17 @@ module _ (s : Shape) (f : Sparse) (st : Staged) (old : Records) (d : Progress) w
             record { number = j; fields = k.0; behind = rows; next = sym i.2 ∙ k.1; row = row_of s.sites s.vars r; read = k.2; to = refl },
             (refl, j, refl, record { held = refl; last = refl; sign = tt; left = left-first s f st c (order_places o) of e p }),
           )
-      go e (Within seen left row stood) p i = absurd (clash d.inside i.0 b)
+      go e (Within seen left row stood) p i = cc
 
   -- ---- `at`
   -- `at` fails outside a row
   pub at-outside : (a : Pairs) (z : ℤ) (rows : Records) (new : Progress) → d.inside ≡ false → Step s f st old d (line.At a z) false rows new
-  at-outside a z rows new b = refuses (line.At a z) rows new go where
-    go : (e : Tree) (here : Place) → IsHere s e st old d here → (q : Place) → Rule (subject_of s e) here (line.At a z) q → ⊥
-    go e (Between seen left) i q r = r
-    go e (Within seen left row stood) i q r = clash d.inside i.0 b
+  at-outside a z rows new b = fails (line.At a z) rows new (λ e left i q r. r) (λ e seen left row stood i k q r. true≢false (sym i ∙ b))
 
   -- `at` fails where its variables don't rise, or one of them is no coordinate of a site
   pub at-unread : (a : Pairs) (z : ℤ) (rows : Records) (new : Progress) → (IsRising a → AreOfSites s.vars a → ⊥)
       → Step s f st old d (line.At a z) false rows new
-  at-unread a z rows new h = refuses (line.At a z) rows new go where
-    go : (e : Tree) (here : Place) → IsHere s e st old d here → (q : Place) → Rule (subject_of s e) here (line.At a z) q → ⊥
-    go e (Between seen left) i q r = r
-    go e (Within seen left row stood) i q r = h r.rising r.of_sites
+  at-unread a z rows new h = fails (line.At a z) rows new (λ e left i q r. r) (λ e seen left row stood i k q r. h r.rising r.of_sites)
 
   -- what the test of a line means
   abbrev pub Tests : Bool → Pairs → ℤ → List ℤ → Type 0
@@ -241,10 +224,10 @@ module _ (s : Shape) (f : Sparse) (st : Staged) (old : Records) (d : Progress) w
   -- `at` fails where its test comes to false
   pub at-refused : (a : Pairs) (z : ℤ) (rows : Records) (new : Progress) → IsAtRow s st d → AreOfSites s.vars a
       → Tests false a z (take (length s.vars) d.row.values) → Step s f st old d (line.At a z) false rows new
-  at-refused a z rows new at sites t = record { holds = λ e. absurd (false-true e); gone = go } where
+  at-refused a z rows new at sites t = record { holds = λ e. cc; gone = go } where
     go : (e : Tree) (here : Place) → HasPoly s e f → IsHere s e st old d here → (q : Place) → Rule (subject_of s e) here (line.At a z) q → ⊥
     go e (Between seen left) p i q r = r
-    go e (Within seen left row stood) p i q r = false-true ((fits false a z at sites t e p row stood i.3).1 r.next)
+    go e (Within seen left row stood) p i q r = true≢false (sym ((fits false a z at sites t e p row stood i.3).1 r.next))
 
   -- what passing on means
   abbrev pub Passes : Pairs → Spot → Type 0
@@ -270,7 +253,7 @@ module _ (s : Shape) (f : Sparse) (st : Staged) (old : Records) (d : Progress) w
       (sym w) (record { holds = λ y i. record { range = at.range; order = at.order; spot = is }; gone = go })
     where
       go : (e : Tree) (here : Place) → HasPoly s e f → IsHere s e st old d here → PlaceStep s e st here (line.At a z) true old (behind a spot b0 t)
-      go e (Between seen left) p i = absurd (clash d.inside b i.0)
+      go e (Between seen left) p i = cc
       go e (Within seen left row stood) p i =
           let n : ℕ = length s.vars in
           let places : List ℕ = order_places d.order in
@@ -305,20 +288,17 @@ module _ (s : Shape) (f : Sparse) (st : Staged) (old : Records) (d : Progress) w
   -- ---- `sign`
   -- `sign` fails outside a row
   pub sign-outside : (t : Sign) (rows : Records) (new : Progress) → d.inside ≡ false → Step s f st old d (line.Sign t) false rows new
-  sign-outside t rows new b = refuses (line.Sign t) rows new go where
-    go : (e : Tree) (here : Place) → IsHere s e st old d here → (q : Place) → Rule (subject_of s e) here (line.Sign t) q → ⊥
-    go e (Between seen left) i q r = r
-    go e (Within seen left row stood) i q r = clash d.inside i.0 b
+  sign-outside t rows new b = fails (line.Sign t) rows new (λ e left i q r. r) (λ e seen left row stood i k q r. true≢false (sym i ∙ b))
 
   -- `sign` fails where no vector stood before it, or its sign isn't that of the last value
   pub sign-unsaid : (t : Sign) (rows : Records) (new : Progress) → ((d.last.exps ≡ None → ⊥) × (t ≡ d.sign) → ⊥)
       → Step s f st old d (line.Sign t) false rows new
-  sign-unsaid t rows new h = refuses (line.Sign t) rows new go where
-    go : (e : Tree) (here : Place) → IsHere s e st old d here → (q : Place) → Rule (subject_of s e) here (line.Sign t) q → ⊥
-    go e (Between seen left) i q r = r
-    go e (Within seen left row []) i q r = r.signed
-    go e (Within seen left row (p ∷ stood)) i q r =
-        h (λ o. none-last (length s.vars) d.last.exps d.last.zero p stood i.3.last o, sign-number-same t d.sign (r.signed.0 ∙ sym i.3.sign))
+  sign-unsaid t rows new h = fails (line.Sign t) rows new (λ e left i q r. r) go where
+    go : (e : Tree) (seen : ℕ) (left : Records) (row : Row) (stood : Stood) → d.inside ≡ true → IsInRow s e st d row stood → (q : Place)
+        → Rule (subject_of s e) (Within seen left row stood) (line.Sign t) q → ⊥
+    go e seen left row [] b i q r = r.signed
+    go e seen left row (p ∷ stood) b i q r =
+        h (λ o. none-last (length s.vars) d.last.exps d.last.zero p stood i.last o, sign-number-same t d.sign (r.signed.0 ∙ sym i.sign))
 
   -- `sign` fails where the last value is 0 and some stage remains
   pub sign-too-soon : (t : Sign) (rows : Records) (new : Progress) → IsAtRow s st d
@@ -344,9 +324,9 @@ module _ (s : Shape) (f : Sparse) (st : Staged) (old : Records) (d : Progress) w
   -- `sign` closes the row where its sign is that of the last value, and this value isn't 0 or no stage remains
   pub sign-goes : (t : Sign) → IsAtRow s st d → d.inside ≡ true → (d.last.exps ≡ None → ⊥) → t ≡ d.sign
       → (d.last.zero ≡ true → left_at st (order_places d.order) d.spot ≡ []) → Step s f st old d (line.Sign t) true old closed
-  sign-goes t at b some same whole = record { holds = λ y i. absurd (false-true i); gone = go } where
+  sign-goes t at b some same whole = record { holds = λ y i. cc; gone = go } where
     go : (e : Tree) (here : Place) → HasPoly s e f → IsHere s e st old d here → PlaceStep s e st here (line.Sign t) true old closed
-    go e (Between seen left) p i = absurd (clash d.inside b i.0)
+    go e (Between seen left) p i = cc
     go e (Within seen left row []) p i = absurd (some-last (length s.vars) d.last.exps d.last.zero [] i.3.last some refl)
     go e (Within seen left row (p ∷ stood)) h i =
         let range : InRange s.sites s.vars row = subst (InRange s.sites s.vars) i.3.held at.range in

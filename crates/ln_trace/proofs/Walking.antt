@@ -21,14 +21,6 @@ module _ (s : Subject) where
   go-more p here next (l ∷ ls) zero d h g r = (next, subst (λ q. Rule s q l next) g r, refl)
   go-more p here next (l ∷ ls) (suc i) d h (t, u, g) r = (t, u, go-more t here next ls i d (omega (arith, h)) g r)
 
-  fails-cons : (here : Place) (l : TraceLine) (ls : List TraceLine) → ((q : Place) → Rule s here l q → ⊥) → FailsAt s here (l ∷ ls)
-  fails-cons (Between seen left) l ls h = h
-  fails-cons (Within seen left row stood) l ls h = h
-
-  cons-fails : (here : Place) (l : TraceLine) (ls : List TraceLine) → FailsAt s here (l ∷ ls) → (q : Place) → Rule s here l q → ⊥
-  cons-fails (Between seen left) l ls h = h
-  cons-fails (Within seen left row stood) l ls h = h
-
   -- a line that leads nowhere from the place that the lines before it lead to is the first that fails
   pub stops : (records : Records) (ls : List TraceLine) (i : ℕ) (d : TraceLine) (here : Place) → i < length ls
       → Go s (Between 0 records) (take i ls) here → ((q : Place) → Rule s here (get_or ls i d) q → ⊥) → IsFirstFault s records ls (i + 2)
@@ -38,7 +30,7 @@ module _ (s : Subject) where
     within = omega (arith, h);
     here = here;
     good = g;
-    fails = subst (FailsAt s here) (sym (drop-cons ls i d h)) (fails-cons here (get_or ls i d) (drop (suc i) ls) f);
+    fails = subst (FailsAt s here) (sym (drop-cons ls i d h)) f;
   }
 
   -- where all lines lead to a place at which a trace may not end, its end is the first fault
@@ -72,12 +64,9 @@ module _ (s : Subject) where
       let e : size q ≡ (seen + 1) + length r.behind = ap size r.to in
       let f : length left ≡ suc (length r.behind) = ap length r.next in
       omega (arith, e, f)
-  same-size (Between seen left) q (line.At exps z) r = absurd r
-  same-size (Between seen left) q (line.Sign t) r = absurd r
-  same-size (Within seen left row stood) q (line.Refused n) r = absurd r
-  same-size (Within seen left row stood) q (line.Row n) r = absurd r
   same-size (Within seen left row stood) q (line.At exps z) r = ap size r.to
   same-size (Within seen left row stood) q (line.Sign t) r = ap size r.to
+  same-size p q l r = absurd r
 
   go-size : (p q : Place) (ls : List TraceLine) → Go s p ls q → size q ≡ size p
   go-size p q [] g = ap size g
@@ -99,12 +88,7 @@ module _ (s : Subject) where
 
   -- ---- one result
   same-rest : (f g : List (List ℕ)) (left a b : Records) → left ≡ f ∷ a → left ≡ g ∷ b → (f ≡ g) × (a ≡ b)
-  same-rest f g left a b p q = (heads f g a b (sym p ∙ q), tails f g a b (sym p ∙ q)) where
-    heads : (f g : List (List ℕ)) (a b : Records) → f ∷ a ≡ g ∷ b → f ≡ g
-    heads f g a b e = cc
-
-    tails : (f g : List (List ℕ)) (a b : Records) → f ∷ a ≡ g ∷ b → a ≡ b
-    tails f g a b e = cc
+  same-rest f g left a b p q = (cc, cc)
 
   same-row : (o : Result Row RowStop) (a b : Row) → o ≡ Ok a → o ≡ Ok b → a ≡ b
   same-row o a b p q = cc
@@ -116,12 +100,9 @@ module _ (s : Subject) where
       let e = same-rest h.fields k.fields left h.behind k.behind h.next k.next in
       let o : h.row ≡ k.row = same-row (read_row s.sites s.vars k.fields) h.row k.row (ap (read_row s.sites s.vars) (sym e.0) ∙ h.read) k.read in
       h.to ∙ ap (λ b. Within (seen + 1) b h.row []) e.1 ∙ ap (λ w. Within (seen + 1) k.behind w []) o ∙ sym k.to
-  one-place (Between seen left) q r (line.At exps z) h k = absurd h
-  one-place (Between seen left) q r (line.Sign t) h k = absurd h
-  one-place (Within seen left row stood) q r (line.Refused n) h k = absurd h
-  one-place (Within seen left row stood) q r (line.Row n) h k = absurd h
   one-place (Within seen left row stood) q r (line.At exps z) h k = h.to ∙ sym k.to
   one-place (Within seen left row stood) q r (line.Sign t) h k = h.to ∙ sym k.to
+  one-place p q r l h k = absurd h
 
   go-one : (p a b : Place) (ls : List TraceLine) → Go s p ls a → Go s p ls b → a ≡ b
   go-one p a b [] g h = g ∙ sym h
@@ -130,12 +111,10 @@ module _ (s : Subject) where
   -- after a line that fails none leads anywhere
   none-past : (p here there : Place) (ls : List TraceLine) (i j : ℕ) → i < length ls → i < j → Go s p (take i ls) here
       → FailsAt s here (drop i ls) → Go s p (take j ls) there → ⊥
-  none-past p here there [] i j h l g f k = absurd (omega (arith, h))
-  none-past p here there (x ∷ ls) zero zero h l g f k = absurd (omega (arith, l))
-  none-past p here there (x ∷ ls) zero (suc j) h l g f (t, u, k) = cons-fails here x ls f t (subst (λ q. Rule s q x t) (sym g) u)
-  none-past p here there (x ∷ ls) (suc i) zero h l g f k = absurd (omega (arith, l))
+  none-past p here there (x ∷ ls) zero (suc j) h l g f (t, u, k) = f t (subst (λ q. Rule s q x t) (sym g) u)
   none-past p here there (x ∷ ls) (suc i) (suc j) h l (t, u, g) f (w, v, k) =
       none-past t here there ls i j (omega (arith, h)) (omega (arith, l)) g f (subst (λ q. Go s q (take j ls) there) (one-place p w t x v u) k)
+  none-past p here there ls i j h l g f k = absurd (omega (arith, h, l))
 
   -- an agreed trace has no first line that fails
   pub not-both : (records : Records) (ls : List TraceLine) (n : ℕ) → IsAgreed s records ls → IsFirstFault s records ls n → ⊥

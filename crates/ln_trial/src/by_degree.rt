@@ -6,7 +6,7 @@ use ln_code::Program;
 use ln_compile::{Checked, check};
 use ln_graded::{GradedStop, graded};
 use ln_poly::Poly;
-use ln_sample::ORIENT;
+use ln_trial_programs::sample::ORIENT;
 use std::alloc::Global;
 use std::test::Fail;
 

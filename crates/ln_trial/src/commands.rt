@@ -3,8 +3,8 @@
 use crate::spheres::CIRCLE;
 use crate::support::{Case, Faults, NO_FAULTS, are_answered, is_answered, is_said, shelf};
 use ln_base::{MemFiles, NoMemory};
-use ln_sample::ORIENT;
 use ln_top::Status;
+use ln_trial_programs::sample::ORIENT;
 use std::alloc::Global;
 use std::test::Fail;
 

@@ -1,7 +1,7 @@
 //! A test of what `edges` writes for points: the edges of a hull, worked out by hand.
 use crate::support::{Case, are_answered};
-use ln_sample::ORIENT;
 use ln_top::Status;
+use ln_trial_programs::sample::ORIENT;
 use std::test::Fail;
 
 // Three points on a line.

@@ -3,8 +3,8 @@ use crate::support::{
     Case, Faults, NO_FAULTS, answered, are_answered, is_answered, shelf, three_boxes,
 };
 use ln_base::{MemConsole, NoMemory, Port};
-use ln_sample::ORIENT;
 use ln_top::Status;
+use ln_trial_programs::sample::ORIENT;
 use std::alloc::Global;
 use std::test::Fail;
 

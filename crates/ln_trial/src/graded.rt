@@ -1,7 +1,7 @@
 //! A test of what `graded` writes for a row on which it differs from `run`.
 use crate::support::{Case, are_answered};
-use ln_sample::ORIENT;
 use ln_top::Status;
+use ln_trial_programs::sample::ORIENT;
 use std::test::Fail;
 
 const LINE: &str = "p,p.x,p.y,q,q.x,q.y,r,r.x,r.y\n1,0,1,2,0,0,3,0,0\n";

@@ -3,8 +3,8 @@ use crate::spheres::CIRCLE;
 use crate::support::{Case, Faults, NO_FAULTS, are_answered, is_answered, said_within, shelf};
 use ln_base::{NoMemory, Port};
 use ln_cert::{Entry, ListStop, Part, read_listing};
-use ln_sample::SQUARES;
 use ln_top::Status;
+use ln_trial_programs::sample::SQUARES;
 use std::alloc::Global;
 use std::test::Fail;
 

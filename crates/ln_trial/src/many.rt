@@ -3,8 +3,8 @@
 use crate::support::{answered, shelf};
 use crate::verdicts::calls_of_runs;
 use ln_base::{MemConsole, NoMemory, Port};
-use ln_sample::{ORIENT, compiled};
 use ln_top::Status;
+use ln_trial_programs::sample::{ORIENT, compiled};
 use std::alloc::Global;
 use std::test::Fail;
 use std::time::{CpuClock, Duration};

@@ -1,8 +1,8 @@
 //! Tests of what `explain` writes for a row, worked out by hand, and what `audit` writes for the same trace.
 use crate::support::{Case, are_answered, is_said};
 use ln_base::{MemFiles, NoMemory};
-use ln_sample::ORIENT;
 use ln_top::Status;
+use ln_trial_programs::sample::ORIENT;
 use std::alloc::Global;
 use std::test::Fail;
 

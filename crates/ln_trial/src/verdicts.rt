@@ -5,8 +5,8 @@ use ln_base::{NoMemory, Sign};
 use ln_code::{By, Program, Row, Scratch, Verdict, run_row};
 use ln_compile::Compiled;
 use ln_rows::Rows;
-use ln_sample::{ORIENT, compiled};
 use ln_tree::Pred;
+use ln_trial_programs::sample::{ORIENT, compiled};
 use std::alloc::Global;
 use std::test::Fail;
 

@@ -1,7 +1,8 @@
 //! Tests of what fields, places and lists are, and of what files and streams in memory hold.
 use ln_base::decimal::{integer, unsigned};
 use ln_base::{
-    MemConsole, MemFiles, NoMemory, Port, ReadStop, Reading, Seq, line_col, put_all, read_whole,
+    Files, MemConsole, MemFiles, NoMemory, Port, ReadStop, Reading, Seq, line_col, put_all,
+    read_whole,
 };
 use std::alloc::Global;
 use std::test::Fail;
@@ -117,7 +118,7 @@ fn reads(alloc: Global, files: &mut MemFiles, name: &str, limit: usize, want: &[
 }
 
 /// Has the file more bytes than the limit?
-fn is_too_long(alloc: Global, files: &mut MemFiles, name: &str, limit: usize) -> bool {
+pub fn is_too_long<F: Files>(alloc: Global, files: &mut F, name: &str, limit: usize) -> bool {
     match read_whole(alloc, files, name, limit) {
         Ok(_) => false,
         Err(stop) => matches!(stop, ReadStop::TooLong),
@@ -125,7 +126,7 @@ fn is_too_long(alloc: Global, files: &mut MemFiles, name: &str, limit: usize) ->
 }
 
 /// Is the file not there, or is there a fault?
-fn is_fault(alloc: Global, files: &mut MemFiles, name: &str) -> bool {
+pub fn is_fault<F: Files>(alloc: Global, files: &mut F, name: &str) -> bool {
     match read_whole(alloc, files, name, 9) {
         Ok(_) => false,
         Err(stop) => matches!(stop, ReadStop::Fault),

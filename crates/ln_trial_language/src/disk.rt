@@ -2,7 +2,8 @@
 mod fakes;
 
 use self::fakes::{Habit, Line, Paper, Shelf, byte_at};
-use ln_base::{Console, Files, Port, ReadStop, put_all, read_whole};
+use crate::base::{is_fault, is_too_long};
+use ln_base::{Console, Files, Port, put_all, read_whole};
 use ln_disk::{DiskFiles, StdConsole, words_of};
 use std::alloc::Global;
 use std::test::Fail;
@@ -13,6 +14,16 @@ const QUICK: Habit = Habit {
     fails: 0,
     interrupted: false,
 };
+
+/// A shelf of files of this length, with this habit.
+fn shelf(len: usize, most: usize, fails: usize, interrupted: bool) -> Shelf {
+    let habit = Habit {
+        most,
+        fails,
+        interrupted,
+    };
+    Shelf { len, habit }
+}
 
 /// Are these the bytes of that file from the place on?
 fn are_of(name: &str, at: usize, bytes: &[u8]) -> bool {
@@ -29,22 +40,6 @@ fn is_whole<F: Files>(alloc: Global, files: &mut F, name: &str, len: usize) -> b
     match read_whole(alloc, files, name, len) {
         Ok(whole) => whole.len() == len && are_of(name, 0, &whole),
         Err(_) => false,
-    }
-}
-
-/// Has the file more bytes than the limit?
-fn is_too_long<F: Files>(alloc: Global, files: &mut F, name: &str, limit: usize) -> bool {
-    match read_whole(alloc, files, name, limit) {
-        Ok(_) => false,
-        Err(stop) => matches!(stop, ReadStop::TooLong),
-    }
-}
-
-/// Is there a fault?
-fn is_fault<F: Files>(alloc: Global, files: &mut F, name: &str) -> bool {
-    match read_whole(alloc, files, name, 9) {
-        Ok(_) => false,
-        Err(stop) => matches!(stop, ReadStop::Fault),
     }
 }
 
@@ -66,14 +61,7 @@ fn is_long<F: Files>(alloc: Global, files: &mut F) -> bool {
 #[test]
 fn a_long_file_is_read_whole_however_short_its_reads(rt: HostRuntime) {
     for (most, interrupted) in LONG_READS {
-        let shelf = Shelf {
-            len: 200_000,
-            habit: Habit {
-                most: *most,
-                fails: 0,
-                interrupted: *interrupted,
-            },
-        };
+        let shelf = shelf(200_000, *most, 0, *interrupted);
         let mut files = DiskFiles::new(&shelf);
         assert!(rt; is_long(rt.alloc(), &mut files));
     }
@@ -115,14 +103,7 @@ const SHORT_READS: &[usize] = &[0, 1, 63, 4_000, 4_095, 4_096];
 #[test]
 fn a_file_is_read_from_any_place(rt: HostRuntime) {
     for most in SHORT_READS {
-        let shelf = Shelf {
-            len: 200_000,
-            habit: Habit {
-                most: *most,
-                fails: 0,
-                interrupted: true,
-            },
-        };
+        let shelf = shelf(200_000, *most, 0, true);
         let mut files = DiskFiles::new(&shelf);
         assert!(rt; is_read_anywhere(&mut files));
     }
@@ -165,10 +146,7 @@ fn is_by_name<F: Files>(files: &mut F, name: &str) -> bool {
 
 #[test]
 fn a_name_of_any_length_is_the_name_of_its_file(rt: HostRuntime) -> Result<(), Fail> {
-    let shelf = Shelf {
-        len: 600,
-        habit: QUICK,
-    };
+    let shelf = shelf(600, 1_000_000, 0, false);
     let mut files = DiskFiles::new(&shelf);
     let mut name = String::new(rt.alloc());
     for i in 0..255u32 {
@@ -201,14 +179,7 @@ fn fails_behind<F: Files>(files: &mut F, well: usize) -> bool {
 #[test]
 fn a_read_that_fails_is_a_fault(rt: HostRuntime) {
     for well in 0..3usize {
-        let shelf = Shelf {
-            len: 9_000,
-            habit: Habit {
-                most: 4_094,
-                fails: well + 1,
-                interrupted: false,
-            },
-        };
+        let shelf = shelf(9_000, 4_094, well + 1, false);
         let mut files = DiskFiles::new(&shelf);
         assert!(rt; fails_behind(&mut files, well));
     }
@@ -233,8 +204,8 @@ fn is_put(out: &mut Paper, err: &mut Paper, port: Port, bytes: &[u8]) -> bool {
 fn goes_out(alloc: Global, bytes: &[u8], most: usize, interrupted: bool) -> bool {
     let habit = Habit {
         most,
-        fails: 0,
         interrupted,
+        ..QUICK
     };
     let mut out = Paper::new(alloc, habit, 0);
     let mut err = Paper::new(alloc, habit, 0);
@@ -268,7 +239,7 @@ fn is_put_again(alloc: Global, bytes: &[u8], fails: usize) -> bool {
     let habit = Habit {
         most: 3,
         fails,
-        interrupted: false,
+        ..QUICK
     };
     let mut out = Paper::new(alloc, habit, 0);
     let mut err = Paper::new(alloc, QUICK, 0);
@@ -312,12 +283,7 @@ fn a_flush_that_fails_is_a_fault(rt: HostRuntime) {
 #[test]
 fn a_writer_that_takes_nothing_has_a_fault(rt: HostRuntime) {
     let alloc = rt.alloc();
-    let full = Habit {
-        most: 0,
-        fails: 0,
-        interrupted: false,
-    };
-    let mut out = Paper::new(alloc, full, 0);
+    let mut out = Paper::new(alloc, Habit { most: 0, ..QUICK }, 0);
     let mut err = Paper::new(alloc, QUICK, 0);
     let fault = put_once(&mut out, &mut err, Port::Out, b"0").is_none();
     assert!(rt; fault && put_once(&mut out, &mut err, Port::Out, b"") == Some(0));

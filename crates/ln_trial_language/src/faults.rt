@@ -5,105 +5,59 @@ use ln_parse::{LimitWhat, NameWhat, ParseStop, parse};
 use std::alloc::Global;
 use std::test::Fail;
 
-/// Sources up to the token of a fault, that token, the rest, and the fault.
-const AT_A_TOKEN: &[(&str, &str, &str, Fault)] = &[
+/// Faults, and sources with the token of each between brackets.
+const AT_A_TOKEN: &[(Fault, &[&str])] = &[
     (
-        "site ",
-        "abcdefghijklmnopqrstuvwxyz_012345",
-        " { x: 0 .. 1; }",
         Fault::Limit(LimitWhat::NameLength),
+        &["site [abcdefghijklmnopqrstuvwxyz_012345] { x: 0 .. 1; }"],
     ),
     (
-        "param c: 0 .. 1; predicate f(c: param) { sign c*",
-        "170141183460469231731687303715884105728",
-        "; }",
         Fault::Limit(LimitWhat::Literal),
+        &[
+            "param c: 0 .. 1; predicate f(c: param) { sign c*[170141183460469231731687303715884105728]; }",
+        ],
     ),
     (
-        "param c: -",
-        "9223372036854775808",
-        " .. 0;",
         Fault::Limit(LimitWhat::RangeEnd),
+        &[
+            "param c: -[9223372036854775808] .. 0;",
+            "param c: 5 .. [4];",
+        ],
     ),
     (
-        "param c: 5 .. ",
-        "4",
-        ";",
-        Fault::Limit(LimitWhat::RangeEnd),
-    ),
-    (
-        "param c: 0 .. 1; predicate f(c: param) { sign c^",
-        "17",
-        "; }",
         Fault::Limit(LimitWhat::Exponent),
+        &["param c: 0 .. 1; predicate f(c: param) { sign c^[17]; }"],
     ),
     (
-        "site a { x: 0 .. 1; } predicate f(p: a, q: a, r: a, s: a, t: a, u: ",
-        "a",
-        ") { sign p.x; }",
         Fault::Limit(LimitWhat::SiteArgs),
+        &["site a { x: 0 .. 1; } predicate f(p: a, q: a, r: a, s: a, t: a, u: [a]) { sign p.x; }"],
     ),
     (
-        "param a: 0 .. 1; param b: 0 .. 1; param c: 0 .. 1; param d: 0 .. 1; param e: 0 .. 1;
-        param f: 0 .. 1; param g: 0 .. 1; param h: 0 .. 1; param i: 0 .. 1;
-        predicate j(a: param, b: param, c: param, d: param, e: param, f: param, g: param, h: param, i: ",
-        "param",
-        ") { sign a; }",
         Fault::Limit(LimitWhat::ParamArgs),
+        &[
+            "param a: 0 .. 1; param b: 0 .. 1; param c: 0 .. 1; param d: 0 .. 1; param e: 0 .. 1;
+        param f: 0 .. 1; param g: 0 .. 1; param h: 0 .. 1; param i: 0 .. 1;
+        predicate j(a: param, b: param, c: param, d: param, e: param, f: param, g: param, h: param, i: [param]) { sign a; }",
+        ],
     ),
     (
-        "param c: 0 .. 1; site ",
-        "c",
-        " { x: 0 .. 1; }",
         Fault::Named(NameWhat::Twice),
+        &[
+            "param c: 0 .. 1; site [c] { x: 0 .. 1; }",
+            "site a { x: 0 .. 1; y: 0 .. 1; [x]: 0 .. 1; }",
+            "site a { x: 0 .. 1; } predicate f(p: a, [p]: a) { sign p.x; }",
+            "site a { x: 0 .. 1; } predicate f(p: a) { let [p] = 1; sign p.x; }",
+        ],
     ),
     (
-        "site a { x: 0 .. 1; y: 0 .. 1; ",
-        "x",
-        ": 0 .. 1; }",
-        Fault::Named(NameWhat::Twice),
-    ),
-    (
-        "site a { x: 0 .. 1; } predicate f(p: a, ",
-        "p",
-        ": a) { sign p.x; }",
-        Fault::Named(NameWhat::Twice),
-    ),
-    (
-        "site a { x: 0 .. 1; } predicate f(p: a) { let ",
-        "p",
-        " = 1; sign p.x; }",
-        Fault::Named(NameWhat::Twice),
-    ),
-    (
-        "site a { x: 0 .. 1; } predicate f(p: ",
-        "f",
-        ") { sign p.x; }",
         Fault::Named(NameWhat::Unknown),
-    ),
-    (
-        "site a { x: 0 .. 1; } predicate f(a: ",
-        "param",
-        ") { sign a; }",
-        Fault::Named(NameWhat::Unknown),
-    ),
-    (
-        "site a { x: 0 .. 1; } predicate f(p: a) { let d = ",
-        "e",
-        "; let e = 1; sign d; }",
-        Fault::Named(NameWhat::Unknown),
-    ),
-    (
-        "param c: 0 .. 1; predicate f(c: param) { sign ",
-        "c",
-        ".x; }",
-        Fault::Named(NameWhat::Unknown),
-    ),
-    (
-        "site a { x: 0 .. 1; } predicate f(p: a) { sign p.",
-        "y",
-        "; }",
-        Fault::Named(NameWhat::Unknown),
+        &[
+            "site a { x: 0 .. 1; } predicate f(p: [f]) { sign p.x; }",
+            "site a { x: 0 .. 1; } predicate f(a: [param]) { sign a; }",
+            "site a { x: 0 .. 1; } predicate f(p: a) { let d = [e]; let e = 1; sign d; }",
+            "param c: 0 .. 1; predicate f(c: param) { sign [c].x; }",
+            "site a { x: 0 .. 1; } predicate f(p: a) { sign p.[y]; }",
+        ],
     ),
 ];
 
@@ -249,14 +203,24 @@ fn most_of(
     Ok(front)
 }
 
+/// Is the source, without the brackets, refused with this fault at the token between them?
+fn is_marked(alloc: Global, marked: &str, fault: Fault) -> Result<bool, NoMemory> {
+    let Some((front, rest)) = marked.split_once('[') else {
+        return Ok(false);
+    };
+    let Some((token, rest)) = rest.split_once(']') else {
+        return Ok(false);
+    };
+    let mut source = String::from_str(alloc, front)?;
+    Ok(is_refused_at(alloc, &mut source, token, rest, "", fault))
+}
+
 #[test]
 fn each_fault_of_names_and_limits_stands_at_its_token(rt: HostRuntime) -> Result<(), Fail> {
-    for (front, token, rest, fault) in AT_A_TOKEN {
-        let mut source = String::from_str(rt.alloc(), front)?;
-        assert!(rt;
-            is_refused_at(rt.alloc(), &mut source, token, rest, "", *fault),
-            "{front}"
-        );
+    for (fault, sources) in AT_A_TOKEN {
+        for source in *sources {
+            assert!(rt; is_marked(rt.alloc(), source, *fault)?, "{source}");
+        }
     }
     Ok(())
 }

@@ -5,7 +5,7 @@ use ln_cemit::emit;
 use ln_cmean::{CAnswer, CScratch, call};
 use ln_code::Programs;
 use ln_csyn::{CFile, CStop, read_c};
-use ln_sample::{ORIENT, compiled};
+use ln_trial_programs::sample::{ORIENT, compiled};
 use std::alloc::Global;
 use std::test::Fail;
 

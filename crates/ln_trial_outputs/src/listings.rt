@@ -3,7 +3,7 @@ use ln_base::NoMemory;
 use ln_bound::Width;
 use ln_cert::{Entry, ListStop, Listing, Part, read_listing, write_listing};
 use ln_code::{Op, Programs};
-use ln_sample::compiled;
+use ln_trial_programs::sample::compiled;
 use std::alloc::Global;
 use std::process::Abort;
 use std::test::Fail;

@@ -1,2 +1,3 @@
 -- The files of this folder.
+mod OneProgram
 mod ThreeSites

@@ -1,4 +1,4 @@
--- Lists of one and of three, the one program of a source, and a predicate over three sites of the one type.
+-- A predicate over three sites of the one type, and points for it.
 use Rattle.std.proofs.Common.{◌≡◌, ◌≤◌, ℕ, List, [], ◌∷◌, length, map, refl, ap, sym, ◌∙◌, subst, arith}
 use Rattle.std.proofs.Common.{get_or, Vec, Global}
 use Rattle.std.specs.Prelude.{slice_get}
@@ -9,7 +9,6 @@ use Rattle.ln_tree.specs.declared.shape.VarInfo.{VarInfo}
 use Rattle.ln_tree.specs.declared.table.Table.{Table}
 use Rattle.ln_tree.specs.Table.{CoordOf, SiteArg, arg_of, pred_of, site_of, table_of}
 use Rattle.ln_code.specs.Part.{Part}
-use Rattle.ln_compile.specs.Compiled.{AreProgramsOf}
 use Rattle.ln_rows.specs.Left.{Records}
 use Rattle.ln_edges.specs.declared.point.Point.{Point}
 use Rattle.ln_edges.specs.declared.read.Found.{Found}
@@ -18,20 +17,6 @@ use Rattle.ln_edges.specs.Edges.{AreFor, points_in, three_of}
 use Rattle.ln_edges.specs.Read.{IsFound, coords_of}
 use Rattle.ln_edges.proofs.SuitLemmas.{points_fit}
 use Rattle.ln_edges.proofs.ThreeLemmas.{tables_three}
-
--- a list of one is that item
-pub one_item : {A : Type 0} (xs : List A) (x : A) → length xs ≡ 1 → x ≡ get_or xs 0 x → xs ≡ x ∷ []
-one_item [] x n e = absurd (omega (arith, n))
-one_item {A = A} (y ∷ []) x n e = ap (λ (z : A). z ∷ []) (sym e)
-one_item (y ∷ z ∷ xs) x n e = absurd (omega (arith, n))
-
--- the one program of the one predicate is over its sites and variables
-pub one_program : (preds : List Pred) (parts : List Part) (pred : Pred) (part : Part) → preds ≡ pred ∷ [] → parts ≡ part ∷ []
-    → AreProgramsOf (map pred_of preds) parts → (part.shape.sites ≡ pred.shape.sites) × (part.shape.vars ≡ pred.shape.vars)
-one_program preds parts pred part e f a =
-    let one : AreProgramsOf (map pred_of (pred ∷ [])) parts = subst (λ (ps : List Pred). AreProgramsOf (map pred_of ps) parts) e a in
-    let o : AreProgramsOf (map pred_of (pred ∷ [])) (part ∷ []) = subst (AreProgramsOf (map pred_of (pred ∷ []))) f one in
-    (o.0.sites, o.0.vars)
 
 -- the argument is a site of the first type
 abbrev pub IsFirst : Arg → Type 0

@@ -1,13 +1,9 @@
 //! Tests that sources are compiled, or refused for the right reason at the right place.
+use crate::sample::{ORIENT, SQUARES, compile_text};
 use ln_base::Span;
 use ln_compile::Compiled;
-use ln_sample::{ORIENT, SQUARES, compile_text};
 use std::alloc::Global;
 use std::test::Fail;
-
-const LIGHT: &str = "site num { t: -9223372036854775806 .. 9223372036854775806; }
-predicate big(a: num, b: num, c: num, d: num) { sign a.t*b.t + c.t*d.t; }
-";
 
 const HEAVY: &str = "site num { t: -9223372036854775807 .. 9223372036854775807; }
 predicate big(a: num, b: num, c: num, d: num) { sign a.t*b.t + c.t*d.t; }
@@ -38,8 +34,6 @@ fn sources_are_compiled_and_their_predicates_found(rt: HostRuntime) -> Result<()
         (ORIENT, "orient", Some(30)),
         (ORIENT, "x", None),
         (SQUARES, "s", Some(6)),
-        // A sum of products that is just light enough.
-        (LIGHT, "big", Some(112)),
     ];
     for (source, name, stages) in rows {
         assert!(rt; count(rt.alloc(), source, name) == stages);

@@ -1,12 +1,12 @@
 //! Tests the sign of a product of factors on a row, without a command.
 ghost use Rattle.std.specs.Prelude.{◌≡◌, ◌∷◌, [], IfSome};
 
+use crate::sample::{ORIENT, compiled};
 use ln_base::{NoMemory, Sign};
 use ln_code::{By, Program, Programs, Row, Scratch, Verdict};
 use ln_compile::Compiled;
 use ln_factor::product_row;
 use ln_rows::Rows;
-use ln_sample::{ORIENT, compiled};
 use ln_tree::Pred;
 use std::alloc::Global;
 use std::test::Fail;

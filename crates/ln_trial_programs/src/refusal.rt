@@ -1,8 +1,8 @@
 //! Tests the texts of refusals, and the places in a source that they name.
+use crate::sample::compile_text;
 use ln_base::{NoMemory, Span};
 use ln_compile::Refusal;
 use ln_names::{LimitWhat, NameWhat};
-use ln_sample::compile_text;
 use std::alloc::Global;
 use std::error::Error;
 use std::fmt::InlineText;

@@ -2,7 +2,6 @@
 pub mod OrderLines
 pub mod Places
 pub mod Put
-pub mod Walk
 pub mod Wholes
 pub mod Entries
 pub mod Subjects

@@ -2,4 +2,3 @@
 pub mod Made
 pub mod Limits
 pub mod Ranges
-pub mod Ends

@@ -1,5 +1,5 @@
 -- Listings that are valid for the predicates of a table, and the first line of a listing whose rule fails.
-use Rattle.std.specs.Prelude.{◌≡◌, ◌==◌, ℕ, true, List, [], ◌∷◌, length, map, slice_get, Some, if◌then◌else◌}
+use Rattle.std.specs.Prelude.{◌≡◌, ◌==◌, ℕ, true, List, [], ◌∷◌, length, map, slice_get, Option, None, Some, if◌then◌else◌}
 use Rattle.ln_tree.specs.declared.pred.Pred.{Pred}
 use Rattle.ln_tree.specs.Row.{InRange, Row}
 use Rattle.ln_tree.specs.Table.{PredOf, TableOf, pred_of}
@@ -12,6 +12,8 @@ use Rattle.ln_verify.specs.AsPart.{GivesSign}
 use Rattle.ln_verify.specs.BlockRules.{Version, version_1, version_2}
 use Rattle.ln_verify.specs.Judge.{IsFirstFault, IsValid}
 use Rattle.ln_verify.specs.Line.{Subject, Written}
+use Rattle.ln_verify.specs.declared.listings.Judged.{Judged}
+use Rattle.ln_verify.specs.declared.listings.Judged.TheVariants.{Valid, Invalid}
 
 -- the predicate as its part is judged: the name of its shape, which in a table is its own, its sites, its variables and its normal
 -- polynomial
@@ -44,6 +46,11 @@ pub record IsFaultFor (ps : List PredOf) (l : Listed) (line : ℕ) : Type 0 wher
   pub subjects : List Subject
   pub those : AreSubjectsOf ps subjects
   pub fault : IsFirstFault (rules_of l.version) subjects (parts_of l.entries) line
+
+-- the result for the first line that fails, if there is one
+abbrev pub judged_of : Option ℕ → Judged
+judged_of None = Valid
+judged_of (Some n) = Invalid n
 
 -- ---- of bytes
 -- the bytes are a listing, which is valid for these predicates

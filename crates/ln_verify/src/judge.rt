@@ -16,6 +16,7 @@ use crate::case::Case;
 use crate::form::Form;
 use crate::kinds::{block, block_op, decide, end, filter, filter_op, no_filter, order, range_op};
 use crate::progress::{At, Progress, is_at};
+use crate::ranged::Ends;
 use crate::stacks::empty;
 use ln_base::{NoMemory, Seq};
 use ln_cert::{Entry, Lines, Part};
@@ -40,7 +41,13 @@ fn within(
         Part::Decide => decide(alloc, case, state),
         Part::Block(k, a) => block(alloc, case, state, *k, a.as_slice()),
         Part::BlockOp(op, b) => block_op(alloc, case, form, state, *op, *b),
-        Part::RangeOp(op, low, high) => range_op(alloc, case, form, state, *op, *low, *high),
+        Part::RangeOp(op, low, high) => {
+            let ends = Ends {
+                low: *low,
+                high: *high,
+            };
+            range_op(alloc, case, form, state, *op, ends)
+        }
         Part::End => end(alloc, case, state),
         Part::Order(places, list) => {
             order(alloc, case, state, places.as_slice(), list.as_slice())

@@ -4,11 +4,11 @@ ghost use Rattle.ln_tree.specs.Exps.{Pairs};
 ghost use Rattle.ln_code.specs.Engine.{State};
 ghost use Rattle.ln_code.specs.FilterRules.{FilterKnown};
 ghost use Rattle.ln_code.specs.Rules.{Known};
-ghost use Rattle.ln_verify.specs.BlockRules.{Version, balanced};
+ghost use Rattle.ln_verify.specs.BlockRules.{Version};
 ghost use Rattle.ln_verify.specs.Here.{AreAbove, BlockEnds, IsCase, Leads, FilterDecides, subject_of};
 ghost use Rattle.ln_verify.specs.Line.{Subject};
 ghost use Rattle.ln_verify.specs.Versions.{version_of};
-ghost use Rattle.ln_verify.specs.Works.{BlockStep, IsBlockStack, IsFilterStack, FilterStep};
+ghost use Rattle.ln_verify.specs.Works.{IsBlockStack, IsFilterStack};
 ghost use Rattle.ln_cert.specs.declared.part.Part.TheVariants.{NoFilter, Filter, FilterOp, Decide, Block, BlockOp, RangeOp, End, Order};
 
 use crate::case::Case;
@@ -16,7 +16,7 @@ use crate::derived::{is_derivative, is_whole};
 use crate::form::{Form, is_form};
 use crate::orders::is_next;
 use crate::progress::{At, Progress, before, is_at};
-use crate::ranged::{BlockStack, pair_of_bound, pair_of_ends};
+use crate::ranged::{BlockStack, Ends, pair_of_bound, pair_of_ends};
 use crate::stacks::empty;
 use crate::steps::operate;
 use crate::triple::FilterStack;
@@ -49,21 +49,6 @@ pub fn filter(alloc: Global, state: &mut Progress) -> Result<bool, NoMemory>
     Ok(true)
 }
 
-// An operation of a filter over the variables of a predicate.
-fn filter_line_on(
-    alloc: Global,
-    case: &Case,
-    form: Form,
-    filter_stack: &mut FilterStack,
-    op: Op,
-    a: Triple,
-) -> Result<bool, NoMemory>
-    ensures { IfOk result (λ ok. FilterStep (version_of form) case.now.shape.vars filter_stack.old op a ok filter_stack.new) }
-{
-    let ok = operate(alloc, form, case.shape.vars.as_slice(), filter_stack, op, a)?;
-    Ok(ok)
-}
-
 /// A line of a filter.
 pub fn filter_op(
     alloc: Global,
@@ -78,30 +63,7 @@ pub fn filter_op(
     if !is_at(state.at, At::AtFilter) {
         return Ok(false);
     }
-    let ok = filter_line_on(alloc, case, form, &mut state.filter_stack, op, a)?;
-    Ok(ok)
-}
-
-// An operation of a block of version 1 over the variables of a predicate.
-fn bound_line(
-    alloc: Global,
-    case: &Case,
-    form: Form,
-    block_stack: &mut BlockStack,
-    op: Op,
-    b: u128,
-) -> Result<bool, NoMemory>
-    ensures { IfOk result (λ ok. BlockStep (version_of form) case.now.shape.vars block_stack.old op (balanced b) ok block_stack.new) }
-{
-    let ends = pair_of_bound(b);
-    let ok = operate(
-        alloc,
-        form,
-        case.shape.vars.as_slice(),
-        block_stack,
-        op,
-        ends,
-    )?;
+    let ok = operate(alloc, case, form, &mut state.filter_stack, op, a)?;
     Ok(ok)
 }
 
@@ -122,32 +84,8 @@ pub fn block_op(
     if !is_at(state.at, At::AtBlock) {
         return Ok(false);
     }
-    let ok = bound_line(alloc, case, form, &mut state.block_stack, op, b)?;
-    Ok(ok)
-}
-
-// An operation of a block of version 2 over the variables of a predicate.
-fn range_line(
-    alloc: Global,
-    case: &Case,
-    form: Form,
-    block_stack: &mut BlockStack,
-    op: Op,
-    low: i128,
-    high: i128,
-) -> Result<bool, NoMemory>
-    ensures { IfOk result (λ ok.
-        BlockStep (version_of form) case.now.shape.vars block_stack.old op (record { low = low; high = high }) ok block_stack.new) }
-{
-    let ends = pair_of_ends(low, high);
-    let ok = operate(
-        alloc,
-        form,
-        case.shape.vars.as_slice(),
-        block_stack,
-        op,
-        ends,
-    )?;
+    let said = pair_of_bound(b);
+    let ok = operate(alloc, case, form, &mut state.block_stack, op, said)?;
     Ok(ok)
 }
 
@@ -158,10 +96,9 @@ pub fn range_op(
     form: Form,
     state: &mut Progress,
     op: Op,
-    low: i128,
-    high: i128,
+    ends: Ends,
 ) -> Result<bool, NoMemory>
-    ensures { IfOk result (λ ok. Leads (version_of form) (subject_of case.now) state.old (RangeOp op low high) ok state.new) }
+    ensures { IfOk result (λ ok. Leads (version_of form) (subject_of case.now) state.old (RangeOp op ends.low ends.high) ok state.new) }
 {
     if !is_form(form, Form::Two) {
         return Ok(false);
@@ -169,7 +106,8 @@ pub fn range_op(
     if !is_at(state.at, At::AtBlock) {
         return Ok(false);
     }
-    let ok = range_line(alloc, case, form, &mut state.block_stack, op, low, high)?;
+    let said = pair_of_ends(ends);
+    let ok = operate(alloc, case, form, &mut state.block_stack, op, said)?;
     Ok(ok)
 }
 

@@ -4,7 +4,7 @@ ghost use Rattle.ln_tree.specs.Table.{pred_of};
 ghost use Rattle.ln_stage.specs.Sound.{AreSound};
 ghost use Rattle.ln_cert.specs.Listing.{AreNumbered};
 ghost use Rattle.ln_verify.specs.Here.{IsCase, subjects_of};
-ghost use Rattle.ln_verify.specs.Verified.{AreSubjectsOf, IsFaultFor, IsTextFaultFor, IsValidFor, IsValidTextFor, rules_of};
+ghost use Rattle.ln_verify.specs.Verified.{AreSubjectsOf, IsFaultFor, IsTextFaultFor, IsValidFor, IsValidTextFor, judged_of, rules_of};
 ghost use Rattle.ln_verify.specs.Versions.{version_of};
 ghost use Rattle.ln_verify.specs.declared.listings.Judged.TheVariants.{Valid, Invalid};
 
@@ -59,6 +59,16 @@ fn lines_of(l: &Listing) -> &[Entry]
     l.entries()
 }
 
+// The verdict for the first line that fails, if there is one.
+fn judged_of(first: Option<u32>) -> Judged
+    ensures { result ≡ judged_of first }
+{
+    match first {
+        Some(line) => Judged::Invalid(line),
+        None => Judged::Valid,
+    }
+}
+
 /// Is the listing valid for the table, and if not, at which line does it fail first? The table's predicates are such as
 /// compile. Each is expanded and staged anew from the source: no compiled program is asked.
 ///
@@ -71,10 +81,8 @@ pub fn verify(alloc: Global, t: &Table, l: &Listing) -> Result<Judged, NoMemory>
 {
     let cases = cases_of(alloc, t.preds.as_slice())?;
     let form = form_of(l.version());
-    match judge(alloc, cases.as_slice(), form, lines_of(l))? {
-        Some(line) => Ok(Judged::Invalid(line)),
-        None => Ok(Judged::Valid),
-    }
+    let first = judge(alloc, cases.as_slice(), form, lines_of(l))?;
+    Ok(judged_of(first))
 }
 
 /// Are the bytes a listing that is valid for the table, and if not, at which line do they fail first? A line at which they stop being a
@@ -95,8 +103,6 @@ pub fn verify_text(alloc: Global, t: &Table, bytes: &[u8]) -> Result<Judged, NoM
     };
     let cases = cases_of(alloc, t.preds.as_slice())?;
     let form = form_of(lines.version());
-    match judge_lines(alloc, cases.as_slice(), form, &mut lines)? {
-        Some(line) => Ok(Judged::Invalid(line)),
-        None => Ok(Judged::Valid),
-    }
+    let first = judge_lines(alloc, cases.as_slice(), form, &mut lines)?;
+    Ok(judged_of(first))
 }

@@ -1,12 +1,12 @@
 //! Limits of values in a block: a range and a width.
-ghost use Rattle.std.specs.Prelude.{◌≡◌, ◌↔◌, ℕ, IsTrue, MatchOption};
+ghost use Rattle.std.specs.Prelude.{◌≡◌, ◌↔◌, ℕ, IsTrue};
 ghost use Rattle.ln_algebra.specs.Tree.{Tree};
 ghost use Rattle.ln_interval.specs.Range.{Covers, Range};
 ghost use Rattle.ln_interval.specs.View.{range};
 ghost use Rattle.ln_bound.specs.Widths.{no_wider};
 ghost use Rattle.ln_code.specs.Rules.{known};
 ghost use Rattle.ln_verify.specs.BlockRules.{balanced};
-ghost use Rattle.ln_verify.specs.Rules.{AreEnds, FitsNot, IsRule, in_range};
+ghost use Rattle.ln_verify.specs.Rules.{AreEnds, IsRule, in_range};
 
 use crate::allowed::{covers_input, covers_number, is_allowed, is_covered, joined_pair};
 use crate::form::Form;
@@ -141,9 +141,16 @@ pub fn pair_of_bound(b: u128) -> Option<Pair>
     Pair::new(-high, high)
 }
 
+/// The two ends that a line says, which may be those of no pair.
+#[derive(Clone, Copy)]
+pub struct Ends {
+    pub low: i128,
+    pub high: i128,
+}
+
 /// The pair of two ends, if they are those of one.
-pub fn pair_of_ends(low: i128, high: i128) -> Option<Pair>
-    ensures { MatchOption result (FitsNot (record { low = low; high = high })) (λ p. range p ≡ record { low = low; high = high }) }
+pub fn pair_of_ends(ends: Ends) -> Option<Pair>
+    ensures { AreEnds result (record { low = ends.low; high = ends.high }) }
 {
-    Pair::new(low, high)
+    Pair::new(ends.low, ends.high)
 }

@@ -9,6 +9,7 @@ ghost use Rattle.ln_verify.specs.Versions.{version_of};
 ghost use Rattle.ln_verify.specs.Works.{StackStep};
 ghost use Rattle.ln_code.specs.Engine.{op_of};
 
+use crate::case::Case;
 use crate::form::Form;
 use crate::limits::Limits;
 use crate::made::{again, cut, input, minus, number, two};
@@ -17,7 +18,6 @@ use crate::value::Value;
 use ln_base::NoMemory;
 use ln_bound::{Two, Width};
 use ln_code::Op;
-use ln_tree::VarInfo;
 use std::alloc::Global;
 
 // A number onto the stack.
@@ -38,16 +38,16 @@ fn push_number<L: Limits>(
 // A variable onto the stack.
 fn push_input<L: Limits>(
     alloc: Global,
+    case: &Case,
     form: Form,
-    vars: &[VarInfo],
     on: &mut Stack<Value<L>>,
     k: u8,
     s: L::Said,
 ) -> Result<bool, NoMemory>
     ensures { IfOk result (λ ok. (b : L.Bound) → L.tells s b →
-        StackStep L.known L.tree L.rules (version_of form) vars.now on.old (Input k) b ok on.new) }
+        StackStep L.known L.tree L.rules (version_of form) case.now.shape.vars on.old (Input k) b ok on.new) }
 {
-    let v = input(alloc, form, vars, k, s)?;
+    let v = input(alloc, form, case.shape.vars.as_slice(), k, s)?;
     let ok = push(&mut on.values, v)?;
     Ok(ok)
 }
@@ -132,20 +132,21 @@ fn get<L: Limits>(on: &mut Stack<Value<L>>, j: u8, s: L::Said) -> Result<bool, N
     Ok(ok)
 }
 
-/// One operation, with what its line says.
+/// One operation over the variables of a predicate, with what its line says.
 pub fn operate<L: Limits>(
     alloc: Global,
+    case: &Case,
     form: Form,
-    vars: &[VarInfo],
     on: &mut Stack<Value<L>>,
     op: Op,
     s: L::Said,
 ) -> Result<bool, NoMemory>
-    ensures { IfOk result (λ ok. (b : L.Bound) → L.tells s b → StackStep L.known L.tree L.rules (version_of form) vars.now on.old op b ok on.new) }
+    ensures { IfOk result (λ ok. (b : L.Bound) → L.tells s b →
+        StackStep L.known L.tree L.rules (version_of form) case.now.shape.vars on.old op b ok on.new) }
 {
     match op {
         Op::Push(c) => push_number(alloc, on, c, s),
-        Op::Input(k) => push_input(alloc, form, vars, on, k, s),
+        Op::Input(k) => push_input(alloc, case, form, on, k, s),
         Op::Get(j) => get(on, j, s),
         Op::Set(j) => Ok(set(on, j)),
         Op::Add(w) => with_two(alloc, on, Two::Plus, w, s),

@@ -1,13 +1,14 @@
 -- A call in the whole file.
-use Rattle.std.proofs.Common.{◌≡◌, ◌≢◌, inl, inr, ℕ, zero, suc, ◌+◌, ◌<◌, ◌≤◌, ◌&&◌, Bool, true, false, List, [], ◌∷◌, ◌++◌, append_assoc}
+use Rattle.std.proofs.Common.{◌≡◌, ◌≢◌, inl, inr, ℕ, zero, suc, ◌+◌, ◌<◌, ◌≤◌, Bool, true, false, List, [], ◌∷◌, ◌++◌, append_assoc}
 use Rattle.std.proofs.Common.{length, map, get_or, take, Some, None, refl, sym, ap, ◌∙◌, arith}
 use Rattle.std.specs.Prelude.{ℤ}
 use Rattle.std.specs.List.{range_with_len}
+use Rattle.std.proofs.lemmas.Bool.{and_right}
 use Rattle.std.proofs.lemmas.List.{append-nil}
 use Rattle.ln_order.specs.Prefixes.{joined}
 use Rattle.ln_algebra.specs.Walk.{Member}
 use Rattle.ln_csyn.specs.Tree.{Body, End, Fun}
-use Rattle.ln_csyn.specs.Meaning.{Counts, Fails, Scene, answer_of, called, called_at, called_behind, is_wanted, runs, runs_behind}
+use Rattle.ln_csyn.specs.Meaning.{Counts, Fails, Scene, answer_of, called, called_at, called_behind, is_wanted, runs, runs_behind, same_bool}
 use Rattle.ln_cemit.proofs.Conditions.Names.{name_false, name_self}
 use Rattle.ln_cemit.specs.Emit.{touching_index}
 use Rattle.ln_cemit.specs.Walked.{body_for}
@@ -20,12 +21,8 @@ use Rattle.ln_cemit.proofs.Choices.Orders.{finds-the-order}
 abbrev plain : List ℤ → Scene
 plain values = record { values = values; index = None; call = λ g j. Fails None }
 
-and_no : (b : Bool) → (b && false) ≡ false
-and_no true = refl
-and_no false = refl
-
 not_wanted : (f : Fun) (indexed : Bool) (name : List ℕ) → f.name ≢ name → is_wanted f indexed name ≡ false
-not_wanted f indexed name h = rw (name_false f.name name h) (and_no _)
+not_wanted f indexed name h = rw (name_false f.name name h) (and_right (same_bool f.indexed indexed) false refl)
 
 module _ (values : List ℤ) where
   -- a call passes functions with other names
@@ -61,22 +58,17 @@ module _ (values : List ℤ) where
         found-behind name body index (front ++ one_fun (block i) c ∷ []) rest (suc i) cs
         ∙ ap (λ fs. Some (called_at 2 (runs_behind fs body index values))) (append_assoc front (one_fun (block i) c ∷ []) (one_funs block (suc i) cs))
 
+both-numbers : (m : ℕ) (xs ys : List ℕ) (b : ℕ) → AreNumbers m xs → AreNumbers m ys → Member (xs ++ ys) b → b < m
+both-numbers m [] ys b h k i = k b i
+both-numbers m (x ∷ xs) ys b h k (inl e) = h b (inl e)
+both-numbers m (x ∷ xs) ys b h k (inr i) = both-numbers m xs ys b (λ c j. h c (inr j)) k i
+
 -- the members of a list of an order are blocks
 joined-numbers : (m : ℕ) (segment : List ℕ → List ℕ) (g : ℕ → List ℕ) (a n : ℕ) → ((p : List ℕ) → AreNumbers m (segment p))
     → AreNumbers m (joined (map (λ j. segment (g j)) (range_with_len a n)))
 joined-numbers m segment g a zero h b i = absurd i
 joined-numbers m segment g a (suc n) h b i =
-    both (segment (g a)) (joined (map (λ j. segment (g j)) (range_with_len (a + 1) n))) b (h (g a)) (joined-numbers m segment g (a + 1) n h) i
-  where
-    both : (xs ys : List ℕ) (b : ℕ) → AreNumbers m xs → AreNumbers m ys → Member (xs ++ ys) b → b < m
-    both [] ys b h k i = k b i
-    both (x ∷ xs) ys b h k (inl e) = h b (inl e)
-    both (x ∷ xs) ys b h k (inr i) = both xs ys b (λ c j. h c (inr j)) k i
-
-both-numbers : (m : ℕ) (xs ys : List ℕ) (b : ℕ) → AreNumbers m xs → AreNumbers m ys → Member (xs ++ ys) b → b < m
-both-numbers m [] ys b h k i = k b i
-both-numbers m (x ∷ xs) ys b h k (inl e) = h b (inl e)
-both-numbers m (x ∷ xs) ys b h k (inr i) = both-numbers m xs ys b (λ c j. h c (inr j)) k i
+    both-numbers m (segment (g a)) (joined (map (λ j. segment (g j)) (range_with_len (a + 1) n))) b (h (g a)) (joined-numbers m segment g (a + 1) n h) i
 
 -- what is never reached does nothing
 index-touched : (s : Scene) (t : Bool) (body : Body) (k : Counts) → runs s [] (touching_index t body) k ≡ runs s [] body k

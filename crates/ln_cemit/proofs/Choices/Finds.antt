@@ -1,6 +1,7 @@
 -- Proves that the body by prefixes returns what the blocks return along the least indices.
-use Rattle.std.proofs.Common.{◌≡◌, inl, inr, ℕ, zero, suc, ◌<◌, Bool, true, false, cond, ◌&&◌, List, [], ◌∷◌, ◌++◌, refl, ap, ◌∙◌, arith, eqb}
+use Rattle.std.proofs.Common.{◌≡◌, inl, inr, ℕ, zero, suc, ◌<◌, Bool, true, false, cond, ◌&&◌, List, [], ◌∷◌, ◌++◌, append-nil, refl, ap, ◌∙◌, arith, eqb}
 use Rattle.std.specs.Prelude.{if◌then◌else◌, ℤ, pos, negsuc, int_lt, not}
+use Rattle.std.proofs.lemmas.Bool.{cond_both}
 use Rattle.std.proofs.lemmas.Bool.Decides.{nat_tests}
 use Rattle.ln_algebra.specs.Walk.{Member}
 use Rattle.ln_csyn.specs.Meaning.{Counts}
@@ -56,23 +57,16 @@ first_then sign after (b ∷ bs) k go = if is_zero (sign b) then first_then sign
 then-more : (sign : ℕ → ℤ) (after : ℕ → Counts → Counts) (bs cs : List ℕ) (k : Counts) (go : Counts → Outcome)
     → ((j : Counts) → go j ≡ first_of_signs sign after cs j) → first_then sign after bs k go ≡ first_of_signs sign after (bs ++ cs) k
 then-more sign after [] cs k go h = h k
-then-more sign after (b ∷ bs) cs k go h = by_case (is_zero (sign b)) (then-more sign after bs cs (after b (entered k)) go h) where
-  by_case : (v : Bool) → first_then sign after bs (after b (entered k)) go ≡ first_of_signs sign after (bs ++ cs) (after b (entered k))
-      → cond v (first_then sign after bs (after b (entered k)) go) (Said (sign b) (after b (entered k)))
-      ≡ cond v (first_of_signs sign after (bs ++ cs) (after b (entered k))) (Said (sign b) (after b (entered k)))
-  by_case true r = r
-  by_case false r = refl
+then-more sign after (b ∷ bs) cs k go h =
+    ap (λ (o : Outcome). cond (is_zero (sign b)) o (Said (sign b) (after b (entered k)))) (then-more sign after bs cs (after b (entered k)) go h)
 
 -- what they return ends the body
 ended : (sign : ℕ → ℤ) (after : ℕ → Counts → Counts) (bs : List ℕ) (k : Counts) (go : Counts → Outcome)
     → then_on (first_of_signs sign after bs k) go ≡ first_of_signs sign after bs k
 ended sign after [] k go = refl
-ended sign after (b ∷ bs) k go = by_case (is_zero (sign b)) (ended sign after bs (after b (entered k)) go) where
-  by_case : (v : Bool) → then_on (first_of_signs sign after bs (after b (entered k))) go ≡ first_of_signs sign after bs (after b (entered k))
-      → then_on (cond v (first_of_signs sign after bs (after b (entered k))) (Said (sign b) (after b (entered k)))) go
-      ≡ cond v (first_of_signs sign after bs (after b (entered k))) (Said (sign b) (after b (entered k)))
-  by_case true r = r
-  by_case false r = refl
+ended sign after (b ∷ bs) k go =
+    cond_both (is_zero (sign b)) (first_of_signs sign after bs (after b (entered k))) (Said (sign b) (after b (entered k)))
+    (λ (o : Outcome). then_on o go ≡ o) (λ e. ended sign after bs (after b (entered k)) go) (λ e. refl)
 
 module _ (block : ℕ → List ℕ) (own : List ℕ) (s : Scene) (m : ℕ) (at sign : ℕ → ℤ) (after : ℕ → Counts → Counts) (answers : Answers s block m sign after) where
   tries_step : (b : ℕ) (bs : List ℕ) (rest : Body) (k : Counts) (v : Bool) → b < m → is_zero (sign b) ≡ v
@@ -128,17 +122,13 @@ module _ (block : ℕ → List ℕ) (own : List ℕ) (s : Scene) (m : ℕ) (at s
             rw (g.there, g.fits, n.there, n.fits, e) t
 
   module _ (segment : List ℕ → List ℕ) (numbers : (p : List ℕ) → AreNumbers m (segment p)) where
-    nil-right : (bs : List ℕ) → bs ++ [] ≡ bs
-    nil-right [] = refl
-    nil-right (b ∷ bs) = ap (λ z. b ∷ z) (nil-right bs)
-
     -- the body from a prefix on returns what the blocks do
     pub walked_is : (d : ℕ) (p left : List ℕ) (k : Counts) → ((i : ℕ) → Member left i → IndexGives s i (at i))
         → runs s [] (walked block own segment d p left) k ≡ first_of_signs sign after (along_row segment at d p left) k
     walked_is zero p left k h =
-        tries_then (segment p) [] says_nothing k (numbers p) (λ j. refl) ∙ ap (λ z. first_of_signs sign after z k) (nil-right (segment p))
+        tries_then (segment p) [] says_nothing k (numbers p) (λ j. refl) ∙ ap (λ z. first_of_signs sign after z k) (append-nil (segment p))
     walked_is (suc d) p [] k h =
-        tries_then (segment p) [] says_nothing k (numbers p) (λ j. refl) ∙ ap (λ z. first_of_signs sign after z k) (nil-right (segment p))
+        tries_then (segment p) [] says_nothing k (numbers p) (λ j. refl) ∙ ap (λ z. first_of_signs sign after z k) (append-nil (segment p))
     walked_is (suc d) p (i ∷ js) k h =
         let ih : (x : ℕ) → Member (i ∷ js) x → (j : Counts) → runs s [] (walked block own segment d (p ++ x ∷ []) (without x (i ∷ js))) j
         ≡ first_of_signs sign after (along_row segment at d (p ++ x ∷ []) (without x (i ∷ js))) j =

@@ -1,6 +1,6 @@
 -- The least indices, one after the other, are the order of the row.
 use Rattle.std.proofs.Common.{◌≡◌, ◌⊎◌, inl, inr, ℕ, zero, suc, ◌+◌, ◌<◌, ◌≤◌, Bool, true, false, cond, ◌&&◌, List, [], ◌∷◌, ◌++◌}
-use Rattle.std.proofs.Common.{append_assoc, length, map, get_or, take, refl, sym, ap, ◌∙◌, arith, add-one, eqb, eq-eqb, subst}
+use Rattle.std.proofs.Common.{append_assoc, append-nil, length, map, get_or, take, refl, sym, ap, ◌∙◌, arith, add-one, eqb, eq-eqb, subst}
 use Rattle.std.specs.Prelude.{ℤ, pos, ◌<ℤ◌, int_lt, not, AllPairs}
 use Rattle.std.specs.List.{range_with_len}
 use Rattle.std.proofs.lemmas.Bool.{and_parts, cases_eq, eqb-true}
@@ -128,18 +128,14 @@ shift : (g h : ℕ → List ℕ) (a n : ℕ) → ((j : ℕ) → g (suc j) ≡ h 
 shift g h a zero e = refl
 shift g h a (suc n) e = rw (e a, add-one, add-one) (ap (λ z. h a ∷ z) (shift g h (suc a) n e))
 
-nil-right : (bs : List ℕ) → bs ++ [] ≡ bs
-nil-right [] = refl
-nil-right (b ∷ bs) = ap (λ z. b ∷ z) (nil-right bs)
-
 along-pieces : (at : ℕ → ℤ) (segment : List ℕ → List ℕ) (p o : List ℕ)
     → along_order at segment p o ≡ joined (map (λ j. segment (p ++ take j o)) (range_with_len 0 (suc (length o))))
-along-pieces at segment p [] = sym (nil-right (segment (p ++ [])) ∙ ap segment (nil-right p))
+along-pieces at segment p [] = sym (append-nil (segment (p ++ [])) ∙ ap segment (append-nil p))
 along-pieces at segment p (x ∷ o) =
     let ih = along-pieces at segment (p ++ x ∷ []) o in
     let m = shift (λ j. segment (p ++ take j (x ∷ o))) (λ j. segment ((p ++ x ∷ []) ++ take j o)) 0 (suc (length o))
     (λ j. ap segment (sym (append_assoc p (x ∷ []) (take j o)))) in
-    ap (λ z. segment z ++ along_order at segment (p ++ x ∷ []) o) (sym (nil-right p)) ∙ ap (λ z. segment (p ++ []) ++ z) (ih ∙ ap joined (sym m))
+    ap (λ z. segment z ++ along_order at segment (p ++ x ∷ []) o) (sym (append-nil p)) ∙ ap (λ z. segment (p ++ []) ++ z) (ih ∙ ap joined (sym m))
 
 -- ---- places of an order
 -- each of the n numbers from a on is at least a and below a + n

@@ -1,10 +1,11 @@
 -- Proves that the calls of the emitted file return the sign of the machine's verdict.
-use Rattle.std.proofs.Common.{◌≡◌, ◌≢◌, inl, inr, ℕ, zero, suc, ◌+◌, ◌-◌, ◌<◌, ◌≤◌, ◌^◌, Bool, true, false, List, [], ◌∷◌, ◌++◌}
+use Rattle.std.proofs.Common.{◌≡◌, ◌≢◌, ℕ, zero, suc, ◌+◌, ◌-◌, ◌<◌, ◌≤◌, ◌^◌, true, List, [], ◌∷◌, ◌++◌}
 use Rattle.std.proofs.Common.{append_assoc, length, length-append, map, get_or, take, refl, sym, ap, ◌∙◌, subst, arith, ℤ, pos, negsuc}
-use Rattle.std.specs.Prelude.{Option, Some, None, IfSome, All, AllPairs, nat_le, ◌≤ℤ◌, slice_get, if◌then◌else◌}
+use Rattle.std.specs.Prelude.{Option, Some, None, IfSome, All, AllPairs, nat_le, ◌≤ℤ◌, slice_get}
 use Rattle.std.specs.List.{range_with_len}
+use Rattle.std.proofs.lemmas.Bool.{cond_both, lt-ltb}
 use Rattle.std.proofs.lemmas.Int.{ints}
-use Rattle.ln_algebra.specs.Walk.{Member}
+use Rattle.std.proofs.lemmas.List.{length-map, map-append}
 use Rattle.ln_tree.specs.declared.shape.VarInfo.{VarInfo}
 use Rattle.ln_tree.specs.Row as tree
 use Rattle.ln_tree.specs.Row.{AreWithin, InRange}
@@ -44,10 +45,10 @@ use Rattle.ln_cemit.specs.Whole.{block_body, bodies_of, call_body, file_of, filt
 use Rattle.ln_cemit.proofs.Choices.Agrees.{Leaves, Same, Valued, afters, block_sign, both_same, held_sign, signs, value_or, wide_of}
 use Rattle.ln_cemit.proofs.Choices.Files.{file-means}
 use Rattle.ln_cemit.proofs.Choices.Heads.{heads-file, same-heads}
-use Rattle.ln_cemit.proofs.Conditions.Kept.{AllFacts, Facts, NamesDiffer, NoneHas, file_kept, first_numbers, lines_short, segment_numbers, short_bodies}
+use Rattle.ln_cemit.proofs.Conditions.Kept.{AllFacts, Facts, NamesDiffer, NoneHas, file_kept, first_numbers, lines_short, segment_numbers}
+use Rattle.ln_cemit.proofs.Conditions.Kept.{short_bodies, to_numbers}
 use Rattle.ln_cemit.proofs.Meanings.Means.{blocks_say, filters_say}
 use Rattle.ln_cemit.proofs.Conditions.Named.{names_serve}
-use Rattle.ln_cemit.proofs.Meanings.Numbers.{lt_true}
 use Rattle.ln_cemit.proofs.Conditions.Titles.{away_more, away_one, call_family, family, numbered_differ, numbered_family}
 
 -- ---- what the functions with one parameter return
@@ -92,16 +93,12 @@ module _ (vars : List VarInfo) (zs : List ℤ) (range : AreWithin vars zs) where
       record { code = v.code; value = v.value; there = v.there; is = v.is }
 
 -- ---- the list of the row's order
-map-more : (xs ys : List ℕ) → map suc (xs ++ ys) ≡ map suc xs ++ map suc ys
-map-more [] ys = refl
-map-more (x ∷ xs) ys = ap (λ z. suc x ∷ z) (map-more xs ys)
-
 mapped-join : (segment : List ℕ → List ℕ) (g : ℕ → List ℕ) (a n : ℕ)
     → joined (map (λ j. map suc (segment (g j))) (range_with_len a n)) ≡ map suc (joined (map (λ j. segment (g j)) (range_with_len a n)))
 mapped-join segment g a zero = refl
 mapped-join segment g a (suc n) =
     ap (λ z. map suc (segment (g a)) ++ z) (mapped-join segment g (a + 1) n)
-    ∙ sym (map-more (segment (g a)) (joined (map (λ j. segment (g j)) (range_with_len (a + 1) n))))
+    ∙ sym (map-append suc (segment (g a)) (joined (map (λ j. segment (g j)) (range_with_len (a + 1) n))))
 
 moved-list : (f : Option FilterCode) (segment : List ℕ → List ℕ) (n : ℕ) (places : List ℕ)
     → list_of_order (λ q. moved f (segment q)) n places ≡ moved f (list_of_order segment n places)
@@ -116,19 +113,14 @@ list-is p n places e =
 -- ---- counts
 count-few : (s : ℕ → ℤ) (ns : List ℕ) → (decided s ns).1 ≤ length ns
 count-few s [] = omega arith
-count-few s (n ∷ ns) = by_case (is_zero (s n)) (decided s ns) (count-few s ns) where
-  chosen : Bool → ℤ × ℕ → ℤ × ℕ
-  chosen v d = if v then (d.0, suc d.1) else (s n, 1)
-
-  by_case : (v : Bool) (d : ℤ × ℕ) → d.1 ≤ length ns → (chosen v d).1 ≤ suc (length ns)
-  by_case true d h = omega (arith, h)
-  by_case false d h = omega arith
+count-few s (n ∷ ns) =
+    cond_both (is_zero (s n)) _ _ (λ (d : ℤ × ℕ). d.1 ≤ suc (length ns)) (λ e. omega (arith, count-few s ns)) (λ e. omega arith)
 
 ups-small : (n : ℕ) → n < 2 ^ 32 → ups n 0 ≡ n
 ups-small zero h = refl
 ups-small (suc n) h =
     let e : ups n 0 ≡ n = ups-small n (omega (arith, h)) in
-    rw (e, lt_true n 4294967295 (omega (arith, h))) (one n)
+    rw (e, lt-ltb n 4294967295 (omega (arith, h))) (one n)
   where
     one : (n : ℕ) → n + 1 ≡ suc n
     one n = omega arith
@@ -140,10 +132,7 @@ some-ops vars depth (o ∷ os) ts w e = omega arith
 
 moved-length : (f : Option FilterCode) (ns : List ℕ) → length (moved f ns) ≡ length ns
 moved-length None ns = refl
-moved-length (Some f) ns = mapped ns where
-  mapped : (ns : List ℕ) → length (map suc ns) ≡ length ns
-  mapped [] = refl
-  mapped (n ∷ ns) = ap suc (mapped ns)
+moved-length (Some f) ns = length-map ns suc
 
 first-few : (vars : List VarInfo) (f : Option FilterCode) → IfSome f (FollowsFilterRules vars) → length (first_of f) ≤ ops_in_filter f
 first-few vars None i = omega arith
@@ -151,37 +140,21 @@ first-few vars (Some f) i = let h = some-ops vars f.depth f.ops f.triples i.what
 
 -- ---- the indices fit
 fits-64 : (z : ℤ) → pos 0 ≤ℤ z → z ≤ℤ pos (2 ^ 63 - 1) → has Int64 z ≡ true
-fits-64 (pos n) a b = lt_true n (2 ^ 63) (omega (arith, ints, b))
+fits-64 (pos n) a b = lt-ltb n (2 ^ 63) (omega (arith, ints, b))
 fits-64 (negsuc n) a b = absurd (omega (arith, ints, a))
 
 -- ---- one program
-all-member : (m : ℕ) (ns : List ℕ) → All (λ n. n < m) ns → (n : ℕ) → Member ns n → n < m
-all-member m [] h n i = absurd i
-all-member m (x ∷ xs) h n (inl e) = let l = h 0 n (omega arith) in subst (λ z. z < m) (sym e) l
-all-member m (x ∷ xs) h n (inr i) = all-member m xs (λ k d l. h (suc k) d (omega (arith, l))) n i
-
--- the file's statement for n sites
-means-at : (front rest : List Fun) (p : Part) (row : tree.Row) (places : List ℕ) (n : ℕ) → length row.index ≡ n
-    → (j : Counts)
+-- the file's statement, where the function with two parameters is the one for n sites
+abbrev MeansFor : List Fun → List Fun → Part → tree.Row → List ℕ → ℕ → Type 0
+MeansFor front rest p row places n = (j : Counts)
     × (CCall (front ++ (one_funs (numbered (part_name p) p.filter) 0 (bodies_of p.filter p.blocks) ++ two_fun (call_name (part_name p))
-    (touching_index (nat_le 2 n) (body_for (numbered (part_name p) p.filter) answer_name (λ q. moved p.filter (segment_of p q)) (first_of p.filter)
-    (length row.index))) ∷ rest)) (call_name (part_name p)) row.index row.values ≡ Some (Signed (decided (signs row.values p.filter p.blocks)
-    (first_of p.filter ++ list_of_order (λ q. moved p.filter (segment_of p q)) (length row.index) places)).0 j))
-    × (j.calls ≡ ups (decided (signs row.values p.filter p.blocks)
-    (first_of p.filter ++ list_of_order (λ q. moved p.filter (segment_of p q)) (length row.index) places)).1 0)
-    × (first_of_signs (signs row.values p.filter p.blocks) (afters p.filter p.blocks)
-    (first_of p.filter ++ list_of_order (λ q. moved p.filter (segment_of p q)) (length row.index) places) (record { wide = 0; calls = 0 }) ≡ Said
-    (decided (signs row.values p.filter p.blocks) (first_of p.filter ++ list_of_order (λ q. moved p.filter (segment_of p q)) (length row.index) places)).0 j)
-    → (j : Counts)
-    × (CCall (front ++ (one_funs (numbered (part_name p) p.filter) 0 (bodies_of p.filter p.blocks) ++ two_fun (call_name (part_name p))
-    (touching_index (nat_le 2 n) (body_for (numbered (part_name p) p.filter) answer_name (λ q. moved p.filter (segment_of p q)) (first_of p.filter) n)) ∷ rest))
-    (call_name (part_name p)) row.index row.values
+    (touching_index (nat_le 2 p.shape.sites) (body_for (numbered (part_name p) p.filter) answer_name (λ q. moved p.filter (segment_of p q)) (first_of p.filter)
+    n)) ∷ rest)) (call_name (part_name p)) row.index row.values
     ≡ Some (Signed (decided (signs row.values p.filter p.blocks) (first_of p.filter ++ list_of_order (λ q. moved p.filter (segment_of p q)) n places)).0 j))
     × (j.calls ≡ ups (decided (signs row.values p.filter p.blocks) (first_of p.filter ++ list_of_order (λ q. moved p.filter (segment_of p q)) n places)).1 0)
     × (first_of_signs (signs row.values p.filter p.blocks) (afters p.filter p.blocks)
     (first_of p.filter ++ list_of_order (λ q. moved p.filter (segment_of p q)) n places) (record { wide = 0; calls = 0 })
     ≡ Said (decided (signs row.values p.filter p.blocks) (first_of p.filter ++ list_of_order (λ q. moved p.filter (segment_of p q)) n places)).0 j)
-means-at front rest p row places n e h = rw e at h
 
 -- along a list that is equal, as in the machine's verdict
 as-verdict : (fs : List Fun) (p : Part) (row : tree.Row) (places xs ys : List ℕ) (s : Same row.values p.filter p.blocks (list_of p places)) (j : Counts)
@@ -226,9 +199,9 @@ call-says front rest p row h r away blocks_away =
     (λ i j l n e. numbered_differ x p.filter i j (omega (arith, l, short)) (omega (arith, n, short)) e)
     (bodies_mean p.shape.vars zs r.values p.filter p.blocks (omega (arith, small)) k.filter k.blocks)
     (first_numbers p.filter p.blocks) (segment_numbers p h) (λ i l. (let z = r.indices i (pos 0) l in fits-64 (index_at row.index i) z.0 z.1)) o.1 in
-    let n = means-at front rest p row o.0 p.shape.sites r.size m in
+    let n = subst (λ k. MeansFor front rest p row o.0 k) r.size m in
     let s = both_same zs p.filter p.blocks list (leaves p.shape.vars zs r.values p.filter (omega (arith, small)) k.filter)
-    (λ b i. valued p.shape.vars zs r.values p.blocks (omega (arith, small)) k.blocks b (all-member (length p.blocks) list is.within b i)) in
+    (λ b i. valued p.shape.vars zs r.values p.blocks (omega (arith, small)) k.blocks b (to_numbers (length p.blocks) list is.within b i)) in
     let e : first_of p.filter ++ list_of_order (λ q. moved p.filter (segment_of p q)) p.shape.sites o.0 ≡ first_of p.filter ++ moved p.filter list
     = ap (λ z. first_of p.filter ++ z) (moved-list p.filter (segment_of p) p.shape.sites o.0 ∙ ap (moved p.filter) (list-is p p.shape.sites o.0 u.size)) in
     let size : length (first_of p.filter ++ moved p.filter list) < 2 ^ 32 = (let a = first-few p.shape.vars p.filter k.filter in let b = few.members in

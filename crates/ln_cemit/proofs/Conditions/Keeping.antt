@@ -1,5 +1,5 @@
 -- The conditions of the subset, on the functions of blocks and filters.
-use Rattle.std.proofs.Common.{◌≡◌, ℕ, suc, ◌≤◌, ◌/◌, ◌^◌, ◌&&◌, not, Bool, true, false, List, [], ◌∷◌, length, refl, sym, ap}
+use Rattle.std.proofs.Common.{◌≡◌, ℕ, ◌≤◌, ◌/◌, ◌^◌, true, false, List, [], ◌∷◌, length, refl, sym, ap}
 use Rattle.std.proofs.Common.{arith, ℤ, pos, unsigned_abs}
 use Rattle.std.specs.Prelude.{Option, Some, nat_le, slice_get}
 use Rattle.std.proofs.lemmas.Bool.{le-leb, and_parts}
@@ -23,94 +23,21 @@ use Rattle.ln_code.proofs.Following.Known.{next_some, known_some, limit_wide}
 use Rattle.ln_code.proofs.Filters.FilterKnown.{known_says}
 use Rattle.ln_code.proofs.Engines.Runs.{some_is, filter_runs}
 use Rattle.ln_code.proofs.Filters.Cutting.{cut_none, cut_abs}
-use Rattle.ln_csyn.specs.declared.tree.CType.TheVariants.{Int}
-use Rattle.ln_csyn.specs.Tree as c
-use Rattle.ln_csyn.specs.Tree.{Expr, Body}
-use Rattle.ln_csyn.specs.Words.{among, is_c_name, most_number}
-use Rattle.ln_csyn.specs.Keeps.{parens_in, braces_in, divides, calls_none, each_expr, each_name, direct, distinct, differ_within, is_own}
-use Rattle.ln_csyn.specs.Text.{has_words}
-use Rattle.ln_csyn.specs.Spelling.{flat}
+use Rattle.ln_csyn.specs.Words.{is_c_name, most_number}
 use Rattle.ln_cemit.specs.declared.slot.Way.{Way}
 use Rattle.ln_cemit.specs.Ways.{ways, block_way, filter_way, block_lines, filter_lines}
-use Rattle.ln_cemit.specs.Emit.{emitted, touching, reads_row}
+use Rattle.ln_cemit.specs.Emit.{body_of}
 use Rattle.ln_cemit.specs.Law.{error_of}
-use Rattle.ln_cemit.specs.Conditions.{is_fine, are_fine, is_free, FunsKeep, BlocksKeep, FiltersKeep}
+use Rattle.ln_cemit.specs.Conditions.{is_fine, are_fine, FunsKeep, BlocksKeep, FiltersKeep}
 use Rattle.ln_cemit.proofs.Meanings.Follows.{number_held}
-use Rattle.ln_cemit.proofs.Conditions.Shapes.{words_out, divides_out, calls_out, Shape, shape_is, exprs_pass, names_pass, few_braces}
-use Rattle.ln_cemit.proofs.Conditions.Shapes.{few_parens, none_within, all_differ, all_flat}
-
--- what stands before a body that reads no value
-touch_exprs : (q : Expr → Bool) → q (c.Number Int 0) ≡ true → q (c.Value Int 0) ≡ true → (v : Bool) (b : Body) → each_expr q b ≡ true
-    → each_expr q (touching v b) ≡ true
-touch_exprs q t u true b h = h
-touch_exprs q t u false b h = rw (t, u, h) refl
-
-touch_names : (q : List ℕ → Bool) (v : Bool) (b : Body) → each_name q b ≡ true → each_name q (touching v b) ≡ true
-touch_names q true b h = h
-touch_names q false b h = h
-
-touch_direct : (v : Bool) (b : Body) → distinct (direct b) ≡ true → distinct (direct (touching v b)) ≡ true
-touch_direct true b h = h
-touch_direct false b h = h
-
-touch_within : (v : Bool) (b : Body) → differ_within b ≡ true → differ_within (touching v b) ≡ true
-touch_within true b h = h
-touch_within false b h = h
-
-touch_parens : (v : Bool) (b : Body) → parens_in b ≤ 12 → parens_in (touching v b) ≤ 16
-touch_parens true b h = omega (arith, h)
-touch_parens false b h = omega (arith, h)
-
-touch_braces : (v : Bool) (b : Body) → braces_in b ≤ 1 → suc (braces_in (touching v b)) ≤ 64
-touch_braces true b h = omega (arith, h)
-touch_braces false b h = omega (arith, h)
-
-touch_flat : (v : Bool) (b : Body) → flat b ≡ b → flat (touching v b) ≡ touching v b
-touch_flat true b h = h
-touch_flat false b h = ap (λ (z : Body). c.If 2 (c.Number Int 0) (c.Return 2 (c.Value Int 0) c.End) z) h
-
-record Freed (names : List (List ℕ)) (x : List ℕ) : Type 0 where
-  word : is_c_name x ≡ true
-  own : is_own x ≡ true
-  apart : not (among names x) ≡ true
-
-freed : (names : List (List ℕ)) (x : List ℕ) → is_free names x ≡ true → Freed names x
-freed names x h =
-    let a = and_parts (is_c_name x) _ h in
-    let b = and_parts (is_own x) _ a.1 in
-    record { word = a.0; own = b.0; apart = b.1 }
+use Rattle.ln_cemit.proofs.Conditions.Shapes.{shape_is}
+use Rattle.ln_cemit.proofs.Conditions.Stands.{meets}
 
 -- the function of lines keeps the conditions, where its names are free and differ and its numbers are small
 pub funs_keep : FunsKeep
 funs_keep names name own e xs differ free w o b h =
-    let v : Bool = reads_row xs in
-    let body : Body = emitted name e xs 0 [] no_locals in
-    let top : ℕ = length xs in
-    let s : Shape name top 0 body = shape_is name top (λ i lt. (freed names (name i) (free i lt)).word) e xs b h (omega arith) in
-    let small : nat_le (parens_in (touching v body)) 16 ≡ true = le-leb _ _ (touch_parens v body (few_parens name top 0 body s)) in
-    let braces : nat_le (suc (braces_in (touching v body))) 64 ≡ true = le-leb _ _ (touch_braces v body (few_braces name top 0 body s)) in
-    let apart : each_name (λ x. is_own x && not (among names x)) (touching v body) ≡ true
-    = touch_names (λ x. is_own x && not (among names x)) v body
-    (names_pass name top (λ x. is_own x && not (among names x)) (λ i lt. let f = freed names (name i) (free i lt) in both f.own f.apart) 0 body s) in
-    let alone : distinct (direct (touching v body)) ≡ true = touch_direct v body (all_differ name top differ 0 body s) in
-    let within : differ_within (touching v body) ≡ true = touch_within v body (none_within name top 0 body s) in
-    let divide : each_expr divides (touching v body) ≡ true =
-    touch_exprs divides refl refl v body (exprs_pass name top divides (divides_out name is_c_name) 0 body s) in
-    let call : each_expr calls_none (touching v body) ≡ true =
-    touch_exprs calls_none refl refl v body (exprs_pass name top calls_none (calls_out name is_c_name) 0 body s) in
-    let words : each_expr has_words (touching v body) ≡ true =
-    touch_exprs has_words refl refl v body (exprs_pass name top has_words (words_out name) 0 body s) in
-    let spelt : each_name is_c_name (touching v body) ≡ true =
-    touch_names is_c_name v body (names_pass name top is_c_name (λ i lt. (freed names (name i) (free i lt)).word) 0 body s) in
-    let one : flat (touching v body) ≡ touching v body = touch_flat v body (all_flat name top 0 body s) in
-    record {
-      keeps = rw (small, braces, o, apart, alone, within, divide, call) refl;
-      words = rw (w, words, spelt) refl;
-      flat = ap (λ (z : Body). record { own = true; name = own; indexed = false; body = z; end = 2 }) one;
-    }
-  where
-    both : {p q : Bool} → p ≡ true → q ≡ true → (p && q) ≡ true
-    both {p} {q} e f = rw (e, f) refl
+    meets name (length xs) false differ names true own {d = 1} (body_of name e xs) free w o (omega arith)
+    (shape_is name (length xs) (λ i l. (and_parts (is_c_name (name i)) _ (free i l)).0) e xs b h (omega arith))
 
 -- ---- what the rules say of each line
 

@@ -1,10 +1,11 @@
 -- The emitted file keeps the conditions of the subset.
-use Rattle.std.proofs.Common.{◌≡◌, ◌≢◌, ℕ, zero, suc, ◌+◌, ◌<◌, ◌≤◌, ◌^◌, not, ◌&&◌, Bool, true, false, List, [], ◌∷◌, ◌++◌, length, map}
+use Rattle.std.proofs.Common.{◌≡◌, ◌≢◌, ℕ, zero, suc, ◌+◌, ◌<◌, ◌≤◌, ◌^◌, not, Bool, true, false, List, [], ◌∷◌, ◌++◌, length, map}
 use Rattle.std.proofs.Common.{get_or, refl, sym, ap, ◌∙◌, subst, arith, inl, inr, ℤ}
-use Rattle.std.specs.Prelude.{Option, Some, None, IfSome, All, if◌then◌else◌, nat_le, int_lt, ◌≤ℤ◌}
+use Rattle.std.specs.Prelude.{Option, Some, None, IfSome, All, nat_le, int_lt, ◌≤ℤ◌}
 use Rattle.std.specs.List.{list_all}
-use Rattle.std.proofs.lemmas.Bool.{and_parts, le-leb}
+use Rattle.std.proofs.lemmas.Bool.{and_from, and_parts, cond_both}
 use Rattle.std.proofs.lemmas.Int.{ints}
+use Rattle.std.proofs.lemmas.List.{length-map}
 use Rattle.std.proofs.lemmas.List.FromFn.{length-range_with_len}
 use Rattle.ln_algebra.specs.Walk.{Member}
 use Rattle.ln_algebra.specs.Vector.{same_vector}
@@ -19,12 +20,11 @@ use Rattle.ln_code.specs.Part.{Code, FilterCode, Part, lines_of, ops_in_blocks, 
 use Rattle.ln_order.specs.Prefixes.{beside, prefixes_of}
 use Rattle.ln_csyn.specs.Tree.{Body, End, Fun}
 use Rattle.ln_csyn.specs.Words.{among, is_c_name, most_number}
-use Rattle.ln_csyn.specs.Keeps.{braces_in, each_fun, each_name, differ_within, direct, distinct, fun_keeps, is_own, names_of, parens_in, each_expr, divides}
-use Rattle.ln_csyn.specs.Text.{fun_words, has_words, is_file}
-use Rattle.ln_csyn.specs.Spelling.{flat}
+use Rattle.ln_csyn.specs.Keeps.{distinct, each_fun, fun_keeps, is_own, names_of}
+use Rattle.ln_csyn.specs.Text.{fun_words, is_file}
 use Rattle.ln_cemit.specs.declared.slot.Way.{Way}
 use Rattle.ln_cemit.specs.Chosen.{AreNumbers}
-use Rattle.ln_cemit.specs.Conditions.{MeetsConditions}
+use Rattle.ln_cemit.specs.Conditions.{MeetsConditions, is_free}
 use Rattle.ln_cemit.specs.File.{AreAway, one_fun, one_funs, two_fun}
 use Rattle.ln_cemit.specs.Names.{all_begin, begins_with_l, call_name, decl_name, answer_name}
 use Rattle.ln_cemit.specs.Walked.{body_for}
@@ -33,8 +33,8 @@ use Rattle.ln_cemit.specs.Whole.{block_body, bodies_of, call_body, file_of, filt
 use Rattle.ln_cemit.proofs.Conditions.Keeping.{blocks_keep, filters_keep}
 use Rattle.ln_cemit.proofs.Conditions.Named.{names_serve}
 use Rattle.ln_cemit.proofs.Choices.Orders.{member-range}
-use Rattle.ln_cemit.proofs.Conditions.Steps.{Steps, all_divide, all_names, all_words, body_steps, few_braces, few_parens, is_flat}
-use Rattle.ln_cemit.proofs.Conditions.Steps.{none_alike, none_direct, room_few, room_for, touch_steps, above_one}
+use Rattle.ln_cemit.proofs.Conditions.Stands.{meets}
+use Rattle.ln_cemit.proofs.Conditions.Steps.{Steps, above_one, body_steps, room_few, room_for, touch_steps}
 use Rattle.ln_cemit.proofs.Conditions.Titles.{away_among, away_more, away_one, call_c_name, call_family, distinct_one, family, name_passes}
 use Rattle.ln_cemit.proofs.Conditions.Titles.{numbered_begins, numbered_c_name, numbered_differ, numbered_family, numbered_no_call}
 use Rattle.ln_cemit.proofs.Conditions.Titles.{numbered_own, sign_apart}
@@ -53,14 +53,8 @@ lines_short g (o ∷ os) (b ∷ bs) = let h = lines_short g os bs in omega (arit
 
 -- there is at most one function with one parameter more than there are blocks
 pub few_bodies : (f : Option FilterCode) (cs : List Code) → length (bodies_of f cs) ≤ suc (length cs)
-few_bodies None cs = let h = mapped cs in omega (arith, h) where
-  mapped : (cs : List Code) → length (map block_body cs) ≡ length cs
-  mapped [] = refl
-  mapped (c ∷ cs) = ap suc (mapped cs)
-few_bodies (Some f) cs = let h = mapped cs in omega (arith, h) where
-  mapped : (cs : List Code) → length (map block_body cs) ≡ length cs
-  mapped [] = refl
-  mapped (c ∷ cs) = ap suc (mapped cs)
+few_bodies None cs = omega (arith, length-map cs block_body)
+few_bodies (Some f) cs = omega (arith, length-map cs block_body)
 
 -- a program has at most 2^63 functions with one parameter
 pub short_bodies : (p : Part) → Facts p → length (bodies_of p.filter p.blocks) ≤ 2 ^ 63
@@ -122,33 +116,26 @@ each_one q name i (b ∷ bs) rest h r =
     rw (h i 0 (omega arith) (omega arith), each_one q name (suc i) bs rest (λ j n e l. h j (suc n) (omega (arith, e)) (omega (arith, l))) r) refl
 
 -- ---- the numbers of functions
-to_numbers : (m : ℕ) (bs : List ℕ) → All (λ n. n < m) bs → AreNumbers m bs
+-- numbers that are each below m
+pub to_numbers : (m : ℕ) (bs : List ℕ) → All (λ n. n < m) bs → AreNumbers m bs
 to_numbers m [] h b i = absurd i
 to_numbers m (x ∷ xs) h b (inl e) = let l = h 0 b (omega arith) in subst (λ z. z < m) (sym e) l
 to_numbers m (x ∷ xs) h b (inr i) = to_numbers m xs (λ k d l. h (suc k) d (omega (arith, l))) b i
 
 beside_numbers : (m : ℕ) (qs ss : List (List ℕ)) (p : List ℕ) → All (λ s. All (λ n. n < m) s) ss → AreNumbers m (beside qs ss p)
-beside_numbers m [] ss p h b i = absurd i
-beside_numbers m (q ∷ qs) [] p h b i = absurd i
-beside_numbers m (q ∷ qs) (s ∷ ss) p h b i = by_case (same_vector q p) (beside_numbers m qs ss p (λ k d l. h (suc k) d (omega (arith, l)))) b i where
-  by_case : (v : Bool) → AreNumbers m (beside qs ss p) → AreNumbers m (if v then s else beside qs ss p)
-  by_case true r = to_numbers m s (h 0 s (omega arith))
-  by_case false r = r
+beside_numbers m [] ss p h = λ b i. absurd i
+beside_numbers m (q ∷ qs) [] p h = λ b i. absurd i
+beside_numbers m (q ∷ qs) (s ∷ ss) p h =
+    cond_both (same_vector q p) s (beside qs ss p) (AreNumbers m) (λ e. to_numbers m s (h 0 s (omega arith)))
+    (λ e. beside_numbers m qs ss p (λ k d l. h (suc k) d (omega (arith, l))))
 
 -- numbers of blocks, as numbers of functions, are those of functions that are there
 pub moved_numbers : (f : Option FilterCode) (cs : List Code) (bs : List ℕ) → AreNumbers (length cs) bs → AreNumbers (length (bodies_of f cs)) (moved f bs)
-moved_numbers None cs bs h b i = let e = mapped cs in omega (arith, e, h b i) where
-  mapped : (cs : List Code) → length (map block_body cs) ≡ length cs
-  mapped [] = refl
-  mapped (c ∷ cs) = ap suc (mapped cs)
+moved_numbers None cs bs h b i = omega (arith, length-map cs block_body, h b i)
 moved_numbers (Some f) cs bs h b i = go bs (λ n l. h n l) i where
-  mapped : (cs : List Code) → length (map block_body cs) ≡ length cs
-  mapped [] = refl
-  mapped (c ∷ cs) = ap suc (mapped cs)
-
   go : (bs : List ℕ) → ((n : ℕ) → Member bs n → n < length cs) → Member (map suc bs) b → b < suc (length (map block_body cs))
   go [] h i = absurd i
-  go (x ∷ xs) h (inl e) = let l = h x (inl refl) in let m = mapped cs in omega (arith, e, l, m)
+  go (x ∷ xs) h (inl e) = omega (arith, e, h x (inl refl), length-map cs block_body)
   go (x ∷ xs) h (inr i) = go xs (λ n l. h n (inr l)) i
 
 -- the number of the filter is that of a function that is there
@@ -170,41 +157,19 @@ call_stands names begin p h =
     let top : ℕ = length (bodies_of p.filter p.blocks) in
     let short = short_bodies p h in
     let passes = name_passes (part_name p) p.shape.name.named in
-    let r = above_one answer_name p.shape.sites in
-    let inside : Steps answer_name (room_for answer_name p.shape.sites)
+    let r = above_one p.shape.sites in
+    let inside : Steps answer_name refl (room_for p.shape.sites)
     (body_for name answer_name (λ q. moved p.filter (segment_of p q)) (first_of p.filter) p.shape.sites)
-    = body_steps answer_name name top (λ b l. numbered_c_name (part_name p) p.filter b (omega (arith, l, short)) passes)
+    = body_steps answer_name refl name top (λ b l. numbered_c_name (part_name p) p.filter b (omega (arith, l, short)) passes)
     (λ q. moved p.filter (segment_of p q)) (segment_numbers p h) (first_of p.filter) p.shape.sites (first_numbers p.filter p.blocks)
     (omega (arith, length-range_with_len 0 p.shape.sites, few)) (λ j l. omega (arith, (member-range 0 p.shape.sites j l).1, few)) in
-    let e : room_for answer_name p.shape.sites ≡ suc (suc r.0) = r.1 in
-    let n : ℕ = suc (suc r.0) in
-    let s : Steps answer_name n (call_body p) = touch_steps answer_name (suc r.0) (nat_le 2 p.shape.sites) _ (rw e at inside) in
-    let body : Body = call_body p in
-    let l : n ≤ 27 = omega (arith, e, room_few answer_name p.shape.sites few) in
-    let small : nat_le (parens_in body) 16 ≡ true = le-leb _ _ (omega (arith, few_parens answer_name n body s)) in
-    let braces : nat_le (suc (braces_in body)) 64 ≡ true = le-leb _ _ (omega (arith, few_braces answer_name n body s, l)) in
-    let apart : each_name (λ x. is_own x && not (among names x)) body ≡ true =
-    all_names answer_name (λ x. is_own x && not (among names x)) (free (sign_apart names begin)) n body s in
-    let alone : direct body ≡ [] = none_direct answer_name n body s in
-    let within : differ_within body ≡ true = none_alike answer_name n body s in
-    let divide : each_expr divides body ≡ true = all_divide answer_name n body s in
-    let words : each_expr has_words body ≡ true = all_words answer_name refl n body s in
-    let spelt : each_name is_c_name body ≡ true = all_names answer_name is_c_name refl n body s in
-    let w : is_c_name (call_name (part_name p)) ≡ true = call_c_name (part_name p) passes in
-    let one : flat body ≡ body = is_flat answer_name n body s in
-    record {
-      keeps = kept_by names (call_name (part_name p)) body refl small braces apart alone within divide;
-      words = rw (w, words, spelt) refl;
-      flat = ap (λ (z : Body). record { own = false; name = call_name (part_name p); indexed = true; body = z; end = 2 }) one;
-    }
+    let e : room_for p.shape.sites ≡ suc (suc r.0) = r.1 in
+    let s : Steps answer_name refl (suc (suc r.0)) (call_body p) = touch_steps answer_name refl (suc r.0) (nat_le 2 p.shape.sites) _ (rw e at inside) in
+    meets (λ i. answer_name) 1 true (λ i j l m q. omega arith) names false (call_name (part_name p)) {d = suc (suc r.0)} (call_body p)
+    (λ i l. free (sign_apart names begin)) (call_c_name (part_name p) passes) refl (omega (arith, e, room_few p.shape.sites, few)) s
   where
-    free : among names answer_name ≡ false → (is_own answer_name && not (among names answer_name)) ≡ true
+    free : among names answer_name ≡ false → is_free names answer_name ≡ true
     free e = rw e refl
-
-    kept_by : (names : List (List ℕ)) (x : List ℕ) (body : Body) → is_own x ≡ true → nat_le (parens_in body) 16 ≡ true
-        → nat_le (suc (braces_in body)) 64 ≡ true → each_name (λ y. is_own y && not (among names y)) body ≡ true → direct body ≡ []
-        → differ_within body ≡ true → each_expr divides body ≡ true → fun_keeps names (two_fun x body) ≡ true
-    kept_by names x body o small braces apart alone within divide = rw (small, braces, o, apart, alone, within, divide) refl
 
 -- ---- the file
 -- this holds of each program of the file
@@ -278,20 +243,14 @@ module _ (names : List (List ℕ)) (begin : all_begin names ≡ true) where
   each_kept (p ∷ ps) h =
       each_one (fun_keeps names) (numbered (part_name p) p.filter) 0 (bodies_of p.filter p.blocks)
       (two_fun (call_name (part_name p)) (call_body p) ∷ file_of ps) (λ j n e l. (one_stands p h.0 j n e l).keeps)
-      (both (call_stands names begin p h.0).keeps (each_kept ps h.1))
-    where
-      both : {u v : Bool} → u ≡ true → v ≡ true → (u && v) ≡ true
-      both {u} {v} e f = rw (e, f) refl
+      (and_from _ _ (call_stands names begin p h.0).keeps (each_kept ps h.1))
 
   each_words : (ps : List Part) → AllFacts ps → each_fun fun_words (file_of ps) ≡ true
   each_words [] h = refl
   each_words (p ∷ ps) h =
       each_one fun_words (numbered (part_name p) p.filter) 0 (bodies_of p.filter p.blocks)
       (two_fun (call_name (part_name p)) (call_body p) ∷ file_of ps) (λ j n e l. (one_stands p h.0 j n e l).words)
-      (both (call_stands names begin p h.0).words (each_words ps h.1))
-    where
-      both : {u v : Bool} → u ≡ true → v ≡ true → (u && v) ≡ true
-      both {u} {v} e f = rw (e, f) refl
+      (and_from _ _ (call_stands names begin p h.0).words (each_words ps h.1))
 
 -- the functions of programs whose names differ are a file of the subset
 pub file_kept : (ps : List Part) → AllFacts ps → NamesDiffer ps → is_file (file_of ps) ≡ true

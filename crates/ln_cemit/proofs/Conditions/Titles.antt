@@ -1,12 +1,13 @@
 -- The names of functions: they are NAMEs, begin with l, and differ.
 use Rattle.std.proofs.Common.{◌≡◌, ◌≢◌, ℕ, zero, suc, ◌+◌, ◌<◌, ◌≤◌, ◌^◌, ◌==◌, Bool, true, false, List, [], ◌∷◌, ◌++◌, length}
-use Rattle.std.proofs.Common.{length-append, refl, sym, ap, ◌∙◌, subst, arith}
-use Rattle.std.specs.Prelude.{Option, Some, None, decimal, bytes_eq, if◌then◌else◌}
+use Rattle.std.proofs.Common.{refl, sym, ap, arith}
+use Rattle.std.specs.Prelude.{Option, Some, None, codes, decimal, bytes_eq, if◌then◌else◌}
 use Rattle.std.specs.List.{list_all}
 use Rattle.std.specs.Char.{is_ascii_digit}
-use Rattle.std.proofs.lemmas.Bool.{and_parts, eqb-true}
+use Rattle.std.proofs.lemmas.Bool.{and_parts, false_from_ne_true}
 use Rattle.std.proofs.lemmas.Bool.Decides.{nat_tests}
 use Rattle.std.proofs.lemmas.Fmt.{decimal_injective}
+use Rattle.std.proofs.lemmas.List.{append_cancel_right}
 use Rattle.std.proofs.lemmas.Slice.Eq.{bytes_eq-Decides}
 use Rattle.ln_base.proofs.DecimalLemmas.{text_is_digits}
 use Rattle.ln_base.specs.Words.{is_digit, is_letter, is_name, is_name_byte, is_word, every}
@@ -19,6 +20,7 @@ use Rattle.ln_csyn.proofs.Writing.Laying.{every_digit_name}
 use Rattle.ln_cemit.specs.File.{AreAway, one_funs}
 use Rattle.ln_cemit.specs.Names.{all_begin, begins_with_l, block_name, call_name, filter_name, answer_name}
 use Rattle.ln_cemit.specs.Whole.{numbered}
+use Rattle.ln_cemit.proofs.Conditions.Named.{apart}
 
 -- ---- bytes
 every_more : (p : ℕ → Bool) (xs ys : List ℕ) → every p xs ≡ true → every p ys ≡ true → every p (xs ++ ys) ≡ true
@@ -70,13 +72,7 @@ numbered_begins x (Some f) (suc b) = refl
 
 -- the name of the one declaration is free
 pub sign_apart : (names : List (List ℕ)) → all_begin names ≡ true → among names answer_name ≡ false
-sign_apart [] h = refl
-sign_apart ([] ∷ xs) h = cc
-sign_apart ((b ∷ bs) ∷ xs) h =
-    let p = and_parts (b == 108) (all_begin xs) h in
-    let e : b ≡ 108 = eqb-true b 108 p.0 in
-    let f : bytes_eq answer_name (b ∷ bs) ≡ false = subst (λ (c : ℕ). bytes_eq answer_name (c ∷ bs) ≡ false) (sym e) refl in
-    rw (f, sign_apart xs p.1) refl
+sign_apart names h = apart names 97 (codes "nswer") refl h
 
 -- ---- names of functions
 -- what comes after the first underscore of a name; nothing where it has none
@@ -106,20 +102,12 @@ pub call_family : (x : List ℕ) → family (call_name x) ≡ x
 call_family x = refl
 
 -- ---- they differ
-same_front : (xs ys t : List ℕ) → xs ++ t ≡ ys ++ t → xs ≡ ys
-same_front [] [] t e = refl
-same_front [] (y ∷ ys) t e = let q = ap length e ∙ length-append (y ∷ ys) t in absurd (omega (arith, q))
-same_front (x ∷ xs) [] t e = let q = sym (length-append (x ∷ xs) t) ∙ ap length e in absurd (omega (arith, q))
-same_front (x ∷ xs) (y ∷ ys) t e =
-    let h : x ≡ y = cc in
-    let q : xs ++ t ≡ ys ++ t = cc in
-    let r : xs ≡ ys = same_front xs ys t q in cc
-
 tail_same : (a b : ℕ) (xs ys : List ℕ) → a ∷ b ∷ xs ≡ a ∷ b ∷ ys → xs ≡ ys
 tail_same a b xs ys e = cc
 
 block_differs : (x : List ℕ) (i j : ℕ) → i ≤ 2 ^ 63 → j ≤ 2 ^ 63 → block_name x i ≡ block_name x j → i ≡ j
-block_differs x i j l m e = decimal_injective i j (omega (arith, l)) (omega (arith, m)) (same_front (decimal i) (decimal j) (95 ∷ x) (tail_same 108 98 _ _ e))
+block_differs x i j l m e =
+    decimal_injective i j (omega (arith, l)) (omega (arith, m)) (append_cancel_right (decimal i) (decimal j) (95 ∷ x) (tail_same 108 98 _ _ e))
 
 -- the second byte
 abbrev second : List ℕ → ℕ
@@ -143,10 +131,7 @@ numbered_no_call x (Some f) (suc b) e = let q : 98 ≡ 110 = ap second e in absu
 
 -- ---- lists of functions
 other : (x y : List ℕ) → (y ≢ x) → bytes_eq x y ≡ false
-other x y h = by_case (bytes_eq x y) refl where
-  by_case : (v : Bool) → bytes_eq x y ≡ v → v ≡ false
-  by_case true e = absurd (h (sym ((bytes_eq-Decides x y).0 e)))
-  by_case false e = refl
+other x y h = false_from_ne_true (bytes_eq x y) (λ e. h (sym ((bytes_eq-Decides x y).0 e)))
 
 -- a name that no function has isn't among the names of the functions
 pub away_among : (fs : List Fun) (x : List ℕ) → AreAway fs x → among (names_of fs) x ≡ false

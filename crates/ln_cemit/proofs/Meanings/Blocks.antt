@@ -1,9 +1,9 @@
 -- The body of a block or a filter, by induction over its operations: each slot is a declaration that has the value of the machine.
 use Rattle.std.proofs.Common.{◌≡◌, ℕ, zero, suc, ◌+◌, ◌/◌, ◌^◌, ◌<◌, ◌≤◌, ◌&&◌, Bool, true, false, List, [], ◌∷◌, length, Option, Some}
-use Rattle.std.proofs.Common.{None, refl, sym, ap, ◌∙◌, subst, arith}
+use Rattle.std.proofs.Common.{None, refl, sym, ap, ◌∙◌, subst, arith, inl, inr}
 use Rattle.std.specs.Prelude.{nat_lt, ◌==◌, ℤ, pos, negsuc, ◌-ℤ◌, neg_ℤ, int_lt, int_div, unsigned_abs, slice_get, if◌then◌else◌}
 use Rattle.std.proofs.lemmas.Nat.{pow_pos, pow_below, div_below}
-use Rattle.std.proofs.lemmas.Bool.{and_parts}
+use Rattle.std.proofs.lemmas.Bool.{and_parts, cases_lt, lt-ltb, le-ltb, ltb-true, ltb-false}
 use Rattle.ln_bound.specs.declared.fitted.Width.{Width}
 use Rattle.ln_bound.specs.declared.fitted.Width.TheVariants.{W64, W128}
 use Rattle.ln_bound.specs.declared.fitted.Two.{Two}
@@ -29,7 +29,7 @@ use Rattle.ln_cemit.specs.Emit.{type_of, constant, constant_wide, cut_expr, slot
 use Rattle.ln_cemit.specs.Emit.{put_two, put_neg, put_cut, put_op, put_sign, emitted, naming, unread, ops_of, wide_at, wide_op, wide_lines}
 use Rattle.ln_cemit.specs.Checked.{Sized, sized, checked, sign_of, sign_above, plus, Quiet, without, narrow, AreNames, EmittedMeans}
 use Rattle.ln_cemit.proofs.Conditions.Names.{name_self, name_false}
-use Rattle.ln_cemit.proofs.Meanings.Numbers.{lt_true, lt_from, lt_not, lt_false, within, room, wider_than, no_wider_self, moved}
+use Rattle.ln_cemit.proofs.Meanings.Numbers.{within, room, wider_than, no_wider_self, moved}
 use Rattle.ln_cemit.proofs.Meanings.Numbers.{same_type, plus_add, counted_is, given_is, cast_is}
 use Rattle.ln_cemit.proofs.Writing.Constants.{two_is, inner_is, minus_is, constant_is}
 
@@ -53,13 +53,10 @@ half : (n m : ℕ) → n < 2 ^ 63 → 2 ^ 63 ≤ m → n / m ≡ 0
 half n m h l = let q = div_below n m 1 (omega arith) (omega arith) in omega arith
 
 high : (m : ℕ) → 63 ≤ m → 2 ^ 63 ≤ 2 ^ m
-high m h = by_case (nat_lt 63 m) refl where
-  by_case : (u : Bool) → nat_lt 63 m ≡ u → 2 ^ 63 ≤ 2 ^ m
-  by_case true t = let q = pow_below 63 m (lt_from 63 m t) in omega arith
-  by_case false t = let e : m ≡ 63 = omega (arith, lt_not 63 m t) in rw e (omega arith)
-
-pos_pow : (m : ℕ) → 0 < 2 ^ m
-pos_pow m = pow_pos m
+high m h = elim (cases_lt 63 m) [
+  | inl l ↦ (let q = pow_below 63 m l in omega arith)
+  | inr l ↦ (let e : m ≡ 63 = omega (arith, l, h) in rw e (omega arith))
+]
 
 gone : (z : ℤ) (m : ℕ) → unsigned_abs z < 2 ^ 63 → 63 ≤ m → int_div z (pos (2 ^ m)) ≡ pos 0
 gone (pos n) m h l = ap pos (half n (2 ^ m) h (high m l))
@@ -68,9 +65,6 @@ gone (negsuc n) m h l = ap (λ q. neg_ℤ (pos q)) (half (suc n) (2 ^ m) h (high
 not_zero : (n : ℕ) → 0 < n → is_zero (pos n) ≡ false
 not_zero zero h = absurd (omega arith)
 not_zero (suc n) h = refl
-
-pow_small : (m : ℕ) → m < 63 → 2 ^ m < 2 ^ 63
-pow_small m h = pow_below m 63 h
 
 below_63 : {n : ℕ} → n ≤ limit W64 → n < 2 ^ 63
 below_63 h = omega arith
@@ -81,11 +75,11 @@ cut_is s ds i e z k v h b = by_case (nat_lt i 63) refl where
   by_case : (u : Bool) → nat_lt i 63 ≡ u → value_of s ds (cut_expr i e) k ≡ Gives Int64 (cut_by i z) k
   by_case true t =
       let d : value_of s ds (c.Number Int64 (2 ^ i)) k ≡ Gives Int64 (pos (2 ^ i)) k =
-      given_is Int64 (pos (2 ^ i)) k (lt_true (2 ^ i) (2 ^ 63) (pow_small i (lt_from i 63 t))) in
+      given_is Int64 (pos (2 ^ i)) k (lt-ltb (2 ^ i) (2 ^ 63) (pow_below i 63 (ltb-true i 63 t))) in
       let f = two_is s ds op.Div Int64 e (c.Number Int64 (2 ^ i)) z (pos (2 ^ i)) k k k v d refl in
-      let nz = not_zero (2 ^ i) (pos_pow i) in
+      let nz = not_zero (2 ^ i) (pow_pos i) in
       rw t (f ∙ rw nz (cast_is W64 (int_div z (pos (2 ^ i))) k b))
-  by_case false t = rw t (ap (λ y. Gives Int64 y k) (sym (gone z i (below_63 h) (lt_not i 63 t))))
+  by_case false t = rw t (ap (λ y. Gives Int64 y k) (sym (gone z i (below_63 h) (ltb-false i 63 t))))
 
 -- a value of the row
 value_at : (s : Scene) (ds : List Seen) (v : ℕ) (w : Width) (z : ℤ) (k : Counts) → slice_get s.values v ≡ Some z → unsigned_abs z ≤ limit w
@@ -228,12 +222,10 @@ module _ (name : ℕ → List ℕ) (top : ℕ) (differ : AreNames name top) wher
           rw f.is (push_is w (operand name w f.place) p.0.number r.0 k m (λ h. operand_is s w (type_of w) k lt f.holds nw) r.2 g)
 
     -- a local that is set
-    set_is : (a : Way) (j : ℕ) (ss : List Slot) (xs : List Sized) → step (checked s.values) (Set j) a lx xs ≡ Some t → Stack ds n ss xs
+    set_is : (a : Way) (j : ℕ) {ss : List Slot} {xs : List Sized} → step (checked s.values) (Set j) a lx xs ≡ Some t → Stack ds n ss xs
         → Goes s ds n t go k o → runs s ds (put_op name (Set j) a n ss ls go) k ≡ o
-    set_is a j [] [] q bottom g = cc
-    set_is a j [] (x ∷ xs) q st g = elim st [ ]
-    set_is a j (p ∷ ss) [] q st g = elim st [ ]
-    set_is a j (p ∷ ss) (x ∷ xs) q (on h st) g =
+    set_is a j q bottom g = cc
+    set_is a j q (on {s = p} {x = x} {ss = ss} {xs = xs} h st) g =
         let w : Width = p.width in
         let d : Seen = shown (type_of w) (name n) x.number in
         let e : record { stack = xs; locals = with_local lx j x } ≡ t = cc in
@@ -245,17 +237,12 @@ module _ (name : ℕ → List ℕ) (top : ℕ) (differ : AreNames name top) wher
         (g' d ss (with_local ls j (slot n w)) (stack_on d lt refl st) (set_local j z (locals_on d lt refl l)))
 
     -- a sum, a difference or a product
-    two_step : (kind : Two) (w : Width) (a : Way) (ss : List Slot) (xs : List Sized)
+    two_step : (kind : Two) (w : Width) (a : Way) {ss : List Slot} {xs : List Sized}
         → with_two (checked s.values) ((checked s.values).two kind w a) lx xs ≡ Some t → Stack ds n ss xs
         → Goes s ds n t go (plus (wide_at w) k) o → runs s ds (put_two name (op_of kind) w n ss ls go) k ≡ o
-    two_step kind w a [] [] q bottom g = cc
-    two_step kind w a [] (y ∷ xs) q st g = elim st [ ]
-    two_step kind w a (p ∷ []) [] q st g = elim st [ ]
-    two_step kind w a (p ∷ []) (y ∷ (x ∷ xs)) q (on h st) g = elim st [ ]
-    two_step kind w a (p ∷ (r ∷ ss)) [] q st g = elim st [ ]
-    two_step kind w a (p ∷ (r ∷ ss)) (y ∷ []) q (on h st) g = elim st [ ]
-    two_step kind w a (p ∷ []) (y ∷ []) q (on h bottom) g = cc
-    two_step kind w a (p ∷ (r ∷ ss)) (y ∷ (x ∷ xs)) q (on h (on f st)) g =
+    two_step kind w a q bottom g = cc
+    two_step kind w a q (on h bottom) g = cc
+    two_step kind w a q (on {s = p} {x = y} h (on {s = r} {x = x} {ss = ss} {xs = xs} f st)) g =
         let u = next_some (if no_wider x.width w && no_wider y.width w then sized w (result_of kind x.number y.number) else None)
         (pushed (checked s.values) lx xs) t q in
         let i = if_some _ _ _ u.1 in
@@ -269,12 +256,10 @@ module _ (name : ℕ → List ℕ) (top : ℕ) (differ : AreNames name top) wher
         push_is ss xs st w (c.Two (op_of kind) (operand name w r) (operand name w p)) (result_of kind x.number y.number) u.0 (plus (wide_at w) k) i.1 v u.2 g
 
     -- a negation
-    neg_step : (w : Width) (a : Way) (ss : List Slot) (xs : List Sized) → step (checked s.values) (Neg w) a lx xs ≡ Some t → Stack ds n ss xs
+    neg_step : (w : Width) (a : Way) {ss : List Slot} {xs : List Sized} → step (checked s.values) (Neg w) a lx xs ≡ Some t → Stack ds n ss xs
         → Goes s ds n t go (plus (wide_at w) k) o → runs s ds (put_neg name w n ss ls go) k ≡ o
-    neg_step w a [] [] q bottom g = cc
-    neg_step w a [] (x ∷ xs) q st g = elim st [ ]
-    neg_step w a (p ∷ ss) [] q st g = elim st [ ]
-    neg_step w a (p ∷ ss) (x ∷ xs) q (on h st) g =
+    neg_step w a q bottom g = cc
+    neg_step w a q (on {s = p} {x = x} {ss = ss} {xs = xs} h st) g =
         let u = next_some (if no_wider x.width w then sized w (neg_ℤ x.number) else None) (pushed (checked s.values) lx xs) t q in
         let i = if_some _ _ _ u.1 in
         let ds' : List Seen = hidden (type_of w) (name n) ∷ ds in
@@ -285,12 +270,10 @@ module _ (name : ℕ → List ℕ) (top : ℕ) (differ : AreNames name top) wher
         push_is ss xs st w (c.Minus (operand name w p)) (neg_ℤ x.number) u.0 (plus (wide_at w) k) i.1 v u.2 g
 
     -- low bits that are cut off
-    cut_step : (m : ℕ) (a : Way) (ss : List Slot) (xs : List Sized) → step (checked s.values) (Cut m) a lx xs ≡ Some t → Stack ds n ss xs
+    cut_step : (m : ℕ) (a : Way) {ss : List Slot} {xs : List Sized} → step (checked s.values) (Cut m) a lx xs ≡ Some t → Stack ds n ss xs
         → Goes s ds n t go k o → runs s ds (put_cut name m n ss ls go) k ≡ o
-    cut_step m a [] [] q bottom g = cc
-    cut_step m a [] (x ∷ xs) q st g = elim st [ ]
-    cut_step m a (p ∷ ss) [] q st g = elim st [ ]
-    cut_step m a (p ∷ ss) (x ∷ xs) q (on h st) g =
+    cut_step m a q bottom g = cc
+    cut_step m a q (on {s = p} {x = x} {ss = ss} {xs = xs} h st) g =
         let u = next_some (if no_wider x.width W64 then sized W64 (cut_by m x.number) else None) (pushed (checked s.values) lx xs) t q in
         let i = if_some _ _ _ u.1 in
         let ds' : List Seen = hidden Int64 (name n) ∷ ds in
@@ -312,12 +295,12 @@ module _ (name : ℕ → List ℕ) (top : ℕ) (differ : AreNames name top) wher
         push_is ss xs st a.width (c.Value (type_of a.width) v) p.0 u.0 k p.2
         (λ h. value_at s (hidden (type_of a.width) (name n) ∷ ds) v a.width p.0 k p.1 h) u.2 g
     step_is (Get j) a ss xs q st g = get_is ss xs st a j q g
-    step_is (Set j) a ss xs q st g = set_is a j ss xs q st g
-    step_is (Add w) a ss xs q st g = two_step Plus w a ss xs q st g
-    step_is (Sub w) a ss xs q st g = two_step Minus w a ss xs q st g
-    step_is (Mul w) a ss xs q st g = two_step Times w a ss xs q st g
-    step_is (Neg w) a ss xs q st g = neg_step w a ss xs q st g
-    step_is (Cut m) a ss xs q st g = cut_step m a ss xs q st g
+    step_is (Set j) a ss xs q st g = set_is a j q st g
+    step_is (Add w) a ss xs q st g = two_step Plus w a q st g
+    step_is (Sub w) a ss xs q st g = two_step Minus w a q st g
+    step_is (Mul w) a ss xs q st g = two_step Times w a q st g
+    step_is (Neg w) a ss xs q st g = neg_step w a q st g
+    step_is (Cut m) a ss xs q st g = cut_step m a q st g
 
   -- ---- the sign
 
@@ -342,18 +325,18 @@ module _ (name : ℕ → List ℕ) (top : ℕ) (differ : AreNames name top) wher
   sign_number e (pos zero) = by_case e where
     by_case : (e : ℕ) → number_of_bool (int_lt (pos e) (pos 0)) -ℤ number_of_bool (int_lt (pos 0) (neg_ℤ (pos e))) ≡ sign_above e (pos 0)
     by_case zero = refl
-    by_case (suc e) = rw (lt_false (suc e) 0 (omega arith)) refl
-  sign_number zero (pos (suc n)) = rw (lt_true 0 (suc n) (omega arith), lt_false (suc n) 0 (omega arith)) refl
+    by_case (suc e) = rw (le-ltb (suc e) 0 (omega arith)) refl
+  sign_number zero (pos (suc n)) = rw (lt-ltb 0 (suc n) (omega arith), le-ltb (suc n) 0 (omega arith)) refl
   sign_number (suc e) (pos (suc n)) = by_case (nat_lt (suc e) (suc n)) where
     by_case : (b : Bool) → number_of_bool b -ℤ pos 0 ≡ (if b then pos 1 else pos 0)
     by_case true = refl
     by_case false = refl
-  sign_number zero (negsuc n) = rw (lt_true 0 (suc n) (omega arith)) refl
+  sign_number zero (negsuc n) = rw (lt-ltb 0 (suc n) (omega arith)) refl
   sign_number (suc e) (negsuc n) = by_case (nat_lt (suc e) (suc n)) refl where
     by_case : (b : Bool) → nat_lt (suc e) (suc n) ≡ b → number_of_bool (int_lt (pos (suc e)) (negsuc n)) -ℤ number_of_bool (int_lt (negsuc n) (negsuc e))
         ≡ (if nat_lt (suc e) (suc n) then negsuc 0 else pos 0)
-    by_case true h = rw (h, lt_true e n (omega (arith, lt_from (suc e) (suc n) h))) refl
-    by_case false h = rw (h, lt_false e n (omega (arith, lt_not (suc e) (suc n) h))) refl
+    by_case true h = rw (h, lt-ltb e n (omega (arith, ltb-true (suc e) (suc n) h))) refl
+    by_case false h = rw (h, le-ltb e n (omega (arith, ltb-false (suc e) (suc n) h))) refl
 
   -- the two ends of what decides nothing
   record Ends (s : Scene) (ds : List Seen) (e : ℕ) (w : Width) (k : Counts) : Type 0 where
@@ -386,19 +369,15 @@ module _ (name : ℕ → List ℕ) (top : ℕ) (differ : AreNames name top) wher
       ∙ given_is Int (sign_above e x) k (has_above e x)
 
   -- the remaining value
-  left_is : (s : Scene) (ds : List Seen) (n e : ℕ) (ss : List Slot) (xs : List Sized) (x : Sized) (k : Counts) → Quiet e x.width
+  left_is : (s : Scene) (ds : List Seen) (n e : ℕ) {ss : List Slot} {xs : List Sized} (x : Sized) (k : Counts) → Quiet e x.width
       → only xs ≡ Some x → Stack ds n ss xs → runs s ds (put_sign name e ss) k ≡ Said (sign_above e x.number) k
-  left_is s ds n e [] [] x k qu q st = cc
-  left_is s ds n e [] (y ∷ ys) x k qu q st = elim st [ ]
-  left_is s ds n e (p ∷ ss) [] x k qu q st = elim st [ ]
-  left_is s ds n e (p ∷ []) (y ∷ []) x k qu q (on h st) =
+  left_is s ds n e x k qu q bottom = cc
+  left_is s ds n e x k qu q (on {s = p} {x = y} h bottom) =
       let r : y ≡ x = cc in
       let h' : Holds ds n p x = subst (λ (z : Sized). Holds ds n p z) r h in
       let qu' : Quiet e p.width = subst (λ (w : Width). Quiet e w) (sym h'.same) qu in
       rw (sign_is s ds e p.at p.width x.number k qu' h'.found h'.small) refl
-  left_is s ds n e (p ∷ (r ∷ ss)) (y ∷ []) x k qu q (on h st) = elim st [ ]
-  left_is s ds n e (p ∷ []) (y ∷ (z ∷ ys)) x k qu q st = cc
-  left_is s ds n e (p ∷ (r ∷ ss)) (y ∷ (z ∷ ys)) x k qu q st = cc
+  left_is s ds n e x k qu q (on h (on f st)) = cc
 
   -- what is never reached does nothing
   named_runs : (s : Scene) (ds : List Seen) (u : Option ℕ) (b : Body) (k : Counts) → runs s ds (naming name u b) k ≡ runs s ds b k
@@ -412,7 +391,7 @@ module _ (name : ℕ → List ℕ) (top : ℕ) (differ : AreNames name top) wher
         → n + length lines ≤ top → runs s ds (emitted name e lines n ss ls) k ≡ Said (sign_above e x.number) (plus (wide_lines lines) k)
     main [] ds n ss ls xs lx k q st l m =
         let r : record { stack = xs; locals = lx } ≡ t = cc in
-        left_is s ds n e ss xs x k qu (subst (λ (u : State Sized (ℕ → Option Sized)). only u.stack ≡ Some x) (sym r) p) st
+        left_is s ds n e x k qu (subst (λ (u : State Sized (ℕ → Option Sized)). only u.stack ≡ Some x) (sym r) p) st
     main (line ∷ lines) ds n ss ls xs lx k q st l m =
         let r = next_some (step (checked s.values) line.op line.bound lx xs) (λ u. run (checked s.values) lines u) t q in
         step_is s ds n ls lx r.0 (λ su ms. naming name (unread line.op (ops_of lines) n ss) (emitted name e lines (suc n) su ms)) k _ l (omega (arith, m))

@@ -1,7 +1,7 @@
 -- Proves that where the machine of a filter has a result, the machine as C has it returns its number at 64 bits, and no operation is wide.
 use Rattle.std.proofs.Common.{◌≡◌, ℕ, ℤ, suc, ◌≤◌, ◌^◌, Bool, true, false, List, [], ◌∷◌, refl, ap, arith, neg_ℤ, unsigned_abs, ◌&&◌, pos, negsuc}
 use Rattle.std.specs.Prelude.{Option, Some, None, if◌then◌else◌, ◌==◌, slice_get}
-use Rattle.std.proofs.lemmas.Bool.{and_parts}
+use Rattle.std.proofs.lemmas.Bool.{and_parts, lt-ltb}
 use Rattle.ln_bound.specs.declared.fitted.Width.{Width}
 use Rattle.ln_bound.specs.declared.fitted.Width.TheVariants.{W64, W128}
 use Rattle.ln_bound.specs.declared.fitted.Two.{Two}
@@ -18,7 +18,7 @@ use Rattle.ln_code.proofs.Following.Known.{next_some}
 use Rattle.ln_cemit.specs.Ways.{filter_way, ways}
 use Rattle.ln_cemit.specs.Emit.{constant_wide, wide_at, wide_op, wide_lines}
 use Rattle.ln_cemit.specs.Checked.{Sized, sized, checked}
-use Rattle.ln_cemit.proofs.Meanings.Numbers.{lt_true, within}
+use Rattle.ln_cemit.proofs.Meanings.Numbers.{within}
 
 -- the same number, 64 bits wide
 pub record IsNarrow (h : Held) (x : Sized) : Type 0 where
@@ -99,8 +99,8 @@ narrow_follows zs = record {
 -- ---- no wide operation
 
 short_constant : (z : ℤ) → unsigned_abs z ≤ limit W64 → constant_wide z ≡ 0
-short_constant (pos n) h = rw (lt_true n (2 ^ 63) (omega (arith, h))) refl
-short_constant (negsuc n) h = rw (lt_true (suc n) (2 ^ 63) (omega (arith, h))) refl
+short_constant (pos n) h = rw (lt-ltb n (2 ^ 63) (omega (arith, h))) refl
+short_constant (negsuc n) h = rw (lt-ltb (suc n) (2 ^ 63) (omega (arith, h))) refl
 
 no_two : (zs : List ℤ) (t : Two) (w : Width) (a : Triple) (l : ℕ → Option Held) (ys : List Held) (u : State Held (ℕ → Option Held))
     → with_two (exact_filter zs) ((exact_filter zs).two t w a) l ys ≡ Some u → wide_at w ≡ 0

@@ -1,6 +1,7 @@
 -- The functions of blocks and filters on a row.
 use Rattle.std.proofs.Common.{◌≡◌, ℕ, ℤ, zero, suc, ◌≤◌, Bool, true, false, List, [], ◌∷◌, refl, sym, ap, ◌∙◌, subst, arith, pos, negsuc, unsigned_abs}
 use Rattle.std.specs.Prelude.{Option, Some, None, if◌then◌else◌, nat_lt}
+use Rattle.std.proofs.lemmas.Bool.{lt-ltb}
 use Rattle.ln_bound.specs.declared.fitted.Width.{Width}
 use Rattle.ln_bound.specs.declared.fitted.Width.TheVariants.{W64}
 use Rattle.ln_bound.specs.Value.{value, values}
@@ -23,7 +24,7 @@ use Rattle.ln_cemit.specs.Ways.{ways, block_way, filter_way, block_lines, filter
 use Rattle.ln_cemit.specs.Emit.{emitted, touching, reads_row, wide_lines}
 use Rattle.ln_cemit.specs.Checked.{Sized, checked, sign_of, sign_above, plus, Quiet, without, narrow}
 use Rattle.ln_cemit.specs.Law.{BlocksSay, FiltersSay, error_of}
-use Rattle.ln_cemit.proofs.Meanings.Numbers.{fits_from, lt_true}
+use Rattle.ln_cemit.proofs.Meanings.Numbers.{fits_from}
 use Rattle.ln_cemit.proofs.Meanings.Blocks.{emitted_means}
 use Rattle.ln_cemit.proofs.Meanings.Follows.{Has, HasLocals, checked_follows}
 use Rattle.ln_cemit.proofs.Meanings.Filters.{IsNarrow, NarrowLocals, narrow_follows, no_wide}
@@ -42,8 +43,8 @@ touched zs false body k = refl
 
 above_none : (z : ℤ) → sign_above 0 z ≡ sign_of z
 above_none (pos zero) = refl
-above_none (pos (suc n)) = rw (lt_true 0 (suc n) (omega arith)) refl
-above_none (negsuc n) = rw (lt_true 0 (suc n) (omega arith)) refl
+above_none (pos (suc n)) = rw (lt-ltb 0 (suc n) (omega arith)) refl
+above_none (negsuc n) = rw (lt-ltb 0 (suc n) (omega arith)) refl
 
 has_sign : (z : ℤ) → has Int (sign_of z) ≡ true
 has_sign (pos zero) = refl

@@ -1,8 +1,7 @@
 -- Numbers, and the types that have them.
-use Rattle.std.proofs.Common.{◌≡◌, ℕ, zero, suc, ◌+◌, ◌^◌, ◌<◌, ◌≤◌, true, false, refl, ap, ◌∙◌, arith}
-use Rattle.std.specs.Prelude.{nat_lt, ℤ, pos, negsuc, unsigned_abs}
-use Rattle.std.proofs.lemmas.Bool.{leb-true, le-leb}
-use Rattle.std.proofs.lemmas.Bool.Decides.{nat_tests}
+use Rattle.std.proofs.Common.{◌≡◌, ℕ, zero, suc, ◌+◌, ◌^◌, ◌≤◌, true, refl, ap, ◌∙◌, arith}
+use Rattle.std.specs.Prelude.{ℤ, pos, negsuc, unsigned_abs}
+use Rattle.std.proofs.lemmas.Bool.{leb-true, le-leb, lt-ltb}
 use Rattle.ln_bound.specs.declared.fitted.Width.{Width}
 use Rattle.ln_bound.specs.declared.fitted.Width.TheVariants.{W64, W128}
 use Rattle.ln_bound.specs.Widths.{limit, wider, no_wider}
@@ -11,22 +10,6 @@ use Rattle.ln_csyn.specs.declared.tree.CType.{CType}
 use Rattle.ln_csyn.specs.Meaning.{Counts, has, given, is_same, counted, next, Gives}
 use Rattle.ln_cemit.specs.Emit.{type_of, wide_at}
 use Rattle.ln_cemit.specs.Checked.{ups, plus}
-
--- a smaller number passes the test
-pub lt_true : (a b : ℕ) → a < b → nat_lt a b ≡ true
-lt_true a b h = grind (arith, nat_tests)
-
--- a number that isn't smaller doesn't pass it
-pub lt_false : (a b : ℕ) → b ≤ a → nat_lt a b ≡ false
-lt_false a b h = grind (arith, nat_tests)
-
--- a number that passes the test is smaller
-pub lt_from : (a b : ℕ) → nat_lt a b ≡ true → a < b
-lt_from a b h = grind (arith, nat_tests)
-
--- a number that doesn't pass it isn't smaller
-pub lt_not : (a b : ℕ) → nat_lt a b ≡ false → b ≤ a
-lt_not a b h = grind (arith, nat_tests)
 
 -- what fits is at most the limit
 pub within : (w : Width) (x : ℤ) → fits w x ≡ true → unsigned_abs x ≤ limit w
@@ -38,10 +21,10 @@ fits_from w x h = le-leb (unsigned_abs x) (limit w) h
 
 -- what is at most the limit of a width fits its type in C
 pub room : (w : Width) (x : ℤ) → unsigned_abs x ≤ limit w → has (type_of w) x ≡ true
-room W64 (pos n) h = lt_true n (2 ^ 63) (omega arith)
-room W64 (negsuc n) h = lt_true n (2 ^ 63) (omega arith)
-room W128 (pos n) h = lt_true n (2 ^ 127) (omega arith)
-room W128 (negsuc n) h = lt_true n (2 ^ 127) (omega arith)
+room W64 (pos n) h = lt-ltb n (2 ^ 63) (omega arith)
+room W64 (negsuc n) h = lt-ltb n (2 ^ 63) (omega arith)
+room W128 (pos n) h = lt-ltb n (2 ^ 127) (omega arith)
+room W128 (negsuc n) h = lt-ltb n (2 ^ 127) (omega arith)
 
 -- a width is no wider than the wider one of it and another
 pub wider_than : (u w : Width) → no_wider u (wider u w) ≡ true

@@ -1,6 +1,7 @@
 -- Proves that the expression for a constant has the constant's value, with as many wide operations as are counted for it.
 use Rattle.std.proofs.Common.{◌≡◌, ℕ, zero, suc, ◌+◌, ◌*◌, ◌/◌, ◌%◌, ◌^◌, ◌<◌, ◌≤◌, Bool, true, false, List, refl, ap, ◌∙◌, arith}
 use Rattle.std.specs.Prelude.{ℤ, pos, negsuc, neg_ℤ, unsigned_abs}
+use Rattle.std.proofs.lemmas.Bool.{lt-ltb, ltb-true}
 use Rattle.ln_bound.specs.declared.fitted.Width.{Width}
 use Rattle.ln_bound.specs.declared.fitted.Width.TheVariants.{W64, W128}
 use Rattle.ln_bound.specs.Widths.{limit}
@@ -13,10 +14,10 @@ use Rattle.ln_csyn.specs.Tree as c
 use Rattle.ln_csyn.specs.Meaning.{has, given, operated, is_same, counted, Counts, Scene, Seen, Gives, value_of}
 use Rattle.ln_cemit.specs.Emit.{type_of, in_parts, is_short, constant, constant_wide}
 use Rattle.ln_cemit.specs.Checked.{plus}
-use Rattle.ln_cemit.proofs.Meanings.Numbers.{lt_true, lt_from, room, given_is}
+use Rattle.ln_cemit.proofs.Meanings.Numbers.{room, given_is}
 
 given_128 : (n : ℕ) (k : Counts) → n < 2 ^ 127 → given Int128 (pos n) k ≡ Gives Int128 (pos n) k
-given_128 n k h = given_is Int128 (pos n) k (lt_true n (2 ^ 127) h)
+given_128 n k h = given_is Int128 (pos n) k (lt-ltb n (2 ^ 127) h)
 
 below : {n : ℕ} (w : Width) → n ≤ limit w → n < 2 ^ 127
 below W64 h = omega arith
@@ -57,7 +58,7 @@ in_parts_is s ds (suc m) n k h =
     ∙ ap (λ v. Gives Int128 (pos n) (plus v k)) l
 
 short_is : (s : Scene) (ds : List Seen) (n : ℕ) (k : Counts) → n < 2 ^ 63 → value_of s ds (c.Number Int64 n) k ≡ Gives Int64 (pos n) k
-short_is s ds n k h = given_is Int64 (pos n) k (lt_true n (2 ^ 63) h)
+short_is s ds n k h = given_is Int64 (pos n) k (lt-ltb n (2 ^ 63) h)
 
 -- a constant that fits a width has its value in the type of that width, with the wide operations that are counted for it
 pub constant_is : (s : Scene) (ds : List Seen) (w : Width) (z : ℤ) (k : Counts) → unsigned_abs z ≤ limit w
@@ -65,7 +66,7 @@ pub constant_is : (s : Scene) (ds : List Seen) (w : Width) (z : ℤ) (k : Counts
 constant_is s ds w (pos n) k h = by_case (is_short n) refl where
   by_case : (v : Bool) → is_short n ≡ v → value_of s ds (c.Inner (type_of w) (constant (pos n))) k ≡ Gives (type_of w) (pos n) (plus (constant_wide (pos n)) k)
   by_case true e =
-      let v = short_is s ds n k (lt_from n (2 ^ 63) e) in
+      let v = short_is s ds n k (ltb-true n (2 ^ 63) e) in
       rw e (inner_is s ds (type_of w) Int64 (c.Number Int64 n) (pos n) k k v (room w (pos n) h))
   by_case false e =
       let v = in_parts_is s ds 4 n k (below w h) in
@@ -74,10 +75,10 @@ constant_is s ds w (negsuc n) k h = by_case (is_short (suc n)) refl where
   by_case : (v : Bool) → is_short (suc n) ≡ v
       → value_of s ds (c.Inner (type_of w) (constant (negsuc n))) k ≡ Gives (type_of w) (negsuc n) (plus (constant_wide (negsuc n)) k)
   by_case true e =
-      let v = short_is s ds (suc n) k (lt_from (suc n) (2 ^ 63) e) in
-      let m = minus_is s ds Int64 (c.Number Int64 (suc n)) (pos (suc n)) k k v (lt_true n (2 ^ 63) (omega (arith, lt_from (suc n) (2 ^ 63) e))) in
+      let v = short_is s ds (suc n) k (ltb-true (suc n) (2 ^ 63) e) in
+      let m = minus_is s ds Int64 (c.Number Int64 (suc n)) (pos (suc n)) k k v (lt-ltb n (2 ^ 63) (omega (arith, ltb-true (suc n) (2 ^ 63) e))) in
       rw e (inner_is s ds (type_of w) Int64 (c.Minus (c.Number Int64 (suc n))) (negsuc n) k (plus 0 k) m (room w (negsuc n) h))
   by_case false e =
       let v = in_parts_is s ds 4 (suc n) k (below w h) in
-      let m = minus_is s ds Int128 (in_parts 4 (suc n)) (pos (suc n)) k (plus 8 k) v (lt_true n (2 ^ 127) (omega (arith, below w h))) in
+      let m = minus_is s ds Int128 (in_parts 4 (suc n)) (pos (suc n)) k (plus 8 k) v (lt-ltb n (2 ^ 127) (omega (arith, below w h))) in
       rw e (inner_is s ds (type_of w) Int128 (c.Minus (in_parts 4 (suc n))) (negsuc n) k (plus 1 (plus 8 k)) m (room w (negsuc n) h))

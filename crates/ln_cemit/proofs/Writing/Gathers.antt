@@ -1,8 +1,8 @@
 -- Loops that gather a list, the loop over comparisons, and the function of a filter.
-use Rattle.std.proofs.Common.{◌≡◌, ℕ, suc, ◌+◌, ◌<◌, ◌≤◌, List, [], ◌∷◌, ◌++◌, length, get_or, drop, map, sym, ap, ◌∙◌, append_assoc}
-use Rattle.std.proofs.Common.{append-nil, subst, arith, drop-cons}
+use Rattle.std.proofs.Common.{◌≡◌, ℕ, ◌+◌, ◌<◌, ◌≤◌, List, [], ◌∷◌, ◌++◌, length, get_or, drop, map, sym, ap, ◌∙◌, append_assoc}
+use Rattle.std.proofs.Common.{append-nil, subst}
 use Rattle.std.specs.Prelude.{Option, Some, None, codes, eqb, not}
-use Rattle.std.proofs.lemmas.List.{drop_all}
+use Rattle.std.proofs.lemmas.List.{drop_all, drop_more}
 use Rattle.std.proofs.lemmas.List.Elements.{filter-append}
 use Rattle.ln_code.specs.Part.{FilterCode}
 use Rattle.ln_csyn.specs.Layout.{Lays}
@@ -14,16 +14,13 @@ use Rattle.ln_cemit.specs.Puts.{filter_funs, open_guards}
 use Rattle.ln_cemit.specs.Walked.{less, without}
 use Rattle.ln_cemit.specs.Whole.{filter_body}
 
-from_on : {A : Type 0} (xs : List A) (i : ℕ) (x : A) → i < length xs → drop i xs ≡ get_or xs i x ∷ drop (i + 1) xs
-from_on xs i x h = let n : suc i ≡ i + 1 = omega arith in drop-cons xs i x h ∙ ap (λ m. get_or xs i x ∷ drop m xs) n
-
 -- one more was made of an element
 pub collects : {A C : Type 0} (f : A → C) (done next all : List C) (xs : List A) (i : ℕ) (x : A) (y : C) → i < length xs
     → y ≡ f (get_or xs i x) → next ≡ done ++ y ∷ []
     → done ++ map f (drop i xs) ≡ all → next ++ map f (drop (i + 1) xs) ≡ all
 collects f done next all xs i x y h e n g =
     ap (λ z. z ++ map f (drop (i + 1) xs)) n ∙ append_assoc done (y ∷ []) (map f (drop (i + 1) xs)) ∙ ap (λ z. done ++ z ∷ map f (drop (i + 1) xs)) e
-    ∙ ap (λ z. done ++ map f z) (sym (from_on xs i x h)) ∙ g
+    ∙ ap (λ z. done ++ map f z) (sym (drop_more xs i x h)) ∙ g
 
 -- at the end something was made of each element
 pub collected : {A C : Type 0} (f : A → C) (done all : List C) (xs : List A) (i : ℕ) → length xs ≤ i → done ++ map f (drop i xs) ≡ all → done ≡ all
@@ -35,7 +32,7 @@ pub keeps : (x : ℕ) (done next all xs : List ℕ) (i d : ℕ) → i < length x
 keeps x done next all xs i d h n g =
     ap (λ z. z ++ without x (drop (i + 1) xs)) n ∙ append_assoc done (without x (get_or xs i d ∷ [])) (without x (drop (i + 1) xs))
     ∙ ap (λ z. done ++ z) (sym (filter-append (λ j. not (eqb j x)) (get_or xs i d ∷ []) (drop (i + 1) xs)))
-    ∙ ap (λ z. done ++ without x z) (sym (from_on xs i d h)) ∙ g
+    ∙ ap (λ z. done ++ without x z) (sym (drop_more xs i d h)) ∙ g
 
 -- at the end all were kept but the one to be omitted
 pub kept_all : (x : ℕ) (done all xs : List ℕ) (i : ℕ) → length xs ≤ i → done ++ without x (drop i xs) ≡ all → done ≡ all
@@ -46,7 +43,7 @@ pub guards_more : {start now new : List ℕ} (i : ℕ) (js : List ℕ) (k d : �
     → Puts now new (λ r. lexeme (codes "if") ∷ lexeme (codes "(") ∷ spell (less i (get_or js k d)) (lexeme (codes ")") ∷ lexeme (codes "{") ∷ r))
     → Goes start new (open_guards i (drop (k + 1) js)) (open_guards i js)
 guards_more {start} {now} {new} i js k d h g p = record {
-  is = λ r. p.is (open_guards i (drop (k + 1) js) r) ∙ ap (λ z. now ++ written (open_guards i z r)) (sym (from_on js k d h)) ∙ g.is r;
+  is = λ r. p.is (open_guards i (drop (k + 1) js) r) ∙ ap (λ z. now ++ written (open_guards i z r)) (sym (drop_more js k d h)) ∙ g.is r;
 }
 
 -- at the end all comparisons were appended

@@ -1,12 +1,13 @@
 -- Loops that append operations, functions and statements.
 use Rattle.std.proofs.Common.{◌≡◌, ◌≢◌, ℕ, zero, suc, ◌+◌, ◌<◌, ◌≤◌, ◌||◌, Bool, true, false, cond, List, [], ◌∷◌, ◌++◌, length, map, drop}
-use Rattle.std.proofs.Common.{get_or, take, refl, sym, ap, ◌∙◌, subst, arith, ℤ}
-use Rattle.std.specs.Prelude.{◌==◌, Option, Some, None, Contains, codes, reverse, nat_le, nat_lt}
+use Rattle.std.proofs.Common.{get_or, take, refl, sym, ap, ◌∙◌, subst, arith, inl, inr, ℤ}
+use Rattle.std.specs.Prelude.{◌==◌, Option, Some, None, Contains, codes, reverse, nat_le}
 use Rattle.std.specs.List.{range_with_len}
 use Rattle.std.proofs.Math.ListN.{replicate}
 use Rattle.std.proofs.Math.Path.{fun_ext}
-use Rattle.std.proofs.lemmas.List.{drop_all, length-map, get_or-map, reverse-append, length-take-le}
+use Rattle.std.proofs.lemmas.List.{drop_all, drop_more, length-map, get_or-map, get_or_default, reverse-append, length-take-le}
 use Rattle.std.proofs.lemmas.Option.{slice_get-get_or}
+use Rattle.std.proofs.lemmas.Bool.{cases_lt}
 use Rattle.ln_algebra.specs.Vector.{same_vector}
 use Rattle.ln_algebra.proofs.Expanded.Normal.{same_vector-is}
 use Rattle.ln_bound.specs.declared.fitted.Width.{Width}
@@ -22,7 +23,6 @@ use Rattle.ln_csyn.specs.Grammar.{Token}
 use Rattle.ln_csyn.specs.Layout.{Lays}
 use Rattle.ln_csyn.specs.Spelling.{Goes, Puts, lexeme, spell, spell_body, spell_fun, written}
 use Rattle.ln_csyn.proofs.Writing.Lays.{LaysRest, all_laid, lays_then, one_laid}
-use Rattle.ln_csyn.proofs.Writing.PutLemmas.{drop_more}
 use Rattle.ln_order.specs.declared.order.Order.{Order}
 use Rattle.ln_order.specs.Orders.{orders_of}
 use Rattle.ln_order.specs.Places.{order_places}
@@ -31,14 +31,13 @@ use Rattle.ln_order.proofs.Listing.OrdersLemmas.{is-member}
 use Rattle.ln_order.proofs.Listing.PrefixLemmas.{prefix-is}
 use Rattle.ln_cemit.specs.declared.slot.Slot.{Slot}
 use Rattle.ln_cemit.specs.declared.slot.Way.{Way}
-use Rattle.ln_cemit.specs.Emit.{Rest, body_of, constant, emitted, touching_index, pushing, put_get, slot, type_of, put_op, put_sign, naming}
+use Rattle.ln_cemit.specs.Emit.{body_of, constant, emitted, touching_index, pushing, put_get, slot, type_of, put_op, put_sign, naming}
 use Rattle.ln_cemit.specs.Emit.{ops_of, unread, reads, reads_row, touching}
 use Rattle.ln_cemit.specs.File.{one_fun, one_funs, two_fun}
 use Rattle.ln_cemit.specs.Names.{answer_name, block_name, call_name, decl_name, filter_name}
 use Rattle.ln_cemit.specs.Puts.{Does, MayMove, Moves, any_reads, decl_before, filter_funs, filter_tried, close_braces, locals_of}
 use Rattle.ln_cemit.specs.Puts.{open_guards, picks_on, rest_or}
 use Rattle.ln_cemit.specs.Walked.{attempt, body_for, guarded, less, picks, says_nothing, tries, walked, without}
-use Rattle.ln_cemit.proofs.Meanings.Numbers.{lt_from, lt_not}
 use Rattle.ln_cemit.specs.Ways.{ways}
 use Rattle.ln_cemit.specs.Whole.{block_body, bodies_of, call_body, filter_body, first_of, funs_before, moved, numbered, part_name}
 
@@ -109,16 +108,12 @@ module _ {start old new : List ℕ} {all : List Token → List Token} (e : ℕ) 
       → Goes start new (spell_body (rest_or more (naming decl_name u (emitted decl_name e ys (i + 1) (reverse su) (locals_of os'))))) all
   loop_step more ys o w su os' u q v g d =
       let n : suc i ≡ i + 1 = omega arith in
-      let go : Rest = λ sv ms. naming decl_name (unread o (ops_of ys) i (reverse st)) (emitted decl_name e ys (suc i) sv ms) in
-      let h : Goes start old (spell_body (put_op decl_name o w i (reverse st) (locals_of os) go)) all =
-      subst (λ z. Goes start old (spell_body (emitted decl_name e z i (reverse st) (locals_of os))) all) q g in
-      let k = d.goes go in
+      let h : Goes start old (spell_body (emitted decl_name e (record { op = o; bound = w } ∷ ys) i (reverse st) (locals_of os))) all = rw q at g in
+      let k = d.goes (λ sv ms. naming decl_name (unread o (ops_of ys) i (reverse st)) (emitted decl_name e ys (suc i) sv ms)) in
       let m : Goes start new
       (spell_body (rest_or more (naming decl_name (unread o (ops_of ys) i (reverse st)) (emitted decl_name e ys (suc i) (reverse su) (locals_of os'))))) all =
       record { is = λ r. k.is r ∙ h.is r } in
-      let m' =
-      subst (λ z. Goes start new (spell_body (rest_or more (naming decl_name z (emitted decl_name e ys (suc i) (reverse su) (locals_of os'))))) all) v m in
-      subst (λ z. Goes start new (spell_body (rest_or more (naming decl_name u (emitted decl_name e ys z (reverse su) (locals_of os'))))) all) n m'
+      rw (v, n) at m
 
   -- the end of the loop in `put_lines`: after the last line the sign was appended
   pub loop_end : xs ≡ [] → Goes start old (spell_body (emitted decl_name e xs i (reverse st) (locals_of os))) all
@@ -173,12 +168,9 @@ reads_lines [] ws e = refl
 reads_lines (o ∷ os) [] e = absurd (omega (arith, e))
 reads_lines (o ∷ os) (w ∷ ws) e = ap (λ v. reads o || v) (reads_lines os ws (omega (arith, e)))
 
-touch_none : {a : List ℕ} (v : Bool) (b : Body) → v ≡ true → Goes a a (spell_body b) (spell_body (touching v b))
-touch_none v b e = rw e (record { is = λ r. refl })
-
 -- before a body that reads a value of the row nothing is appended
 pub touched_none : {a : List ℕ} (v : Bool) → v ≡ true → (b : Body) → Goes a a (spell_body b) (spell_body (touching v b))
-touched_none v e b = touch_none v b e
+touched_none v e b = rw e (record { is = λ r. refl })
 
 -- before a body that reads none, the statement that names the parameter was appended
 pub touched_put : {a n : List ℕ} (v : Bool) → v ≡ false → Puts a n (spell_body (touching false c.End)) → (b : Body)
@@ -296,11 +288,7 @@ module _ {a m n : List ℕ} (name x : List ℕ) (segment : List ℕ → List ℕ
   walked_on e p left q f z g u =
       let rest : Body = picks (λ i. walked (block_name x) answer_name segment e (p ++ i ∷ []) (without i left)) left in
       let h : Puts a n (spell_body (tries (block_name name) answer_name numbers rest)) = record { is = λ r. u.is r ∙ (g rest).is r } in
-      let h2 : Puts a n (spell_body (tries (block_name x) answer_name numbers rest)) =
-      subst (λ y. Puts a n (spell_body (tries (block_name y) answer_name numbers rest))) q h in
-      let h3 : Puts a n (spell_body (tries (block_name x) answer_name (segment p) rest)) =
-      subst (λ y. Puts a n (spell_body (tries (block_name x) answer_name y rest))) f h2 in
-      subst (λ y. Puts a n (spell_body (walked (block_name x) answer_name segment y p left))) (sym z) h3
+      rw z (rw (q, f) at h)
 
 -- the same with functions by number
 tries-moved : (x : List ℕ) (f : Option FilterCode) (ns : List ℕ) (a b : Body) → a ≡ b
@@ -422,19 +410,13 @@ no_segment k orders ss front e h = beside-none (prefixes_of k) ss front never wh
   never : Contains (prefixes_of k) front → ⊥
   never i = let x = prefix-is k front i in at_place x (subst (λ z. Contains z x.order) (sym e) (is-member k x.order x.full))
 
-at_same : {A : Type 0} (xs : List A) (i : ℕ) (d e : A) → i < length xs → get_or xs i d ≡ get_or xs i e
-at_same [] i d e h = absurd (omega arith)
-at_same (x ∷ xs) zero d e h = refl
-at_same (x ∷ xs) (suc i) d e h = at_same xs i d e (omega (arith, h))
-
 -- one order more that doesn't begin so
 pub next_order : (orders : List Order) (front : List ℕ) (k : ℕ) (o d : Order) → k < length orders → o ≡ get_or orders k d
     → ((m : ℕ) (e : Order) → m < k → take (length front) (order_places (get_or orders m e)) ≢ front) → take (length front) (order_places o) ≢ front
     → (m : ℕ) (e : Order) → m < k + 1 → take (length front) (order_places (get_or orders m e)) ≢ front
-next_order orders front k o d l q h n m e s = by_case (nat_lt m k) refl where
-  by_case : (b : Bool) → nat_lt m k ≡ b → take (length front) (order_places (get_or orders m e)) ≢ front
-  by_case true t = h m e (lt_from m k t)
-  by_case false t =
-      let f : m ≡ k = omega (arith, s, lt_not m k t) in
-      let g : o ≡ get_or orders m e = q ∙ at_same orders k d e l ∙ ap (λ z. get_or orders z e) (sym f) in
-      subst (λ z. take (length front) (order_places z) ≢ front) g n
+next_order orders front k o d l q h n m e s = elim (cases_lt m k) [
+  | inl t ↦ h m e t
+  | inr t ↦ (let f : m ≡ k = omega (arith, s, t) in
+      let g : o ≡ get_or orders m e = q ∙ get_or_default orders k d e l ∙ ap (λ z. get_or orders z e) (sym f) in
+      subst (λ z. take (length front) (order_places z) ≢ front) g n)
+]

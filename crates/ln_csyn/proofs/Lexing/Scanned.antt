@@ -1,7 +1,8 @@
 -- Tokens found one by one, and that no bytes have two lists.
-use Rattle.std.proofs.Common.{◌≡◌, ℕ, zero, suc, ◌+◌, ◌<◌, ◌≤◌, ◌==◌, Bool, true, false, List, [], ◌∷◌, ◌++◌, length, take, drop}
+use Rattle.std.proofs.Common.{◌≡◌, ℕ, suc, ◌+◌, ◌<◌, ◌≤◌, ◌==◌, true, false, List, [], ◌∷◌, ◌++◌, length, take, drop}
 use Rattle.std.proofs.Common.{length-drop, append_assoc, append-nil, map, refl, ap, sym, ◌∙◌, subst, arith, get_or}
-use Rattle.std.proofs.lemmas.List.{drop-drop, map-append}
+use Rattle.std.proofs.lemmas.List.{drop-drop, drop_more, map-append}
+use Rattle.std.proofs.lemmas.Bool.{cond_both}
 use Rattle.std.proofs.Math.Seq.{drop-length}
 use Rattle.ln_csyn.specs.declared.token.Token.{Token as CodeToken}
 use Rattle.ln_csyn.specs.Seen.{seen, tokens_of}
@@ -81,17 +82,11 @@ scan_ends bytes ts at line s e =
     subst (λ (z : List Token). Lexed 2 bytes z) (append-nil (tokens_of ts)) (s.on [] n)
 
 -- the bytes from a place on, by the first of them
-front_suc : (bytes : List ℕ) (at b : ℕ) → at < length bytes → b ≡ get_or bytes at 0 → drop at bytes ≡ b ∷ drop (suc at) bytes
-front_suc [] at b w e = absurd (omega arith)
-front_suc (x ∷ xs) zero b w e = ap (λ (z : ℕ). z ∷ xs) (sym e)
-front_suc (x ∷ xs) (suc at) b w e = front_suc xs at b (omega arith) e
-
 front : (bytes : List ℕ) (at b : ℕ) → at < length bytes → b ≡ get_or bytes at 0 → drop at bytes ≡ b ∷ drop (at + 1) bytes
-front bytes at b w e = let q : suc at ≡ at + 1 = omega arith in front_suc bytes at b w e ∙ ap (λ (z : ℕ). b ∷ drop z bytes) q
+front bytes at b w e = drop_more bytes at 0 w ∙ ap (λ (z : ℕ). z ∷ drop (at + 1) bytes) (sym e)
 
-behind_within : (b line at : ℕ) (v : Bool) → line ≤ at + 2 → (b == 10) ≡ v → behind b line ≤ (at + 1) + 2
-behind_within b line at true w e = rw e (omega arith)
-behind_within b line at false w e = rw e (omega arith)
+behind_within : (b line at : ℕ) → line ≤ at + 2 → behind b line ≤ (at + 1) + 2
+behind_within b line at w = cond_both (b == 10) (suc line) line (λ n. n ≤ (at + 1) + 2) (λ e. omega arith) (λ e. omega arith)
 
 -- after a blank
 pub scan_blank : (bytes : List ℕ) (ts : List CodeToken) (at line b : ℕ) → Scanned bytes ts at line → at < length bytes
@@ -100,7 +95,7 @@ scan_blank bytes ts at line b s w e h =
     let f = front bytes at b w e in
     record {
       within = omega arith;
-      lines = behind_within b line at _ s.lines refl;
+      lines = behind_within b line at s.lines;
       on = λ vs d. s.on vs (subst (λ (z : List ℕ). Lexed line z vs) (sym f) (blank h d));
       back = λ us d. let r = s.back us d in (r.0, r.1, lexed_blank h (subst (λ (z : List ℕ). Lexed line z r.0) f r.2));
     }

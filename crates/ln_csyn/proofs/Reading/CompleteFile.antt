@@ -3,39 +3,20 @@ use Rattle.std.proofs.Common.{◌≡◌, ℕ, zero, suc, ◌≤◌, ◌<◌, Boo
 use Rattle.std.specs.Prelude.{codes, bytes_eq}
 use Rattle.std.proofs.Math.Nat.{le-max_left, le-max_right}
 use Rattle.std.proofs.lemmas.Slice.Eq.{bytes_eq-Decides}
+use Rattle.std.proofs.lemmas.Option.{same_Some}
 use Rattle.ln_csyn.specs.declared.tree.CType.{CType}
-use Rattle.ln_csyn.specs.Tree.{Expr, Body, Fun}
+use Rattle.ln_csyn.specs.Tree.{Body, Fun}
 use Rattle.ln_csyn.specs.Words.{type_of}
-use Rattle.ln_csyn.specs.Grammar.{Token, Sort, Derives, two, minus, cast, number, name, value, index, call, inner, IsBody, end, decl, group}
+use Rattle.ln_csyn.specs.Grammar.{Token, IsBody, end, decl, group}
 use Rattle.ln_csyn.specs.Grammar.{when, return, IsPointer, pointer, IsParameters, one, both, IsHead, head, IsFun, own, shared, IsFile}
 use Rattle.ln_csyn.specs.Grammar as g
 use Rattle.ln_csyn.specs.Reading.{eat, stmt_at, stmts_at, block_at, pointer_at, parameters_at, head_at, fun_at, funs_at}
 use Rattle.ln_csyn.specs.Keeps.{parens, parens_in, braces_in, is_small, keeps_names, keeps_exprs, fun_keeps, each_fun, names_of, distinct}
-use Rattle.std.proofs.lemmas.Bool.{leb-true}
+use Rattle.std.proofs.lemmas.Bool.{false_from_ne_true, leb-true}
 use Rattle.ln_csyn.specs.Laws.{BodyIsComplete, FileIsComplete, OneFile}
 use Rattle.ln_csyn.proofs.Reading.Complete.{complete}
-
--- ---- the rest is shorter
-
--- an expression takes a token
-pub shorter : {s : Sort} {ts rest : List Token} {e : Expr} → Derives s ts rest e → length rest < length ts
-shorter (two h d o e s) = omega (arith, shorter d, shorter e)
-shorter (minus h m d s) = omega (arith, shorter d)
-shorter (cast h i j m d s) = omega (arith, shorter d)
-shorter (number h) = omega arith
-shorter (name h) = omega arith
-shorter (value h i j k) = omega arith
-shorter (index h i j k) = omega arith
-shorter (call h i j k) = omega arith
-shorter (inner d) = shorter d
-
--- statements add no token
-pub no_longer : {ts rest : List Token} {b : Body} → IsBody ts rest b → length rest ≤ length ts
-no_longer (end h) = omega arith
-no_longer (decl k x q d s b) = omega (arith, shorter d, no_longer b)
-no_longer (group h a b) = omega (arith, no_longer a, no_longer b)
-no_longer (when h l d r m a b) = omega (arith, shorter d, no_longer a, no_longer b)
-no_longer (return h d s b) = omega (arith, shorter d, no_longer b)
+use Rattle.ln_csyn.proofs.Reading.Leaving.{fewer, leaves_body, leaves_expr, leaves_fun}
+use Rattle.ln_csyn.proofs.Writing.Spells.{left, right}
 
 -- the rest after statements begins with a closing brace
 abbrev pub HasBrace : List Token → Type 0
@@ -51,12 +32,9 @@ closing (when h l d r m a b) = closing b
 closing (return h d s b) = closing b
 
 -- a type is none of these words
-other_by : (text u : List ℕ) (t : CType) (v : Bool) → bytes_eq text u ≡ v → type_of u ≡ None → type_of text ≡ Some t → v ≡ false
-other_by text u t false e n h = refl
-other_by text u t true e n h = let q : text ≡ u = (bytes_eq-Decides text u).0 e in let z : type_of text ≡ None = rw q n in absurd (cc)
-
 other : (text u : List ℕ) (t : CType) → type_of u ≡ None → type_of text ≡ Some t → bytes_eq text u ≡ false
-other text u t n h = other_by text u t (bytes_eq text u) refl n h
+other text u t n h =
+    false_from_ne_true (bytes_eq text u) (λ e. let q : text ≡ u = (bytes_eq-Decides text u).0 e in let z : type_of text ≡ None = rw q n in cc)
 
 complete_body : {ts rest : List Token} {b : Body} → IsBody ts rest b → (p k n : ℕ) → braces_in b ≤ k → parens_in b ≤ suc p → length ts < n
     → stmts_at (stmt_at (suc p) p (block_at (suc p) p k)) n ts ≡ Some (b, rest)
@@ -64,14 +42,14 @@ complete_body x p k zero w v l = absurd (omega arith)
 complete_body (end h) p k (suc n) w v l = rw h refl
 complete_body (decl {k = t} {e = e} {b = b} q x r d s c) p k (suc n) w v l =
     let f = complete d (suc p) (omega (arith, le-max_left (parens e) (parens_in b))) in
-    let g = complete_body c p k n w (omega (arith, le-max_right (parens e) (parens_in b))) (omega (arith, shorter d)) in
+    let g = complete_body c p k n w (omega (arith, le-max_right (parens e) (parens_in b))) (omega (arith, fewer (leaves_expr d))) in
     rw (other t.text (codes "}") _ refl q, q, x, r, f, s, g) refl
 complete_body (group {a = y} {b = z} h a b) p zero (suc n) w v l = absurd (omega (arith, le-max_left (suc (braces_in y)) (braces_in z)))
 complete_body (group {ts = ts} {a = y} {b = z} h a b) p (suc k) (suc n) w v l =
     let f = complete_body a p k (suc (length ts)) (omega (arith, le-max_left (suc (braces_in y)) (braces_in z)))
     (omega (arith, le-max_left (parens_in y) (parens_in z))) (omega arith) in
     let g = complete_body b p (suc k) n (omega (arith, le-max_right (suc (braces_in y)) (braces_in z)))
-    (omega (arith, le-max_right (parens_in y) (parens_in z))) (omega (arith, no_longer a)) in
+    (omega (arith, le-max_right (parens_in y) (parens_in z))) (omega (arith, fewer (leaves_body a _ _ refl))) in
     rw (h, f, closing a, g) refl
 complete_body (when {a = y} {b = z} h i d r m a b) p zero (suc n) w v l = absurd (omega (arith, le-max_left (suc (braces_in y)) (braces_in z)))
 complete_body (when {us = us} {e = e} {a = y} {b = z} h i d r m a b) p (suc k) (suc n) w v l =
@@ -79,11 +57,12 @@ complete_body (when {us = us} {e = e} {a = y} {b = z} h i d r m a b) p (suc k) (
     let v2 : parens_in z ≤ suc p = omega (arith, le-max_right (suc (parens e)) (max (parens_in y) (parens_in z)), le-max_right (parens_in y) (parens_in z)) in
     let c = complete d p (omega (arith, le-max_left (suc (parens e)) (max (parens_in y) (parens_in z)))) in
     let f = complete_body a p k (suc (length us)) (omega (arith, le-max_left (suc (braces_in y)) (braces_in z))) v1 (omega arith) in
-    let g = complete_body b p (suc k) n (omega (arith, le-max_right (suc (braces_in y)) (braces_in z))) v2 (omega (arith, shorter d, no_longer a)) in
+    let g = complete_body b p (suc k) n (omega (arith, le-max_right (suc (braces_in y)) (braces_in z)))
+    v2 (omega (arith, fewer (leaves_expr d), fewer (leaves_body a _ _ refl))) in
     rw (h, i, c, r, m, f, closing a, g) refl
 complete_body (return {e = e} {b = b} h d s c) p k (suc n) w v l =
     let f = complete d (suc p) (omega (arith, le-max_left (parens e) (parens_in b))) in
-    let g = complete_body c p k n w (omega (arith, le-max_right (parens e) (parens_in b))) (omega (arith, shorter d)) in
+    let g = complete_body c p k n w (omega (arith, le-max_right (parens e) (parens_in b))) (omega (arith, fewer (leaves_expr d))) in
     rw (h, f, s, g) refl
 
 complete_pointer : {ts rest : List Token} → IsPointer ts rest → pointer_at ts ≡ Some rest
@@ -111,21 +90,6 @@ complete_fun : {ts rest : List Token} {f : Fun} → IsFun ts rest f → (p k : �
 complete_fun (own h d) p k w = rw (h, complete_head d p k w) refl
 complete_fun (shared d) p k w = rw (starts_int d, complete_head d p k w) refl
 
-shorter_pointer : {ts rest : List Token} → IsPointer ts rest → length rest < length ts
-shorter_pointer (pointer h i j) = omega arith
-
-shorter_parameters : {ts rest : List Token} {i : Bool} → IsParameters ts rest i → length rest < length ts
-shorter_parameters (one p h) = omega (arith, shorter_pointer p)
-shorter_parameters (both p h c q v) = omega (arith, shorter_pointer p, shorter_pointer q)
-
-shorter_head : {ts rest : List Token} {o : Bool} {f : Fun} → IsHead ts rest o f → length rest < length ts
-shorter_head (head h x l i r b d) = omega (arith, shorter_parameters i, no_longer d)
-
--- a function takes a token
-pub shorter_fun : {ts rest : List Token} {f : Fun} → IsFun ts rest f → length rest < length ts
-shorter_fun (own h d) = omega (arith, shorter_head d)
-shorter_fun (shared d) = shorter_head d
-
 -- each of these functions is within the limits
 abbrev pub AllWithin : ℕ → ℕ → List Fun → Type 0
 AllWithin p k [] = Unit {0}
@@ -141,29 +105,21 @@ complete_file : {ts : List Token} {fs : List Fun} → IsFile ts fs → (p k n : 
 complete_file x p k zero w l = absurd (omega arith)
 complete_file g.none p k (suc n) w l = refl
 complete_file (g.one {ts = ts} {us = us} {f = f} {fs = fs} d r) p k (suc n) w l =
-    funs_step p k n ts us f fs (shorter_fun d) (complete_fun d p k w.0) (complete_file r p k n w.1 (omega (arith, shorter_fun d)))
+    funs_step p k n ts us f fs (fewer (leaves_fun d)) (complete_fun d p k w.0) (complete_file r p k n w.1 (omega (arith, fewer (leaves_fun d))))
 
 -- the limits follow from the tests on the tree
-and_left : (a b : Bool) → (a && b) ≡ true → a ≡ true
-and_left true b h = refl
-and_left false b h = h
-
-and_right : (a b : Bool) → (a && b) ≡ true → b ≡ true
-and_right true b h = h
-and_right false b h = absurd (cc)
-
 fun_within : (names : List (List ℕ)) (f : Fun) → fun_keeps names f ≡ true → Within 15 63 f
 fun_within names f h =
-    let small : is_small f ≡ true = and_left (is_small f) (keeps_names names f && keeps_exprs f) h in
-    let one : nat_le (parens_in f.body) 16 ≡ true = and_left (nat_le (parens_in f.body) 16) (nat_le (suc (braces_in f.body)) 64) small in
-    let two : nat_le (suc (braces_in f.body)) 64 ≡ true = and_right (nat_le (parens_in f.body) 16) (nat_le (suc (braces_in f.body)) 64) small in
+    let small : is_small f ≡ true = left (is_small f) (keeps_names names f && keeps_exprs f) h in
+    let one : nat_le (parens_in f.body) 16 ≡ true = left (nat_le (parens_in f.body) 16) (nat_le (suc (braces_in f.body)) 64) small in
+    let two : nat_le (suc (braces_in f.body)) 64 ≡ true = right (nat_le (parens_in f.body) 16) (nat_le (suc (braces_in f.body)) 64) small in
     record { parens = leb-true _ _ one; braces = omega (arith, leb-true _ _ two) }
 
 funs_within : (names : List (List ℕ)) (fs : List Fun) → each_fun (fun_keeps names) fs ≡ true → AllWithin 15 63 fs
 funs_within names [] h = tt
 funs_within names (f ∷ fs) h = (
-  fun_within names f (and_left (fun_keeps names f) (each_fun (fun_keeps names) fs) h),
-  funs_within names fs (and_right (fun_keeps names f) (each_fun (fun_keeps names) fs) h),
+  fun_within names f (left (fun_keeps names f) (each_fun (fun_keeps names) fs) h),
+  funs_within names fs (right (fun_keeps names f) (each_fun (fun_keeps names) fs) h),
 )
 
 -- statements that are derived within the limits are read
@@ -174,11 +130,8 @@ body_is_complete ts rest b h p k n w v l = complete_body h p k n w v l
 pub file_is_complete : FileIsComplete
 file_is_complete ts fs d h =
     complete_file d 15 63 (suc (length ts))
-    (funs_within (names_of fs) fs (and_right (distinct (names_of fs)) (each_fun (fun_keeps (names_of fs)) fs) h)) (omega arith)
-
-some_same : {A : Type 0} (x y : A) → Some x ≡ Some y → x ≡ y
-some_same x y h = cc
+    (funs_within (names_of fs) fs (right (distinct (names_of fs)) (each_fun (fun_keeps (names_of fs)) fs) h)) (omega arith)
 
 -- both files are what is read
 pub one_file : OneFile
-one_file ts fs gs d k e l = some_same fs gs (sym (file_is_complete ts fs d k) ∙ file_is_complete ts gs e l)
+one_file ts fs gs d k e l = same_Some fs gs (sym (file_is_complete ts fs d k) ∙ file_is_complete ts gs e l)

@@ -1,5 +1,5 @@
 -- Functions read one by one.
-use Rattle.std.proofs.Common.{◌≡◌, ℕ, zero, suc, ◌-◌, ◌<◌, ◌≤◌, Bool, List, [], ◌∷◌, ◌++◌, length, map, drop, length-drop, append_assoc}
+use Rattle.std.proofs.Common.{◌≡◌, ℕ, zero, suc, ◌-◌, ◌<◌, ◌≤◌, List, [], ◌∷◌, ◌++◌, length, map, drop, length-drop, append_assoc}
 use Rattle.std.proofs.Common.{append-nil, Some, None, refl, ap, sym, ◌∙◌, subst, arith}
 use Rattle.std.specs.Prelude.{Option}
 use Rattle.std.proofs.Math.Seq.{drop-length}
@@ -9,25 +9,11 @@ use Rattle.ln_csyn.specs.declared.tree.CFun.{CFun}
 use Rattle.ln_csyn.specs.Seen.{seen, tokens_of}
 use Rattle.ln_csyn.specs.Tree.{Fun}
 use Rattle.ln_csyn.specs.View.{fun_tree}
-use Rattle.ln_csyn.specs.Grammar.{Token, IsPointer, IsParameters, IsHead, IsFun}
-use Rattle.ln_csyn.specs.Grammar as g
+use Rattle.ln_csyn.specs.Grammar.{Token}
 use Rattle.ln_csyn.specs.Reading.{go_on, block_at, fun_at, funs_at, ReadBlock}
+use Rattle.ln_csyn.proofs.Reading.Leaving.{Leaves, leaves_fun}
 use Rattle.ln_csyn.proofs.Reading.SoundFile.{fun_sound}
-use Rattle.ln_csyn.proofs.Reading.Loops.{Leaves, one, more, after, leaves_body, place_of_rest, Next}
-
-leaves_pointer : {ts rest : List Token} → IsPointer ts rest → Leaves ts rest
-leaves_pointer (g.pointer h i j) = more (more one)
-
-leaves_parameters : {ts rest : List Token} {i : Bool} → IsParameters ts rest i → Leaves ts rest
-leaves_parameters (g.one p h) = after (leaves_pointer p) one
-leaves_parameters (g.both p h c q v) = after (leaves_pointer p) (more (more (after (leaves_pointer q) one)))
-
-leaves_head : {ts rest : List Token} {o : Bool} {f : Fun} → IsHead ts rest o f → Leaves ts rest
-leaves_head (g.head {q = q} {rest = rest} h x l i r b d) = more (more (more (after (leaves_parameters i) (more (more (leaves_body d q rest refl))))))
-
-leaves_fun : {ts rest : List Token} {f : Fun} → IsFun ts rest f → Leaves ts rest
-leaves_fun (g.own h d) = more (leaves_head d)
-leaves_fun (g.shared d) = leaves_head d
+use Rattle.ln_csyn.proofs.Reading.Loops.{place_of_rest, Next}
 
 -- functions before those that are read
 abbrev pub before : List Fun → Option (List Fun) → Option (List Fun)
@@ -38,8 +24,8 @@ before fs (Some gs) = Some (fs ++ gs)
 pub record Read (block : ReadBlock) (ts : List CodeToken) (fs : List Fun) (at : ℕ) : Type 0 where
   pub within : at ≤ length ts
   pub n : ℕ
-  pub room : length ts - at < n
-  pub all : funs_at block (suc (length (tokens_of ts))) (tokens_of ts) ≡ before fs (funs_at block n (tokens_of (drop at ts)))
+  pub room : length ts - at ≤ n
+  pub all : funs_at block (suc (length (tokens_of ts))) (tokens_of ts) ≡ before fs (funs_at block (suc n) (tokens_of (drop at ts)))
 
 before_none : (o : Option (List Fun)) → o ≡ before [] o
 before_none None = refl
@@ -49,7 +35,7 @@ before_none (Some y) = refl
 pub read_begins : (block : ReadBlock) (ts : List CodeToken) → Read block ts [] 0
 read_begins block ts = record {
   within = omega arith;
-  n = suc (length (tokens_of ts));
+  n = length (tokens_of ts);
   room = omega (arith, length-map ts seen);
   all = before_none (funs_at block (suc (length (tokens_of ts))) (tokens_of ts));
 }
@@ -57,15 +43,10 @@ read_begins block ts = record {
 -- at the end all functions were read
 pub read_ends : (block : ReadBlock) (ts : List CodeToken) (ss : List CFun) (at : ℕ) → Read block ts (map fun_tree ss) at → at ≡ length ts
     → funs_at block (suc (length (tokens_of ts))) (tokens_of ts) ≡ Some (map fun_tree ss)
-read_ends block ts ss at r e = by_n r.n r.room r.all where
-  by_n : (n : ℕ) → length ts - at < n
-      → funs_at block (suc (length (tokens_of ts))) (tokens_of ts) ≡ before (map fun_tree ss) (funs_at block n (tokens_of (drop at ts)))
-      → funs_at block (suc (length (tokens_of ts))) (tokens_of ts) ≡ Some (map fun_tree ss)
-  by_n zero w a = absurd (omega arith)
-  by_n (suc n) w a =
-      let d : drop at ts ≡ [] = ap (λ (z : ℕ). drop z ts) e ∙ drop-length ts in
-      let f : funs_at block (suc n) (tokens_of (drop at ts)) ≡ Some [] = rw d refl in
-      a ∙ ap (before (map fun_tree ss)) f ∙ ap (λ (z : List Fun). Some z) (append-nil (map fun_tree ss))
+read_ends block ts ss at r e =
+    let d : drop at ts ≡ [] = ap (λ (z : ℕ). drop z ts) e ∙ drop-length ts in
+    let f : funs_at block (suc r.n) (tokens_of (drop at ts)) ≡ Some [] = rw d refl in
+    r.all ∙ ap (before (map fun_tree ss)) f ∙ ap (λ (z : List Fun). Some z) (append-nil (map fun_tree ss))
 
 step_some : (block : ReadBlock) (n : ℕ) (ts us : List Token) (f : Fun) → 0 < length ts → fun_at block ts ≡ Some (f, us)
     → funs_at block (suc n) ts ≡ go_on (funs_at block n us) (λ fs. Some (f ∷ fs))
@@ -86,16 +67,10 @@ len_from ts r at e = length-map r seen ∙ ap length e ∙ length-drop at ts
 -- where no function is read no file is
 pub read_fails : (block : ReadBlock) (ts r : List CodeToken) (ss : List CFun) (at : ℕ) → Read block ts (map fun_tree ss) at → r ≡ drop at ts
     → at < length ts → fun_at block (tokens_of r) ≡ None → funs_at block (suc (length (tokens_of ts))) (tokens_of ts) ≡ None
-read_fails block ts r ss at p e l h = by_n p.n p.room p.all where
-  by_n : (n : ℕ) → length ts - at < n
-      → funs_at block (suc (length (tokens_of ts))) (tokens_of ts) ≡ before (map fun_tree ss) (funs_at block n (tokens_of (drop at ts)))
-      → funs_at block (suc (length (tokens_of ts))) (tokens_of ts) ≡ None
-  by_n zero w a = absurd (omega arith)
-  by_n (suc n) w a =
-      let lr = len_from ts r at e in
-      let f : funs_at block (suc n) (tokens_of r) ≡ None = step_none block n (tokens_of r) (omega (arith, lr, l)) h in
-      let f2 : funs_at block (suc n) (tokens_of (drop at ts)) ≡ None = subst (λ (z : List CodeToken). funs_at block (suc n) (tokens_of z) ≡ None) e f in
-      a ∙ ap (before (map fun_tree ss)) f2
+read_fails block ts r ss at p e l h =
+    let f : funs_at block (suc p.n) (tokens_of r) ≡ None = step_none block p.n (tokens_of r) (omega (arith, len_from ts r at e, l)) h in
+    let f2 = subst (λ (z : List CodeToken). funs_at block (suc p.n) (tokens_of z) ≡ None) e f in
+    p.all ∙ ap (before (map fun_tree ss)) f2
 
 -- the place after a function
 pub next_fun : (o i k : ℕ) (ts r next : List CodeToken) (f : Fun) (at : ℕ) → 0 < k → o ≡ suc i → at ≤ length ts → r ≡ drop at ts
@@ -109,32 +84,32 @@ next_fun o i (suc k) ts r next f at some q w e h =
     let x = place_of_rest ts next at w l2 in
     record { less = x.0; is = x.1 }
 
+module _ (block : ReadBlock) (ts r next : List CodeToken) (ss ss' : List CFun) (s : CFun) (at : ℕ) (x : Next ts next at) (e : r ≡ drop at ts)
+    (l : at < length ts) (h : fun_at block (tokens_of r) ≡ Some (fun_tree s, tokens_of next)) (m : ss' ≡ ss ++ s ∷ []) where
+  goes_on : (n : ℕ) → length ts - at ≤ n
+      → funs_at block (suc (length (tokens_of ts))) (tokens_of ts) ≡ before (map fun_tree ss) (funs_at block (suc n) (tokens_of (drop at ts)))
+      → Read block ts (map fun_tree ss') (length ts - length next)
+  goes_on zero w a = absurd (omega arith)
+  goes_on (suc n) w a =
+      let f = step_some block (suc n) (tokens_of r) (tokens_of next) (fun_tree s) (omega (arith, len_from ts r at e, l)) h in
+      let f2 : funs_at block (suc (suc n)) (tokens_of (drop at ts)) ≡ go_on (funs_at block (suc n) (tokens_of next)) (λ gs. Some (fun_tree s ∷ gs)) =
+      subst (λ (z : List CodeToken). funs_at block (suc (suc n)) (tokens_of z)
+      ≡ go_on (funs_at block (suc n) (tokens_of next)) (λ gs. Some (fun_tree s ∷ gs))) e f in
+      let mm : map fun_tree ss' ≡ map fun_tree ss ++ fun_tree s ∷ [] = ap (map fun_tree) m ∙ map-append fun_tree ss (s ∷ []) in
+      record {
+        within = omega arith;
+        n = n;
+        room = omega (arith, x.less);
+        all = a ∙ ap (before (map fun_tree ss)) f2 ∙ before_more (map fun_tree ss) (fun_tree s) (funs_at block (suc n) (tokens_of next))
+            ∙ ap (λ (hs : List Fun). before hs (funs_at block (suc n) (tokens_of next))) (sym mm)
+            ∙ ap (λ (us : List Token). before (map fun_tree ss') (funs_at block (suc n) us)) (sym x.is);
+      }
+
 -- one function further
 pub read_goes : (o i k : ℕ) (ts r next : List CodeToken) (ss ss' : List CFun) (s : CFun) (at : ℕ) → 0 < k → o ≡ suc i
     → Read (block_at o i k) ts (map fun_tree ss) at → r ≡ drop at ts → at < length ts
     → fun_at (block_at o i k) (tokens_of r) ≡ Some (fun_tree s, tokens_of next) → ss' ≡ ss ++ s ∷ []
     → Read (block_at o i k) ts (map fun_tree ss') (length ts - length next)
-read_goes o i k ts r next ss ss' s at some q p e l h m = by_n p.n p.room p.all where
-  by_n : (n : ℕ) → length ts - at < n
-      → funs_at (block_at o i k) (suc (length (tokens_of ts))) (tokens_of ts) ≡ before (map fun_tree ss) (funs_at (block_at o i k) n (tokens_of (drop at ts)))
-      → Read (block_at o i k) ts (map fun_tree ss') (length ts - length next)
-  by_n zero w a = absurd (omega arith)
-  by_n (suc n) w a =
-      let x = next_fun o i k ts r next (fun_tree s) at some q p.within e h in
-      let lr = len_from ts r at e in
-      let f : funs_at (block_at o i k) (suc n) (tokens_of r) ≡ go_on (funs_at (block_at o i k) n (tokens_of next)) (λ gs. Some (fun_tree s ∷ gs)) =
-      step_some (block_at o i k) n (tokens_of r) (tokens_of next) (fun_tree s) (omega (arith, lr, l)) h in
-      let f2 : funs_at (block_at o i k) (suc n) (tokens_of (drop at ts)) ≡ go_on (funs_at (block_at o i k) n (tokens_of next)) (λ gs. Some (fun_tree s ∷ gs)) =
-      subst (λ (z : List CodeToken). funs_at (block_at o i k) (suc n) (tokens_of z)
-      ≡ go_on (funs_at (block_at o i k) n (tokens_of next)) (λ gs. Some (fun_tree s ∷ gs))) e f in
-      let mm : map fun_tree ss' ≡ map fun_tree ss ++ fun_tree s ∷ [] = ap (map fun_tree) m ∙ map-append fun_tree ss (s ∷ []) in
-      let b : funs_at (block_at o i k) (suc (length (tokens_of ts))) (tokens_of ts)
-      ≡ before (map fun_tree ss ++ fun_tree s ∷ []) (funs_at (block_at o i k) n (tokens_of next)) =
-      a ∙ ap (before (map fun_tree ss)) f2 ∙ before_more (map fun_tree ss) (fun_tree s) (funs_at (block_at o i k) n (tokens_of next)) in
-      let b2 : funs_at (block_at o i k) (suc (length (tokens_of ts))) (tokens_of ts) ≡ before (map fun_tree ss') (funs_at (block_at o i k) n (tokens_of next)) =
-      subst (λ (z : List Fun). funs_at (block_at o i k) (suc (length (tokens_of ts))) (tokens_of ts) ≡ before z (funs_at (block_at o i k) n (tokens_of next)))
-      (sym mm) b in
-      let b3 : funs_at (block_at o i k) (suc (length (tokens_of ts))) (tokens_of ts)
-      ≡ before (map fun_tree ss') (funs_at (block_at o i k) n (tokens_of (drop (length ts - length next) ts))) = subst (λ (z : List Token).
-      funs_at (block_at o i k) (suc (length (tokens_of ts))) (tokens_of ts) ≡ before (map fun_tree ss') (funs_at (block_at o i k) n z)) (sym x.is) b2 in
-      record { within = omega arith; n = n; room = omega (arith, x.less); all = b3 }
+read_goes o i k ts r next ss ss' s at some q p e l h m =
+    let x = next_fun o i k ts r next (fun_tree s) at some q p.within e h in
+    goes_on (block_at o i k) ts r next ss ss' s at x e l h m p.n p.room p.all

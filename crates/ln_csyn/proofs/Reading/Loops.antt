@@ -1,19 +1,17 @@
 -- Statements read one by one.
 use Rattle.std.proofs.Common.{◌≡◌, ℕ, zero, suc, ◌+◌, ◌-◌, ◌<◌, ◌≤◌, Bool, true, false, List, [], ◌∷◌, ◌++◌, length, map, drop, length-drop}
-use Rattle.std.proofs.Common.{Some, None, refl, ap, sym, ◌∙◌, subst, arith, inl, inr}
+use Rattle.std.proofs.Common.{Some, None, refl, ap, sym, ◌∙◌, subst, arith}
 use Rattle.std.specs.Prelude.{codes, Option}
 use Rattle.std.proofs.lemmas.List.{drop-drop, drop-map, length-map, map-append}
-use Rattle.ln_csyn.specs.declared.tree.CType.{CType}
 use Rattle.ln_csyn.specs.declared.token.Token.{Token as CodeToken}
 use Rattle.ln_csyn.specs.Seen.{seen, tokens_of}
-use Rattle.ln_csyn.specs.Tree.{Expr, Body, End}
-use Rattle.ln_csyn.specs.Grammar.{Token, Sort, Derives, IsBody}
-use Rattle.ln_csyn.specs.Grammar as g
+use Rattle.ln_csyn.specs.Tree.{Body, End}
+use Rattle.ln_csyn.specs.Grammar.{Token}
 use Rattle.ln_csyn.specs.declared.tree.CStmt.{CStmt}
 use Rattle.ln_csyn.specs.View.{Front, joined, stmt_front, body_tree}
-use Rattle.ln_csyn.specs.Reading.{begins as begins_text, eat, go_on, type_at, stmt_at, stmts_at, block_at, closed, expr_at, name_at, ReadStmt}
-use Rattle.ln_csyn.proofs.Reading.Sound.{went, chose, some_same, ate, took_type, was_named, closes, expr_sound}
-use Rattle.ln_csyn.proofs.Reading.SoundFile.{block_sound}
+use Rattle.ln_csyn.specs.Reading.{begins as begins_text, eat, go_on, stmt_at, stmts_at, block_at, ReadStmt}
+use Rattle.ln_csyn.proofs.Reading.Leaving.{Leaves, dropped, fewer}
+use Rattle.ln_csyn.proofs.Reading.SoundFile.{block_sound, stmt_sound}
 
 -- these statements before a body
 abbrev pub onto : List Front → Body → Body
@@ -37,8 +35,8 @@ onto_read fs (Some y) = Some (onto fs y.0, y.1)
 -- what was read stands before what is read from here
 pub record Going (stmt : ReadStmt) (ts : List Token) (fs : List Front) (rest : List Token) : Type 0 where
   pub n : ℕ
-  pub room : length rest < n
-  pub all : stmts_at stmt (suc (length ts)) ts ≡ onto_read fs (stmts_at stmt n rest)
+  pub room : length rest ≤ n
+  pub all : stmts_at stmt (suc (length ts)) ts ≡ onto_read fs (stmts_at stmt (suc n) rest)
 
 onto_none : (o : Option (Body × List Token)) → o ≡ onto_read [] o
 onto_none None = refl
@@ -46,7 +44,7 @@ onto_none (Some y) = refl
 
 -- at the start nothing was read
 pub begins : (stmt : ReadStmt) (ts : List Token) → Going stmt ts [] ts
-begins stmt ts = record { n = suc (length ts); room = omega arith; all = onto_none (stmts_at stmt (suc (length ts)) ts) }
+begins stmt ts = record { n = length ts; room = omega arith; all = onto_none (stmts_at stmt (suc (length ts)) ts) }
 
 more_by : (fs : List Front) (f : Front) (o : Option (Body × List Token)) → onto_read fs (go_on o (λ b. Some (f b.0, b.1))) ≡ onto_read (fs ++ f ∷ []) o
 more_by fs f None = refl
@@ -60,28 +58,22 @@ step_by stmt n rest next f h g = rw (h, g) refl
 pub goes : (stmt : ReadStmt) (ts : List Token) (fs : List Front) (rest next : List Token) (f : Front) → Going stmt ts fs rest
     → eat (codes "}") rest ≡ None → stmt rest ≡ Some (f, next) → length next < length rest → Going stmt ts (fs ++ f ∷ []) next
 goes stmt ts fs rest next f g h s l = by_n g.n g.room g.all where
-  by_n : (n : ℕ) → length rest < n → stmts_at stmt (suc (length ts)) ts ≡ onto_read fs (stmts_at stmt n rest) → Going stmt ts (fs ++ f ∷ []) next
+  by_n : (n : ℕ) → length rest ≤ n → stmts_at stmt (suc (length ts)) ts ≡ onto_read fs (stmts_at stmt (suc n) rest) → Going stmt ts (fs ++ f ∷ []) next
   by_n zero w a = absurd (omega arith)
-  by_n (suc n) w a = record { n = n; room = omega arith; all = a ∙ ap (onto_read fs) (step_by stmt n rest next f h s) ∙ more_by fs f (stmts_at stmt n next) }
+  by_n (suc n) w a =
+      record { n = n; room = omega arith; all = a ∙ ap (onto_read fs) (step_by stmt (suc n) rest next f h s) ∙ more_by fs f (stmts_at stmt (suc n) next) }
 
 -- at a closing brace all statements were read
 pub ends : (stmt : ReadStmt) (ts : List Token) (fs : List Front) (rest us : List Token) → Going stmt ts fs rest
     → eat (codes "}") rest ≡ Some us → stmts_at stmt (suc (length ts)) ts ≡ Some (joined fs, rest)
-ends stmt ts fs rest us g h = by_n g.n g.room g.all where
-  by_n : (n : ℕ) → length rest < n → stmts_at stmt (suc (length ts)) ts ≡ onto_read fs (stmts_at stmt n rest)
-      → stmts_at stmt (suc (length ts)) ts ≡ Some (joined fs, rest)
-  by_n zero w a = absurd (omega arith)
-  by_n (suc n) w a =
-      let e : stmts_at stmt (suc n) rest ≡ Some (End, rest) = rw h refl in
-      a ∙ ap (onto_read fs) e ∙ ap (λ (b : Body). Some (b, rest)) (onto_end fs)
+ends stmt ts fs rest us g h =
+    let e : stmts_at stmt (suc g.n) rest ≡ Some (End, rest) = rw h refl in
+    g.all ∙ ap (onto_read fs) e ∙ ap (λ (b : Body). Some (b, rest)) (onto_end fs)
 
 -- where no statement is read no statements are
 pub fails : (stmt : ReadStmt) (ts : List Token) (fs : List Front) (rest : List Token) → Going stmt ts fs rest → eat (codes "}") rest ≡ None
     → stmt rest ≡ None → stmts_at stmt (suc (length ts)) ts ≡ None
-fails stmt ts fs rest g h s = by_n g.n g.room g.all where
-  by_n : (n : ℕ) → length rest < n → stmts_at stmt (suc (length ts)) ts ≡ onto_read fs (stmts_at stmt n rest) → stmts_at stmt (suc (length ts)) ts ≡ None
-  by_n zero w a = absurd (omega arith)
-  by_n (suc n) w a = let e : stmts_at stmt (suc n) rest ≡ None = rw (h, s) refl in a ∙ ap (onto_read fs) e
+fails stmt ts fs rest g h s = let e : stmts_at stmt (suc g.n) rest ≡ None = rw (h, s) refl in g.all ∙ ap (onto_read fs) e
 
 -- by whether the first token is a closing brace
 pub brace_some : (ts : List Token) (v : Bool) → v ≡ begins_text (codes "}") ts → v ≡ true → (us : List Token) × (eat (codes "}") ts ≡ Some us)
@@ -92,100 +84,6 @@ brace_some (t ∷ ts) v e h = (ts, rw (sym e ∙ h) refl)
 pub brace_none : (ts : List Token) (v : Bool) → v ≡ begins_text (codes "}") ts → v ≡ false → eat (codes "}") ts ≡ None
 brace_none [] v e h = refl
 brace_none (t ∷ ts) v e h = rw (sym e ∙ h) refl
-
--- ---- a statement leaves less
-
--- the second list is what remains of the first after one or more tokens
-pub data Leaves : List Token → List Token → Type 0 where
-  one : {t : Token} {ts : List Token} → Leaves (t ∷ ts) ts
-  more : {t : Token} {ts us : List Token} → Leaves ts us → Leaves (t ∷ ts) us
-
--- one after the other
-pub after : {ts us ws : List Token} → Leaves ts us → Leaves us ws → Leaves ts ws
-after one d = more d
-after (more c) d = more (after c d)
-
--- fewer tokens remain
-pub fewer : {ts us : List Token} → Leaves ts us → length us < length ts
-fewer one = omega arith
-fewer (more d) = omega (arith, fewer d)
-
-drop_one : (k : ℕ) (t : Token) (ts : List Token) → k ≡ 1 → drop k (t ∷ ts) ≡ ts
-drop_one k t ts e = rw e refl
-
--- the rest is found by its length
-pub dropped : {ts us : List Token} → Leaves ts us → (k : ℕ) → length ts ≡ k + length us → drop k ts ≡ us
-dropped (one {t = t} {ts = ts}) k e = drop_one k t ts (omega (arith, e))
-dropped (more d) zero e = absurd (omega (arith, fewer d))
-dropped (more d) (suc k) e = dropped d k (omega (arith, e))
-
--- an expression leaves less
-pub leaves_expr : {s : Sort} {ts rest : List Token} {e : Expr} → Derives s ts rest e → Leaves ts rest
-leaves_expr (g.two h d o e s) = more (after (leaves_expr d) (more (after (leaves_expr e) one)))
-leaves_expr (g.minus h m d s) = more (more (after (leaves_expr d) one))
-leaves_expr (g.cast h i j m d s) = more (more (more (more (after (leaves_expr d) one))))
-leaves_expr (g.number h) = one
-leaves_expr (g.name h) = one
-leaves_expr (g.value h i j k) = more (more (more one))
-leaves_expr (g.index h i j k) = more (more (more one))
-leaves_expr (g.call h i j k) = more (more (more one))
-leaves_expr (g.inner d) = leaves_expr d
-
-one_of : (q w : Token) (ts us : List Token) → q ∷ ts ≡ w ∷ us → Leaves (q ∷ ts) us
-one_of q w ts us e = subst (λ (z : List Token). Leaves z us) (sym e) one
-
--- statements with their closing brace leave less
-pub leaves_body : {ts rest : List Token} {b : Body} → IsBody ts rest b → (q : Token) (us : List Token) → rest ≡ q ∷ us → Leaves ts us
-leaves_body (g.end {q = w} {rest = rest} h) q us e = one_of w q rest us e
-leaves_body (g.decl k x m d s b) q us e = more (more (more (after (leaves_expr d) (more (leaves_body b q us e)))))
-leaves_body (g.group h a b) q us e = more (after (leaves_body a _ _ refl) (leaves_body b q us e))
-leaves_body (g.when h l d r m a b) q us e = more (more (after (leaves_expr d) (more (more (after (leaves_body a _ _ refl) (leaves_body b q us e))))))
-leaves_body (g.return h d s b) q us e = more (after (leaves_expr d) (more (leaves_body b q us e)))
-
-first_of : (t : Token) (ts us : List Token) → ts ≡ t ∷ us → Leaves ts us
-first_of t ts us e = subst (λ (z : List Token). Leaves z us) (sym e) one
-
-eaten : (u : List ℕ) (ts us : List Token) → eat u ts ≡ Some us → Leaves ts us
-eaten u ts us h = let a = ate u ts us h in first_of a.t ts us a.is
-
-typed : (ts : List Token) (y : CType × List Token) → type_at ts ≡ Some y → Leaves ts y.1
-typed ts y h = let a = took_type ts y h in first_of a.t ts y.1 a.is
-
-called : (ts : List Token) (y : List ℕ × List Token) → name_at ts ≡ Some y → Leaves ts y.1
-called ts y h = let a = was_named ts y h in first_of a.t ts y.1 a.is
-
-exprs : (u : List ℕ) (d : ℕ) (ts : List Token) (y : Expr × List Token) → closed u (expr_at d) ts ≡ Some y → Leaves ts y.1
-exprs u d ts y h = let c = closes u d (expr_at d) (expr_sound d) ts y h in after (leaves_expr c.is) one
-
-blocks : (p k : ℕ) (ts : List Token) (y : Body × ℕ × List Token) → block_at (suc p) p k ts ≡ Some y → Leaves ts y.2
-blocks p k ts y h = let s = block_sound p k ts y h in after (first_of s.o ts s.us s.at) (leaves_body s.is s.q y.2 refl)
-
--- a statement leaves less
-pub leaves : (p k : ℕ) (ts : List Token) (s : (Body → Body) × List Token) → stmt_at (suc p) p (block_at (suc p) p k) ts ≡ Some s → Leaves ts s.1
-leaves p k ts s h =
-    elim (chose (type_at ts) _ _ s h) [
-      | inl w ↦ (let x = went (name_at w.x.1) _ s w.next in
-          let q = went (eat (codes "=") x.x.1) _ s x.next in
-          let e = went (closed (codes ";") (expr_at (suc p)) q.x) _ s q.next in
-          let l = after (typed ts w.x w.found)
-          (after (called w.x.1 x.x x.found) (after (eaten (codes "=") x.x.1 q.x q.found) (exprs (codes ";") (suc p) q.x e.x e.found))) in
-          subst (λ (y : (Body → Body) × List Token). Leaves ts y.1) (some_same _ s e.next) l)
-      | inr j ↦ elim (chose (eat (codes "if") ts) _ _ s j) [
-        | inl w ↦ (let a = went (eat (codes "(") w.x) _ s w.next in
-            let e = went (closed (codes ")") (expr_at p) a.x) _ s a.next in
-            let b = went (block_at (suc p) p k e.x.1) _ s e.next in
-            let l = after (eaten (codes "if") ts w.x w.found)
-            (after (eaten (codes "(") w.x a.x a.found) (after (exprs (codes ")") p a.x e.x e.found) (blocks p k e.x.1 b.x b.found))) in
-            subst (λ (y : (Body → Body) × List Token). Leaves ts y.1) (some_same _ s b.next) l)
-        | inr i ↦ elim (chose (eat (codes "return") ts) _ _ s i) [
-          | inl w ↦ (let e = went (closed (codes ";") (expr_at (suc p)) w.x) _ s w.next in
-              let l = after (eaten (codes "return") ts w.x w.found) (exprs (codes ";") (suc p) w.x e.x e.found) in
-              subst (λ (y : (Body → Body) × List Token). Leaves ts y.1) (some_same _ s e.next) l)
-          | inr f ↦ (let b = went (block_at (suc p) p k ts) _ s f in
-              subst (λ (y : (Body → Body) × List Token). Leaves ts y.1) (some_same _ s b.next) (blocks p k ts b.x b.found))
-        ]
-      ]
-    ]
 
 -- ---- the same from a place on
 
@@ -241,7 +139,8 @@ pub next_place : (o i k : ℕ) (ts r next : List CodeToken) (f : Front) (at : �
 next_place o i k ts r next f at q w e h =
     let h2 : stmt_at (suc i) i (block_at (suc i) i k) (tokens_of r) ≡ Some (f, tokens_of next) =
     subst (λ (z : ℕ). stmt_at z i (block_at z i k) (tokens_of r) ≡ Some (f, tokens_of next)) q h in
-    let l : Leaves (tokens_of r) (tokens_of next) = leaves i k (tokens_of r) (f, tokens_of next) h2 in
+    let l : Leaves (tokens_of r) (tokens_of next) =
+    (stmt_sound i k (block_at (suc i) i k) (block_sound i k) (tokens_of r) (f, tokens_of next) h2).leaves in
     let l2 : Leaves (tokens_of (drop at ts)) (tokens_of next) = subst (λ (z : List CodeToken). Leaves (tokens_of z) (tokens_of next)) e l in
     let x = place_of_rest ts next at w l2 in
     record { less = x.0; is = x.1 }

@@ -1,6 +1,8 @@
 -- Proves that the reader returns the file that the bytes are, and refuses them only where they are none of the subset.
 use Rattle.std.proofs.Common.{◌≡◌, ℕ, suc, ◌&&◌, nat_le, Bool, true, false, List, [], ◌++◌, length, take, drop, Some, None, refl, ap, sym, ◌∙◌, subst}
+use Rattle.std.proofs.lemmas.Bool.{and_from, and_parts}
 use Rattle.std.proofs.lemmas.List.{take-append-drop}
+use Rattle.std.proofs.lemmas.Option.{cond_some, same_Some}
 use Rattle.ln_csyn.specs.Tree.{Expr, Body, Fun}
 use Rattle.ln_csyn.specs.Words.{is_c_name, is_numeral, number_of, most_number}
 use Rattle.ln_base.specs.Decimal.{decimal_value}
@@ -22,10 +24,7 @@ rest_keep fs = fresh_on [] (names_of fs) && each_fun (rest_keeps (names_of fs)) 
 -- the limits as the reader has them
 limits : (o i k : ℕ) (ts : List Token) (w : _) → o ≡ 16 → i ≡ 15 → k ≡ 64 → funs_at (block_at o i k) (suc (length ts)) ts ≡ w
     → funs_at (block_at 16 15 64) (suc (length ts)) ts ≡ w
-limits o i k ts w p q r h =
-    let a : funs_at (block_at 16 i k) (suc (length ts)) ts ≡ w = subst (λ (z : ℕ). funs_at (block_at z i k) (suc (length ts)) ts ≡ w) p h in
-    let b : funs_at (block_at 16 15 k) (suc (length ts)) ts ≡ w = subst (λ (z : ℕ). funs_at (block_at 16 z k) (suc (length ts)) ts ≡ w) q a in
-    subst (λ (z : ℕ). funs_at (block_at 16 15 z) (suc (length ts)) ts ≡ w) r b
+limits o i k ts w p q r h = rw (p, q, r) at h
 
 -- functions that pass the tests are the file of the tokens
 pub read_ok : (o i k : ℕ) (ts : List Token) (fs : List Fun) (v : Bool) → o ≡ 16 → i ≡ 15 → k ≡ 64
@@ -34,9 +33,6 @@ read_ok o i k ts fs v p q r h e t =
     let s = file_is_sound ts fs (limits o i k ts (Some fs) p q r h) in
     record { file = s.0; kept = keeps_is fs s.1 ∙ sym e ∙ t }
 
-some_same : (x y : List Fun) → Some x ≡ Some y → x ≡ y
-some_same x y h = cc
-
 -- where they fail the tokens are no file
 pub read_no : (o i k : ℕ) (ts : List Token) (fs : List Fun) (v : Bool) → o ≡ 16 → i ≡ 15 → k ≡ 64
     → funs_at (block_at o i k) (suc (length ts)) ts ≡ Some fs → v ≡ rest_keep fs → v ≡ false → (gs : List Fun) → Spelt ts gs → ⊥
@@ -44,7 +40,7 @@ read_no o i k ts fs v p q r h e t gs d =
     let l = limits o i k ts (Some fs) p q r h in
     let s = file_is_sound ts fs l in
     let c = file_is_complete ts gs d.file d.kept in
-    let g : gs ≡ fs = some_same gs fs (sym c ∙ l) in
+    let g : gs ≡ fs = same_Some gs fs (sym c ∙ l) in
     let kt : keeps fs ≡ true = subst (λ (z : List Fun). keeps z ≡ true) g d.kept in
     let kf : keeps fs ≡ false = keeps_is fs s.1 ∙ sym e ∙ t in
     let z : true ≡ false = sym kt ∙ kf in absurd (cc)
@@ -76,26 +72,13 @@ no_file bytes rest ts e l n gs c =
 
 -- ---- names and numbers of what is derived
 
-both : (a b : Bool) → a ≡ true → b ≡ true → (a && b) ≡ true
-both a b h k = rw (h, k) refl
-
-number_by : (text : List ℕ) (n : ℕ) (u v : Bool) → is_numeral text ≡ u → nat_le (decimal_value text) most_number ≡ v
-    → number_of text ≡ Some n → nat_le n most_number ≡ true
-number_by text n true true p q h =
-    let e : number_of text ≡ Some (decimal_value text) = rw (p, q) refl in
-    let f : Some (decimal_value text) ≡ Some n = sym e ∙ h in
-    let k : decimal_value text ≡ n = num_same _ _ f in
-    subst (λ (z : ℕ). nat_le z most_number ≡ true) k q where
-      num_same : (x y : ℕ) → Some x ≡ Some y → x ≡ y
-      num_same x y e = cc
-number_by text n true false p q h = let e : number_of text ≡ None = rw (p, q) refl in absurd (cc)
-number_by text n false v p q h = let e : number_of text ≡ None = rw p refl in absurd (cc)
-
 number_small : (text : List ℕ) (n : ℕ) → number_of text ≡ Some n → nat_le n most_number ≡ true
-number_small text n h = number_by text n (is_numeral text) (nat_le (decimal_value text) most_number) refl refl h
+number_small text n h =
+    let c = cond_some (is_numeral text && nat_le (decimal_value text) most_number) (decimal_value text) n h in
+    subst (λ (z : ℕ). nat_le z most_number ≡ true) c.1 (and_parts (is_numeral text) _ c.0).1
 
 words_expr : {s : Sort} {ts rest : List Token} {e : Expr} → Derives s ts rest e → has_words e ≡ true
-words_expr (g.two {a = a} {b = b} h d o e s) = both (has_words a) (has_words b) (words_expr d) (words_expr e)
+words_expr (g.two {a = a} {b = b} h d o e s) = and_from (has_words a) (has_words b) (words_expr d) (words_expr e)
 words_expr (g.minus h m d s) = words_expr d
 words_expr (g.cast h i j m d s) = words_expr d
 words_expr (g.number {p = p} {n = n} h) = number_small p.text n h
@@ -107,26 +90,22 @@ words_expr (g.inner d) = words_expr d
 
 exprs_body : {ts rest : List Token} {b : Body} → IsBody ts rest b → each_expr has_words b ≡ true
 exprs_body (g.end h) = refl
-exprs_body (g.decl {e = e} {b = b} k x q d s c) = both (has_words e) (each_expr has_words b) (words_expr d) (exprs_body c)
-exprs_body (g.group {a = y} {b = z} h a b) = both (each_expr has_words y) (each_expr has_words z) (exprs_body a) (exprs_body b)
-exprs_body (g.when {e = e} {a = y} {b = z} h l d r m a b) =
-    three (has_words e) (each_expr has_words y) (each_expr has_words z) (words_expr d) (exprs_body a) (exprs_body b)
-  where
-    three : (u v w : Bool) → u ≡ true → v ≡ true → w ≡ true → (u && v && w) ≡ true
-    three u v w p q r = rw (p, q, r) refl
-exprs_body (g.return {e = e} {b = b} h d s c) = both (has_words e) (each_expr has_words b) (words_expr d) (exprs_body c)
+exprs_body (g.decl {e = e} {b = b} k x q d s c) = and_from (has_words e) (each_expr has_words b) (words_expr d) (exprs_body c)
+exprs_body (g.group {a = y} {b = z} h a b) = and_from (each_expr has_words y) (each_expr has_words z) (exprs_body a) (exprs_body b)
+exprs_body (g.when h l d r m a b) = rw (words_expr d, exprs_body a, exprs_body b) refl
+exprs_body (g.return {e = e} {b = b} h d s c) = and_from (has_words e) (each_expr has_words b) (words_expr d) (exprs_body c)
 
 names_body : {ts rest : List Token} {b : Body} → IsBody ts rest b → each_name is_c_name b ≡ true
 names_body (g.end h) = refl
-names_body (g.decl {x = x} {b = b} k n q d s c) = both (is_c_name x.text) (each_name is_c_name b) n (names_body c)
-names_body (g.group {a = y} {b = z} h a b) = both (each_name is_c_name y) (each_name is_c_name z) (names_body a) (names_body b)
-names_body (g.when {a = y} {b = z} h l d r m a b) = both (each_name is_c_name y) (each_name is_c_name z) (names_body a) (names_body b)
+names_body (g.decl {x = x} {b = b} k n q d s c) = and_from (is_c_name x.text) (each_name is_c_name b) n (names_body c)
+names_body (g.group {a = y} {b = z} h a b) = and_from (each_name is_c_name y) (each_name is_c_name z) (names_body a) (names_body b)
+names_body (g.when {a = y} {b = z} h l d r m a b) = and_from (each_name is_c_name y) (each_name is_c_name z) (names_body a) (names_body b)
 names_body (g.return h d s c) = names_body c
 
 words_head : {ts rest : List Token} {o : Bool} {f : Fun} → IsHead ts rest o f → fun_words f ≡ true
 words_head (g.head {x = x} {b = b} h n l i r c d) =
-    both (is_c_name x.text) (each_expr has_words b && each_name is_c_name b) n
-    (both (each_expr has_words b) (each_name is_c_name b) (exprs_body d) (names_body d))
+    and_from (is_c_name x.text) (each_expr has_words b && each_name is_c_name b) n
+    (and_from (each_expr has_words b) (each_name is_c_name b) (exprs_body d) (names_body d))
 
 words_fun : {ts rest : List Token} {f : Fun} → IsFun ts rest f → fun_words f ≡ true
 words_fun (g.own h d) = words_head d
@@ -134,11 +113,11 @@ words_fun (g.shared d) = words_head d
 
 words_file : {ts : List Token} {fs : List Fun} → IsFile ts fs → each_fun fun_words fs ≡ true
 words_file g.none = refl
-words_file (g.one {f = f} {fs = fs} d r) = both (fun_words f) (each_fun fun_words fs) (words_fun d) (words_file r)
+words_file (g.one {f = f} {fs = fs} d r) = and_from (fun_words f) (each_fun fun_words fs) (words_fun d) (words_file r)
 
 -- the file of tokens keeps all conditions
 pub kept : (ts : List Token) (fs : List Fun) → Spelt ts fs → is_file fs ≡ true
-kept ts fs s = both (keeps fs) (each_fun fun_words fs) s.kept (words_file s.file)
+kept ts fs s = and_from (keeps fs) (each_fun fun_words fs) s.kept (words_file s.file)
 
 -- so does the file of a text
 pub text_is_kept : TextIsKept

@@ -3,6 +3,7 @@ use Rattle.std.proofs.Common.{◌≡◌, ℕ, zero, suc, ◌≤◌, Bool, true, 
 use Rattle.std.specs.Prelude.{codes, bytes_eq, Option}
 use Rattle.std.proofs.Math.Nat.{max-le}
 use Rattle.std.proofs.lemmas.Slice.Eq.{bytes_eq-Decides}
+use Rattle.std.proofs.lemmas.Option.{cond_some, same_Some}
 use Rattle.ln_csyn.specs.declared.tree.CType.{CType}
 use Rattle.ln_csyn.specs.declared.tree.COp.{COp}
 use Rattle.ln_csyn.specs.Tree.{Expr, Number, Value, Index, Call, Inner}
@@ -28,27 +29,18 @@ pub chose : {A B : Type 0} (o : Option A) (f : A → Option B) (other : Option B
 chose None f other y h = inr h
 chose (Some x) f other y h = inl (record { x = x; found = refl; next = h })
 
--- one value
-pub some_same : {A : Type 0} (x y : A) → Some x ≡ Some y → x ≡ y
-some_same x y h = cc
-
 -- a token with this text stood there
 pub record Ate (u : List ℕ) (ts us : List Token) : Type 0 where
   pub t : Token
   pub is : ts ≡ t ∷ us
   pub text : t.text ≡ u
 
-ate_by : (u : List ℕ) (t : Token) (ts us : List Token) (v : Bool) → bytes_eq t.text u ≡ v → eat u (t ∷ ts) ≡ Some us → Ate u (t ∷ ts) us
-ate_by u t ts us true e h =
-    let q : eat u (t ∷ ts) ≡ Some ts = rw e refl in
-    let s : ts ≡ us = some_same ts us (sym q ∙ h) in
-    subst (λ (w : List Token). Ate u (t ∷ ts) w) s (record { t = t; is = refl; text = (bytes_eq-Decides t.text u).0 e })
-ate_by u t ts us false e h = let q : eat u (t ∷ ts) ≡ None = rw e refl in absurd (cc)
-
 -- what was taken was at the beginning
 pub ate : (u : List ℕ) (ts us : List Token) → eat u ts ≡ Some us → Ate u ts us
 ate u [] us h = absurd (cc)
-ate u (t ∷ ts) us h = ate_by u t ts us (bytes_eq t.text u) refl h
+ate u (t ∷ ts) us h =
+    let c = cond_some (bytes_eq t.text u) ts us h in
+    record { t = t; is = ap (λ (z : List Token). t ∷ z) c.1; text = (bytes_eq-Decides t.text u).0 c.0 }
 
 -- a token of which something was read
 pub record Took {A : Type 0} (f : List ℕ → Option A) (ts : List Token) (y : A × List Token) : Type 0 where
@@ -60,7 +52,7 @@ took_by : {A : Type 0} (f : List ℕ → Option A) (t : Token) (ts : List Token)
     → with_rest ts o ≡ Some y → Took f (t ∷ ts) y
 took_by f t ts y None e h = absurd (cc)
 took_by f t ts y (Some x) e h =
-    subst (λ (z : _ × List Token). Took f (t ∷ ts) z) (some_same (x, ts) y h) (record { t = t; is = refl; reads = e })
+    subst (λ (z : _ × List Token). Took f (t ∷ ts) z) (same_Some (x, ts) y h) (record { t = t; is = refl; reads = e })
 
 -- the first token was a NUMBER
 pub took_number : (ts : List Token) (y : ℕ × List Token) → number_at ts ≡ Some y → Took number_of ts y
@@ -84,16 +76,12 @@ pub record Named (ts : List Token) (y : List ℕ × List Token) : Type 0 where
   pub name : is_c_name t.text ≡ true
   pub text : t.text ≡ y.0
 
-named_by : (t : Token) (ts : List Token) (y : List ℕ × List Token) (v : Bool) → is_c_name t.text ≡ v → name_at (t ∷ ts) ≡ Some y → Named (t ∷ ts) y
-named_by t ts y true e h =
-    let q : name_at (t ∷ ts) ≡ Some (t.text, ts) = rw e refl in
-    subst (λ (z : List ℕ × List Token). Named (t ∷ ts) z) (some_same (t.text, ts) y (sym q ∙ h)) (record { t = t; is = refl; name = e; text = refl })
-named_by t ts y false e h = let q : name_at (t ∷ ts) ≡ None = rw e refl in absurd (cc)
-
 -- a NAME
 pub was_named : (ts : List Token) (y : List ℕ × List Token) → name_at ts ≡ Some y → Named ts y
 was_named [] y h = absurd (cc)
-was_named (t ∷ ts) y h = named_by t ts y (is_c_name t.text) refl h
+was_named (t ∷ ts) y h =
+    let c = cond_some (is_c_name t.text) (t.text, ts) y h in
+    subst (λ (z : List ℕ × List Token). Named (t ∷ ts) z) c.1 (record { t = t; is = refl; name = c.0; text = refl })
 
 -- ---- expressions
 
@@ -121,14 +109,14 @@ closes u d go hyp ts y h =
     let a = ate u w.x.1 v.x v.found in
     let s = hyp ts w.x w.found in
     let m : Derives Whole ts (a.t ∷ v.x) w.x.0 = subst (λ (z : List Token). Derives Whole ts z w.x.0) a.is s.is in
-    subst (λ (z : Expr × List Token). Closes u d ts z) (some_same _ y v.next) (record { t = a.t; text = a.text; is = m; within = s.within })
+    subst (λ (z : Expr × List Token). Closes u d ts z) (same_Some _ y v.next) (record { t = a.t; text = a.text; is = m; within = s.within })
 
 minus_sound : (d : ℕ) (go : ReadExpr) → IsSound d go → (p q : Token) → p.text ≡ codes "(" → q.text ≡ codes "-"
     → (ts : List Token) (y : Expr × List Token) → minus_rest go ts ≡ Some y → Sound Whole (suc d) (p ∷ q ∷ ts) y
 minus_sound d go hyp p q hp hq ts y h =
     let w = went (closed (codes ")") go ts) _ y h in
     let s = closes (codes ")") d go hyp ts w.x w.found in
-    subst (λ (z : Expr × List Token). Sound Whole (suc d) (p ∷ q ∷ ts) z) (some_same _ y w.next)
+    subst (λ (z : Expr × List Token). Sound Whole (suc d) (p ∷ q ∷ ts) z) (same_Some _ y w.next)
     (record { is = minus hp hq s.is s.text; within = omega (arith, s.within) })
 
 two_sound : (d : ℕ) (go : ReadExpr) → IsSound d go → (p : Token) → p.text ≡ codes "(" → (ts : List Token) (y : Expr × List Token)
@@ -141,7 +129,7 @@ two_sound d go hyp p hp ts y h =
     let s = hyp ts w.x w.found in
     let r = closes (codes ")") d go hyp o.x.1 u.x u.found in
     let m : Derives Whole ts (k.t ∷ o.x.1) w.x.0 = subst (λ (z : List Token). Derives Whole ts z w.x.0) k.is s.is in
-    subst (λ (z : Expr × List Token). Sound Whole (suc d) (p ∷ ts) z) (some_same _ y u.next)
+    subst (λ (z : Expr × List Token). Sound Whole (suc d) (p ∷ ts) z) (same_Some _ y u.next)
     (record { is = two hp m k.reads r.is r.text; within = omega (arith, max-le s.within r.within) })
 
 -- the `( TYPE )` of a cast stood there
@@ -162,7 +150,7 @@ casts ts y h =
     let a = ate (codes "(") ts w.x w.found in
     let k = took_type w.x v.x v.found in
     let b = ate (codes ")") v.x.1 u.x u.found in
-    subst (λ (z : CType × List Token). Casts ts z) (some_same _ y u.next) (record {
+    subst (λ (z : CType × List Token). Casts ts z) (same_Some _ y u.next) (record {
       q = a.t;
       k = k.t;
       r = b.t;
@@ -178,17 +166,17 @@ places_by : (t : CType) (d : ℕ) (p q m r : Token) (rest : List Token) (n : ℕ
     → Sound (Primary t) (suc (suc d)) (p ∷ q ∷ m ∷ r ∷ rest) (e, rest)
 places_by t d p q m r rest n e hq hm hr true v a b h =
     let g : place_of t p.text n ≡ Some (Value t n) = rw a refl in
-    subst (λ (z : Expr). Sound (Primary t) (suc (suc d)) (p ∷ q ∷ m ∷ r ∷ rest) (z, rest)) (some_same _ e (sym g ∙ h))
+    subst (λ (z : Expr). Sound (Primary t) (suc (suc d)) (p ∷ q ∷ m ∷ r ∷ rest) (z, rest)) (same_Some _ e (sym g ∙ h))
     (record { is = value ((bytes_eq-Decides p.text (codes "v")).0 a) hq hm hr; within = omega arith })
 places_by t d p q m r rest n e hq hm hr false true a b h =
     let g : place_of t p.text n ≡ Some (Index t n) = rw (a, b) refl in
-    subst (λ (z : Expr). Sound (Primary t) (suc (suc d)) (p ∷ q ∷ m ∷ r ∷ rest) (z, rest)) (some_same _ e (sym g ∙ h))
+    subst (λ (z : Expr). Sound (Primary t) (suc (suc d)) (p ∷ q ∷ m ∷ r ∷ rest) (z, rest)) (same_Some _ e (sym g ∙ h))
     (record { is = index ((bytes_eq-Decides p.text (codes "x")).0 b) hq hm hr; within = omega arith })
 places_by t d p q m r rest n e hq hm hr false false a b h = let g : place_of t p.text n ≡ None = rw (a, b) refl in absurd (cc)
 
 with_found : {A : Type 0} (ts : List Token) (o : Option A) (y : A × List Token) → with_rest ts o ≡ Some y → (o ≡ Some y.0) × (ts ≡ y.1)
 with_found ts None y h = absurd (cc)
-with_found ts (Some x) y h = let e = some_same (x, ts) y h in (ap (λ (z : _ × List Token). Some z.0) e, ap (λ (z : _ × List Token). z.1) e)
+with_found ts (Some x) y h = let e = same_Some (x, ts) y h in (ap (λ (z : _ × List Token). Some z.0) e, ap (λ (z : _ × List Token). z.1) e)
 
 place_sound : (t : CType) (d : ℕ) (p q : Token) (ts : List Token) (y : Expr × List Token) → q.text ≡ codes "["
     → place_rest t p.text ts ≡ Some y → Sound (Primary t) (suc (suc d)) (p ∷ q ∷ ts) y
@@ -211,7 +199,7 @@ call_sound t d p q ts y hp hq h =
     let e : a.t ∷ b.t ∷ v.x ≡ ts = sym (a.is ∙ ap (λ (z : List Token). a.t ∷ z) b.is) in
     let m : Derives (Primary t) (p ∷ q ∷ ts) v.x (Call t p.text) =
     subst (λ (z : List Token). Derives (Primary t) (p ∷ q ∷ z) v.x (Call t p.text)) e (call hp hq a.text b.text) in
-    subst (λ (z : Expr × List Token). Sound (Primary t) (suc (suc d)) (p ∷ q ∷ ts) z) (some_same _ y v.next) (record { is = m; within = omega arith })
+    subst (λ (z : Expr × List Token). Sound (Primary t) (suc (suc d)) (p ∷ q ∷ ts) z) (same_Some _ y v.next) (record { is = m; within = omega arith })
 
 named_sound : (t : CType) (d : ℕ) (p : Token) (ts : List Token) (y : Expr × List Token) → is_c_name p.text ≡ true
     → named t p.text ts ≡ Some y → Sound (Primary t) (suc (suc d)) (p ∷ ts) y
@@ -222,7 +210,7 @@ named_sound t d p ts y hp h =
       | inr g ↦ elim (chose (eat (codes "(") ts) (call_rest t p.text) _ y g) [
         | inl w ↦ (let a = ate (codes "(") ts w.x w.found in
             subst (λ (z : List Token). Sound (Primary t) (suc (suc d)) (p ∷ z) y) (sym a.is) (call_sound t d p a.t w.x y hp a.text w.next))
-        | inr k ↦ subst (λ (z : Expr × List Token). Sound (Primary t) (suc (suc d)) (p ∷ ts) z) (some_same _ y k)
+        | inr k ↦ subst (λ (z : Expr × List Token). Sound (Primary t) (suc (suc d)) (p ∷ ts) z) (same_Some _ y k)
             (record { is = name hp; within = omega arith })
       ]
     ]
@@ -233,7 +221,7 @@ inner_sound d go hyp t ts y h =
     let w = went (go ts) (λ (e : Expr × List Token). Some (Inner t e.0, e.1)) y h in
     let s = hyp ts w.x w.found in
     let one : 1 ≤ suc d = omega arith in
-    subst (λ (z : Expr × List Token). Sound (Primary t) (suc (suc d)) ts z) (some_same _ y w.next)
+    subst (λ (z : Expr × List Token). Sound (Primary t) (suc (suc d)) ts z) (same_Some _ y w.next)
     (record { is = inner s.is; within = omega (arith, max-le one s.within) })
 
 primary_sound : (d : ℕ) (go : ReadExpr) → IsSound (suc d) go → (t : CType) (ts : List Token) (y : Expr × List Token)
@@ -243,7 +231,7 @@ primary_sound d go hyp t ts y h =
       | inl w ↦ (let n = took_number ts w.x w.found in
           let m : Derives (Primary t) ts w.x.1 (Number t w.x.0) =
           subst (λ (z : List Token). Derives (Primary t) z w.x.1 (Number t w.x.0)) (sym n.is) (number n.reads) in
-          subst (λ (z : Expr × List Token). Sound (Primary t) (suc (suc d)) ts z) (some_same _ y w.next) (record { is = m; within = omega arith }))
+          subst (λ (z : Expr × List Token). Sound (Primary t) (suc (suc d)) ts z) (same_Some _ y w.next) (record { is = m; within = omega arith }))
       | inr g ↦ elim (chose (name_at ts) _ _ y g) [
         | inl w ↦ (let n = was_named ts w.x w.found in
             let k : named t n.t.text w.x.1 ≡ Some y = subst (λ (z : List ℕ). named t z w.x.1 ≡ Some y) (sym n.text) w.next in
@@ -261,7 +249,7 @@ cast_sound (suc d) go hyp p q k r t hp hq hk hr ts y h =
     let a = ate (codes ")") w.x.1 v.x v.found in
     let s = primary_sound d go hyp t ts w.x w.found in
     let m : Derives (Primary t) ts (a.t ∷ v.x) w.x.0 = subst (λ (z : List Token). Derives (Primary t) ts z w.x.0) a.is s.is in
-    subst (λ (z : Expr × List Token). Sound Whole (suc (suc d)) (p ∷ q ∷ k ∷ r ∷ ts) z) (some_same _ y v.next)
+    subst (λ (z : Expr × List Token). Sound Whole (suc (suc d)) (p ∷ q ∷ k ∷ r ∷ ts) z) (same_Some _ y v.next)
     (record { is = cast hp hq hk hr m a.text; within = s.within })
 
 inside_sound : (d : ℕ) (go : ReadExpr) → IsSound d go → (p : Token) → p.text ≡ codes "(" → (ts : List Token) (y : Expr × List Token)

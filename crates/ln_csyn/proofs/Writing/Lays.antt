@@ -1,13 +1,12 @@
 -- Functions are laid out one after the other.
 use Rattle.std.proofs.Common.{◌≡◌, ℕ, zero, suc, ◌+◌, ◌-◌, ◌<◌, ◌≤◌, length, drop, get_or, map, List, [], ◌∷◌, ◌++◌, refl, sym, ap, ◌∙◌}
 use Rattle.std.proofs.Common.{subst, arith, append_assoc, append-nil}
-use Rattle.std.proofs.lemmas.List.{drop_all}
+use Rattle.std.proofs.lemmas.List.{drop_all, drop_more}
 use Rattle.ln_csyn.specs.declared.layout.Spot.{Spot}
 use Rattle.ln_csyn.specs.Tree.{Fun}
 use Rattle.ln_csyn.specs.Text.{first_line}
 use Rattle.ln_csyn.specs.Spelling.{Puts, spell_fun}
 use Rattle.ln_csyn.specs.Layout.{Lays, indent, laid_at, laid_funs, laid_text, next_spot, put_at, start}
-use Rattle.ln_csyn.proofs.Writing.PutLemmas.{drop_more}
 
 -- two blanks, and the rest of an indentation
 pub indent_more : (old mid new text : List ℕ) (d : ℕ) → (d ≡ 0 → ⊥) → mid ≡ old ++ text → text ≡ 32 ∷ 32 ∷ []

@@ -53,19 +53,15 @@ same_fun f g h = record {
   body = joined (subst (λ (z : Body). SameBody f.body z) (ap (λ (z : Fun). z.body) h) (to_flat f.body)) (turned (to_flat g.body));
 }
 
-first_same : (f g : Fun) (fs gs : List Fun) → f ∷ fs ≡ g ∷ gs → f ≡ g
-first_same f g fs gs h = cc
-
-rest_same : (f g : Fun) (fs gs : List Fun) → f ∷ fs ≡ g ∷ gs → fs ≡ gs
-rest_same f g fs gs h = cc
-
 -- files with one flat file are the same up to lines
 pub same_file : (fs gs : List Fun) → flat_file fs ≡ flat_file gs → SameUpToLines fs gs
 same_file [] [] h = none
 same_file [] (g ∷ gs) h = absurd (cc)
 same_file (f ∷ fs) [] h = absurd (cc)
-same_file (f ∷ fs) (g ∷ gs) h = one (same_fun f g (first_same (flat_fun f) (flat_fun g) (flat_file fs) (flat_file gs) h))
-    (same_file fs gs (rest_same (flat_fun f) (flat_fun g) (flat_file fs) (flat_file gs) h))
+same_file (f ∷ fs) (g ∷ gs) h =
+    let p : flat_fun f ≡ flat_fun g = cc in
+    let q : flat_file fs ≡ flat_file gs = cc in
+    one (same_fun f g p) (same_file fs gs q)
 
 flat_again : (b : Body) → flat (flat b) ≡ flat b
 flat_again b = sym (one_flat (to_flat b))

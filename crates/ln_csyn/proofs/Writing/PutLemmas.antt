@@ -1,5 +1,5 @@
 -- Tokens appended one after the other.
-use Rattle.std.proofs.Common.{◌≡◌, ℕ, zero, suc, ◌+◌, ◌<◌, length, drop, get_or, arith, List, [], ◌∷◌, ◌++◌, append_assoc, refl, ap, ◌∙◌}
+use Rattle.std.proofs.Common.{◌≡◌, ℕ, List, [], ◌∷◌, ◌++◌, append_assoc, ap, ◌∙◌}
 use Rattle.std.specs.Prelude.{codes, Result, IfOk}
 use Rattle.std.proofs.lemmas.Result.{IfOk-weaker}
 use Rattle.ln_csyn.specs.Tree.{Body, Group}
@@ -32,12 +32,3 @@ goes_then p q = record { is = λ r. q.is r ∙ p.is r }
 pub goes_group : {a b : List ℕ} (l : ℕ) (d : Body) → Puts a b (λ r. lexeme (codes "{") ∷ spell_body d (lexeme (codes "}") ∷ r)) → (c : Body)
     → Goes a b (spell_body c) (spell_body (Group l d c))
 goes_group l d p c = record { is = λ r. p.is (spell_body c r) }
-
-drop_suc : {X : Type 0} (xs : List X) (i : ℕ) (d : X) → i < length xs → drop i xs ≡ get_or xs i d ∷ drop (suc i) xs
-drop_suc [] i d l = absurd (omega arith)
-drop_suc (x ∷ xs) zero d l = refl
-drop_suc (x ∷ xs) (suc i) d l = drop_suc xs i d (omega (arith, l))
-
--- the item at a place, and what is after it
-pub drop_more : {X : Type 0} (xs : List X) (i : ℕ) (d : X) → i < length xs → drop i xs ≡ get_or xs i d ∷ drop (i + 1) xs
-drop_more xs i d l = let q : suc i ≡ i + 1 = omega arith in drop_suc xs i d l ∙ ap (λ (z : ℕ). get_or xs i d ∷ drop z xs) q

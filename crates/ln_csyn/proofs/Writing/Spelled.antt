@@ -3,7 +3,7 @@ use Rattle.std.proofs.Common.{◌≡◌, Bool, true, false, List, ◌∷◌, ◌
 use Rattle.std.specs.Prelude.{codes}
 use Rattle.ln_csyn.specs.Tree.{Expr, Number, Name, Value, Index, Call, Inner, Minus, Two, Body, End, Decl, Group, If, Return, Fun}
 use Rattle.ln_csyn.specs.Grammar.{Token}
-use Rattle.ln_csyn.specs.Spelling.{cast_before, op_text, type_text, lexeme, spell, spell_body, spell_parameters, spell_own, spell_fun}
+use Rattle.ln_csyn.specs.Spelling.{op_text, lexeme, spell, spell_body, spell_parameters, spell_own, spell_fun}
 
 spelled : (e : Expr) (r s : List Token) → spell e (r ++ s) ≡ spell e r ++ s
 spelled (Number t n) r s = refl
@@ -11,29 +11,22 @@ spelled (Name t x) r s = refl
 spelled (Value t n) r s = refl
 spelled (Index t n) r s = refl
 spelled (Call t x) r s = refl
-spelled (Inner t e) r s = ap (cast_before t) (spelled e (lexeme (codes ")") ∷ r) s)
-spelled (Minus e) r s = ap (λ (z : List Token). lexeme (codes "(") ∷ lexeme (codes "-") ∷ z) (spelled e (lexeme (codes ")") ∷ r) s)
+spelled (Inner t e) r s = rw (spelled e (lexeme (codes ")") ∷ r) s) refl
+spelled (Minus e) r s = rw (spelled e (lexeme (codes ")") ∷ r) s) refl
 spelled (Two o a b) r s =
-    ap (λ (z : List Token). lexeme (codes "(") ∷ z)
-    (ap (λ (z : List Token). spell a (lexeme (op_text o) ∷ z)) (spelled b (lexeme (codes ")") ∷ r) s)
-    ∙ spelled a (lexeme (op_text o) ∷ spell b (lexeme (codes ")") ∷ r)) s)
+    rw (spelled b (lexeme (codes ")") ∷ r) s, spelled a (lexeme (op_text o) ∷ spell b (lexeme (codes ")") ∷ r)) s) refl
 
 spelled_body : (b : Body) (r s : List Token) → spell_body b (r ++ s) ≡ spell_body b r ++ s
 spelled_body End r s = refl
-spelled_body (Decl l t x e b) r s =
-    ap (λ (z : List Token). lexeme (type_text t) ∷ lexeme x ∷ lexeme (codes "=") ∷ z)
-    (ap (λ (z : List Token). spell e (lexeme (codes ";") ∷ z)) (spelled_body b r s) ∙ spelled e (lexeme (codes ";") ∷ spell_body b r) s)
-spelled_body (Group l a b) r s =
-    ap (λ (z : List Token). lexeme (codes "{") ∷ z)
-    (ap (λ (z : List Token). spell_body a (lexeme (codes "}") ∷ z)) (spelled_body b r s) ∙ spelled_body a (lexeme (codes "}") ∷ spell_body b r) s)
+spelled_body (Decl l t x e b) r s = rw (spelled_body b r s, spelled e (lexeme (codes ";") ∷ spell_body b r) s) refl
+spelled_body (Group l a b) r s = rw (spelled_body b r s, spelled_body a (lexeme (codes "}") ∷ spell_body b r) s) refl
 spelled_body (If l e a b) r s =
-    ap (λ (z : List Token). lexeme (codes "if") ∷ lexeme (codes "(") ∷ z)
-    (ap (λ (z : List Token). spell e (lexeme (codes ")") ∷ lexeme (codes "{") ∷ z))
-    (ap (λ (z : List Token). spell_body a (lexeme (codes "}") ∷ z)) (spelled_body b r s) ∙ spelled_body a (lexeme (codes "}") ∷ spell_body b r) s)
-    ∙ spelled e (lexeme (codes ")") ∷ lexeme (codes "{") ∷ spell_body a (lexeme (codes "}") ∷ spell_body b r)) s)
-spelled_body (Return l e b) r s =
-    ap (λ (z : List Token). lexeme (codes "return") ∷ z)
-    (ap (λ (z : List Token). spell e (lexeme (codes ";") ∷ z)) (spelled_body b r s) ∙ spelled e (lexeme (codes ";") ∷ spell_body b r) s)
+    rw (
+      spelled_body b r s,
+      spelled_body a (lexeme (codes "}") ∷ spell_body b r) s,
+      spelled e (lexeme (codes ")") ∷ lexeme (codes "{") ∷ spell_body a (lexeme (codes "}") ∷ spell_body b r)) s,
+    ) refl
+spelled_body (Return l e b) r s = rw (spelled_body b r s, spelled e (lexeme (codes ";") ∷ spell_body b r) s) refl
 
 spelled_parameters : (i : Bool) (r s : List Token) → spell_parameters i (r ++ s) ≡ spell_parameters i r ++ s
 spelled_parameters true r s = refl

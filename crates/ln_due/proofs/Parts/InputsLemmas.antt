@@ -51,6 +51,14 @@ two_inputs n Plus d e h k = (h, k)
 two_inputs n Minus d e h k = (h, k)
 two_inputs n Times d e h k = (h, k)
 
+-- what holds of each local holds with one more of which it holds
+put : {A : Type 0} (P : A → Type 0) (l : ℕ → Option A) (j : ℕ) (v : A) → ((i : ℕ) (k : A) → l i ≡ Some k → P k) → P v → (i : ℕ) (k : A)
+    → with_local l j v i ≡ Some k → P k
+put P l j v h f i k = by_case (i == j) where
+  by_case : (b : Bool) → (if b then Some v else l i) ≡ Some k → P k
+  by_case true q = let r : v ≡ k = cc in rw (← r) f
+  by_case false q = h i k q
+
 module _ (vars : List VarInfo) where
   kept : (enough p : Range) (w : Width) (s : ℕ) (t : Tree) (k : Known) → InputsBelow (length vars) t → known enough p w s t ≡ Some k
       → InputsBelow (length vars) k.tree
@@ -61,12 +69,6 @@ module _ (vars : List VarInfo) where
   input v p k q =
       let r = next_some (slice_get vars v) (λ (i : VarInfo). known (declared i) p (least (magnitude p)) 1 (tree.Input v)) k q in
       kept (declared r.0) p (least (magnitude p)) 1 (tree.Input v) k (slice_get_within vars v r.0 r.1) r.2
-
-  put : (l : ℕ → Option Known) (j : ℕ) (v : Known) → Locals vars l tt → InputsBelow (length vars) v.tree → Locals vars (with_local l j v) tt
-  put l j v h f i k = by_case (i == j) where
-    by_case : (b : Bool) → (if b then Some v else l i) ≡ Some k → InputsBelow (length vars) k.tree
-    by_case true q = let r : v ≡ k = cc in rw (← r) f
-    by_case false q = h i k q
 
   -- each step keeps that
   follow : (depth : ℕ) → Follows (rules vars depth) (idle Range) (λ (p : Range). p) (Inputs vars) (Locals vars)
@@ -79,7 +81,7 @@ module _ (vars : List VarInfo) where
     minus = λ w p x y k f q. kept (opposite x.range) p w x.size (tree.Neg x.tree) k f (if_some _ _ _ q).1;
     cut = λ n p x y k f q. cc;
     got = λ l m j k f q. f j k q;
-    put = λ l m j x y f g. put l j x f g;
+    put = λ l m j x y f g. put (λ (k : Known). InputsBelow (length vars) k.tree) l j x f g;
     room = λ n q. refl;
   }
 
@@ -117,13 +119,6 @@ module _ (vars : List VarInfo) where
   filter-two Times a x y r h k q = filter-kept (x.triple.k + y.triple.k) (x.triple.h * y.triple.h)
       (x.triple.h * y.triple.e + y.triple.h * x.triple.e + x.triple.e * y.triple.e) (x.size * y.size) (two_of Times x.tree y.tree) a r (h, k) q
 
-  filter-put : (l : ℕ → Option FilterKnown) (j : ℕ) (v : FilterKnown) → FilterLocals vars l tt → InputsBelow (length vars) v.tree
-      → FilterLocals vars (with_local l j v) tt
-  filter-put l j v h f i k = by_case (i == j) where
-    by_case : (b : Bool) → (if b then Some v else l i) ≡ Some k → InputsBelow (length vars) k.tree
-    by_case true q = let r : v ≡ k = cc in rw (← r) f
-    by_case false q = h i k q
-
   filter-follow : (depth : ℕ) → Follows (filter_rules vars depth) (idle Triple) (λ (a : Triple). a) (FilterInputs vars) (FilterLocals vars)
   filter-follow depth = record {
     push = λ c a k q. filter-kept a.k (unsigned_abs c / 2 ^ a.k) (push_error a.k) (unsigned_abs c) (tree.Num c) a k tt q;
@@ -133,7 +128,7 @@ module _ (vars : List VarInfo) where
     minus = λ w a x y k f q. filter-kept x.triple.k x.triple.h x.triple.e x.size (tree.Neg x.tree) a k f (if_some _ _ _ q).1;
     cut = λ n a x y k f q. filter-kept (x.triple.k + n) (x.triple.h / 2 ^ n) (error_after n x.triple.e) x.size x.tree a k f q;
     got = λ l m j k f q. f j k q;
-    put = λ l m j x y f g. filter-put l j x f g;
+    put = λ l m j x y f g. put (λ (k : FilterKnown). InputsBelow (length vars) k.tree) l j x f g;
     room = λ n q. refl;
   }
 

@@ -1,8 +1,8 @@
 -- Proves, from coefficients and from weights, which expressions have small polynomials.
 use Rattle.std.proofs.Common.{◌≡◌, ◌≢◌, inl, ℕ, ◌+◌, ◌*◌, ◌^◌, ◌<◌, ◌≤◌, zero, suc, Bool, true, false, List, [], ◌∷◌, length, get_or, refl}
-use Rattle.std.proofs.Common.{◌∙◌, ap, arith, subst, unsigned_abs}
+use Rattle.std.proofs.Common.{◌∙◌, ap, arith, unsigned_abs}
 use Rattle.std.proofs.Math.IntN.{ℤ, pos, ◌+ℤ◌}
-use Rattle.std.proofs.Math.Nat.{mul-le-mul_right, one-le-pow, pow-le-pow_left}
+use Rattle.std.proofs.Math.Nat.{mul-le-mul_right}
 use Rattle.std.proofs.lemmas.Int.{ints}
 use Rattle.ln_algebra.proofs.Expanded.Expansion.{expanded}
 use Rattle.ln_algebra.proofs.Expanded.Normal.{normal_is, same_vector-is}
@@ -11,11 +11,12 @@ use Rattle.ln_algebra.specs.Coefficient.{normal_coefficient}
 use Rattle.ln_algebra.specs.Stage.{IsMonomial}
 use Rattle.ln_algebra.specs.Terms.{Term, factor_at}
 use Rattle.ln_algebra.specs.Tree.{Pow, Tree}
-use Rattle.ln_algebra.specs.Vector.{is_zero, same_vector, zeros}
+use Rattle.ln_algebra.specs.Vector.{is_zero, same_vector, total_degree, zeros}
 use Rattle.ln_algebra.specs.Weights.{monomial_weight, weight, weighted_sum}
 use Rattle.ln_bound.specs.Light.{most}
 use Rattle.ln_poly.specs.Expansion.{HasTooManyTerms}
 use Rattle.ln_poly.specs.Ready.{IsLight}
+use Rattle.ln_poly.proofs.Expansions.Lets.{degree-weight}
 use Rattle.ln_poly.proofs.TermLists.Counting.{distinct-length}
 use Rattle.ln_poly.proofs.Loads.Room.{AreTwo, two-power}
 use Rattle.ln_due.specs.Small.{IsSmall}
@@ -53,38 +54,12 @@ times-right : (a b : ℕ) → 0 < a → b ≤ a * b
 times-right (suc a) b h = omega arith
 times-right zero b h = absurd (omega (arith, h))
 
--- the same of the first factor
-times-left : (a b : ℕ) → 0 < b → a ≤ a * b
-times-left a (suc b) h = omega arith
-times-left a zero h = absurd (omega (arith, h))
-
--- powers of what is at least 2
-two-le : (b k : ℕ) → 2 ≤ b → 2 ^ k ≤ b ^ k
-two-le b k h = pow-le-pow_left h k
-
--- so they are above 0
-power-some : (b k : ℕ) → 2 ≤ b → 0 < b ^ k
-power-some b k h = one-le-pow k b (omega (arith, h))
-
--- each vector weighs something
-monomial-some : (w : ℕ → ℕ) (m : List ℕ) → ((v : ℕ) → v < length m → 2 ≤ w v) → 0 < monomial_weight w m
-monomial-some w [] t = omega arith
-monomial-some w (k ∷ m) t = omega (
-  arith,
-  times-left (w 0 ^ k) (monomial_weight (λ v. w (suc v)) m) (monomial-some (λ v. w (suc v)) m (λ v l. t (suc v) (omega (arith, l)))),
-  power-some (w 0) k (t 0 (omega arith)),
-)
-
--- so its weight is at least 2 to the power of each exponent
-monomial-least : (w : ℕ → ℕ) (m : List ℕ) (v : ℕ) → ((u : ℕ) → u < length m → 2 ≤ w u) → 2 ^ get_or m v 0 ≤ monomial_weight w m
-monomial-least w [] zero t = omega arith
-monomial-least w [] (suc v) t = omega arith
-monomial-least w (k ∷ m) zero t =
-    let s : 0 < monomial_weight (λ u. w (suc u)) m = monomial-some (λ u. w (suc u)) m (λ u l. t (suc u) (omega (arith, l))) in
-    omega (arith, two-le (w 0) k (t 0 (omega arith)), times-left (w 0 ^ k) (monomial_weight (λ u. w (suc u)) m) s)
-monomial-least w (k ∷ m) (suc v) t =
-    let r : 2 ^ get_or m v 0 ≤ monomial_weight (λ u. w (suc u)) m = monomial-least (λ u. w (suc u)) m v (λ u l. t (suc u) (omega (arith, l))) in
-    omega (arith, r, times-right (w 0 ^ k) (monomial_weight (λ u. w (suc u)) m) (power-some (w 0) k (t 0 (omega arith))))
+-- no exponent is more than all together
+exponent-within : (m : List ℕ) (v : ℕ) → get_or m v 0 ≤ total_degree m
+exponent-within [] zero = omega arith
+exponent-within [] (suc v) = omega arith
+exponent-within (k ∷ m) zero = omega arith
+exponent-within (k ∷ m) (suc v) = omega (arith, exponent-within m v)
 
 -- a number that isn't 0
 abs-some : (z : ℤ) → z ≢ pos 0 → 0 < unsigned_abs z
@@ -98,13 +73,13 @@ pub light-low : (n : ℕ) (w : ℕ → ℕ) (e : Tree) (m : List ℕ) (v : ℕ) 
 light-low n w e m v t l k =
     let c : normal_coefficient e m ≡ factor_at (expanded n e) m = normal_is n e l.inputs m k.size in
     let s : 0 < unsigned_abs (factor_at (expanded n e) m) = abs-some (factor_at (expanded n e) m) (λ z. k.nonzero (c ∙ z)) in
-    let a : 2 ^ get_or m v 0 ≤ monomial_weight w m = monomial-least w m v (λ u g. t u (subst (λ (j : ℕ). u < j) k.size g)) in
+    let a : 2 ^ total_degree m ≤ monomial_weight w m = degree-weight n w m t k.size in
     let b : unsigned_abs (factor_at (expanded n e) m) * monomial_weight w m ≤ weighted_sum w (expanded n e) = coefficient-weight w m (expanded n e) in
     let d : monomial_weight w m ≤ unsigned_abs (factor_at (expanded n e) m) * monomial_weight w m =
     times-right (unsigned_abs (factor_at (expanded n e) m)) (monomial_weight w m) s in
     let x : weighted_sum w (expanded n e) ≡ weight w e = weighted-expanded w n e l.inputs in
-    let r : get_or m v 0 < 127 = two-power (get_or m v 0) most (omega (arith, a, b, d, x, l.light)) (omega arith) in
-    omega (arith, r)
+    let r : total_degree m < 127 = two-power (total_degree m) most (omega (arith, a, b, d, x, l.light)) (omega arith) in
+    omega (arith, r, exponent-within m v)
 
 -- ---- the power 0
 -- a vector without exponents is that of zeros

@@ -1,11 +1,13 @@
 -- The cost of a nested tree, and how deep a stack it needs.
-use Rattle.std.proofs.Common.{◌≡◌, ℕ, ◌+◌, ◌*◌, ◌≤◌, max, Bool, true, false, List, [], ◌∷◌, length, refl, zero, suc, arith, if◌then◌else◌}
+use Rattle.std.proofs.Common.{◌≡◌, ℕ, ◌+◌, ◌*◌, ◌≤◌, max, true, List, [], ◌∷◌, length, refl, zero, suc, arith}
 use Rattle.ln_algebra.specs.Terms.{Term}
 use Rattle.ln_algebra.specs.Tree.{Tree, Num, Input, Name, Neg, Add, Sub, Mul, Pow}
 use Rattle.ln_algebra.specs.Vector.{degree}
 use Rattle.ln_bound.specs.declared.fitted.Two.TheVariants.{Plus, Minus, Times}
 use Rattle.ln_bound.specs.Typed.{Typed, TNum, TInput, TLet, TNeg, TTwo, TPow, cost, need, untyped}
+use Rattle.ln_poly.proofs.TermLists.Fewest.{EachHas}
 use Rattle.ln_nest.specs.Nested.{exponent_of, is_positive, one_less, divided, free_of, joined, horner, nested, scaled}
+use Rattle.ln_nest.proofs.Terms.Parts.{by_parts, each_divided, each_free, nested_has}
 use Rattle.ln_nest.proofs.Terms.Scaled.{scaled_cases}
 
 -- the cost of a tree without bounds
@@ -67,17 +69,9 @@ one_less_degree (suc v) (k ∷ m) p = let ih = one_less_degree v m p in omega (a
 
 -- the allowance of the terms, by those with v and the others
 parts_allowance : (v : ℕ) (f : List Term) → allowance (divided v f) + 2 * length (divided v f) + allowance (free_of v f) ≡ allowance f
-parts_allowance v [] = refl
-parts_allowance v (t ∷ f) = by_case (is_positive (exponent_of v t.exponents)) refl (parts_allowance v f)
-  where
-    by_case : (b : Bool) → is_positive (exponent_of v t.exponents) ≡ b
-        → allowance (divided v f) + 2 * length (divided v f) + allowance (free_of v f) ≡ allowance f
-        → allowance (if b then record { exponents = one_less v t.exponents; factor = t.factor } ∷ divided v f else divided v f) + 2 * length (if b then record {
-          exponents = one_less v t.exponents;
-          factor = t.factor;
-        } ∷ divided v f else divided v f) + allowance (if b then free_of v f else t ∷ free_of v f) ≡ allowance (t ∷ f)
-    by_case true e ih = let q = one_less_degree v t.exponents e in omega (arith, ih, q)
-    by_case false e ih = omega (arith, ih)
+parts_allowance v f =
+    by_parts v (λ f g h. allowance g + 2 * length g + allowance h ≡ allowance f) refl
+    (λ t f g h e ih. omega (arith, ih, one_less_degree v t.exponents e)) (λ t f g h e ih. omega (arith, ih)) f
 
 -- the cost of a list's tree is below the allowance, and 1 where the list has no term
 abbrev pub Cheap : Tree → List Term → Type 0
@@ -96,64 +90,33 @@ joined_cheap v h i (x ∷ p) (y ∷ q) n a b e = let s = cost_scaled v h in omeg
 
 -- each term is among those with v or the others
 pub parts_length : (v : ℕ) (f : List Term) → length (divided v f) + length (free_of v f) ≡ length f
-parts_length v [] = refl
-parts_length v (t ∷ f) = by_case (is_positive (exponent_of v t.exponents)) (parts_length v f)
-  where
-    by_case : (b : Bool) → length (divided v f) + length (free_of v f) ≡ length f → length (if b then record {
-      exponents = one_less v t.exponents;
-      factor = t.factor;
-    } ∷ divided v f else divided v f) + length (if b then free_of v f else t ∷ free_of v f) ≡ length (t ∷ f)
-    by_case true ih = omega (arith, ih)
-    by_case false ih = omega (arith, ih)
-
--- by powers of v
-horner_cheap : (v : ℕ) (inner : List Term → Tree) → ((g : List Term) → Cheap (inner g) g) → (d : ℕ) (f : List Term) → Cheap (horner inner v d f) f
-horner_cheap v inner is zero f = is f
-horner_cheap v inner is (suc d) f =
-    joined_cheap v (horner inner v d (divided v f)) (inner (free_of v f)) (divided v f) (free_of v f) (allowance f)
-    (horner_cheap v inner is d (divided v f)) (is (free_of v f)) (parts_allowance v f)
+parts_length v f =
+    by_parts v (λ f g h. length g + length h ≡ length f) refl (λ t f g h e ih. omega (arith, ih)) (λ t f g h e ih. omega (arith, ih)) f
 
 -- the whole nested tree
 pub nested_cheap : (d k v : ℕ) (f : List Term) → Cheap (nested d k v f) f
-nested_cheap d zero v f = omega arith
-nested_cheap d (suc k) v f =
-    let is = λ (g : List Term). nested_cheap d k (suc v) g in
-    horner_cheap v (nested d k (suc v)) is d f
+nested_cheap d k v f =
+    nested_has (k + v) (λ g e. Cheap e g) (λ g. omega arith)
+    (λ v f h i l a b. joined_cheap v h i (divided v f) (free_of v f) (allowance f) a b (parts_allowance v f)) d k v refl f
 
 -- ---- the stack
 -- no term has a degree above d
 abbrev pub AllDegrees : ℕ → List Term → Type 0
-AllDegrees d [] = Unit {0}
-AllDegrees d (t ∷ f) = (degree t.exponents ≤ d) × AllDegrees d f
+AllDegrees d f = EachHas (λ m. degree m ≤ d) f
 
 -- the terms without v keep their degrees
 free_degrees : (v d : ℕ) (f : List Term) → AllDegrees d f → AllDegrees d (free_of v f)
-free_degrees v d [] a = tt
-free_degrees v d (t ∷ f) a = by_case (is_positive (exponent_of v t.exponents)) (free_degrees v d f a.1)
-  where
-    by_case : (b : Bool) → AllDegrees d (free_of v f) → AllDegrees d (if b then free_of v f else t ∷ free_of v f)
-    by_case true ih = ih
-    by_case false ih = (a.0, ih)
+free_degrees v d = each_free v (λ m. degree m ≤ d) (λ m. degree m ≤ d) (λ m e a. a)
 
 -- dividing takes a degree away
 divided_degrees : (v d : ℕ) (f : List Term) → AllDegrees (suc d) f → AllDegrees d (divided v f)
-divided_degrees v d [] a = tt
-divided_degrees v d (t ∷ f) a = by_case (is_positive (exponent_of v t.exponents)) refl (divided_degrees v d f a.1)
-  where
-    by_case : (b : Bool) → is_positive (exponent_of v t.exponents) ≡ b → AllDegrees d (divided v f)
-        → AllDegrees d (if b then record { exponents = one_less v t.exponents; factor = t.factor } ∷ divided v f else divided v f)
-    by_case true e ih = (let q = one_less_degree v t.exponents e in omega (arith, q, a.0), ih)
-    by_case false e ih = ih
+divided_degrees v d = each_divided v (λ m. degree m ≤ suc d) (λ m. degree m ≤ d) (λ m e a. omega (arith, one_less_degree v m e, a))
 
 -- where all degrees are 0 no term has v
 none_divided : (v : ℕ) (f : List Term) → AllDegrees 0 f → divided v f ≡ []
-none_divided v [] a = refl
-none_divided v (t ∷ f) a = by_case (is_positive (exponent_of v t.exponents)) refl (none_divided v f a.1)
-  where
-    by_case : (b : Bool) → is_positive (exponent_of v t.exponents) ≡ b → divided v f ≡ []
-        → (if b then record { exponents = one_less v t.exponents; factor = t.factor } ∷ divided v f else divided v f) ≡ []
-    by_case true e ih = let q = one_less_degree v t.exponents e in absurd (omega (arith, q, a.0))
-    by_case false e ih = ih
+none_divided v f =
+    by_parts v (λ f g h. AllDegrees 0 f → g ≡ []) (λ a. refl) (λ t f g h e ih a. absurd (omega (arith, one_less_degree v t.exponents e, a.0)))
+    (λ t f g h e ih a. ih a.1) f
 
 -- v times a tree needs one place more at most
 need_scaled : (v : ℕ) (h : Tree) → need_of (scaled v h) ≤ need_of h + 1

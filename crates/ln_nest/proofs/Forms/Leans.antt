@@ -1,8 +1,7 @@
 -- No node of a nested tree has more terms than the list, or larger exponents.
 use Rattle.std.proofs.Common.{◌≡◌, ℕ, ◌+◌, ◌-◌, ◌≤◌, ◌<◌, max, Bool, true, false, eqb, List, [], ◌∷◌, ◌++◌, length, refl, zero, suc, ap}
-use Rattle.std.proofs.Common.{arith, pos, sym, ◌⊎◌, inl, inr, if◌then◌else◌, length-append}
-use Rattle.std.proofs.lemmas.Bool.{cases_eq}
-use Rattle.std.proofs.lemmas.Bool.Decides.{nat_tests}
+use Rattle.std.proofs.Common.{arith, pos, subst, sym, ◌⊎◌, inl, inr, if◌then◌else◌, length-append}
+use Rattle.std.proofs.lemmas.Bool.{cases_eq, eq-eqb, ne_eqb}
 use Rattle.ln_algebra.specs.Terms.{Term}
 use Rattle.ln_algebra.specs.Tree.{InputsBelow, Tree, Num, Input, Neg, Add, Mul}
 use Rattle.ln_algebra.specs.Vector.{plus, unit_vector, zeros}
@@ -10,9 +9,9 @@ use Rattle.ln_algebra.proofs.Expanded.Expansion.{Over-expanded, expanded, times,
 use Rattle.ln_algebra.proofs.Expanded.Normal.{normal_is}
 use Rattle.ln_poly.proofs.TermLists.Bounded.{length-times_term}
 use Rattle.ln_nest.specs.Lean.{AreLean, AreUnder, IsLean}
-use Rattle.ln_nest.specs.Nested.{exponent_of, is_positive, one_less, divided, free_of, total, joined, horner, nested, scaled}
+use Rattle.ln_nest.specs.Nested.{exponent_of, is_positive, one_less, divided, free_of, total, joined, nested, scaled}
 use Rattle.ln_nest.proofs.Terms.Scaled.{expanded_scaled, inputs_scaled, scaled_cases}
-use Rattle.ln_nest.proofs.Terms.Parts.{exponent-here, exponent-less}
+use Rattle.ln_nest.proofs.Terms.Parts.{by_parts, exponent-here, exponent-less, nested_has}
 use Rattle.ln_nest.proofs.Forms.Costs.{parts_length}
 
 -- ---- the variables of a nested tree
@@ -22,19 +21,9 @@ joined_inputs n v h i [] q l a b = b
 joined_inputs n v h i (x ∷ p) [] l a b = inputs_scaled n v h l a
 joined_inputs n v h i (x ∷ p) (y ∷ q) l a b = (inputs_scaled n v h l a, b)
 
--- by powers of v
-horner_inputs : (n v : ℕ) (inner : List Term → Tree) → v < n → ((g : List Term) → InputsBelow n (inner g)) → (d : ℕ) (f : List Term)
-    → InputsBelow n (horner inner v d f)
-horner_inputs n v inner l is zero f = is f
-horner_inputs n v inner l is (suc d) f = joined_inputs n v (horner inner v d (divided v f)) (inner (free_of v f)) (divided v f)
-    (free_of v f) l (horner_inputs n v inner l is d (divided v f)) (is (free_of v f))
-
 -- the whole nested tree
 pub nested_inputs : (n d k v : ℕ) → k + v ≡ n → (f : List Term) → InputsBelow n (nested d k v f)
-nested_inputs n d zero v e f = tt
-nested_inputs n d (suc k) v e f =
-    let is = λ (g : List Term). nested_inputs n d k (suc v) (omega arith) g in
-    horner_inputs n v (nested d k (suc v)) (omega arith) is d f
+nested_inputs n = nested_has n (λ g e. InputsBelow n e) (λ g. tt) (λ v f h i l a b. joined_inputs n v h i (divided v f) (free_of v f) l a b)
 
 -- ---- exponents of sums and leaves
 -- exponents of a sum of vectors are at most the sums
@@ -71,21 +60,13 @@ exponent-other (suc w) (suc n) (suc v) h = exponent-other w n v (λ e. h (ap suc
 abbrev pub less_at : ℕ → (ℕ → ℕ) → ℕ → ℕ
 less_at v top w = if eqb w v then top w - 1 else top w
 
--- the limit of v is one less
+-- that of v is one less
 less_here : (v : ℕ) (top : ℕ → ℕ) (w : ℕ) → w ≡ v → less_at v top w ≡ top w - 1
-less_here v top w e = by_case (eqb w v) (grind (arith, nat_tests))
-  where
-    by_case : (b : Bool) → b ≡ true → (if b then top w - 1 else top w) ≡ top w - 1
-    by_case true h = refl
-    by_case false h = cc
+less_here v top w e = rw (eq-eqb w v e) refl
 
 -- the others are the same
 less_other : (v : ℕ) (top : ℕ → ℕ) (w : ℕ) → (w ≡ v → ⊥) → less_at v top w ≡ top w
-less_other v top w n = by_case (eqb w v) (grind (arith, nat_tests))
-  where
-    by_case : (b : Bool) → b ≡ false → (if b then top w - 1 else top w) ≡ top w
-    by_case true h = cc
-    by_case false h = refl
+less_other v top w n = rw (ne_eqb w v n) refl
 
 -- no limit grows
 less_below : (v : ℕ) (top : ℕ → ℕ) (w : ℕ) → less_at v top w ≤ top w
@@ -107,12 +88,7 @@ under_both top (t ∷ f) g a b = (a.0, under_both top f g a.1 b)
 
 -- the terms without v
 under_free : (v : ℕ) (top : ℕ → ℕ) (f : List Term) → AreUnder top f → AreUnder top (free_of v f)
-under_free v top [] a = tt
-under_free v top (t ∷ f) a = by_case (is_positive (exponent_of v t.exponents)) (under_free v top f a.1)
-  where
-    by_case : (b : Bool) → AreUnder top (free_of v f) → AreUnder top (if b then free_of v f else t ∷ free_of v f)
-    by_case true ih = ih
-    by_case false ih = (a.0, ih)
+under_free v top f = by_parts v (λ f g h. AreUnder top f → AreUnder top h) (λ a. tt) (λ t f g h e ih a. ih a.1) (λ t f g h e ih a. (a.0, ih a.1)) f
 
 -- with one less of v a vector is under limits with one less
 one_less_under : (v : ℕ) (top : ℕ → ℕ) (m : List ℕ) → ((w : ℕ) → exponent_of w m ≤ top w) → (w : ℕ) → exponent_of w (one_less v m) ≤ less_at v top w
@@ -127,27 +103,19 @@ one_less_under v top m a w = by_case (cases_eq w v)
 
 -- so are the divided terms
 under_divided : (v : ℕ) (top : ℕ → ℕ) (f : List Term) → AreUnder top f → AreUnder (less_at v top) (divided v f)
-under_divided v top [] a = tt
-under_divided v top (t ∷ f) a = by_case (is_positive (exponent_of v t.exponents)) (under_divided v top f a.1)
-  where
-    by_case : (b : Bool) → AreUnder (less_at v top) (divided v f)
-        → AreUnder (less_at v top) (if b then record { exponents = one_less v t.exponents; factor = t.factor } ∷ divided v f else divided v f)
-    by_case true ih = (one_less_under v top t.exponents a.0, ih)
-    by_case false ih = ih
+under_divided v top f =
+    by_parts v (λ f g h. AreUnder top f → AreUnder (less_at v top) g) (λ a. tt) (λ t f g h e ih a. (one_less_under v top t.exponents a.0, ih a.1))
+    (λ t f g h e ih a. ih a.1) f
+
+positive : (n : ℕ) → is_positive n ≡ true → 1 ≤ n
+positive zero q = cc
+positive (suc n) q = omega arith
 
 -- where a term has variable v, the limit of v is not 0
 some_power : (v : ℕ) (top : ℕ → ℕ) (f : List Term) → AreUnder top f → 0 < length (divided v f) → 1 ≤ top v
-some_power v top [] a l = absurd (omega arith)
-some_power v top (t ∷ f) a l = by_case (is_positive (exponent_of v t.exponents)) refl (λ k. some_power v top f a.1 k) l
-  where
-    positive : (n : ℕ) → is_positive n ≡ true → 1 ≤ n
-    positive zero q = cc
-    positive (suc n) q = omega arith
-
-    by_case : (b : Bool) → is_positive (exponent_of v t.exponents) ≡ b → (0 < length (divided v f) → 1 ≤ top v)
-        → 0 < length (if b then record { exponents = one_less v t.exponents; factor = t.factor } ∷ divided v f else divided v f) → 1 ≤ top v
-    by_case true e ih k = let q = positive (exponent_of v t.exponents) e in let r = a.0 v in omega (arith, q, r)
-    by_case false e ih k = ih k
+some_power v top f =
+    by_parts v (λ f g h. AreUnder top f → 0 < length g → 1 ≤ top v) (λ a l. absurd (omega arith))
+    (λ t f g h e ih a l. omega (arith, positive (exponent_of v t.exponents) e, a.0 v)) (λ t f g h e ih a l. ih a.1 l) f
 
 -- the unit vector of v, and v times a monomial
 unit_under : (n v : ℕ) (top : ℕ → ℕ) → 1 ≤ top v → (w : ℕ) → exponent_of w (unit_vector n v) ≤ top w
@@ -194,75 +162,67 @@ lean_below : (n count : ℕ) (top big : ℕ → ℕ) (e : Tree) → ((v : ℕ) �
     → AreUnder top (expanded n e) → IsLean n count big e
 lean_below n count top big e l i k u = lean_here n count big e i k (under_more top big l (expanded n e) u)
 
--- a tree of a list: its expansion has no more terms than the list, nor exponents above top; its nodes are lean
-pub record Slim (n count : ℕ) (top big : ℕ → ℕ) (e : Tree) (f : List Term) : Type 0 where
-  pub few : length (expanded n e) ≤ max 1 (length f)
+-- a tree of k terms: its expansion has no more terms, nor exponents above top; its nodes are lean
+pub record Slim (n count : ℕ) (top big : ℕ → ℕ) (e : Tree) (k : ℕ) : Type 0 where
+  pub inputs : InputsBelow n e
+  pub few : length (expanded n e) ≤ max 1 k
   pub under : AreUnder top (expanded n e)
   pub nodes : AreLean n count big e
 
 -- v times a tree
-scaled_slim : (n v count : ℕ) (top big : ℕ → ℕ) (h : Tree) (x : Term) (p : List Term) → v < n → length (x ∷ p) ≤ count → ((w : ℕ) → top w ≤ big w)
-    → 1 ≤ top v → InputsBelow n h → Slim n count (less_at v top) big h (x ∷ p) → Slim n count top big (scaled v h) (x ∷ p)
-scaled_slim n v count top big h x p i c l s b a =
+scaled_slim : (n v count : ℕ) (top big : ℕ → ℕ) (h : Tree) (k : ℕ) → v < n → 0 < k → k ≤ count → ((w : ℕ) → top w ≤ big w) → 1 ≤ top v
+    → Slim n count (less_at v top) big h k → Slim n count top big (scaled v h) k
+scaled_slim n v count top big h k i o c l s a =
     let product = times (unit_term n v ∷ []) (expanded n h) in
-    let e = length_times_one (unit_term n v) (expanded n h) in
-    let k : length product ≤ max 1 (length (x ∷ p)) = let k = a.few in omega (arith, e, k) in
+    let most : length product ≤ max 1 k = omega (arith, length_times_one (unit_term n v) (expanded n h), a.few) in
     let u : AreUnder top product = under_both top (times_term (unit_term n v) (expanded n h)) [] (times_under n v top (expanded n h) s a.under) tt in
-    let few : length (expanded n (scaled v h)) ≤ max 1 (length (x ∷ p)) = rw (expanded_scaled n v h) k in
+    let few : length (expanded n (scaled v h)) ≤ max 1 k = rw (expanded_scaled n v h) most in
     let under : AreUnder top (expanded n (scaled v h)) = rw (expanded_scaled n v h) u in
-    let input : IsLean n count big (Input v) = lean_below n count top big (Input v) l i (omega (arith, c)) (unit_under n v top s, tt) in
+    let input : IsLean n count big (Input v) = lean_below n count top big (Input v) l i (omega (arith, o, c)) (unit_under n v top s, tt) in
     let nodes = scaled_cases v h (λ t. length (expanded n t) ≤ count → AreUnder top (expanded n t) → AreLean n count big t)
     (λ q f w. input)
     (λ q f w. (input, lean_below n count top big (Neg (Input v)) l i f w))
-    (λ f w. (input, a.nodes, lean_below n count top big (Mul (Input v) h) l (i, b) f w)) in
-    record { few = few; under = under; nodes = nodes (omega (arith, few, c)) under }
+    (λ f w. (input, a.nodes, lean_below n count top big (Mul (Input v) h) l (i, a.inputs) f w)) in
+    record { inputs = inputs_scaled n v h i a.inputs; few = few; under = under; nodes = nodes (omega (arith, few, o, c)) under }
 
 -- a sum of two trees
-sum_slim : (n count : ℕ) (top big : ℕ → ℕ) (e g : Tree) (x y : Term) (p q : List Term) → length (x ∷ p) + length (y ∷ q) ≤ count
-    → ((w : ℕ) → top w ≤ big w) → InputsBelow n e → InputsBelow n g → Slim n count top big e (x ∷ p) → Slim n count top big g (y ∷ q)
-    → (f : List Term) → length f ≡ length (x ∷ p) + length (y ∷ q) → Slim n count top big (Add e g) f
-sum_slim n count top big e g x y p q c l i j a b f z =
-    let k = length-append (expanded n e) (expanded n g) in
-    let few : length (expanded n (Add e g)) ≤ max 1 (length f) = let r = a.few in let s = b.few in omega (arith, k, r, s, z) in
+sum_slim : (n count : ℕ) (top big : ℕ → ℕ) (e g : Tree) (j k m : ℕ) → 0 < j → 0 < k → j + k ≡ m → m ≤ count → ((w : ℕ) → top w ≤ big w)
+    → Slim n count top big e j → Slim n count top big g k → Slim n count top big (Add e g) m
+sum_slim n count top big e g j k m o p z c l a b =
+    let few : length (expanded n (Add e g)) ≤ m = omega (arith, length-append (expanded n e) (expanded n g), a.few, b.few, o, p, z) in
     let under : AreUnder top (expanded n (Add e g)) = under_both top (expanded n e) (expanded n g) a.under b.under in
-    record { few = few; under = under; nodes = (a.nodes, b.nodes, lean_below n count top big (Add e g) l (i, j) (omega (arith, few, c, z)) under) }
-
--- slimness depends on the number of terms alone
-slim_for : (n count : ℕ) (top big : ℕ → ℕ) (e : Tree) (f g : List Term) → length f ≡ length g → Slim n count top big e f → Slim n count top big e g
-slim_for n count top big e f g z a = record { few = let k = a.few in omega (arith, k, z); under = a.under; nodes = a.nodes }
+    let inputs : InputsBelow n (Add e g) = (a.inputs, b.inputs) in
+    record {
+      inputs = inputs;
+      few = omega (arith, few);
+      under = under;
+      nodes = (a.nodes, b.nodes, lean_below n count top big (Add e g) l inputs (omega (arith, few, c)) under);
+    }
 
 -- a step is slim where its parts are
-joined_slim : (n v count : ℕ) (top big : ℕ → ℕ) (h i : Tree) (p q f : List Term) → v < n → length p + length q ≡ length f → length f ≤ count
-    → ((w : ℕ) → top w ≤ big w) → (0 < length p → 1 ≤ top v) → InputsBelow n h → InputsBelow n i → Slim n count (less_at v top) big h p
-    → Slim n count top big i q → Slim n count top big (joined v h i p q) f
-joined_slim n v count top big h i [] q f u z c l s j k a b = slim_for n count top big i q f (omega (arith, z)) b
-joined_slim n v count top big h i (x ∷ p) [] f u z c l s j k a b = slim_for n count top big (scaled v h) (x ∷ p) f (omega (arith, z))
-    (scaled_slim n v count top big h x p u (omega (arith, z, c)) l (s (omega arith)) j a)
-joined_slim n v count top big h i (x ∷ p) (y ∷ q) f u z c l s j k a b =
-    let m : Slim n count top big (scaled v h) (x ∷ p) = scaled_slim n v count top big h x p u (omega (arith, z, c)) l (s (omega arith)) j a in
-    sum_slim n count top big (scaled v h) i x y p q (omega (arith, z, c)) l (inputs_scaled n v h u j) k m b f (omega (arith, z))
+joined_slim : (n v count : ℕ) (top big : ℕ → ℕ) (h i : Tree) (p q : List Term) (m : ℕ) → v < n → length p + length q ≡ m → m ≤ count
+    → ((w : ℕ) → top w ≤ big w) → (0 < length p → 1 ≤ top v) → Slim n count (less_at v top) big h (length p)
+    → Slim n count top big i (length q) → Slim n count top big (joined v h i p q) m
+joined_slim n v count top big h i [] q m u z c l s a b = let e : length q ≡ m = omega (arith, z) in subst (Slim n count top big i) e b
+joined_slim n v count top big h i (x ∷ p) [] m u z c l s a b =
+    let e : length (x ∷ p) ≡ m = omega (arith, z) in
+    subst (Slim n count top big (scaled v h)) e
+    (scaled_slim n v count top big h (length (x ∷ p)) u (omega arith) (omega (arith, e, c)) l (s (omega arith)) a)
+joined_slim n v count top big h i (x ∷ p) (y ∷ q) m u z c l s a b =
+    sum_slim n count top big (scaled v h) i (length (x ∷ p)) (length (y ∷ q)) m (omega arith) (omega arith) z c l
+    (scaled_slim n v count top big h (length (x ∷ p)) u (omega arith) (omega (arith, z, c)) l (s (omega arith)) a) b
 
--- so is the tree of each list with few terms
-abbrev pub IsSlim : ℕ → ℕ → (ℕ → ℕ) → (List Term → Tree) → Type 0
-IsSlim n count big inner = (top : ℕ → ℕ) (f : List Term) → ((w : ℕ) → top w ≤ big w) → AreUnder top f → length f ≤ count → Slim n count top big (inner f) f
-
--- by powers of v
-horner_slim : (n v count : ℕ) (big : ℕ → ℕ) (inner : List Term → Tree) → v < n → ((g : List Term) → InputsBelow n (inner g))
-    → IsSlim n count big inner → (d : ℕ) → IsSlim n count big (horner inner v d)
-horner_slim n v count big inner u j is zero top f l a c = is top f l a c
-horner_slim n v count big inner u j is (suc d) top f l a c =
+-- the tree of each list with few terms is slim
+pub nested_slim : (n count : ℕ) (big : ℕ → ℕ) → 1 ≤ count → (d k v : ℕ) → k + v ≡ n → (f : List Term) (top : ℕ → ℕ) → ((w : ℕ) → top w ≤ big w)
+    → AreUnder top f → length f ≤ count → Slim n count top big (nested d k v f) (length f)
+nested_slim n count big o =
+    nested_has n
+    (λ f e. (top : ℕ → ℕ) → ((w : ℕ) → top w ≤ big w) → AreUnder top f → length f ≤ count → Slim n count top big e (length f))
+    (λ f top l a c.
+    let under : AreUnder top (expanded n (Num (total f))) = ((λ w. omega (arith, exponent-zeros w n)), tt) in
+    record { inputs = tt; few = omega arith; under = under; nodes = lean_below n count top big (Num (total f)) l tt o under })
+    (λ v f h i u p q top l a c.
     let z = parts_length v f in
-    joined_slim n v count top big (horner inner v d (divided v f)) (inner (free_of v f)) (divided v f) (free_of v f) f u z c l (some_power v top f a)
-    (horner_inputs n v inner u j d (divided v f)) (j (free_of v f))
-    (horner_slim n v count big inner u j is d (less_at v top) (divided v f) (λ w. omega (arith, l w, less_below v top w))
-    (under_divided v top f a) (omega (arith, z, c)))
-    (is top (free_of v f) l (under_free v top f a) (omega (arith, z, c)))
-
--- the whole nested tree
-pub nested_slim : (n count : ℕ) (big : ℕ → ℕ) → 1 ≤ count → (d k v : ℕ) → k + v ≡ n → IsSlim n count big (nested d k v)
-nested_slim n count big o d zero v e = λ top f l a c.
-    let under : AreUnder top (expanded n (Num (total f))) = ((λ w. let z = exponent-zeros w n in omega (arith, z)), tt) in
-    record { few = omega arith; under = under; nodes = lean_below n count top big (Num (total f)) l tt o under }
-nested_slim n count big o d (suc k) v e =
-    let is : IsSlim n count big (nested d k (suc v)) = nested_slim n count big o d k (suc v) (omega arith) in
-    horner_slim n v count big (nested d k (suc v)) (omega arith) (λ g. nested_inputs n d k (suc v) (omega arith) g) is d
+    joined_slim n v count top big h i (divided v f) (free_of v f) (length f) u z c l (some_power v top f a)
+    (p (less_at v top) (λ w. omega (arith, l w, less_below v top w)) (under_divided v top f a) (omega (arith, z, c)))
+    (q top l (under_free v top f a) (omega (arith, z, c))))

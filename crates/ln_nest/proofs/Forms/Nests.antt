@@ -1,7 +1,6 @@
 -- No node of the nested form weighs more than the terms, whatever the weights from 1 on: so its ranges are within the M-weighted sum, and
 -- its running sizes within the sum of the absolute factors.
-use Rattle.std.proofs.Common.{◌≡◌, ◌≢◌, ℕ, ℤ, ◌+◌, ◌*◌, ◌≤◌, length, Bool, true, false, List, [], ◌∷◌, refl, zero, suc, ap, arith, pos}
-use Rattle.std.proofs.Common.{negsuc, unsigned_abs, if◌then◌else◌}
+use Rattle.std.proofs.Common.{◌≡◌, ◌≢◌, ℕ, ℤ, ◌+◌, ◌*◌, ◌≤◌, length, List, [], ◌∷◌, refl, zero, suc, ap, arith, pos, negsuc, unsigned_abs}
 use Rattle.std.proofs.Math.Nat.{mul-le-mul_left}
 use Rattle.ln_algebra.specs.Terms.{Term}
 use Rattle.ln_algebra.specs.Tree.{Tree, Num, Input, Name, Neg, Add, Sub, Mul, Pow, InputsBelow}
@@ -11,8 +10,9 @@ use Rattle.ln_bound.specs.Room.{HasRoom}
 use Rattle.ln_tree.specs.declared.shape.VarInfo.{VarInfo}
 use Rattle.ln_bound.proofs.Measures.RoomLaws.{weight_grows}
 use Rattle.ln_nest.specs.Lean.{HasNoZero}
-use Rattle.ln_nest.specs.Nested.{exponent_of, is_positive, one_less, divided, free_of, joined, horner, nested, scaled}
+use Rattle.ln_nest.specs.Nested.{divided, free_of, joined, nested, scaled}
 use Rattle.ln_nest.proofs.Forms.Bounds.{parts_weight, at_least, sum_weight}
+use Rattle.ln_nest.proofs.Terms.Parts.{by_parts, nested_has}
 use Rattle.ln_nest.proofs.Terms.Scaled.{scaled_cases}
 use Rattle.ln_nest.proofs.Forms.Steps.{range_scale, scale_some}
 use Rattle.ln_nest.proofs.Forms.Leans.{nested_inputs}
@@ -74,24 +74,11 @@ up_more by c n m h l (Mul e f) a = (up_more by c n m h l e a.0, up_more by c n m
 up_more by c n m h l (Pow e k) a = (up_more by c n m h l e a.0, let g = h (Pow e k) in omega (arith, g, a.1, l))
 
 -- ---- zero factors
--- the terms with v, each divided by v, have no zero factor where the terms have none
-pub divided_some : (v : ℕ) (f : List Term) → HasNoZero f → HasNoZero (divided v f)
-divided_some v [] z = tt
-divided_some v (t ∷ f) z = by_case (is_positive (exponent_of v t.exponents)) (divided_some v f z.1)
-  where
-    by_case : (b : Bool) → HasNoZero (divided v f)
-        → HasNoZero (if b then record { exponents = one_less v t.exponents; factor = t.factor } ∷ divided v f else divided v f)
-    by_case true ih = (z.0, ih)
-    by_case false ih = ih
-
--- the terms without v have no zero factor where the terms have none
-pub free_some : (v : ℕ) (f : List Term) → HasNoZero f → HasNoZero (free_of v f)
-free_some v [] z = tt
-free_some v (t ∷ f) z = by_case (is_positive (exponent_of v t.exponents)) (free_some v f z.1)
-  where
-    by_case : (b : Bool) → HasNoZero (free_of v f) → HasNoZero (if b then free_of v f else t ∷ free_of v f)
-    by_case true ih = ih
-    by_case false ih = (z.0, ih)
+-- neither the divided terms nor those without v have a zero factor where the terms have none
+parts_some : (v : ℕ) (f : List Term) → HasNoZero f → HasNoZero (divided v f) × HasNoZero (free_of v f)
+parts_some v f =
+    by_parts v (λ f g h. HasNoZero f → HasNoZero g × HasNoZero h) (λ a. (tt, tt)) (λ t f g h e ih a. ((a.0, (ih a.1).0), (ih a.1).1))
+    (λ t f g h e ih a. ((ih a.1).0, (a.0, (ih a.1).1))) f
 
 nonzero : (z : ℤ) → z ≢ pos 0 → 1 ≤ unsigned_abs z
 nonzero (pos zero) h = absurd (h refl)
@@ -140,21 +127,13 @@ module _ (w : ℕ → ℕ) (o : (v : ℕ) → 1 ≤ w v) where
       let m : w v * weighs w h ≤ w v * d = mul-le-mul_left (w v) r in
       (p, q, omega (arith, l, c, k, m))
 
-  -- by powers of v
-  horner_up : (inner : List Term → Tree) → ((g : List Term) → HasNoZero g → AreUpTo (weighs w) (weighted_sum w g) (inner g))
-      → (v d : ℕ) (f : List Term) → HasNoZero f → AreUpTo (weighs w) (weighted_sum w f) (horner inner v d f)
-  horner_up inner is v zero f z = is f z
-  horner_up inner is v (suc d) f z =
-      let p = parts_weight w v f in
-      joined_up v (horner inner v d (divided v f)) (inner (free_of v f)) (divided v f) (free_of v f) (weighted_sum w f) (divided_some v f z)
-      (omega (arith, p)) (horner_up inner is v d (divided v f) (divided_some v f z)) (is (free_of v f) (free_some v f z))
-
   -- no node of the nested form weighs more than the terms
   pub nested_up : (d k v : ℕ) (f : List Term) → HasNoZero f → AreUpTo (weighs w) (weighted_sum w f) (nested d k v f)
-  nested_up d zero v f z = sum_weight w o f
-  nested_up d (suc k) v f z =
-      let is = λ (g : List Term) (y : HasNoZero g). nested_up d k (suc v) g y in
-      horner_up (nested d k (suc v)) is v d f z
+  nested_up d k v =
+      nested_has (k + v) (λ f e. HasNoZero f → AreUpTo (weighs w) (weighted_sum w f) e) (λ f z. sum_weight w o f)
+      (λ v f h i l a b z.
+      let s = parts_some v f z in
+      joined_up v h i (divided v f) (free_of v f) (weighted_sum w f) s.0 (omega (arith, parts_weight w v f)) (a s.0) (b s.1)) d k v refl
 
 -- so the range of each node is within the M-weighted sum
 pub nested_ranges : (r : ℕ → Range) (m : ℕ → ℕ) → ((v : ℕ) → 1 ≤ m v) → ((v : ℕ) → magnitude (r v) ≤ m v) → (d k v : ℕ) (f : List Term)

@@ -4,11 +4,12 @@ use Rattle.std.proofs.Common.{pos, ◌+ℤ◌, ◌∙◌, sym, unsigned_abs, sli
 use Rattle.std.specs.Prelude.{FitsSigned, Option, Some, None, negsuc, slice_get, ◌==◌}
 use mir.Syntax.{w128}
 use Rattle.std.proofs.Math.Nat.{mul-le-mul_left}
-use Rattle.std.proofs.lemmas.Bool.{eqb-true}
+use Rattle.std.proofs.lemmas.Bool.{eqb-false, eqb-true}
 use Rattle.std.proofs.lemmas.Int.{ints, fits_signed_from_abs}
+use Rattle.std.proofs.lemmas.List.{nil_from_length}
 use Rattle.ln_algebra.specs.Terms.{Term}
 use Rattle.ln_algebra.specs.Tree.{Tree, Num, Input, Neg, Add, Mul}
-use Rattle.ln_algebra.specs.Weights.{weighted_sum, monomial_weight}
+use Rattle.ln_algebra.specs.Weights.{weighted_sum}
 use Rattle.ln_interval.specs.Range.{Range, point, magnitude, product, sum}
 use Rattle.ln_interval.proofs.Magnitudes.{sum_magnitude, opposite_magnitude, product_magnitude}
 use Rattle.ln_tree.specs.declared.shape.VarInfo.{VarInfo}
@@ -24,7 +25,7 @@ use Rattle.ln_nest.specs.declared.work.Work.{Work}
 use Rattle.ln_nest.specs.Nested.{divided, free_of, total, joined, horner, nested, scaled}
 use Rattle.ln_nest.specs.View.{Has, terms_in, scale, abs_total, opposite_of, times_of, plus_of, product_of}
 use Rattle.ln_nest.proofs.Terms.Scaled.{product_cases}
-use Rattle.ln_nest.proofs.Forms.Bounds.{parts_weight, at_least, sum_weight}
+use Rattle.ln_nest.proofs.Forms.Bounds.{parts_weight, sum_weight}
 
 -- M of a variable, and 1 past the last, is at least 1
 pub scale_some : (vars : List VarInfo) (v : ℕ) → 1 ≤ scale vars v
@@ -128,10 +129,6 @@ product_has vars v x y e b i h =
     within n e = rw e (omega arith)
 
 -- ---- each way a step ends
--- no working terms are no terms
-nothing_in : (ws : List Work) → ws ≡ [] → terms_in ws ≡ []
-nothing_in ws e = ap terms_in e
-
 -- some working terms are some terms
 not_empty : (p : List Work) → (p ≡ [] → ⊥) → terms_in p ≡ [] → ⊥
 not_empty [] y r = y refl
@@ -163,7 +160,7 @@ pub ends_free : (vars : List VarInfo) (inner : List Term → Tree) (v b : ℕ) (
     → terms_in p ≡ divided v f → terms_in q ≡ free_of v f → Has vars t (inner (terms_in q)) (weighted_sum (scale vars) (terms_in q))
     → Has vars t (step inner v b f) (weighted_sum (scale vars) f)
 ends_free vars inner v b f p q t z e g h =
-    let d : divided v f ≡ [] = sym e ∙ nothing_in p z in
+    let d : divided v f ≡ [] = sym e ∙ ap terms_in z in
     let s = parts_weight (scale vars) v f in
     let k : weighted_sum (scale vars) (terms_in q) ≡ weighted_sum (scale vars) (free_of v f) = ap (weighted_sum (scale vars)) g in
     has_as vars t _ _ _ _ (ap inner g ∙ joined_free v (divided v f) (free_of v f) (horner inner v b (divided v f)) (inner (free_of v f)) d)
@@ -217,7 +214,7 @@ ends_product vars inner v b f p q x h t y z e g i a j =
     let m = product_small vars v f p x h _ i e a in
     let n : Has vars t (scaled v (horner inner v b (terms_in p))) (magnitude (pair x) * magnitude (pair h)) = rw j (product_has vars v x h _ _ i a) in
     has_as vars t _ _ _ _ (ap (λ u. scaled v (horner inner v b u)) e ∙ joined_product v (divided v f) (free_of v f)
-    (horner inner v b (divided v f)) (inner (free_of v f)) (λ r. not_empty p y (e ∙ r)) (sym g ∙ nothing_in q z)) (omega (arith, m)) n
+    (horner inner v b (divided v f)) (inner (free_of v f)) (λ r. not_empty p y (e ∙ r)) (sym g ∙ ap terms_in z)) (omega (arith, m)) n
 
 -- with the sum
 pub ends_sum : (vars : List VarInfo) (inner : List Term → Tree) (v b : ℕ) (f : List Term) (p q : List Work) (x h i s t : Typed)
@@ -236,23 +233,13 @@ ends_sum vars inner v b f p q x h i s t y z e g u a j c r =
     both p q = rw (p, q) refl
 
 -- ---- lists that are empty or not
--- a list of no length is empty
-pub no_length : {A : Type 0} (xs : List A) → length xs ≡ 0 → xs ≡ []
-no_length [] h = refl
-no_length (x ∷ xs) h = absurd (omega arith)
-
 -- the test of an empty vector
 pub is_empty : (n : ℕ) (ws : List Work) → true ≡ (n == 0) → n ≡ length ws → ws ≡ []
-is_empty n ws e l = let z : n ≡ 0 = eqb-true n 0 (sym e) in no_length ws (omega (arith, z, l))
-
--- a number that is not 0 by its test
-not_zero : (n : ℕ) → false ≡ (n == 0) → n ≡ 0 → ⊥
-not_zero zero e z = cc
-not_zero (suc n) e z = absurd (omega (arith, z))
+is_empty n ws e l = nil_from_length ws (sym l ∙ eqb-true n 0 (sym e))
 
 -- the test of a vector that is not empty
 pub is_some : (n : ℕ) (ws : List Work) → false ≡ (n == 0) → n ≡ length ws → ws ≡ [] → ⊥
-is_some n ws e l r = not_zero n e (let z : length ws ≡ 0 = ap length r in omega (arith, z, l))
+is_some n ws e l r = eqb-false n 0 (sym e) (l ∙ ap length r)
 
 -- ---- where the forms of the code and of the definition meet
 -- powers up to b + 1 are a step
@@ -260,16 +247,7 @@ pub at_count : (vars : List VarInfo) (inner : List Term → Tree) (v b c n : ℕ
     → Has vars t (step inner v b f) n → Has vars t (horner inner v c f) n
 at_count vars inner v b c n f t e h = rw e h
 
--- the absolute factors together are at most the weighted sum
-pub few_weight : (w : ℕ → ℕ) → ((v : ℕ) → 1 ≤ w v) → (f : List Term) → abs_total f ≤ weighted_sum w f
-few_weight w o [] = omega arith
-few_weight w o (t ∷ f) =
-    let ih = few_weight w o f in
-    let m : unsigned_abs t.factor * 1 ≤ unsigned_abs t.factor * monomial_weight w t.exponents =
-    mul-le-mul_left (unsigned_abs t.factor) (at_least w o t.exponents) in
-    omega (arith, ih, m)
-
--- so the sum of the factors is within 2^127 - 1
+-- the sum of the factors is within 2^127 - 1
 pub total_fits : (vars : List VarInfo) (f : List Term) (c : ℤ) → c ≡ total f → weighted_sum (scale vars) f ≤ most → unsigned_abs c ≤ most
 total_fits vars f c g o =
     let s = sum_weight (scale vars) (scale_some vars) f in

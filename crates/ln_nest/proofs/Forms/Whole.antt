@@ -21,10 +21,10 @@ use Rattle.ln_poly.specs.Sparse.{IsFactor, IsPoly, Sparse, coefficient_at, term_
 use Rattle.ln_poly.proofs.TermLists.Products.{over-terms}
 use Rattle.ln_poly.proofs.Derivations.Deriving.{same-monomial}
 use Rattle.ln_nest.specs.Lean.{AreLean, AreUnder, HasNoZero, largest}
-use Rattle.ln_nest.specs.Nested.{exponent_of, divided, free_of, joined, horner, nested, nested_form}
+use Rattle.ln_nest.specs.Nested.{exponent_of, divided, free_of, joined, nested, nested_form}
 use Rattle.ln_nest.specs.declared.work.Work.{Work}
 use Rattle.ln_nest.specs.View.{Has, scale, terms_in}
-use Rattle.ln_nest.proofs.Terms.Parts.{AllFit}
+use Rattle.ln_nest.proofs.Terms.Parts.{AllFit, nested_has}
 use Rattle.ln_nest.proofs.Terms.Scaled.{closed_scaled}
 use Rattle.ln_nest.proofs.Forms.Same.{nested_is}
 use Rattle.ln_nest.proofs.Forms.Costs.{AllDegrees, allowance, cost_of, cost_same, need_of, need_same, nested_cheap, nested_need}
@@ -87,19 +87,10 @@ joined_closed v h i [] q a b = b
 joined_closed v h i (x ∷ p) [] a b = closed_scaled v h a
 joined_closed v h i (x ∷ p) (y ∷ q) a b = rw (closed_scaled v h a, b) refl
 
--- by powers of v
-horner_closed : (v : ℕ) (inner : List Term → Tree) → ((g : List Term) → inlined [] (inner g) ≡ inner g) → (d : ℕ) (f : List Term)
-    → inlined [] (horner inner v d f) ≡ horner inner v d f
-horner_closed v inner is zero f = is f
-horner_closed v inner is (suc d) f = joined_closed v (horner inner v d (divided v f)) (inner (free_of v f)) (divided v f) (free_of v f)
-    (horner_closed v inner is d (divided v f)) (is (free_of v f))
-
 -- the whole
 nested_closed : (d k v : ℕ) (f : List Term) → inlined [] (nested d k v f) ≡ nested d k v f
-nested_closed d zero v f = refl
-nested_closed d (suc k) v f =
-    let is = λ (g : List Term). nested_closed d k (suc v) g in
-    horner_closed v (nested d k (suc v)) is d f
+nested_closed d k v =
+    nested_has (k + v) (λ f e. inlined [] e ≡ e) (λ f. refl) (λ v f h i l a b. joined_closed v h i (divided v f) (free_of v f) a b) d k v refl
 
 -- ---- the whole
 -- the coefficient of a polynomial is that of its terms
@@ -151,7 +142,7 @@ pub whole_lean : (d n : ℕ) (f : Sparse) (t : Typed) → untyped t ≡ tree_of 
 whole_lean d n f t e =
     let g = terms_of n f in
     let z : length g ≡ length f = length-map f (term_of n) in
-    let s = nested_slim n (max 1 (length f)) (largest f) (omega arith) d (n - 0) 0 (omega arith) (largest f) g (λ w. omega arith)
+    let s = nested_slim n (max 1 (length f)) (largest f) (omega arith) d (n - 0) 0 (omega arith) g (largest f) (λ w. omega arith)
     (terms_under n (largest f) f (λ w. omega arith)) (omega (arith, z)) in
     rw e s.nodes
 

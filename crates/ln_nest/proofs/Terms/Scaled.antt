@@ -20,29 +20,28 @@ number_is z (Sub e f) h = cc
 number_is z (Mul e f) h = cc
 number_is z (Pow e n) h = cc
 
+-- what holds by the tests of a tree for 1 and for -1
+unit_cases : (e : Tree) (P : Bool → Bool → Type 0) → (e ≡ Num (pos 1) → (q : Bool) → P true q) → (e ≡ Num (negsuc 0) → P false true) → P false false
+    → P (is_number (pos 1) e) (is_number (negsuc 0) e)
+unit_cases e P a b c = by_case (is_number (pos 1) e) (is_number (negsuc 0) e) (number_is (pos 1) e) (number_is (negsuc 0) e)
+  where
+    by_case : (p q : Bool) → (p ≡ true → e ≡ Num (pos 1)) → (q ≡ true → e ≡ Num (negsuc 0)) → P p q
+    by_case true q f g = a (f refl) q
+    by_case false true f g = b (g refl)
+    by_case false false f g = c
+
 -- what holds of the variable, its opposite and the product, each where it is taken
 pub scaled_cases : (v : ℕ) (h : Tree) (P : Tree → Type 0) → (h ≡ Num (pos 1) → P (Input v)) → (h ≡ Num (negsuc 0) → P (Neg (Input v)))
     → P (Mul (Input v) h) → P (scaled v h)
-scaled_cases v h P a b c = by_case (is_number (pos 1) h) (is_number (negsuc 0) h) (λ e. number_is (pos 1) h e) (λ e. number_is (negsuc 0) h e)
-  where
-    by_case : (p q : Bool) → (p ≡ true → h ≡ Num (pos 1)) → (q ≡ true → h ≡ Num (negsuc 0))
-        → P (if p then Input v else (if q then Neg (Input v) else Mul (Input v) h))
-    by_case true q f g = a (f refl)
-    by_case false true f g = b (g refl)
-    by_case false false f g = c
+scaled_cases v h P a b c = unit_cases h (λ p q. P (if p then Input v else (if q then Neg (Input v) else Mul (Input v) h))) (λ e q. a e) b c
 
 -- the same of trees with ranges
 pub product_cases : (v : ℕ) (x y : Typed) (P : Typed → Tree → Type 0) → (untyped y ≡ Num (pos 1) → P x (Input v))
     → (untyped y ≡ Num (negsuc 0) → P (opposite_of x) (Neg (Input v))) → P (times_of x y) (Mul (Input v) (untyped y))
     → P (product_of x y) (scaled v (untyped y))
-product_cases v x y P a b c = by_case (is_number (pos 1) (untyped y)) (is_number (negsuc 0) (untyped y))
-    (λ e. number_is (pos 1) (untyped y) e) (λ e. number_is (negsuc 0) (untyped y) e)
-  where
-    by_case : (p q : Bool) → (p ≡ true → untyped y ≡ Num (pos 1)) → (q ≡ true → untyped y ≡ Num (negsuc 0))
-        → P (if p then x else (if q then opposite_of x else times_of x y)) (if p then Input v else (if q then Neg (Input v) else Mul (Input v) (untyped y)))
-    by_case true q f g = a (f refl)
-    by_case false true f g = b (g refl)
-    by_case false false f g = c
+product_cases v x y P a b c =
+    unit_cases (untyped y) (λ p q. P (if p then x else (if q then opposite_of x else times_of x y))
+    (if p then Input v else (if q then Neg (Input v) else Mul (Input v) (untyped y)))) (λ e q. a e) b c
 
 -- ---- the expansion
 -- a vector and zeros are the vector

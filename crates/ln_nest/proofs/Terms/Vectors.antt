@@ -1,11 +1,14 @@
 -- Vectors and lists of terms as the code has them.
-use Rattle.std.proofs.Common.{◌≡◌, ℕ, ◌+◌, ◌-◌, ◌≤◌, ◌<◌, Bool, true, false, List, [], ◌∷◌, ◌++◌, length, refl, zero, suc, ap, arith, ◌∙◌}
-use Rattle.std.proofs.Common.{sym, if◌then◌else◌, nat_lt, slice_set, slice_index_or}
+use Rattle.std.proofs.Common.{◌≡◌, ℕ, ◌+◌, ◌-◌, ◌≤◌, ◌<◌, true, false, List, [], ◌∷◌, ◌++◌, length, refl, zero, suc, ap, arith, ◌∙◌}
+use Rattle.std.proofs.Common.{append-nil, sym, nat_lt, slice_set, slice_index_or}
 use Rattle.std.proofs.lemmas.Bool.Decides.{nat_tests}
+use Rattle.std.proofs.lemmas.List.{map-append}
+use Rattle.ln_algebra.specs.Terms.{Term}
 use Rattle.ln_nest.specs.declared.work.Work.{Work}
 use Rattle.ln_nest.specs.Nested.{exponent_of, is_positive, one_less, divided, free_of}
 use Rattle.ln_tree.specs.Exps.{Pairs, exponent, exponents_from, vector}
 use Rattle.ln_nest.specs.View.{term_in, terms_in}
+use Rattle.ln_nest.proofs.Terms.Parts.{by_parts, less_term}
 
 -- an exponent is the entry of the vector
 pub exponent_is : (v : ℕ) (m : List ℕ) → exponent_of v m ≡ slice_index_or m v 0
@@ -43,71 +46,48 @@ set_is v [] x e h = absurd (omega arith)
 set_is zero (n ∷ m) x e h = let f : x ≡ n = e in rw f refl
 set_is (suc v) (n ∷ m) x e h = ap (λ t. n ∷ t) (set_is v m x e (omega arith))
 
+-- the divided terms of two lists one after the other
+divided_both : (v : ℕ) (f g : List Term) → divided v (f ++ g) ≡ divided v f ++ divided v g
+divided_both v f g =
+    by_parts v (λ f d h. divided v (f ++ g) ≡ d ++ divided v g) refl (λ t f d h e ih. rw e (ap (λ z. less_term v t ∷ z) ih)) (λ t f d h e ih. rw e ih) f
+
+-- and the terms without v
+free_both : (v : ℕ) (f g : List Term) → free_of v (f ++ g) ≡ free_of v f ++ free_of v g
+free_both v f g = by_parts v (λ f d h. free_of v (f ++ g) ≡ h ++ free_of v g) refl (λ t f d h e ih. rw e ih) (λ t f d h e ih. rw e (ap (λ z. t ∷ z) ih)) f
+
 -- the divided terms with one term more
-pub divided_one : (v : ℕ) (ws : List Work) (w : Work) (b : Bool) → is_positive (exponent_of v w.exponents.items) ≡ b → divided v (terms_in (ws ++ (w ∷ [])))
-    ≡ divided v (terms_in ws) ++ (if b then record { exponents = one_less v w.exponents.items; factor = w.factor } ∷ [] else [])
-divided_one v [] w true e = rw e refl
-divided_one v [] w false e = rw e refl
-divided_one v (x ∷ ws) w b e = by_case (is_positive (exponent_of v x.exponents.items)) (divided_one v ws w b e)
-  where
-    by_case : (c : Bool) → divided v (terms_in (ws ++ (w ∷ []))) ≡ divided v (terms_in ws) ++ (if b then record {
-      exponents = one_less v w.exponents.items;
-      factor = w.factor;
-    } ∷ [] else []) → (if c then record {
-      exponents = one_less v x.exponents.items;
-      factor = x.factor;
-    } ∷ divided v (terms_in (ws ++ (w ∷ []))) else divided v (terms_in (ws ++ (w ∷ [])))) ≡ (if c then record {
-      exponents = one_less v x.exponents.items;
-      factor = x.factor;
-    } ∷ divided v (terms_in ws) else divided v (terms_in ws)) ++ (if b then record { exponents = one_less v w.exponents.items; factor = w.factor } ∷ [] else [])
-    by_case true ih = rw ih refl
-    by_case false ih = ih
+divided_one : (v : ℕ) (ws : List Work) (w : Work) (x : List Term) → divided v (term_in w ∷ []) ≡ x
+    → divided v (terms_in (ws ++ (w ∷ []))) ≡ divided v (terms_in ws) ++ x
+divided_one v ws w x e =
+    ap (divided v) (map-append term_in ws (w ∷ [])) ∙ divided_both v (terms_in ws) (term_in w ∷ []) ∙ ap (λ z. divided v (terms_in ws) ++ z) e
 
 -- the others with one term more
-pub free_one : (v : ℕ) (ws : List Work) (w : Work) (b : Bool) → is_positive (exponent_of v w.exponents.items) ≡ b
-    → free_of v (terms_in (ws ++ (w ∷ []))) ≡ free_of v (terms_in ws) ++ (if b then [] else term_in w ∷ [])
-free_one v [] w true e = rw e refl
-free_one v [] w false e = rw e refl
-free_one v (x ∷ ws) w b e = by_case (is_positive (exponent_of v x.exponents.items)) (free_one v ws w b e)
-  where
-    by_case : (c : Bool) → free_of v (terms_in (ws ++ (w ∷ []))) ≡ free_of v (terms_in ws) ++ (if b then [] else term_in w ∷ [])
-        → (if c then free_of v (terms_in (ws ++ (w ∷ []))) else term_in x ∷ free_of v (terms_in (ws ++ (w ∷ []))))
-        ≡ (if c then free_of v (terms_in ws) else term_in x ∷ free_of v (terms_in ws)) ++ (if b then [] else term_in w ∷ [])
-    by_case true ih = ih
-    by_case false ih = rw ih refl
-
--- working terms one after the other
-pub terms_append : (xs ys : List Work) → terms_in (xs ++ ys) ≡ terms_in xs ++ terms_in ys
-terms_append [] ys = refl
-terms_append (x ∷ xs) ys = ap (λ t. term_in x ∷ t) (terms_append xs ys)
-
--- nothing after a list leaves it
-no_more : {A : Type 0} (xs : List A) → xs ++ [] ≡ xs
-no_more [] = refl
-no_more (x ∷ xs) = ap (λ t. x ∷ t) (no_more xs)
+free_one : (v : ℕ) (ws : List Work) (w : Work) (x : List Term) → free_of v (term_in w ∷ []) ≡ x
+    → free_of v (terms_in (ws ++ (w ∷ []))) ≡ free_of v (terms_in ws) ++ x
+free_one v ws w x e = ap (free_of v) (map-append term_in ws (w ∷ [])) ∙ free_both v (terms_in ws) (term_in w ∷ []) ∙ ap (λ z. free_of v (terms_in ws) ++ z) e
 
 -- a term with v goes to the divided ones
 pub with_step : (v : ℕ) (items news : List Work) (lower : Work) (seen : List Work) (term : Work) → news ≡ items ++ (lower ∷ [])
     → lower.exponents.items ≡ one_less v term.exponents.items → lower.factor ≡ term.factor → terms_in items ≡ divided v (terms_in seen)
     → is_positive (exponent_of v term.exponents.items) ≡ true → terms_in news ≡ divided v (terms_in (seen ++ (term ∷ [])))
 with_step v items news lower seen term e p q i h =
-    ap terms_in e ∙ terms_append items (lower ∷ []) ∙ rw (i, p, q) (sym (divided_one v seen term true h))
+    ap terms_in e ∙ map-append term_in items (lower ∷ []) ∙ rw (i, p, q) (sym (divided_one v seen term (less_term v (term_in term) ∷ []) (rw h refl)))
 
 -- a term without v leaves them
 pub with_same : (v : ℕ) (items seen : List Work) (term : Work) → terms_in items ≡ divided v (terms_in seen)
     → is_positive (exponent_of v term.exponents.items) ≡ false → terms_in items ≡ divided v (terms_in (seen ++ (term ∷ [])))
-with_same v items seen term i h = i ∙ sym (divided_one v seen term false h ∙ no_more _)
+with_same v items seen term i h = i ∙ sym (divided_one v seen term [] (rw h refl) ∙ append-nil _)
 
 -- and goes to the others
 pub without_step : (v : ℕ) (items news seen : List Work) (term : Work) → news ≡ items ++ (term ∷ []) → terms_in items ≡ free_of v (terms_in seen)
     → is_positive (exponent_of v term.exponents.items) ≡ false → terms_in news ≡ free_of v (terms_in (seen ++ (term ∷ [])))
 without_step v items news seen term e i h =
-    ap terms_in e ∙ terms_append items (term ∷ []) ∙ rw i (sym (free_one v seen term false h))
+    ap terms_in e ∙ map-append term_in items (term ∷ []) ∙ rw i (sym (free_one v seen term (term_in term ∷ []) (rw h refl)))
 
 -- which a term with v leaves
 pub without_same : (v : ℕ) (items seen : List Work) (term : Work) → terms_in items ≡ free_of v (terms_in seen)
     → is_positive (exponent_of v term.exponents.items) ≡ true → terms_in items ≡ free_of v (terms_in (seen ++ (term ∷ [])))
-without_same v items seen term i h = i ∙ sym (free_one v seen term true h ∙ no_more _)
+without_same v items seen term i h = i ∙ sym (free_one v seen term [] (rw h refl) ∙ append-nil _)
 
 -- ---- a polynomial's terms
 -- one more variable

@@ -16,7 +16,7 @@ use Rattle.ln_tree.specs.Variables.{same_site}
 use Rattle.ln_tree.specs.Arguments.{site_behind, is_of, are_of, coords_of, args_fit}
 use Rattle.ln_tree.specs.Table.{CoordOf, SiteOf, ArgOf, SiteArg, ParamArg, arg_of, site_of, param_of, coord_of}
 use Rattle.ln_parse.specs.Says.{site_vars, coords_or, param_vars, vars_behind}
-use Rattle.ln_parse.proofs.Building.LaidOut.{Known, all_numbers, count_cons, count_append}
+use Rattle.ln_parse.proofs.Building.LaidOut.{Known, all_laid, site_none, count_cons, count_append}
 use Rattle.ln_tree.specs.Whole.{is_one_of}
 
 -- all coordinates of a site pass
@@ -58,7 +58,7 @@ of_all S P all a s (IsParam p ∷ args) h =
 pub all_are_of : (S : List SiteOf) (P : List CoordOf) → Known S P → (args : List Arg)
     → list_all (is_one_of (length S) (length P)) (map arg_of args) ≡ true → are_of args (vars_behind S P 0 0 (map arg_of args)) ≡ true
 all_are_of S P g args h =
-    let n = (all_numbers S P g 0 0 (map arg_of args) h).args in
+    let n = (all_laid S P g 0 0 (map arg_of args) h).args in
     let l = length-map args arg_of in
     and_from _ _ (of_all S P args 0 0 args (λ d. let e : 0 + d ≡ d = omega arith in ap (site_behind 0 args) e)) (eq-eqb _ _ (n ∙ l))
 
@@ -74,11 +74,7 @@ site_count k s c (x ∷ xs) =
     count_cons (of_arg k) (record { arg = k; site = Some s; coord = c; lo = x.lo; hi = x.hi }) (site_vars k s (suc c) xs) ∙ rw (e, r) (omega arith)
 
 site_no_count : (j k s c : ℕ) (xs : List CoordOf) → (k ≡ j → ⊥) → count_by (of_arg j) (site_vars k s c xs) ≡ 0
-site_no_count j k s c [] h = refl
-site_no_count j k s c (x ∷ xs) h =
-    let r = site_no_count j k s (suc c) xs h in
-    let e = ne_eqb k j h in
-    count_cons (of_arg j) (record { arg = k; site = Some s; coord = c; lo = x.lo; hi = x.hi }) (site_vars k s (suc c) xs) ∙ rw (e, r) refl
+site_no_count j k s c xs h = site_none (of_arg j) k s c xs (λ n x l. ne_eqb k j h)
 
 param_no_count : (j k : ℕ) (o : Option CoordOf) → (k ≡ j → ⊥) → count_by (of_arg j) (param_vars k o) ≡ 0
 param_no_count j k None h = refl

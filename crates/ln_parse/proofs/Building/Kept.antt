@@ -1,12 +1,13 @@
 -- What shapes, predicates and tables keep holds of what a ready file is built into.
 use Rattle.std.proofs.Common.{◌≡◌, ℕ, suc, ◌+◌, ◌<◌, ◌≤◌, ◌^◌, not, Bool, true, false, cond, List, [], ◌∷◌, ◌++◌, length, map, refl, ap}
 use Rattle.std.proofs.Common.{sym, ◌∙◌, subst, arith, length-append}
-use Rattle.std.specs.Prelude.{pos, neg_ℤ, int_lt, count_by}
+use Rattle.std.specs.Prelude.{pos, neg_ℤ, int_lt, count_by, filter_map, Option, Some, None, is_some}
 use Rattle.std.specs.List.{list_all}
 use Rattle.std.proofs.lemmas.Bool.{and_from, le-leb, eq-eqb, lt-ltb}
 use Rattle.std.proofs.lemmas.Bool.Decides.{nat_tests}
 use Rattle.std.proofs.lemmas.Int.{ints}
 use Rattle.std.proofs.lemmas.List.{length-map}
+use Rattle.std.proofs.lemmas.List.Elements.{filter_map-append}
 use Rattle.std.proofs.lemmas.List.Sums.{sum_by-cons}
 use Rattle.ln_base.specs.declared.span.Span.{Span}
 use Rattle.ln_lex.specs.declared.token.Token.{Token}
@@ -20,7 +21,7 @@ use Rattle.ln_syntax.proofs.Spellings.OneTree.{one_tree}
 use Rattle.ln_names.specs.Numbers.{number, signed, end_value}
 use Rattle.ln_names.specs.Rules.{scope, is_site_arg, is_param_arg}
 use Rattle.ln_names.specs.Visits.{value_nodes, nodes_before}
-use Rattle.ln_names.specs.Limits.{Each, RangeWithin, IsKnown}
+use Rattle.ln_names.specs.Limits.{Each, RangeWithin}
 use Rattle.ln_tree.specs.declared.shape.VarInfo.{VarInfo}
 use Rattle.ln_tree.specs.declared.expr.Expr.{Expr}
 use Rattle.ln_tree.specs.declared.items.Arg.{Arg}
@@ -36,14 +37,16 @@ use Rattle.ln_tree.specs.declared.items.Param.{Param}
 use Rattle.ln_tree.specs.Names.{name_bytes}
 use Rattle.ln_tree.specs.Variables.{is_laid_out}
 use Rattle.ln_tree.specs.Table.{CoordOf, SiteOf, ArgOf, TableOf, PredOf, arg_of, site_of, param_of, pred_of, pred_fits, is_table}
-use Rattle.ln_parse.specs.Says.{ranged, resolved, Says, LetsSay, PredsSay, arg_said, sites_said, params_said, vars_behind, is_site_said}
+use Rattle.ln_parse.specs.Says.{ranged, resolved, Says, LetsSay, PredsSay, arg_said, site_said, param_said, sites_said, params_said, vars_behind}
+use Rattle.ln_parse.specs.Says.{is_site_said}
 use Rattle.ln_parse.specs.Ready.{ReadyValue, ReadyCoord, ReadyArg, ReadyLet, ReadyPred, ReadyItem, ReadyFile, is_ranged, is_good_site, Declares}
 use Rattle.ln_parse.proofs.Building.Predicates.{PredAt}
 use Rattle.ln_parse.proofs.Building.LaidOut.{Known, count_cons, laid_out}
 use Rattle.ln_parse.proofs.Building.Arguments.{all_are_of, all_fit}
+use Rattle.ln_parse.proofs.Expressions.Found.{said_count, each_weaker}
 use Rattle.ln_parse.proofs.Expressions.Fitting.{Sees, said, all_known, fits}
 use Rattle.ln_parse.proofs.Wholes.TestLemmas.{in_order}
-use Rattle.ln_tree.specs.Whole.{is_one_of}
+use Rattle.ln_tree.specs.Whole.{is_one_of, is_param_said}
 
 above : (b : Bool) (n : ℕ) → n < 2 ^ 63 → int_lt (neg_ℤ (pos (2 ^ 63))) (signed b n) ≡ true
 above false n h = grind (arith, nat_tests, ints)
@@ -59,6 +62,11 @@ coords_good : (bytes : List ℕ) (before cs : List RawCoord) → Each (λ before
     → list_all is_ranged (map (λ c. ranged bytes c.name c.range) cs) ≡ true
 coords_good bytes before [] e = refl
 coords_good bytes before (c ∷ cs) e = and_from _ _ (ranged_good bytes c.name c.range e.0.range) (coords_good bytes (before ++ (c ∷ [])) cs e.1)
+
+-- the name of a predicate; of another item none
+abbrev pub pred_name : Item → Option Span
+pred_name (PredItem n as' ls r) = Some n
+pred_name i = None
 
 -- the site types and params of ready items are good
 pub sites_good : (bytes : List ℕ) (ts : List Token) (before is : List Item) → Each (ReadyItem bytes ts) before is
@@ -82,43 +90,23 @@ params_good bytes ts before (ParamItem n r ∷ is) e =
     and_from _ _ (ranged_good bytes n r e.0.range) (params_good bytes ts (before ++ (ParamItem n r ∷ [])) is e.1)
 params_good bytes ts before (PredItem n as' ls p ∷ is) e = params_good bytes ts (before ++ (PredItem n as' ls p ∷ [])) is e.1
 
--- the site types among items and more items are those among both, joined
-pub sites_append : (bytes : List ℕ) (xs ys : List Item) → sites_said bytes (xs ++ ys) ≡ sites_said bytes xs ++ sites_said bytes ys
-sites_append bytes [] ys = refl
-sites_append bytes (SiteItem n cs ∷ xs) ys =
-    ap (λ (w : List SiteOf). record { name = text bytes n; coords = map (λ c. ranged bytes c.name c.range) cs } ∷ w) (sites_append bytes xs ys)
-sites_append bytes (ParamItem n r ∷ xs) ys = sites_append bytes xs ys
-sites_append bytes (PredItem n as' ls p ∷ xs) ys = sites_append bytes xs ys
-
--- and so are the params
-pub params_append : (bytes : List ℕ) (xs ys : List Item) → params_said bytes (xs ++ ys) ≡ params_said bytes xs ++ params_said bytes ys
-params_append bytes [] ys = refl
-params_append bytes (SiteItem n cs ∷ xs) ys = params_append bytes xs ys
-params_append bytes (ParamItem n r ∷ xs) ys = ap (λ (w : List CoordOf). ranged bytes n r ∷ w) (params_append bytes xs ys)
-params_append bytes (PredItem n as' ls p ∷ xs) ys = params_append bytes xs ys
-
 -- the table of a file begins with what the items before a place declare
 pub declared : (bytes : List ℕ) (ts : List Token) (before rest is : List Item) (S : List SiteOf) (P : List CoordOf) → before ++ rest ≡ is
     → S ≡ sites_said bytes is → P ≡ params_said bytes is → Each (ReadyItem bytes ts) [] is → Declares bytes before S P
 declared bytes ts before rest is S P q s p e =
     record {
       more_sites = sites_said bytes rest;
-      sites_are = s ∙ ap (λ (w : List Item). sites_said bytes w) (sym q) ∙ sites_append bytes before rest;
+      sites_are = s ∙ ap (λ (w : List Item). sites_said bytes w) (sym q) ∙ filter_map-append (site_said bytes) before rest;
       more_params = params_said bytes rest;
-      params_are = p ∙ ap (λ (w : List Item). params_said bytes w) (sym q) ∙ params_append bytes before rest;
+      params_are = p ∙ ap (λ (w : List Item). params_said bytes w) (sym q) ∙ filter_map-append (param_said bytes) before rest;
       good_sites = ap (list_all is_good_site) s ∙ sites_good bytes ts [] is e;
       good_params = ap (list_all is_ranged) p ∙ params_good bytes ts [] is e;
     }
 
-known_args : (bytes : List ℕ) (is : List Item) (before args : List RawArg) → Each (λ before a. ReadyArg bytes is a) before args
-    → Each (λ before a. IsKnown bytes is a a.is_param) before args
-known_args bytes is before [] e = tt
-known_args bytes is before (a ∷ args) e = (e.0.known, known_args bytes is (before ++ (a ∷ [])) args e.1)
-
 -- the arguments of a ready predicate are declared
 pub sees : (bytes : List ℕ) (is : List Item) (args : List RawArg) (S : List SiteOf) (P : List CoordOf) → Declares bytes is S P
     → Each (λ before a. ReadyArg bytes is a) [] args → Sees bytes is args S P
-sees bytes is args S P d e = record { declares = d; known = known_args bytes is [] args e }
+sees bytes is args S P d e = record { declares = d; known = each_weaker _ _ (λ b a r. r.known) [] args e }
 
 -- how many site arguments there are, and how many arguments
 said_by : (bytes : List ℕ) (is : List Item) (a : RawArg) (b : Bool) → is_site_said (arg_said bytes is a b) ≡ not b
@@ -132,6 +120,18 @@ sites_are bytes is (a ∷ args) =
     let e = said_by bytes is a a.is_param in
     let r = sites_are bytes is args in
     count_cons is_site_said (arg_said bytes is a a.is_param) (said bytes is args) ∙ rw (e, r) (sym (count_cons is_site_arg a args))
+
+param_by : (bytes : List ℕ) (is : List Item) (a : RawArg) (b : Bool) → is_param_said (arg_said bytes is a b) ≡ b
+param_by bytes is a true = refl
+param_by bytes is a false = refl
+
+-- and as many params as param arguments
+pub params_are : (bytes : List ℕ) (is : List Item) (args : List RawArg) → count_by is_param_said (said bytes is args) ≡ count_by is_param_arg args
+params_are bytes is [] = refl
+params_are bytes is (a ∷ args) =
+    let e = param_by bytes is a a.is_param in
+    let r = params_are bytes is args in
+    count_cons is_param_said (arg_said bytes is a a.is_param) (said bytes is args) ∙ rw (e, r) (sym (count_cons is_param_arg a args))
 
 either : (b : Bool) → cond (not b) 1 0 + cond b 1 0 ≡ 1
 either true = refl
@@ -271,53 +271,42 @@ as_many bytes ls names h =
     let b = length-map ls (λ (l : RawLet). text bytes l.name) in
     let c = ap (λ (w : List (List ℕ)). length w) h in omega arith
 
--- there are as many site types, params and predicates as items that are such
-said_sites : (bytes : List ℕ) (is : List Item) → length (sites_said bytes is) ≡ count_by is_site is
-said_sites bytes [] = refl
-said_sites bytes (SiteItem n cs ∷ is) =
-    let r = said_sites bytes is in
-    let c : count_by is_site (SiteItem n cs ∷ is) ≡ 1 + count_by is_site is = count_cons is_site (SiteItem n cs) is in
-    omega arith
-said_sites bytes (ParamItem n q ∷ is) =
-    let r = said_sites bytes is in
-    let c : count_by is_site (ParamItem n q ∷ is) ≡ 0 + count_by is_site is = count_cons is_site (ParamItem n q) is in
-    omega arith
-said_sites bytes (PredItem n as' ls q ∷ is) =
-    let r = said_sites bytes is in
-    let c : count_by is_site (PredItem n as' ls q ∷ is) ≡ 0 + count_by is_site is = count_cons is_site (PredItem n as' ls q) is in
-    omega arith
+-- the names of the predicates that items say
+pub preds_named : (bytes : List ℕ) (ts : List Token) (t : TableOf) (before is : List Item) (ps : List PredOf) → PredsSay bytes ts before t is ps
+    → map (λ (p : PredOf). p.name) ps ≡ map (text bytes) (filter_map pred_name is)
+preds_named bytes ts t before [] [] s = refl
+preds_named bytes ts t before [] (p ∷ ps) s = absurd s
+preds_named bytes ts t before (SiteItem n cs ∷ is) ps s = preds_named bytes ts t (before ++ (SiteItem n cs ∷ [])) is ps s
+preds_named bytes ts t before (ParamItem n r ∷ is) ps s = preds_named bytes ts t (before ++ (ParamItem n r ∷ [])) is ps s
+preds_named bytes ts t before (PredItem n as' ls r ∷ is) [] s = absurd s
+preds_named bytes ts t before (PredItem n as' ls r ∷ is) (p ∷ ps) s =
+    let a = s.0.name_is in
+    let b = preds_named bytes ts t (before ++ (PredItem n as' ls r ∷ [])) is ps s.1 in
+    rw (a, b) refl
 
-said_params : (bytes : List ℕ) (is : List Item) → length (params_said bytes is) ≡ count_by is_param is
-said_params bytes [] = refl
-said_params bytes (SiteItem n cs ∷ is) =
-    let r = said_params bytes is in
-    let c : count_by is_param (SiteItem n cs ∷ is) ≡ 0 + count_by is_param is = count_cons is_param (SiteItem n cs) is in
-    omega arith
-said_params bytes (ParamItem n q ∷ is) =
-    let r = said_params bytes is in
-    let c : count_by is_param (ParamItem n q ∷ is) ≡ 1 + count_by is_param is = count_cons is_param (ParamItem n q) is in
-    omega arith
-said_params bytes (PredItem n as' ls q ∷ is) =
-    let r = said_params bytes is in
-    let c : count_by is_param (PredItem n as' ls q ∷ is) ≡ 0 + count_by is_param is = count_cons is_param (PredItem n as' ls q) is in
-    omega arith
+-- there are as many site types as items that are such
+pub said_sites : (bytes : List ℕ) (is : List Item) → length (sites_said bytes is) ≡ count_by is_site is
+said_sites bytes is = said_count (site_said bytes) is_site is (λ x. elim x as (λ y. is_site y ≡ is_some (site_said bytes y))
+    [ SiteItem n cs ↦ refl | ParamItem n r ↦ refl | PredItem n as' ls r ↦ refl ])
+
+-- and as many params
+pub said_params : (bytes : List ℕ) (is : List Item) → length (params_said bytes is) ≡ count_by is_param is
+said_params bytes is = said_count (param_said bytes) is_param is (λ x. elim x as (λ y. is_param y ≡ is_some (param_said bytes y))
+    [ SiteItem n cs ↦ refl | ParamItem n r ↦ refl | PredItem n as' ls r ↦ refl ])
+
+-- and as many names of predicates
+pub preds_counted : (is : List Item) → length (filter_map pred_name is) ≡ count_by is_pred is
+preds_counted is = said_count pred_name is_pred is (λ x. elim x as (λ y. is_pred y ≡ is_some (pred_name y))
+    [ SiteItem n cs ↦ refl | ParamItem n r ↦ refl | PredItem n as' ls r ↦ refl ])
 
 said_preds : (bytes : List ℕ) (ts : List Token) (before : List Item) (t : TableOf) (is : List Item) (ps : List PredOf)
     → PredsSay bytes ts before t is ps → length ps ≡ count_by is_pred is
-said_preds bytes ts before t [] [] s = refl
-said_preds bytes ts before t [] (p ∷ ps) s = absurd s
-said_preds bytes ts before t (SiteItem n cs ∷ is) ps s =
-    let r = said_preds bytes ts (before ++ (SiteItem n cs ∷ [])) t is ps s in
-    let c : count_by is_pred (SiteItem n cs ∷ is) ≡ 0 + count_by is_pred is = count_cons is_pred (SiteItem n cs) is in
+said_preds bytes ts before t is ps s =
+    let a = length-map ps (λ (p : PredOf). p.name) in
+    let b = length-map (filter_map pred_name is) (text bytes) in
+    let c = ap (λ (w : List (List ℕ)). length w) (preds_named bytes ts t before is ps s) in
+    let d = preds_counted is in
     omega arith
-said_preds bytes ts before t (ParamItem n q ∷ is) ps s =
-    let r = said_preds bytes ts (before ++ (ParamItem n q ∷ [])) t is ps s in
-    let c : count_by is_pred (ParamItem n q ∷ is) ≡ 0 + count_by is_pred is = count_cons is_pred (ParamItem n q) is in
-    omega arith
-said_preds bytes ts before t (PredItem n as' ls q ∷ is) [] s = absurd s
-said_preds bytes ts before t (PredItem n as' ls q ∷ is) (p ∷ ps) s =
-    let r = said_preds bytes ts (before ++ (PredItem n as' ls q ∷ [])) t is ps s.1 in
-    let c : count_by is_pred (PredItem n as' ls q ∷ is) ≡ 1 + count_by is_pred is = count_cons is_pred (PredItem n as' ls q) is in omega arith
 
 -- the table of a ready file is a table
 pub table_kept : (bytes : List ℕ) (ts : List Token) (is : List Item) (sites : List Site) (params : List Param) (preds : List Pred)

@@ -31,8 +31,8 @@ count_append p xs ys = sum_by-append (λ y. cond (p y) 1 0) xs ys
 same : (n : ℕ) → (n == n) ≡ true
 same n = eq-eqb n n refl
 
-not_first : (n : ℕ) → (suc n == 0) ≡ false
-not_first n = grind (arith, nat_tests)
+not_first : (n : ℕ) → 1 ≤ n → (n == 0) ≡ false
+not_first n h = grind (arith, nat_tests)
 
 -- a coordinate goes on with the one before
 goes : (a s n : ℕ) (x y : CoordOf) → suc n < 32 → goes_on (record { arg = a; site = Some s; coord = n; lo = x.lo; hi = x.hi })
@@ -52,7 +52,7 @@ site_goes a s n x (y ∷ ys) rest h r =
     let i : in_order (suc a) (suc s) (record { arg = a; site = Some s; coord = suc n; lo = y.lo; hi = y.hi }) (site_vars a s (suc (suc n)) ys ++ rest) ≡ true =
     site_goes a s (suc n) y ys rest (omega arith) r in
     let g = goes a s n x y (omega arith) in
-    let z = not_first n in
+    let z = not_first (suc n) (omega arith) in
     rw z (and_from _ _ g i)
 
 -- the coordinates of a site, and what follows them
@@ -82,112 +82,80 @@ coords_order : (a s : ℕ) (b : VarInfo) (xs : List CoordOf) (rest : List VarInf
 coords_order a s b [] rest p q r = absurd (omega arith)
 coords_order a s b (x ∷ xs) rest p q r = site_order a s b x xs rest (omega arith) r
 
--- the variables of known arguments are in order
-pub all_order : (S : List SiteOf) (P : List CoordOf) → Known S P → (a s : ℕ) (b : VarInfo) (args : List ArgOf)
-    → list_all (is_one_of (length S) (length P)) args ≡ true → in_order a s b (vars_behind S P a s args) ≡ true
-all_order S P g a s b [] h = refl
-all_order S P g a s b (SiteArg n t ∷ args) h =
-    let q = and_parts (nat_lt t (length S)) (list_all (is_one_of (length S) (length P)) args) h in
-    let x = get_all is_good_site S t g.sites (ltb-true t (length S) q.0) in
-    let y = good_parts x.0 x.2 in
-    let e = x.1 in
-    rw e (coords_order a s b x.0.coords (vars_behind S P (suc a) (suc s) args) y.0 y.1 (λ d. all_order S P g (suc a) (suc s) d args q.1))
-all_order S P g a s b (ParamArg p ∷ args) h =
-    let q = and_parts (nat_lt p (length P)) (list_all (is_one_of (length S) (length P)) args) h in
-    let x = get_all is_ranged P p g.params (ltb-true p (length P) q.0) in
-    let e = x.1 in
-    rw e (param_order a s b x.0 (vars_behind S P (suc a) s args) (λ d. all_order S P g (suc a) s d args q.1))
-
 site_ranges : (k s c : ℕ) (xs : List CoordOf) → list_all is_ranged xs ≡ true → list_all has_range (site_vars k s c xs) ≡ true
 site_ranges k s c [] h = refl
 site_ranges k s c (x ∷ xs) h = let q = and_parts (is_ranged x) (list_all is_ranged xs) h in and_from _ _ q.0 (site_ranges k s (suc c) xs q.1)
 
--- and each has a range
-pub all_ranges : (S : List SiteOf) (P : List CoordOf) → Known S P → (a s : ℕ) (args : List ArgOf)
-    → list_all (is_one_of (length S) (length P)) args ≡ true → list_all has_range (vars_behind S P a s args) ≡ true
-all_ranges S P g a s [] h = refl
-all_ranges S P g a s (SiteArg n t ∷ args) h =
-    let q = and_parts (nat_lt t (length S)) (list_all (is_one_of (length S) (length P)) args) h in
-    let x = get_all is_good_site S t g.sites (ltb-true t (length S) q.0) in
-    let y = good_parts x.0 x.2 in
-    let e = x.1 in
-    rw e (list_all-append has_range (site_vars a s 0 x.0.coords) (vars_behind S P (suc a) (suc s) args)
-    ∙ and_from _ _ (site_ranges a s 0 x.0.coords y.2) (all_ranges S P g (suc a) (suc s) args q.1))
-all_ranges S P g a s (ParamArg p ∷ args) h =
-    let q = and_parts (nat_lt p (length P)) (list_all (is_one_of (length S) (length P)) args) h in
-    let x = get_all is_ranged P p g.params (ltb-true p (length P) q.0) in
-    let e = x.1 in
-    rw e (and_from _ _ x.2 (all_ranges S P g (suc a) s args q.1))
-
--- how many of the variables after the first one of a site start a site, start an argument, are params
-rest_none : (p : VarInfo → Bool) (k s c : ℕ) (xs : List CoordOf)
-    → ((n : ℕ) (x : CoordOf) → p (record { arg = k; site = Some s; coord = suc n; lo = x.lo; hi = x.hi }) ≡ false) → count_by p (site_vars k s (suc c) xs) ≡ 0
-rest_none p k s c [] h = refl
-rest_none p k s c (x ∷ xs) h =
-    let e = h c x in
-    let r = rest_none p k s (suc c) xs h in
-    count_cons p (record { arg = k; site = Some s; coord = suc c; lo = x.lo; hi = x.hi }) (site_vars k s (suc (suc c)) xs) ∙ rw (e, r) refl
+-- none of the variables of a site from coordinate c on passes a test that none from it on passes
+pub site_none : (p : VarInfo → Bool) (k s c : ℕ) (xs : List CoordOf)
+    → ((n : ℕ) (x : CoordOf) → c ≤ n → p (record { arg = k; site = Some s; coord = n; lo = x.lo; hi = x.hi }) ≡ false) → count_by p (site_vars k s c xs) ≡ 0
+site_none p k s c [] h = refl
+site_none p k s c (x ∷ xs) h =
+    let e = h c x (omega arith) in
+    let r = site_none p k s (suc c) xs (λ n y l. h n y (omega arith)) in
+    count_cons p (record { arg = k; site = Some s; coord = c; lo = x.lo; hi = x.hi }) (site_vars k s (suc c) xs) ∙ rw (e, r) refl
 
 site_one : (p : VarInfo → Bool) (k s : ℕ) (xs : List CoordOf) → 0 < length xs
     → ((x : CoordOf) → p (record { arg = k; site = Some s; coord = 0; lo = x.lo; hi = x.hi }) ≡ true)
-    → ((n : ℕ) (x : CoordOf) → p (record { arg = k; site = Some s; coord = suc n; lo = x.lo; hi = x.hi }) ≡ false) → count_by p (site_vars k s 0 xs) ≡ 1
+    → ((n : ℕ) (x : CoordOf) → 1 ≤ n → p (record { arg = k; site = Some s; coord = n; lo = x.lo; hi = x.hi }) ≡ false) → count_by p (site_vars k s 0 xs) ≡ 1
 site_one p k s [] l g h = absurd (omega arith)
 site_one p k s (x ∷ xs) l g h =
     let e = g x in
-    let r = rest_none p k s 0 xs h in
+    let r = site_none p k s 1 xs h in
     count_cons p (record { arg = k; site = Some s; coord = 0; lo = x.lo; hi = x.hi }) (site_vars k s 1 xs) ∙ rw (e, r) refl
-
-site_none : (p : VarInfo → Bool) (k s c : ℕ) (xs : List CoordOf)
-    → ((n : ℕ) (x : CoordOf) → p (record { arg = k; site = Some s; coord = n; lo = x.lo; hi = x.hi }) ≡ false) → count_by p (site_vars k s c xs) ≡ 0
-site_none p k s c [] h = refl
-site_none p k s c (x ∷ xs) h =
-    let e = h c x in
-    let r = site_none p k s (suc c) xs h in
-    count_cons p (record { arg = k; site = Some s; coord = c; lo = x.lo; hi = x.hi }) (site_vars k s (suc c) xs) ∙ rw (e, r) refl
 
 -- a site has as many variables as coordinates
 pub site_length : (k s c : ℕ) (xs : List CoordOf) → length (site_vars k s c xs) ≡ length xs
 site_length k s c [] = refl
 site_length k s c (x ∷ xs) = ap suc (site_length k s (suc c) xs)
 
--- how many of the variables of arguments there are of each kind
-pub record Numbers (as' : List ArgOf) (vars : List VarInfo) : Type 0 where
+-- the variables of arguments from number a on, after s sites, are in order, each with a range, and so many are of each kind
+pub record Laid (a s : ℕ) (as' : List ArgOf) (vars : List VarInfo) : Type 0 where
+  pub order : (b : VarInfo) → in_order a s b vars ≡ true
+  pub ranges : list_all has_range vars ≡ true
   pub sites : count_by starts_site vars ≡ count_by is_site_said as'
   pub args : count_by starts_arg vars ≡ length as'
   pub params : count_by is_param vars + count_by is_site_said as' ≡ length as'
   pub size : length vars + count_by is_site_said as' ≤ 32 * count_by is_site_said as' + length as'
 
--- the variables of known arguments have these numbers
-pub all_numbers : (S : List SiteOf) (P : List CoordOf) → Known S P → (a s : ℕ) (args : List ArgOf)
-    → list_all (is_one_of (length S) (length P)) args ≡ true → Numbers args (vars_behind S P a s args)
-all_numbers S P g a s [] h = record { sites = refl; args = refl; params = refl; size = omega arith }
-all_numbers S P g a s (SiteArg n t ∷ args) h =
+-- the variables of known arguments are so
+pub all_laid : (S : List SiteOf) (P : List CoordOf) → Known S P → (a s : ℕ) (args : List ArgOf)
+    → list_all (is_one_of (length S) (length P)) args ≡ true → Laid a s args (vars_behind S P a s args)
+all_laid S P g a s [] h =
+    record { order = λ b. refl; ranges = refl; sites = refl; args = refl; params = refl; size = omega arith }
+all_laid S P g a s (SiteArg n t ∷ args) h =
     let q = and_parts (nat_lt t (length S)) (list_all (is_one_of (length S) (length P)) args) h in
     let x = get_all is_good_site S t g.sites (ltb-true t (length S) q.0) in
     let y = good_parts x.0 x.2 in
     let mine = site_vars a s 0 x.0.coords in
     let rest = vars_behind S P (suc a) (suc s) args in
-    let r = all_numbers S P g (suc a) (suc s) args q.1 in
+    let r = all_laid S P g (suc a) (suc s) args q.1 in
     let v : vars_behind S P a s (SiteArg n t ∷ args) ≡ mine ++ rest = ap (λ (o : Option SiteOf). site_vars a s 0 (coords_or o) ++ rest) x.1 in
     let here : count_by is_site_said (SiteArg n t ∷ args) ≡ 1 + count_by is_site_said args = count_cons is_site_said (SiteArg n t) args in
     let c1 = count_append starts_site mine rest in
     let c2 = count_append starts_arg mine rest in
     let c3 = count_append is_param mine rest in
     let c4 = length-append mine rest in
-    let d1 = site_one starts_site a s x.0.coords y.0 (λ z. refl) (λ m z. not_first m) in
-    let d2 = site_one starts_arg a s x.0.coords y.0 (λ z. refl) (λ m z. not_first m) in
-    let d3 = site_none is_param a s 0 x.0.coords (λ m z. refl) in
+    let d1 = site_one starts_site a s x.0.coords y.0 (λ z. refl) (λ m z l. not_first m l) in
+    let d2 = site_one starts_arg a s x.0.coords y.0 (λ z. refl) (λ m z l. not_first m l) in
+    let d3 = site_none is_param a s 0 x.0.coords (λ m z l. refl) in
     let d4 = site_length a s 0 x.0.coords in
     let few = y.1 in
     let r1 = r.sites in let r2 = r.args in let r3 = r.params in let r4 = r.size in
-    subst (λ (w : List VarInfo). Numbers (SiteArg n t ∷ args) w) (sym v)
-    (record { sites = omega arith; args = omega arith; params = omega arith; size = omega arith })
-all_numbers S P g a s (ParamArg p ∷ args) h =
+    subst (λ (w : List VarInfo). Laid a s (SiteArg n t ∷ args) w) (sym v) (record {
+      order = λ b. coords_order a s b x.0.coords rest y.0 y.1 r.order;
+      ranges = list_all-append has_range mine rest ∙ and_from _ _ (site_ranges a s 0 x.0.coords y.2) r.ranges;
+      sites = omega arith;
+      args = omega arith;
+      params = omega arith;
+      size = omega arith;
+    })
+all_laid S P g a s (ParamArg p ∷ args) h =
     let q = and_parts (nat_lt p (length P)) (list_all (is_one_of (length S) (length P)) args) h in
     let x = get_all is_ranged P p g.params (ltb-true p (length P) q.0) in
     let mine = param_vars a (Some x.0) in
     let rest = vars_behind S P (suc a) s args in
-    let r = all_numbers S P g (suc a) s args q.1 in
+    let r = all_laid S P g (suc a) s args q.1 in
     let v : vars_behind S P a s (ParamArg p ∷ args) ≡ mine ++ rest = ap (λ (o : Option CoordOf). param_vars a o ++ rest) x.1 in
     let here : count_by is_site_said (ParamArg p ∷ args) ≡ 0 + count_by is_site_said args = count_cons is_site_said (ParamArg p) args in
     let i : VarInfo = record { arg = a; site = None; coord = 0; lo = x.0.lo; hi = x.0.hi } in
@@ -195,18 +163,24 @@ all_numbers S P g a s (ParamArg p ∷ args) h =
     let c2 : count_by starts_arg (mine ++ rest) ≡ 1 + count_by starts_arg rest = count_cons starts_arg i rest in
     let c3 : count_by is_param (mine ++ rest) ≡ 1 + count_by is_param rest = count_cons is_param i rest in
     let r1 = r.sites in let r2 = r.args in let r3 = r.params in let r4 = r.size in
-    subst (λ (w : List VarInfo). Numbers (ParamArg p ∷ args) w) (sym v)
-    (record { sites = omega arith; args = omega arith; params = omega arith; size = omega arith })
+    subst (λ (w : List VarInfo). Laid a s (ParamArg p ∷ args) w) (sym v) (record {
+      order = λ b. param_order a s b x.0 rest r.order;
+      ranges = and_from _ _ x.2 r.ranges;
+      sites = omega arith;
+      args = omega arith;
+      params = omega arith;
+      size = omega arith;
+    })
 
 -- the variables of known arguments are those of a shape
 pub laid_out : (S : List SiteOf) (P : List CoordOf) → Known S P → (args : List ArgOf) → list_all (is_one_of (length S) (length P)) args ≡ true
     → count_by is_site_said args ≤ 5 → length args ≤ count_by is_site_said args + 8
     → is_laid_out (count_by is_site_said args) (vars_behind S P 0 0 args) ≡ true
 laid_out S P g args h sites params =
-    let n = all_numbers S P g 0 0 args h in
+    let n = all_laid S P g 0 0 args h in
     let vars = vars_behind S P 0 0 args in
     let a = n.sites in let b = n.params in let c = n.size in
-    and_from _ _ (and_from _ _ (and_from _ _ (and_from _ _ (and_from _ _ (all_order S P g 0 0 no_var args h) (all_ranges S P g 0 0 args h))
+    and_from _ _ (and_from _ _ (and_from _ _ (and_from _ _ (and_from _ _ (n.order no_var) n.ranges)
     (eq-eqb (count_by starts_site vars) (count_by is_site_said args) a))
     (le-leb (count_by is_site_said args) 5 sites)) (le-leb (count_by is_param vars) 8 (omega arith))) (le-leb (length vars) 168 (omega arith))
 

@@ -1,6 +1,6 @@
 -- A file without a fault is ready to be built.
-use Rattle.std.proofs.Common.{◌≡◌, ℕ, suc, ◌+◌, ◌≤◌, Bool, true, List, [], ◌∷◌, ◌++◌, length, refl, ◌∙◌, arith}
-use Rattle.std.specs.Prelude.{count_by, All}
+use Rattle.std.proofs.Common.{◌≡◌, ℕ, suc, ◌+◌, ◌≤◌, Bool, true, false, List, [], ◌∷◌, ◌++◌, length, refl, ◌∙◌, arith}
+use Rattle.std.specs.Prelude.{count_by, is_some, All}
 use Rattle.std.specs.List.{list_all}
 use Rattle.std.proofs.lemmas.Bool.{and_from, le-leb}
 use Rattle.std.proofs.lemmas.List.Folds.{list_all-append}
@@ -18,10 +18,11 @@ use Rattle.ln_names.specs.Rules.{Scope}
 use Rattle.ln_names.specs.Limits.{Each, CoordWithin, ArgWithin, LetWithin, ItemWithin, ValueWithin, FileWithin}
 use Rattle.ln_names.proofs.Faultless.{faultless_is_within}
 use Rattle.ln_parse.specs.Fault.{IsFaultless}
-use Rattle.ln_parse.specs.Says.{site_names, param_names}
+use Rattle.ln_parse.specs.Says.{name_if, site_names, param_names}
 use Rattle.ln_parse.specs.Ready.{ReadyValue, ReadyCoord, ReadyArg, ReadyLet, ReadyItem, ReadyFile, is_few}
 use Rattle.ln_parse.proofs.Texts.Names.{Sliced, name_text}
-use Rattle.ln_parse.proofs.Expressions.Roles.{Fresh, fresh_behind, is_fit}
+use Rattle.ln_parse.proofs.Expressions.Found.{said_count}
+use Rattle.ln_parse.proofs.Expressions.Roles.{Fresh, fresh_behind, has_roles, is_fit}
 use Rattle.ln_parse.proofs.Expressions.Counts.{node_count_is}
 use Rattle.ln_parse.proofs.Building.LaidOut.{count_cons, count_append}
 
@@ -29,7 +30,8 @@ use Rattle.ln_parse.proofs.Building.LaidOut.{count_cons, count_append}
 value_ready : {bytes : List ℕ} {ts : List Token} {s : Scope} {i j : ℕ} → IsExpr ts i j → Is ts j Semi → Fresh ts i
     → ValueWithin bytes ts s (record { from = i; to = j }) → ReadyValue bytes ts s (record { from = i; to = j })
 value_ready {bytes = bytes} {s = s} e m f w =
-    record { tree = e.0; derives = e.1; ends = m; fit = is_fit {s = s} (record { each = w }) e.1 m f; counted = node_count_is bytes s e.1 m f }
+    let r = has_roles e.1 m f in
+    record { tree = e.0; derives = e.1; ends = m; fit = is_fit {s = s} (record { each = w }) r; counted = node_count_is bytes s r }
 
 coords_ready : (bytes : List ℕ) (ts : List Token) (before : List RawCoord) {i j : ℕ} {cs : List RawCoord} → Sliced bytes ts
     → Coords ts i j cs → Each (CoordWithin bytes) before cs → Each (λ before c. ReadyCoord bytes c) before cs
@@ -90,37 +92,13 @@ few_item bytes ts before (SiteItem name cs) w = le-leb (length cs) 32 w.parts.0
 few_item bytes ts before (ParamItem name r) w = refl
 few_item bytes ts before (PredItem name args ls root) w = refl
 
--- there are as many names of site types, and of params, as such items
-pub sites_counted : (is : List Item) → length (site_names is) ≡ count_by is_site is
-sites_counted [] = refl
-sites_counted (SiteItem n cs ∷ is) =
-    let r = sites_counted is in
-    let c : count_by is_site (SiteItem n cs ∷ is) ≡ 1 + count_by is_site is = count_cons is_site (SiteItem n cs) is in
-    omega arith
-sites_counted (ParamItem n r ∷ is) =
-    let q = sites_counted is in
-    let c : count_by is_site (ParamItem n r ∷ is) ≡ 0 + count_by is_site is = count_cons is_site (ParamItem n r) is in
-    omega arith
-sites_counted (PredItem n as' ls r ∷ is) =
-    let q = sites_counted is in
-    let c : count_by is_site (PredItem n as' ls r ∷ is) ≡ 0 + count_by is_site is = count_cons is_site (PredItem n as' ls r) is in
-    omega arith
+sites_counted : (is : List Item) → length (site_names is) ≡ count_by is_site is
+sites_counted is = said_count (name_if false) is_site is (λ x. elim x as (λ y. is_site y ≡ is_some (name_if false y))
+    [ SiteItem n cs ↦ refl | ParamItem n r ↦ refl | PredItem n as' ls r ↦ refl ])
 
--- and as many names of params as params
-pub params_counted : (is : List Item) → length (param_names is) ≡ count_by is_param is
-params_counted [] = refl
-params_counted (SiteItem n cs ∷ is) =
-    let r = params_counted is in
-    let c : count_by is_param (SiteItem n cs ∷ is) ≡ 0 + count_by is_param is = count_cons is_param (SiteItem n cs) is in
-    omega arith
-params_counted (ParamItem n r ∷ is) =
-    let q = params_counted is in
-    let c : count_by is_param (ParamItem n r ∷ is) ≡ 1 + count_by is_param is = count_cons is_param (ParamItem n r) is in
-    omega arith
-params_counted (PredItem n as' ls r ∷ is) =
-    let q = params_counted is in
-    let c : count_by is_param (PredItem n as' ls r ∷ is) ≡ 0 + count_by is_param is = count_cons is_param (PredItem n as' ls r) is in
-    omega arith
+params_counted : (is : List Item) → length (param_names is) ≡ count_by is_param is
+params_counted is = said_count (name_if true) is_param is (λ x. elim x as (λ y. is_param y ≡ is_some (name_if true y))
+    [ SiteItem n cs ↦ refl | ParamItem n r ↦ refl | PredItem n as' ls r ↦ refl ])
 
 moved : {A : Type 0} (p : A → Bool) (before : List A) (x : A) (xs : List A) (n : ℕ) → count_by p before + count_by p (x ∷ xs) ≤ n
     → count_by p (before ++ (x ∷ [])) + count_by p xs ≤ n

@@ -1,21 +1,18 @@
 -- What has been said so far, and what remains to be said.
-use Rattle.std.proofs.Common.{◌≡◌, ℕ, false, ◌+◌, ◌≤◌, List, [], ◌∷◌, ◌++◌, length, take, drop, map, refl, ap, sym, subst, ◌∙◌}
+use Rattle.std.proofs.Common.{◌≡◌, ℕ, ◌<◌, get_or, false, ◌+◌, ◌≤◌, List, [], ◌∷◌, ◌++◌, length, take, drop, map, refl, ap, sym, subst, ◌∙◌}
 use Rattle.std.proofs.Common.{append-nil, append_assoc}
+use Rattle.std.specs.Prelude.{filter_map, Option, Some, None}
+use Rattle.std.specs.List.{cons_option}
 use Rattle.std.proofs.lemmas.List.{drop_all, map_push}
-use Rattle.ln_base.specs.declared.span.Span.{Span}
 use Rattle.ln_lex.specs.declared.token.Token.{Token}
 use Rattle.ln_syntax.specs.declared.raw.RawArg.{RawArg}
 use Rattle.ln_syntax.specs.declared.raw.RawLet.{RawLet}
-use Rattle.ln_syntax.specs.declared.raw.RawCoord.{RawCoord}
-use Rattle.ln_syntax.specs.declared.raw.RawRange.{RawRange}
 use Rattle.ln_syntax.specs.declared.raw.RawItem.{RawItem}
-use Rattle.ln_syntax.specs.Raw.{Item, SiteItem, ParamItem, PredItem, item, items, is_site, is_param, is_pred, text}
+use Rattle.ln_syntax.specs.Raw.{Item, SiteItem, ParamItem, PredItem, item, items, is_pred}
 use Rattle.ln_names.specs.Rules.{Scope, scope}
 use Rattle.ln_tree.specs.Formula.{Formula}
-use Rattle.ln_tree.specs.declared.items.Site.{Site}
-use Rattle.ln_tree.specs.declared.items.Param.{Param}
-use Rattle.ln_tree.specs.Table.{SiteOf, CoordOf, TableOf, PredOf, site_of, param_of}
-use Rattle.ln_parse.specs.Says.{Says, LetsSay, ranged, sites_said, params_said, PredsSay}
+use Rattle.ln_tree.specs.Table.{TableOf, PredOf}
+use Rattle.ln_parse.specs.Says.{Says, LetsSay, PredsSay}
 use Rattle.ln_parse.proofs.Building.Lists.{IsAt, SeenAt, drop_item, take_item, drop_seen, take_seen}
 
 -- the lets from place i on, after these formulas
@@ -44,63 +41,28 @@ lets_more bytes ts s i done more l x h e m on xs d =
     let r : done ++ (x ∷ xs) ≡ more ++ xs = sym (ap (λ (w : List Formula). w ++ xs) m ∙ append_assoc done (x ∷ []) xs) in
     subst (λ (w : List Formula). LetsSay bytes ts s.items s.args [] s.lets w) r (on (x ∷ xs) here)
 
--- these site types, and those among the items from place i on, are all
-abbrev pub SitesOn : List ℕ → List RawItem → ℕ → List Site → Type 0
-SitesOn bytes its i done = map site_of done ++ sites_said bytes (items (drop i its)) ≡ sites_said bytes (items its)
+-- what these say, and what the items from place i on say, is all that the items say
+abbrev pub SaidOn : {A B : Type 0} → (Item → Option B) → (A → B) → List RawItem → ℕ → List A → Type 0
+SaidOn says of its i done = map of done ++ filter_map says (items (drop i its)) ≡ filter_map says (items its)
 
--- one more site type is said
-pub sites_more : (bytes : List ℕ) (its : List RawItem) (i : ℕ) (name : Span) (coords : List RawCoord) (done more : List Site) (s : Site)
-    → SeenAt item its i (SiteItem name coords)
-    → site_of s ≡ record { name = text bytes name; coords = map (λ c. ranged bytes c.name c.range) coords } → more ≡ done ++ (s ∷ [])
-    → SitesOn bytes its i done → SitesOn bytes its (i + 1) more
-sites_more bytes its i name coords done more s h r m on =
-    let rest = sites_said bytes (items (drop (i + 1) its)) in
-    let a : map site_of more ≡ map site_of done ++ (site_of s ∷ []) = ap (λ (w : List Site). map site_of w) m ∙ map_push site_of done s in
-    let b : sites_said bytes (items (drop i its)) ≡ site_of s ∷ rest =
-    ap (λ (w : List Item). sites_said bytes w) (drop_seen item its i (SiteItem name coords) h) ∙ ap (λ (w : SiteOf). w ∷ rest) (sym r) in
-    ap (λ (w : List SiteOf). w ++ rest) a ∙ append_assoc (map site_of done) (site_of s ∷ []) rest ∙ sym (ap (λ (w : List SiteOf). map site_of done ++ w) b) ∙ on
+module _ {A B : Type 0} (says : Item → Option B) (of : A → B) (its : List RawItem) (i : ℕ) (y : RawItem) (done more : List A)
+    (l : i < length its) (h : y ≡ get_or its i y) where
+  next : filter_map says (items (drop i its)) ≡ cons_option (says (item y)) (filter_map says (items (drop (i + 1) its)))
+  next = ap (λ (w : List Item). filter_map says w) (drop_seen item its i (item y) (record { element = y; at = record { below = l; is = h }; seen = refl }))
 
-no_site : (bytes : List ℕ) (y : Item) (is : List Item) → is_site y ≡ false → sites_said bytes (y ∷ is) ≡ sites_said bytes is
-no_site bytes (SiteItem name coords) is h = absurd (cc)
-no_site bytes (ParamItem name range) is h = refl
-no_site bytes (PredItem name args ls root) is h = refl
+  -- one more is said
+  pub said_more : (x : A) → says (item y) ≡ Some (of x) → more ≡ done ++ (x ∷ []) → SaidOn says of its i done → SaidOn says of its (i + 1) more
+  said_more x e m on =
+      let rest = filter_map says (items (drop (i + 1) its)) in
+      ap (λ (w : List A). map of w ++ rest) m ∙ ap (λ (w : List B). w ++ rest) (map_push of done x) ∙ append_assoc (map of done) (of x ∷ []) rest
+      ∙ ap (λ (o : Option B). map of done ++ cons_option o rest) (sym e) ∙ ap (λ (w : List B). map of done ++ w) (sym next) ∙ on
 
--- an item that is no site type adds none
-pub sites_skip : (bytes : List ℕ) (its : List RawItem) (i : ℕ) (y : Item) (done more : List Site) → SeenAt item its i y → is_site y ≡ false
-    → more ≡ done → SitesOn bytes its i done → SitesOn bytes its (i + 1) more
-sites_skip bytes its i y done more h n m on =
-    let b : sites_said bytes (items (drop i its)) ≡ sites_said bytes (items (drop (i + 1) its)) =
-    ap (λ (w : List Item). sites_said bytes w) (drop_seen item its i y h) ∙ no_site bytes y (items (drop (i + 1) its)) n in
-    rw (m, ← b) on
-
--- these params, and those among the items from place i on, are all
-abbrev pub ParamsOn : List ℕ → List RawItem → ℕ → List Param → Type 0
-ParamsOn bytes its i done = map param_of done ++ params_said bytes (items (drop i its)) ≡ params_said bytes (items its)
-
--- one more param is said
-pub params_more : (bytes : List ℕ) (its : List RawItem) (i : ℕ) (name : Span) (range : RawRange) (done more : List Param) (p : Param)
-    → SeenAt item its i (ParamItem name range) → param_of p ≡ ranged bytes name range → more ≡ done ++ (p ∷ [])
-    → ParamsOn bytes its i done → ParamsOn bytes its (i + 1) more
-params_more bytes its i name range done more p h r m on =
-    let rest = params_said bytes (items (drop (i + 1) its)) in
-    let a : map param_of more ≡ map param_of done ++ (param_of p ∷ []) = ap (λ (w : List Param). map param_of w) m ∙ map_push param_of done p in
-    let b : params_said bytes (items (drop i its)) ≡ param_of p ∷ rest =
-    ap (λ (w : List Item). params_said bytes w) (drop_seen item its i (ParamItem name range) h) ∙ ap (λ (w : CoordOf). w ∷ rest) (sym r) in
-    ap (λ (w : List CoordOf). w ++ rest) a ∙ append_assoc (map param_of done) (param_of p ∷ []) rest
-    ∙ sym (ap (λ (w : List CoordOf). map param_of done ++ w) b) ∙ on
-
-no_param : (bytes : List ℕ) (y : Item) (is : List Item) → is_param y ≡ false → params_said bytes (y ∷ is) ≡ params_said bytes is
-no_param bytes (SiteItem name coords) is h = refl
-no_param bytes (ParamItem name range) is h = absurd (cc)
-no_param bytes (PredItem name args ls root) is h = refl
-
--- an item that is no param adds none
-pub params_skip : (bytes : List ℕ) (its : List RawItem) (i : ℕ) (y : Item) (done more : List Param) → SeenAt item its i y → is_param y ≡ false
-    → more ≡ done → ParamsOn bytes its i done → ParamsOn bytes its (i + 1) more
-params_skip bytes its i y done more h n m on =
-    let b : params_said bytes (items (drop i its)) ≡ params_said bytes (items (drop (i + 1) its)) =
-    ap (λ (w : List Item). params_said bytes w) (drop_seen item its i y h) ∙ no_param bytes y (items (drop (i + 1) its)) n in
-    rw (m, ← b) on
+  -- an item that says none adds none
+  pub said_skip : says (item y) ≡ None → more ≡ done → SaidOn says of its i done → SaidOn says of its (i + 1) more
+  said_skip e m on =
+      let rest = filter_map says (items (drop (i + 1) its)) in
+      let b : filter_map says (items (drop i its)) ≡ rest = next ∙ ap (λ (o : Option B). cons_option o rest) e in
+      rw (m, ← b) on
 
 -- the predicates among the items from place i on, after these predicates
 abbrev pub PredsOn : List ℕ → List Token → TableOf → List RawItem → ℕ → List PredOf → Type 0

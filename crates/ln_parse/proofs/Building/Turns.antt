@@ -7,14 +7,14 @@ use Rattle.ln_tree.specs.declared.items.Arg.{Arg}
 use Rattle.ln_tree.specs.declared.items.Coord.{Coord}
 use Rattle.ln_tree.specs.declared.shape.VarInfo.{VarInfo}
 use Rattle.ln_tree.specs.Table.{ArgOf, CoordOf, SiteOf, arg_of, coord_of}
-use Rattle.ln_parse.proofs.Building.Lists.{IsAt, SeenAt, drop_item, take_seen}
+use Rattle.ln_parse.proofs.Building.Lists.{IsAt, seen_or, drop_item, take_seen}
 use Rattle.ln_parse.specs.Says.{coords_or, is_site_said, param_vars, site_vars, vars_behind}
 
 -- ---- lists that are seen through a function
 -- one more element
-pub one_mapped : {A B C : Type 0} (f : A → C) (g : B → C) (xs : List B) (i : ℕ) (y : A) (ys : List A) → SeenAt g xs i (f y)
+pub one_mapped : {A B C : Type 0} (f : A → C) (g : B → C) (xs : List B) (i : ℕ) (d : B) (y : A) (ys : List A) → i < length xs → f y ≡ g (get_or xs i d)
     → map f ys ≡ map g (take i xs) → map f (ys ++ (y ∷ [])) ≡ map g (take (i + 1) xs)
-one_mapped f g xs i y ys s inv = map_push f ys y ∙ ap (λ w. w ++ (f y ∷ [])) inv ∙ sym (take_seen g xs i (f y) s)
+one_mapped f g xs i d y ys l e inv = map_push f ys y ∙ ap (λ w. w ++ (f y ∷ [])) inv ∙ sym (take_seen g xs i (f y) (seen_or g xs i d (f y) l e))
 
 -- all elements
 pub all_mapped : {B C : Type 0} (g : B → C) (xs : List B) (i : ℕ) → length xs ≤ i → map g (take i xs) ≡ map g xs
@@ -61,6 +61,9 @@ module _ (args : List Arg) (k : ℕ) where
   -- after the last argument the sites that were counted are all sites
   pub all_seen : (s all : ℕ) → length args ≤ k → s + count_by is_site_said (map arg_of (drop k args)) ≡ all → s ≡ all
   all_seen s all l inv = let e : s + count_by is_site_said [] ≡ all = rw (drop_all k args l) at inv in omega (arith, e)
+
+-- what a turn of the loop over arguments keeps, and what it has at its end
+pub ruleset arguments = (one_arg, one_seen, all_args, all_seen)
 
 -- the variables of a site are those of its coordinates
 pub site_arg : (sites : List SiteOf) (params : List CoordOf) (k s t : ℕ) (cs : List CoordOf) (vars now : List VarInfo)

@@ -2,10 +2,11 @@
 use Rattle.std.proofs.Common.{◌≡◌, ℕ, ◌<◌, ◌^◌, ◌&&◌, ◌||◌, not, Bool, true, false, List, [], ◌∷◌, ◌++◌, length, map, Option, Some, None}
 use Rattle.std.proofs.Common.{refl, ap, ◌∙◌, subst, arith}
 use Rattle.std.specs.Prelude.{slice_get, position, option_map, int_lt, pos}
-use Rattle.std.specs.List.{list_any, list_all, find, position_or_len}
+use Rattle.std.specs.List.{list_any, list_all, find}
 use Rattle.std.proofs.lemmas.Bool.{and_parts, and_from, lt-ltb, le-leb, not-true}
 use Rattle.std.proofs.lemmas.Bool.Decides.{nat_tests}
 use Rattle.std.proofs.lemmas.Int.{ints}
+use Rattle.std.proofs.lemmas.List.{length-map}
 use Rattle.std.proofs.lemmas.Option.{slice_get-map, slice_get_within}
 use Rattle.ln_base.specs.declared.span.Span.{Span}
 use Rattle.ln_syntax.specs.declared.raw.RawCoord.{RawCoord}
@@ -20,10 +21,12 @@ use Rattle.ln_tree.specs.Variables.{number_or_end}
 use Rattle.ln_tree.specs.Formula as formulas
 use Rattle.ln_tree.specs.Fits.{is_fit}
 use Rattle.ln_tree.specs.Table.{CoordOf, SiteOf, ArgOf, SiteArg, ParamArg}
-use Rattle.ln_parse.specs.Says.{place, resolved, name_of, arg_said, site_names, param_names, sites_said, params_said, vars_behind}
+use Rattle.ln_parse.specs.Says.{place, ranged, resolved, name_of, arg_said, site_names, param_names, sites_said, params_said, coords_or}
+use Rattle.ln_parse.specs.Says.{vars_behind}
 use Rattle.ln_parse.specs.Ready.{Declares, Fit}
 use Rattle.ln_parse.proofs.Expressions.Found.{found_at, place_len, position_below, no_position, number_from, coord_there, param_there}
-use Rattle.ln_parse.proofs.Expressions.Found.{site_found, param_found, get_longer, each_get}
+use Rattle.ln_parse.proofs.Expressions.Found.{sites_named, params_named, any_site, any_param, coords_found, get_longer, each_get}
+use Rattle.ln_parse.proofs.ReadBack.InputsThere.{at_place}
 use Rattle.ln_tree.specs.Whole.{is_one_of}
 
 -- what follows the colons of arguments is declared
@@ -41,19 +44,27 @@ pub record TypeFound (bytes : List ℕ) (is : List Item) (S : List SiteOf) (kind
   pub there : slice_get S (place (λ n. same bytes n kind) (site_names is)) ≡ Some site
   pub size : length site.coords ≡ length (coords_in (find (λ i. is_site i && same bytes (item_name i) kind) is))
 
+there_in : {A : Type 0} (all xs ys : List A) (k : ℕ) (x : A) → all ≡ xs ++ ys → slice_get xs k ≡ Some x → slice_get all k ≡ Some x
+there_in all xs ys k x e h = rw e (get_longer xs ys k x h)
+
 -- so it is for a name that an item declares as a site type
 pub type_found : (bytes : List ℕ) (is : List Item) (S : List SiteOf) (P : List CoordOf) (kind : Span) → Declares bytes is S P
     → list_any (λ i. is_site i && same bytes (item_name i) kind) is ≡ true → TypeFound bytes is S kind
 type_found bytes is S P kind d h =
     let q = λ (n : Span). same bytes n kind in
-    let f = site_found bytes q is h in
-    let e : place q (site_names is) ≡ position_or_len q (site_names is) = place_len q (site_names is) f.named in
-    let g : slice_get (sites_said bytes is ++ d.more_sites) (position_or_len q (site_names is)) ≡ Some f.site =
-    get_longer (sites_said bytes is) d.more_sites (position_or_len q (site_names is)) f.site f.there in
+    let k = place q (site_names is) in
+    let a = any_site q is ∙ h in
+    let below = (found_at q (site_names is) a).below in
+    let l = length-map (sites_said bytes is) (λ (s : SiteOf). s.name) in
+    let m = length-map (site_names is) (text bytes) in
+    let n = ap (λ (w : List (List ℕ)). length w) (sites_named bytes is) in
+    let e = at_place (sites_said bytes is) k (omega arith) in
+    let c : coords_or (slice_get (sites_said bytes is) k) ≡ map (λ (c : RawCoord). ranged bytes c.name c.range) (coords_in (find (λ i. is_site i
+    && q (item_name i)) is)) = rw (place_len q (site_names is) a) (coords_found bytes q is) in
     record {
-      site = f.site;
-      there = ap (slice_get S) e ∙ ap (λ (w : List SiteOf). slice_get w (position_or_len q (site_names is))) d.sites_are ∙ g;
-      size = f.size;
+      site = e.0;
+      there = there_in S (sites_said bytes is) d.more_sites k e.0 d.sites_are e.1;
+      size = ap (λ (w : List CoordOf). length w) (rw e.1 at c) ∙ length-map _ (λ (c : RawCoord). ranged bytes c.name c.range);
     }
 
 -- and the param of a name that an item declares is among those of the table
@@ -62,11 +73,13 @@ pub value_found : (bytes : List ℕ) (is : List Item) (S : List SiteOf) (P : Lis
     → (x : CoordOf) × (slice_get P (place (λ n. same bytes n name) (param_names is)) ≡ Some x)
 value_found bytes is S P name d h =
     let q = λ (n : Span). same bytes n name in
-    let f = param_found bytes q is h in
-    let e : place q (param_names is) ≡ position_or_len q (param_names is) = place_len q (param_names is) f.named in
-    let g : slice_get (params_said bytes is ++ d.more_params) (position_or_len q (param_names is)) ≡ Some f.param =
-    get_longer (params_said bytes is) d.more_params (position_or_len q (param_names is)) f.param f.there in
-    (f.param, ap (slice_get P) e ∙ ap (λ (w : List CoordOf). slice_get w (position_or_len q (param_names is))) d.params_are ∙ g)
+    let k = place q (param_names is) in
+    let below = (found_at q (param_names is) (any_param q is ∙ h)).below in
+    let l = length-map (params_said bytes is) (λ (c : CoordOf). c.name) in
+    let m = length-map (param_names is) (text bytes) in
+    let n = ap (λ (w : List (List ℕ)). length w) (params_named bytes is) in
+    let e = at_place (params_said bytes is) k (omega arith) in
+    (e.0, there_in P (params_said bytes is) d.more_params k e.0 d.params_are e.1)
 
 known_one : (bytes : List ℕ) (is : List Item) (S : List SiteOf) (P : List CoordOf) (a : RawArg) (b : Bool) → Declares bytes is S P
     → IsKnown bytes is a b → is_one_of (length S) (length P) (arg_said bytes is a b) ≡ true

@@ -1,8 +1,8 @@
 -- What names stand for is there.
 use Rattle.std.proofs.Common.{◌≡◌, ℕ, zero, suc, ◌+◌, ◌<◌, ◌==◌, ◌&&◌, ◌||◌, Bool, true, false, cond, nat_lt, List, [], ◌∷◌, ◌++◌, length}
-use Rattle.std.proofs.Common.{take, map, Some, None, refl, ap, sym, ◌∙◌, subst, arith, append_assoc, append-nil}
-use Rattle.std.specs.Prelude.{slice_get, position}
-use Rattle.std.specs.List.{list_any, find, position_or_len}
+use Rattle.std.proofs.Common.{take, map, Option, Some, None, refl, ap, sym, ◌∙◌, subst, arith, append_assoc, append-nil}
+use Rattle.std.specs.Prelude.{slice_get, position, filter_map, count_by, is_some}
+use Rattle.std.specs.List.{list_any, find, position_or_len, cons_option}
 use Rattle.std.proofs.lemmas.Bool.{and_from, or_left, or_right, ltb-true, lt-ltb, eq-eqb}
 use Rattle.std.proofs.lemmas.List.Folds.{list_any-append}
 use Rattle.ln_base.specs.declared.span.Span.{Span}
@@ -13,6 +13,7 @@ use Rattle.ln_tree.specs.declared.shape.VarInfo.{VarInfo}
 use Rattle.ln_tree.specs.Variables.{is_var, number_or_end}
 use Rattle.ln_tree.specs.Table.{CoordOf, SiteOf, ArgOf, SiteArg, ParamArg}
 use Rattle.ln_parse.specs.Says.{place, ranged, site_names, param_names, sites_said, params_said, site_vars, coords_or, param_vars, vars_behind}
+use Rattle.ln_parse.proofs.Building.LaidOut.{count_cons}
 
 -- the first place of an element that passes
 len_head : {A : Type 0} (p : A → Bool) (x : A) (xs : List A) → p x ≡ true → position_or_len p (x ∷ xs) ≡ 0
@@ -55,6 +56,14 @@ found_at p xs h = subst (λ (n : ℕ). Found p xs n) (sym (place_len p xs h)) (f
 position_by : (b : Bool) (n l j : ℕ) → nat_lt n l ≡ b → cond b (Some n) None ≡ Some j → j < l
 position_by true n l j e h = let q : n ≡ j = cc in let r = ltb-true n l e in omega arith
 position_by false n l j e h = absurd (cc)
+
+position_at : (b : Bool) (n j : ℕ) → cond b (Some n) None ≡ Some j → n ≡ j
+position_at true n j h = cc
+position_at false n j h = absurd (cc)
+
+-- a position is that of the first that passes
+pub position_is_len : {A : Type 0} (p : A → Bool) (xs : List A) (j : ℕ) → position p xs ≡ Some j → position_or_len p xs ≡ j
+position_is_len p xs j h = position_at (nat_lt (position_or_len p xs) (length xs)) (position_or_len p xs) j h
 
 -- and so the position of the first that passes is
 pub position_below : {A : Type 0} (p : A → Bool) (xs : List A) (j : ℕ) → position p xs ≡ Some j → j < length xs
@@ -149,70 +158,72 @@ param_there S P a s (suc d) p x (ParamArg q ∷ args) h e =
     let r = subst (λ (w : ℕ). list_any (is_var w 0) (vars_behind S P (suc a) s args) ≡ true) z (param_there S P (suc a) s d p x args h e) in
     any_right (is_var (a + suc d) 0) (param_vars a (slice_get P q)) (vars_behind S P (suc a) s args) r
 
--- the site type of a name: where it is, and how many coordinates it has
-pub record SiteFound (bytes : List ℕ) (q : Span → Bool) (is : List Item) : Type 0 where
-  pub site : SiteOf
-  pub there : slice_get (sites_said bytes is) (position_or_len q (site_names is)) ≡ Some site
-  pub size : length site.coords ≡ length (coords_in (find (λ i. is_site i && q (item_name i)) is))
-  pub named : list_any q (site_names is) ≡ true
+-- ---- the site types and the params among items
+-- the names of the site types, as texts
+pub sites_named : (bytes : List ℕ) (is : List Item) → map (λ (s : SiteOf). s.name) (sites_said bytes is) ≡ map (text bytes) (site_names is)
+sites_named bytes [] = refl
+sites_named bytes (SiteItem n cs ∷ is) = ap (λ (w : List (List ℕ)). text bytes n ∷ w) (sites_named bytes is)
+sites_named bytes (ParamItem n r ∷ is) = sites_named bytes is
+sites_named bytes (PredItem n as' ls r ∷ is) = sites_named bytes is
 
-map_length : (bytes : List ℕ) (cs : List RawCoord) → length (map (λ c. ranged bytes c.name c.range) cs) ≡ length cs
-map_length bytes [] = refl
-map_length bytes (c ∷ cs) = ap suc (map_length bytes cs)
+-- the names of the params, as texts
+pub params_named : (bytes : List ℕ) (is : List Item) → map (λ (c : CoordOf). c.name) (params_said bytes is) ≡ map (text bytes) (param_names is)
+params_named bytes [] = refl
+params_named bytes (SiteItem n cs ∷ is) = params_named bytes is
+params_named bytes (ParamItem n r ∷ is) = ap (λ (w : List (List ℕ)). text bytes n ∷ w) (params_named bytes is)
+params_named bytes (PredItem n as' ls r ∷ is) = params_named bytes is
 
-site_by : (bytes : List ℕ) (q : Span → Bool) (n : Span) (cs : List RawCoord) (is : List Item) (b : Bool) → q n ≡ b
-    → (b || list_any (λ i. is_site i && q (item_name i)) is) ≡ true
-    → (list_any (λ i. is_site i && q (item_name i)) is ≡ true → SiteFound bytes q is) → SiteFound bytes q (SiteItem n cs ∷ is)
-site_by bytes q n cs is true e h on =
-    let l = len_head q n (site_names is) e in
-    record {
-      site = record { name = text bytes n; coords = map (λ c. ranged bytes c.name c.range) cs };
-      there = rw l refl;
-      size = rw e (map_length bytes cs);
-      named = or_left _ _ e;
-    }
-site_by bytes q n cs is false e h on =
-    let l = len_tail q n (site_names is) e in
-    let r = on h in
-    record { site = r.site; there = rw l r.there; size = rw e r.size; named = or_right _ _ r.named }
+-- some name of a site type passes exactly where some item is a site type whose name does
+pub any_site : (q : Span → Bool) (is : List Item) → list_any q (site_names is) ≡ list_any (λ i. is_site i && q (item_name i)) is
+any_site q [] = refl
+any_site q (SiteItem n cs ∷ is) = ap (λ (b : Bool). q n || b) (any_site q is)
+any_site q (ParamItem n r ∷ is) = any_site q is
+any_site q (PredItem n as' ls r ∷ is) = any_site q is
 
--- where some site type among items has a name that passes, the first such is found
-pub site_found : (bytes : List ℕ) (q : Span → Bool) (is : List Item) → list_any (λ i. is_site i && q (item_name i)) is ≡ true → SiteFound bytes q is
-site_found bytes q [] h = absurd (cc)
-site_found bytes q (SiteItem n cs ∷ is) h = site_by bytes q n cs is (q n) refl h (site_found bytes q is)
-site_found bytes q (ParamItem n r ∷ is) h = let f = site_found bytes q is h in record { site = f.site; there = f.there; size = f.size; named = f.named }
-site_found bytes q (PredItem n as' ls r ∷ is) h = let f = site_found bytes q is h in record { site = f.site; there = f.there; size = f.size; named = f.named }
+-- and some name of a param where some item is such a param
+pub any_param : (q : Span → Bool) (is : List Item) → list_any q (param_names is) ≡ list_any (λ i. is_param i && q (item_name i)) is
+any_param q [] = refl
+any_param q (SiteItem n cs ∷ is) = any_param q is
+any_param q (ParamItem n r ∷ is) = ap (λ (b : Bool). q n || b) (any_param q is)
+any_param q (PredItem n as' ls r ∷ is) = any_param q is
 
--- the param of a name
-pub record ParamFound (bytes : List ℕ) (q : Span → Bool) (is : List Item) : Type 0 where
-  pub param : CoordOf
-  pub there : slice_get (params_said bytes is) (position_or_len q (param_names is)) ≡ Some param
-  pub named : list_any q (param_names is) ≡ true
+coords_by : (bytes : List ℕ) (q : Span → Bool) (n : Span) (cs : List RawCoord) (is : List Item) (b : Bool) → q n ≡ b
+    → coords_or (slice_get (sites_said bytes is) (position_or_len q (site_names is)))
+    ≡ map (λ c. ranged bytes c.name c.range) (coords_in (find (λ i. is_site i && q (item_name i)) is))
+    → coords_or (slice_get (sites_said bytes (SiteItem n cs ∷ is)) (position_or_len q (n ∷ site_names is)))
+    ≡ map (λ c. ranged bytes c.name c.range) (coords_in (find (λ i. is_site i && q (item_name i)) (SiteItem n cs ∷ is)))
+coords_by bytes q n cs is true e h = let l = len_head q n (site_names is) e in rw (l, e) refl
+coords_by bytes q n cs is false e h = let l = len_tail q n (site_names is) e in rw (l, e) h
 
-param_by : (bytes : List ℕ) (q : Span → Bool) (n : Span) (r : CoordOf) (is : List Item) (ps : List CoordOf) (ns : List Span) (b : Bool)
-    → q n ≡ b → (b || list_any (λ i. is_param i && q (item_name i)) is) ≡ true
-    → (list_any (λ i. is_param i && q (item_name i)) is ≡ true → (x : CoordOf) × (slice_get ps (position_or_len q ns) ≡ Some x) × (list_any q ns ≡ true))
-    → (x : CoordOf) × (slice_get (r ∷ ps) (position_or_len q (n ∷ ns)) ≡ Some x) × (list_any q (n ∷ ns) ≡ true)
-param_by bytes q n r is ps ns true e h on = let l = len_head q n ns e in (r, rw l refl, or_left _ _ e)
-param_by bytes q n r is ps ns false e h on = let l = len_tail q n ns e in let f = on h in (f.0, rw l f.1, or_right _ _ f.2)
+-- the coordinates of the first site type whose name passes
+pub coords_found : (bytes : List ℕ) (q : Span → Bool) (is : List Item) → coords_or (slice_get (sites_said bytes is) (position_or_len q (site_names is)))
+    ≡ map (λ c. ranged bytes c.name c.range) (coords_in (find (λ i. is_site i && q (item_name i)) is))
+coords_found bytes q [] = refl
+coords_found bytes q (SiteItem n cs ∷ is) = coords_by bytes q n cs is (q n) refl (coords_found bytes q is)
+coords_found bytes q (ParamItem n r ∷ is) = coords_found bytes q is
+coords_found bytes q (PredItem n as' ls r ∷ is) = coords_found bytes q is
 
-param_found_by : (bytes : List ℕ) (q : Span → Bool) (is : List Item) → list_any (λ i. is_param i && q (item_name i)) is ≡ true
-    → (x : CoordOf) × (slice_get (params_said bytes is) (position_or_len q (param_names is)) ≡ Some x) × (list_any q (param_names is) ≡ true)
-param_found_by bytes q [] h = absurd (cc)
-param_found_by bytes q (SiteItem n cs ∷ is) h = param_found_by bytes q is h
-param_found_by bytes q (ParamItem n r ∷ is) h =
-    param_by bytes q n (ranged bytes n r) is (params_said bytes is) (param_names is) (q n) refl h (param_found_by bytes q is)
-param_found_by bytes q (PredItem n as' ls r ∷ is) h = param_found_by bytes q is h
+one_said : {X A : Type 0} (f : X → Option A) (p : X → Bool) (x : X) (xs : List X) (o : Option A) → p x ≡ is_some o
+    → length (filter_map f xs) ≡ count_by p xs → length (cons_option o (filter_map f xs)) ≡ count_by p (x ∷ xs)
+one_said f p x xs None h r = sym (count_cons p x xs ∙ rw h (omega arith))
+one_said f p x xs (Some a) h r = sym (count_cons p x xs ∙ rw h (omega arith))
 
--- where some param among items has a name that passes, the first such is found
-pub param_found : (bytes : List ℕ) (q : Span → Bool) (is : List Item) → list_any (λ i. is_param i && q (item_name i)) is ≡ true → ParamFound bytes q is
-param_found bytes q is h = let f = param_found_by bytes q is h in record { param = f.0; there = f.1; named = f.2 }
+-- there are as many as elements that pass, where those that pass are some
+pub said_count : {X A : Type 0} (f : X → Option A) (p : X → Bool) (xs : List X) → ((x : X) → p x ≡ is_some (f x)) → length (filter_map f xs) ≡ count_by p xs
+said_count f p [] h = refl
+said_count f p (x ∷ xs) h = one_said f p x xs (f x) (h x) (said_count f p xs h)
 
 -- what is in a list is in a longer one
 pub get_longer : {A : Type 0} (xs ys : List A) (k : ℕ) (x : A) → slice_get xs k ≡ Some x → slice_get (xs ++ ys) k ≡ Some x
 get_longer [] ys k x h = absurd (cc)
 get_longer (y ∷ xs) ys zero x h = h
 get_longer (y ∷ xs) ys (suc k) x h = get_longer xs ys k x h
+
+-- what holds of each element, a weaker fact holds of each
+pub each_weaker : {A : Type 0} (P Q : List A → A → Type 0) → ((before : List A) (x : A) → P before x → Q before x) → (before xs : List A)
+    → Each P before xs → Each Q before xs
+each_weaker P Q f before [] e = tt
+each_weaker P Q f before (x ∷ xs) e = (f before x e.0, each_weaker P Q f (before ++ (x ∷ [])) xs e.1)
 
 -- what holds of each element holds of the one at a place
 pub each_get : {A : Type 0} (P : List A → A → Type 0) (before xs : List A) (k : ℕ) (x : A) → Each P before xs → slice_get xs k ≡ Some x

@@ -20,7 +20,6 @@ use Rattle.ln_tree.specs.Formula.{Formula, FNum, FNeg, FAdd, FSub, FMul, FPow}
 use Rattle.ln_parse.specs.Says.{resolved, Says}
 use Rattle.ln_parse.specs.Ready.{Fit, HasTree, ReadyValue}
 use Rattle.ln_parse.specs.Reading.{Reads}
-use Rattle.ln_parse.proofs.Expressions.Roles.{FitBefore}
 
 -- a token at a place as the code has it
 there : (ts : List Token) (i j : ℕ) (k : Kind) → Is ts i k → i ≡ j → Is ts j k
@@ -36,8 +35,14 @@ from_next {bytes = bytes} {ts = ts} {s = s} {o = o} {i = i} {j = j} {x = x} r =
     let q : i + 1 ≡ suc i = omega arith in
     subst (λ (w : ℕ). Reads bytes ts s o w j x) q r
 
--- an expression after the beginning of a fit one is fit
-fit_front : (bytes : List ℕ) (s : Scope) {ts : List Token} {o : Sort} {i j : ℕ} {e : Tree} → Derives ts o i j e → Fit bytes s e → FitBefore bytes s o
+-- what a sort that goes on begins with
+abbrev pub FitBefore : List ℕ → Scope → Sort → Type 0
+FitBefore bytes s (Factors f) = Fit bytes s f
+FitBefore bytes s (Terms f) = Fit bytes s f
+FitBefore bytes s o = Unit {0}
+
+-- what begins a fit expression is fit
+pub fit_front : (bytes : List ℕ) (s : Scope) {ts : List Token} {o : Sort} {i j : ℕ} {e : Tree} → Derives ts o i j e → Fit bytes s e → FitBefore bytes s o
 fit_front bytes s (number n) h = tt
 fit_front bytes s (name n) h = tt
 fit_front bytes s (input n d x) h = tt
@@ -275,196 +280,28 @@ pub unary_minus : {bytes : List ℕ} {ts : List Token} {s : Scope} {i j : ℕ} {
 unary_minus m r p q =
     record { same = λ to e d st. let w = minus_same d st m (from_next r) in (w.0, w.1 ∙ rw (← p) (sym q)); within = r.within; later = omega (arith, r.later) }
 
--- products
+-- operands and the operators between them: products and sums
 
--- a product that was read up to place i: what follows goes on with it
-record Goes (bytes : List ℕ) (ts : List Token) (s : Scope) (i to : ℕ) (e : Tree) (x : Formula) : Type 0 where
+-- an operand begins at place i, and what follows it goes on with it
+record Begun (bytes : List ℕ) (ts : List Token) (s : Scope) (F : Tree → Sort) (p : Sort) (i to : ℕ) (e : Tree) : Type 0 where
+  mid : ℕ
+  first : Tree
+  head : Derives ts p i mid first
+  stops : Stops ts p mid
+  rest : Derives ts (F first) mid to e
+  fits : Fit bytes s e → Fit bytes s first
+
+-- what follows place i goes on with a tree of this meaning
+record Goes (bytes : List ℕ) (ts : List Token) (s : Scope) (F : Tree → Sort) (i to : ℕ) (e : Tree) (x : Formula) : Type 0 where
   tree : Tree
-  on : Derives ts (Factors tree) i to e
+  on : Derives ts (F tree) i to e
   means : resolved bytes s tree ≡ x
 
--- a product of this meaning was read up to place i
-pub record Products (bytes : List ℕ) (ts : List Token) (s : Scope) (at i : ℕ) (x : Formula) : Type 0 where
-  goes : (to : ℕ) (e : Tree) → Derives ts Term at to e → Stops ts Term to → Goes bytes ts s i to e x
+-- operands of this meaning were read up to place i, where an expression of sort o goes on
+pub record Chain (bytes : List ℕ) (ts : List Token) (s : Scope) (F : Tree → Sort) (o : Sort) (at i : ℕ) (x : Formula) : Type 0 where
+  goes : (to : ℕ) (e : Tree) → Derives ts o at to e → Stops ts o to → Goes bytes ts s F i to e x
   pub within : i ≤ length ts
   pub later : at ≤ i
-
-unary_first_of : {bytes : List ℕ} {ts : List Token} {s : Scope} {i to : ℕ} {e : Tree} → Derives ts Term i to e → Stops ts Term to
-    → Fit bytes s e → HasTree bytes ts s Unary i
-unary_first_of {bytes = bytes} {s = s} (term {j = j} {f = f} d r) st h =
-    record { to = j; tree = f; derives = d; stops = factors_stop r st; fit = fit_front bytes s r h }
-
--- a product begins with a factor
-pub unary_first : {bytes : List ℕ} {ts : List Token} {s : Scope} {i : ℕ} → HasTree bytes ts s Term i → HasTree bytes ts s Unary i
-unary_first t = unary_first_of t.derives t.stops t.fit
-
-begin_product : {bytes : List ℕ} {ts : List Token} {s : Scope} {at i to : ℕ} {e : Tree} {x : Formula} → Derives ts Term at to e
-    → Stops ts Term to → Reads bytes ts s Unary at i x → Goes bytes ts s i to e x
-begin_product {ts = ts} {to = to} {e = e} (term {j = j} {f = f} d r) st x =
-    let m = x.same j f d (factors_stop r st) in
-    record { tree = f; on = subst (λ (w : ℕ). Derives ts (Factors f) w to e) (sym m.0) r; means = m.1 }
-
--- a factor begins a product
-pub products_begin : {bytes : List ℕ} {ts : List Token} {s : Scope} {at i : ℕ} {x : Formula} → Reads bytes ts s Unary at i x → Products bytes ts s at i x
-products_begin r = record { goes = λ to e d st. begin_product d st r; within = r.within; later = r.later }
-
-factor_of : {bytes : List ℕ} {ts : List Token} {s : Scope} {i to : ℕ} {e f : Tree} → Derives ts (Factors f) i to e → Stops ts Term to
-    → Fit bytes s e → Is ts i Star → HasTree bytes ts s Unary (suc i)
-factor_of no_factor st h m = absurd (never Star m st (λ h. omega arith))
-factor_of {bytes = bytes} {s = s} (times {j = j} {g = g} t d r) st h m =
-    record { to = j; tree = g; derives = d; stops = factors_stop r st; fit = (fit_front bytes s r h).1 }
-
--- after a star comes a factor
-pub factor_tree : {bytes : List ℕ} {ts : List Token} {s : Scope} {at i : ℕ} {x : Formula} → HasTree bytes ts s Term at
-    → Products bytes ts s at i x → Is ts i Star → HasTree bytes ts s Unary (i + 1)
-factor_tree t p m = let g = p.goes t.to t.tree t.derives t.stops in tree_at (factor_of g.on t.stops t.fit m)
-
--- an operator at place i, and after it an operand that is read up to place j
-pub record Operand (bytes : List ℕ) (ts : List Token) (s : Scope) (k : Kind) (o : Sort) (i j : ℕ) (x : Formula) : Type 0 where
-  pub sign : Is ts i k
-  pub read : Reads bytes ts s o (i + 1) j x
-
-times_goes : {bytes : List ℕ} {ts : List Token} {s : Scope} {i j to : ℕ} {e f : Tree} {y : Formula} → Derives ts (Factors f) i to e
-    → Stops ts Term to → Operand bytes ts s Star Unary i j y → Goes bytes ts s j to e (FMul (span_at ts i) (resolved bytes s f) y)
-times_goes no_factor st h = absurd (never Star h.sign st (λ h. omega arith))
-times_goes {ts = ts} {i = i} {to = to} {e = e} {f = f} (times {j = k} {g = g} t d n) st h =
-    let m = (from_next h.read).same k g d (factors_stop n st) in
-    record {
-      tree = TMul (span_at ts i) f g;
-      on = subst (λ (w : ℕ). Derives ts (Factors (TMul (span_at ts i) f g)) w to e) (sym m.0) n;
-      means = rw m.1 refl;
-    }
-
--- a product with one more factor
-pub products_times : {bytes : List ℕ} {ts : List Token} {s : Scope} {at i end : ℕ} {x y z : Formula} → Products bytes ts s at i x
-    → Operand bytes ts s Star Unary i end y → z ≡ FMul (span_at ts i) x y → Products bytes ts s at end z
-products_times {bytes = bytes} {ts = ts} {s = s} {i = i} {end = end} {y = y} l h q =
-    record {
-      goes = λ to e d st. let g = l.goes to e d st in
-          subst (λ (w : Formula). Goes bytes ts s end to e w) (ap (λ (w : Formula). FMul (span_at ts i) w y) g.means ∙ sym q) (times_goes g.on st h);
-      within = h.read.within;
-      later = omega (arith, l.later, h.read.later);
-    }
-
-end_product : (bytes : List ℕ) (s : Scope) {ts : List Token} {i to : ℕ} {e f : Tree} {x : Formula} → Derives ts (Factors f) i to e
-    → (Is ts i Star → ⊥) → resolved bytes s f ≡ x → (i ≡ to) × (resolved bytes s e ≡ x)
-end_product bytes s no_factor n q = (refl, q)
-end_product bytes s (times t d r) n q = absurd (n t)
-
--- a product that ends
-pub products_end : {bytes : List ℕ} {ts : List Token} {s : Scope} {at end : ℕ} {x : Formula} → Products bytes ts s at end x
-    → (Is ts end Star → ⊥) → Reads bytes ts s Term at end x
-products_end {bytes = bytes} {s = s} l n =
-    record { same = λ to e d st. let g = l.goes to e d st in end_product bytes s g.on n g.means; within = l.within; later = l.later }
-
--- sums
-
--- a sum that was read up to place i: what follows goes on with it
-record Joins (bytes : List ℕ) (ts : List Token) (s : Scope) (i to : ℕ) (e : Tree) (x : Formula) : Type 0 where
-  tree : Tree
-  on : Derives ts (Terms tree) i to e
-  means : resolved bytes s tree ≡ x
-
--- a sum of this meaning was read up to place i
-pub record Sums (bytes : List ℕ) (ts : List Token) (s : Scope) (at i : ℕ) (x : Formula) : Type 0 where
-  goes : (to : ℕ) (e : Tree) → Derives ts Sum at to e → Stops ts Sum to → Joins bytes ts s i to e x
-  pub within : i ≤ length ts
-  pub later : at ≤ i
-
-term_first_of : {bytes : List ℕ} {ts : List Token} {s : Scope} {i to : ℕ} {e : Tree} → Derives ts Sum i to e → Stops ts Sum to
-    → Fit bytes s e → HasTree bytes ts s Term i
-term_first_of {bytes = bytes} {s = s} (sum {j = j} {f = f} d r) st h =
-    record { to = j; tree = f; derives = d; stops = terms_stop r st; fit = fit_front bytes s r h }
-
--- a sum begins with a term
-pub term_first : {bytes : List ℕ} {ts : List Token} {s : Scope} {i : ℕ} → HasTree bytes ts s Sum i → HasTree bytes ts s Term i
-term_first t = term_first_of t.derives t.stops t.fit
-
-begin_sum : {bytes : List ℕ} {ts : List Token} {s : Scope} {at i to : ℕ} {e : Tree} {x : Formula} → Derives ts Sum at to e → Stops ts Sum to
-    → Reads bytes ts s Term at i x → Joins bytes ts s i to e x
-begin_sum {ts = ts} {to = to} {e = e} (sum {j = j} {f = f} d r) st x =
-    let m = x.same j f d (terms_stop r st) in
-    record { tree = f; on = subst (λ (w : ℕ). Derives ts (Terms f) w to e) (sym m.0) r; means = m.1 }
-
--- a term begins a sum
-pub sums_begin : {bytes : List ℕ} {ts : List Token} {s : Scope} {at i : ℕ} {x : Formula} → Reads bytes ts s Term at i x → Sums bytes ts s at i x
-sums_begin r = record { goes = λ to e d st. begin_sum d st r; within = r.within; later = r.later }
-
-plus_of : {bytes : List ℕ} {ts : List Token} {s : Scope} {i to : ℕ} {e f : Tree} → Derives ts (Terms f) i to e → Stops ts Sum to
-    → Fit bytes s e → Is ts i Plus → HasTree bytes ts s Term (suc i)
-plus_of no_term st h m = absurd (never Plus m st (λ h. omega arith))
-plus_of {bytes = bytes} {s = s} (plus {j = j} {g = g} t d r) st h m =
-    record { to = j; tree = g; derives = d; stops = terms_stop r st; fit = (fit_front bytes s r h).1 }
-plus_of (less t d r) st h m = absurd (cc)
-
--- after a plus comes a term
-pub plus_tree : {bytes : List ℕ} {ts : List Token} {s : Scope} {at i : ℕ} {x : Formula} → HasTree bytes ts s Sum at → Sums bytes ts s at i x
-    → Is ts i Plus → HasTree bytes ts s Term (i + 1)
-plus_tree t p m = let g = p.goes t.to t.tree t.derives t.stops in tree_at (plus_of g.on t.stops t.fit m)
-
-less_of : {bytes : List ℕ} {ts : List Token} {s : Scope} {i to : ℕ} {e f : Tree} → Derives ts (Terms f) i to e → Stops ts Sum to
-    → Fit bytes s e → Is ts i Minus → HasTree bytes ts s Term (suc i)
-less_of no_term st h m = absurd (never Minus m st (λ h. omega arith))
-less_of (plus t d r) st h m = absurd (cc)
-less_of {bytes = bytes} {s = s} (less {j = j} {g = g} t d r) st h m =
-    record { to = j; tree = g; derives = d; stops = terms_stop r st; fit = (fit_front bytes s r h).1 }
-
--- after a minus comes a term
-pub less_tree : {bytes : List ℕ} {ts : List Token} {s : Scope} {at i : ℕ} {x : Formula} → HasTree bytes ts s Sum at → Sums bytes ts s at i x
-    → Is ts i Minus → HasTree bytes ts s Term (i + 1)
-less_tree t p m = let g = p.goes t.to t.tree t.derives t.stops in tree_at (less_of g.on t.stops t.fit m)
-
-plus_goes : {bytes : List ℕ} {ts : List Token} {s : Scope} {i j to : ℕ} {e f : Tree} {y : Formula} → Derives ts (Terms f) i to e
-    → Stops ts Sum to → Operand bytes ts s Plus Term i j y → Joins bytes ts s j to e (FAdd (span_at ts i) (resolved bytes s f) y)
-plus_goes no_term st h = absurd (never Plus h.sign st (λ h. omega arith))
-plus_goes {ts = ts} {i = i} {to = to} {e = e} {f = f} (plus {j = k} {g = g} t d n) st h =
-    let m = (from_next h.read).same k g d (terms_stop n st) in
-    record { tree = TAdd (span_at ts i) f g; on = subst (λ (w : ℕ). Derives ts (Terms (TAdd (span_at ts i) f g)) w to e) (sym m.0) n; means = rw m.1 refl }
-plus_goes (less t d n) st h = let p = h.sign in absurd (cc)
-
-less_goes : {bytes : List ℕ} {ts : List Token} {s : Scope} {i j to : ℕ} {e f : Tree} {y : Formula} → Derives ts (Terms f) i to e
-    → Stops ts Sum to → Operand bytes ts s Minus Term i j y → Joins bytes ts s j to e (FSub (span_at ts i) (resolved bytes s f) y)
-less_goes no_term st h = absurd (never Minus h.sign st (λ h. omega arith))
-less_goes (plus t d n) st h = let p = h.sign in absurd (cc)
-less_goes {ts = ts} {i = i} {to = to} {e = e} {f = f} (less {j = k} {g = g} t d n) st h =
-    let m = (from_next h.read).same k g d (terms_stop n st) in
-    record { tree = TSub (span_at ts i) f g; on = subst (λ (w : ℕ). Derives ts (Terms (TSub (span_at ts i) f g)) w to e) (sym m.0) n; means = rw m.1 refl }
-
--- a sum with one more term
-pub sums_plus : {bytes : List ℕ} {ts : List Token} {s : Scope} {at i end : ℕ} {x y : Formula} → Sums bytes ts s at i x
-    → Operand bytes ts s Plus Term i end y → Sums bytes ts s at end (FAdd (span_at ts i) x y)
-sums_plus {bytes = bytes} {ts = ts} {s = s} {i = i} {end = end} {y = y} l h =
-    record {
-      goes = λ to e d st. let g = l.goes to e d st in
-          subst (λ (w : Formula). Joins bytes ts s end to e w) (ap (λ (w : Formula). FAdd (span_at ts i) w y) g.means) (plus_goes g.on st h);
-      within = h.read.within;
-      later = omega (arith, l.later, h.read.later);
-    }
-
--- a sum with one term less
-pub sums_less : {bytes : List ℕ} {ts : List Token} {s : Scope} {at i end : ℕ} {x y : Formula} → Sums bytes ts s at i x
-    → Operand bytes ts s Minus Term i end y → Sums bytes ts s at end (FSub (span_at ts i) x y)
-sums_less {bytes = bytes} {ts = ts} {s = s} {i = i} {end = end} {y = y} l h =
-    record {
-      goes = λ to e d st. let g = l.goes to e d st in
-          subst (λ (w : Formula). Joins bytes ts s end to e w) (ap (λ (w : Formula). FSub (span_at ts i) w y) g.means) (less_goes g.on st h);
-      within = h.read.within;
-      later = omega (arith, l.later, h.read.later);
-    }
-
--- a place with a sign is within the tokens
-pub sign_within : (ts : List Token) (i : ℕ) → Is ts i Plus ⊎ Is ts i Minus → i < length ts
-sign_within ts i (inl p) = is_within ts i Plus p
-sign_within ts i (inr m) = is_within ts i Minus m
-
--- after a sign comes a term
-pub sign_tree : {bytes : List ℕ} {ts : List Token} {s : Scope} {at i : ℕ} {x : Formula} → HasTree bytes ts s Sum at → Sums bytes ts s at i x
-    → Is ts i Plus ⊎ Is ts i Minus → HasTree bytes ts s Term (i + 1)
-sign_tree t p (inl h) = plus_tree t p h
-sign_tree t p (inr h) = less_tree t p h
-
-not_both : (ts : List Token) (i : ℕ) → Is ts i Minus → Is ts i Plus → ⊥
-not_both ts i h p = absurd (cc)
 
 -- a sign at place i, after it a term that is read up to place j, and what they make of x
 pub record Signed (bytes : List ℕ) (ts : List Token) (s : Scope) (i j : ℕ) (x y z : Formula) : Type 0 where
@@ -473,25 +310,134 @@ pub record Signed (bytes : List ℕ) (ts : List Token) (s : Scope) (i j : ℕ) (
   pub plus : Is ts i Plus → z ≡ FAdd (span_at ts i) x y
   pub minus : (Is ts i Plus → ⊥) → z ≡ FSub (span_at ts i) x y
 
--- a sum that goes on by a sign and a term
-pub sums_next : {bytes : List ℕ} {ts : List Token} {s : Scope} {at i end : ℕ} {x y z : Formula} → Sums bytes ts s at i x
-    → Signed bytes ts s i end x y z → Sums bytes ts s at end z
-sums_next {bytes = bytes} {ts = ts} {s = s} {at = at} {i = i} {end = end} l g = elim g.sign [
-  | inl h ↦ subst (λ (w : Formula). Sums bytes ts s at end w) (sym (g.plus h)) (sums_plus l (record { sign = h; read = g.read }))
-  | inr h ↦ subst (λ (w : Formula). Sums bytes ts s at end w) (sym (g.minus (not_both ts i h))) (sums_less l (record { sign = h; read = g.read }))
-]
+not_both : (ts : List Token) (i : ℕ) → Is ts i Minus → Is ts i Plus → ⊥
+not_both ts i h p = absurd (cc)
 
-end_sum : (bytes : List ℕ) (s : Scope) {ts : List Token} {i to : ℕ} {e f : Tree} {x : Formula} → Derives ts (Terms f) i to e
-    → (Is ts i Plus → ⊥) → (Is ts i Minus → ⊥) → resolved bytes s f ≡ x → (i ≡ to) × (resolved bytes s e ≡ x)
-end_sum bytes s no_term n m q = (refl, q)
-end_sum bytes s (plus t d r) n m q = absurd (n t)
-end_sum bytes s (less t d r) n m q = absurd (m t)
+end_product : {ts : List Token} {i to : ℕ} {e f : Tree} → Derives ts (Factors f) i to e → (Is ts i Star → ⊥) → (i ≡ to) × (f ≡ e)
+end_product no_factor n = (refl, refl)
+end_product (times t d r) n = absurd (n t)
 
--- a sum that ends
-pub sums_end : {bytes : List ℕ} {ts : List Token} {s : Scope} {at end : ℕ} {x : Formula} → Sums bytes ts s at end x → (Is ts end Plus → ⊥)
-    → (Is ts end Minus → ⊥) → Reads bytes ts s Sum at end x
-sums_end {bytes = bytes} {s = s} l n m =
-    record { same = λ to e d st. let g = l.goes to e d st in end_sum bytes s g.on n m g.means; within = l.within; later = l.later }
+end_sum : {ts : List Token} {i to : ℕ} {e f : Tree} → Derives ts (Terms f) i to e → (Is ts i Plus → ⊥) → (Is ts i Minus → ⊥) → (i ≡ to) × (f ≡ e)
+end_sum no_term n m = (refl, refl)
+end_sum (plus t d r) n m = absurd (n t)
+end_sum (less t d r) n m = absurd (m t)
+
+-- a place with a sign is within the tokens
+pub sign_within : (ts : List Token) (i : ℕ) → Is ts i Plus ⊎ Is ts i Minus → i < length ts
+sign_within ts i (inl p) = is_within ts i Plus p
+sign_within ts i (inr m) = is_within ts i Minus m
+
+module _ {bytes : List ℕ} {ts : List Token} {s : Scope} where
+  term_begun : {i to : ℕ} {e : Tree} → Derives ts Term i to e → Stops ts Term to → Begun bytes ts s Factors Unary i to e
+  term_begun (term {j = j} {f = f} d r) st =
+      record { mid = j; first = f; head = d; stops = factors_stop r st; rest = r; fits = fit_front bytes s r }
+
+  sum_begun : {i to : ℕ} {e : Tree} → Derives ts Sum i to e → Stops ts Sum to → Begun bytes ts s Terms Term i to e
+  sum_begun (sum {j = j} {f = f} d r) st = record { mid = j; first = f; head = d; stops = terms_stop r st; rest = r; fits = fit_front bytes s r }
+
+  times_on : {i to : ℕ} {e f : Tree} → Derives ts (Factors f) i to e → Stops ts Term to → Is ts i Star
+      → Begun bytes ts s (λ g. Factors (TMul (span_at ts i) f g)) Unary (suc i) to e
+  times_on no_factor st m = absurd (never Star m st (λ h. omega arith))
+  times_on (times {j = j} {g = g} t d r) st m =
+      record { mid = j; first = g; head = d; stops = factors_stop r st; rest = r; fits = λ h. (fit_front bytes s r h).1 }
+
+  plus_on : {i to : ℕ} {e f : Tree} → Derives ts (Terms f) i to e → Stops ts Sum to → Is ts i Plus
+      → Begun bytes ts s (λ g. Terms (TAdd (span_at ts i) f g)) Term (suc i) to e
+  plus_on no_term st m = absurd (never Plus m st (λ h. omega arith))
+  plus_on (plus {j = j} {g = g} t d r) st m =
+      record { mid = j; first = g; head = d; stops = terms_stop r st; rest = r; fits = λ h. (fit_front bytes s r h).1 }
+  plus_on (less t d r) st m = absurd (cc)
+
+  less_on : {i to : ℕ} {e f : Tree} → Derives ts (Terms f) i to e → Stops ts Sum to → Is ts i Minus
+      → Begun bytes ts s (λ g. Terms (TSub (span_at ts i) f g)) Term (suc i) to e
+  less_on no_term st m = absurd (never Minus m st (λ h. omega arith))
+  less_on (plus t d r) st m = absurd (cc)
+  less_on (less {j = j} {g = g} t d r) st m =
+      record { mid = j; first = g; head = d; stops = terms_stop r st; rest = r; fits = λ h. (fit_front bytes s r h).1 }
+
+  first_tree : {F : Tree → Sort} {p : Sort} {i to : ℕ} {e : Tree} → Begun bytes ts s F p i to e → Fit bytes s e → HasTree bytes ts s p i
+  first_tree b h = record { to = b.mid; tree = b.first; derives = b.head; stops = b.stops; fit = b.fits h }
+
+  -- a product begins with a factor
+  pub unary_first : {i : ℕ} → HasTree bytes ts s Term i → HasTree bytes ts s Unary i
+  unary_first t = first_tree (term_begun t.derives t.stops) t.fit
+
+  -- a sum begins with a term
+  pub term_first : {i : ℕ} → HasTree bytes ts s Sum i → HasTree bytes ts s Term i
+  term_first t = first_tree (sum_begun t.derives t.stops) t.fit
+
+  -- after a star comes a factor
+  pub factor_tree : {at i : ℕ} {x : Formula} → HasTree bytes ts s Term at → Chain bytes ts s Factors Term at i x → Is ts i Star
+      → HasTree bytes ts s Unary (i + 1)
+  factor_tree t l m = let g = l.goes t.to t.tree t.derives t.stops in tree_at (first_tree (times_on g.on t.stops m) t.fit)
+
+  -- after a sign comes a term
+  pub sign_tree : {at i : ℕ} {x : Formula} → HasTree bytes ts s Sum at → Chain bytes ts s Terms Sum at i x → Is ts i Plus ⊎ Is ts i Minus
+      → HasTree bytes ts s Term (i + 1)
+  sign_tree t l (inl m) = let g = l.goes t.to t.tree t.derives t.stops in tree_at (first_tree (plus_on g.on t.stops m) t.fit)
+  sign_tree t l (inr m) = let g = l.goes t.to t.tree t.derives t.stops in tree_at (first_tree (less_on g.on t.stops m) t.fit)
+
+  -- what goes on with an operand that was read
+  goes_on : (F : Tree → Sort) {p : Sort} {i end to : ℕ} {e : Tree} {x : Formula} (op : Tree → Tree) (mean : Formula → Formula)
+      → ((f : Tree) → resolved bytes s (op f) ≡ mean (resolved bytes s f)) → Begun bytes ts s (λ g. F (op g)) p i to e
+      → Reads bytes ts s p i end x → Goes bytes ts s F end to e (mean x)
+  goes_on F {to = to} {e = e} op mean u b r =
+      let m = r.same b.mid b.first b.head b.stops in
+      record { tree = op b.first; on = subst (λ (w : ℕ). Derives ts (F (op b.first)) w to e) (sym m.0) b.rest; means = u b.first ∙ ap mean m.1 }
+
+  -- a factor begins a product
+  pub products_begin : {at i : ℕ} {x : Formula} → Reads bytes ts s Unary at i x → Chain bytes ts s Factors Term at i x
+  products_begin r =
+      record { goes = λ to e d st. goes_on Factors (λ f. f) (λ y. y) (λ f. refl) (term_begun d st) r; within = r.within; later = r.later }
+
+  -- a term begins a sum
+  pub sums_begin : {at i : ℕ} {x : Formula} → Reads bytes ts s Term at i x → Chain bytes ts s Terms Sum at i x
+  sums_begin r = record { goes = λ to e d st. goes_on Terms (λ f. f) (λ y. y) (λ f. refl) (sum_begun d st) r; within = r.within; later = r.later }
+
+  chain_next : {F : Tree → Sort} {o p : Sort} {at i end : ℕ} {x y : Formula} (op : Span → Tree → Tree → Tree) (mean : Span → Formula → Formula → Formula)
+      → ((a : Span) (e f : Tree) → resolved bytes s (op a e f) ≡ mean a (resolved bytes s e) (resolved bytes s f))
+      → ((to : ℕ) (e f : Tree) → Derives ts (F f) i to e → Stops ts o to → Begun bytes ts s (λ g. F (op (span_at ts i) f g)) p (suc i) to e)
+      → Chain bytes ts s F o at i x → Reads bytes ts s p (i + 1) end y → Chain bytes ts s F o at end (mean (span_at ts i) x y)
+  chain_next {F = F} {i = i} op mean u n l r = record {
+    goes = λ to e d st.
+        let g = l.goes to e d st in
+        let a = span_at ts i in
+        rw (← g.means) (goes_on F (op a g.tree) (mean a (resolved bytes s g.tree)) (u a g.tree) (n to e g.tree g.on st) (from_next r));
+    within = r.within;
+    later = omega (arith, l.later, r.later);
+  }
+
+  -- a product with one more factor
+  pub products_times : {at i end : ℕ} {x y z : Formula} → Chain bytes ts s Factors Term at i x → Is ts i Star
+      → Reads bytes ts s Unary (i + 1) end y → z ≡ FMul (span_at ts i) x y → Chain bytes ts s Factors Term at end z
+  products_times l m r q = rw q (chain_next TMul FMul (λ a e f. refl) (λ to e f d st. times_on d st m) l r)
+
+  -- a sum that goes on by a sign and a term
+  pub sums_next : {at i end : ℕ} {x y z : Formula} → Chain bytes ts s Terms Sum at i x → Signed bytes ts s i end x y z → Chain bytes ts s Terms Sum at end z
+  sums_next {i = i} l g = elim g.sign [
+    | inl h ↦ rw (g.plus h) (chain_next TAdd FAdd (λ a e f. refl) (λ to e f d st. plus_on d st h) l g.read)
+    | inr h ↦ rw (g.minus (not_both ts i h)) (chain_next TSub FSub (λ a e f. refl) (λ to e f d st. less_on d st h) l g.read)
+  ]
+
+  chain_ends : {F : Tree → Sort} {o : Sort} {at end : ℕ} {x : Formula} → ((to : ℕ) (e f : Tree) → Derives ts (F f) end to e → (end ≡ to) × (f ≡ e))
+      → Chain bytes ts s F o at end x → Reads bytes ts s o at end x
+  chain_ends n l = record {
+    same = λ to e d st.
+        let g = l.goes to e d st in
+        let q = n to e g.tree g.on in
+        (q.0, ap (resolved bytes s) (sym q.1) ∙ g.means);
+    within = l.within;
+    later = l.later;
+  }
+
+  -- a product that ends
+  pub products_end : {at end : ℕ} {x : Formula} → Chain bytes ts s Factors Term at end x → (Is ts end Star → ⊥) → Reads bytes ts s Term at end x
+  products_end l n = chain_ends (λ to e f d. end_product d n) l
+
+  -- a sum that ends
+  pub sums_end : {at end : ℕ} {x : Formula} → Chain bytes ts s Terms Sum at end x → (Is ts end Plus → ⊥) → (Is ts end Minus → ⊥)
+      → Reads bytes ts s Sum at end x
+  sums_end l n m = chain_ends (λ to e f d. end_sum d n m) l
 
 -- whole expressions
 

@@ -3,7 +3,7 @@ use Rattle.std.proofs.Common.{◌≡◌, ℕ, zero, suc, ◌+◌, ◌<◌, ◌�
 use Rattle.std.proofs.Common.{length, Option, Some, None, refl, ap, sym, ◌∙◌, subst, arith}
 use Rattle.std.specs.Prelude.{ℤ, pos, int_lt, unsigned_abs, slice_get, position, unwrap_or, nat_le}
 use Rattle.std.specs.List.{list_any, position_from}
-use Rattle.std.proofs.lemmas.Bool.{and_parts}
+use Rattle.std.proofs.lemmas.Bool.{and_parts, leb-true, eqb-true}
 use Rattle.std.proofs.lemmas.Bool.Decides.{nat_tests}
 use Rattle.std.proofs.lemmas.Int.{ints}
 use Rattle.std.proofs.lemmas.List.Folds.{list_any-append}
@@ -17,7 +17,7 @@ use Rattle.ln_tree.specs.Whole.{site_vars, coords_or, param_vars, vars_behind}
 use Rattle.ln_parse.specs.ReadsBack.{Every}
 use Rattle.ln_parse.specs.WholeTable.{IsShortName, SiteNames, ArgNames}
 use Rattle.ln_parse.specs.Written.{Naming, input, written, IsNamed}
-use Rattle.ln_parse.proofs.Wholes.TestLemmas.{at_most, below, equal, neither, or_cases}
+use Rattle.ln_parse.proofs.Wholes.TestLemmas.{below, neither, or_cases}
 
 -- argument d is a site whose type has coordinate c, or a param, where c is 0
 pub data InputThere (S : List SiteOf) (P : List CoordOf) (args : List ArgOf) (d c : ℕ) : Type 0 where
@@ -44,7 +44,7 @@ coord_there a c k s m [] h = absurd (cc)
 coord_there a c k s m (x ∷ xs) h =
     or_cases ((k == a) && (m == c)) (list_any (is_var a c) (site_vars k s (suc m) xs)) h
     (λ e. let p = and_parts (k == a) (m == c) e in
-    let q = equal k a p.0 in let r = equal m c p.1 in record { d = 0; x = x; arg = omega arith; coord = omega arith; there = refl })
+    let q = eqb-true k a p.0 in let r = eqb-true m c p.1 in record { d = 0; x = x; arg = omega arith; coord = omega arith; there = refl })
     (λ e. let r = coord_there a c k s (suc m) xs e in let q = r.coord in record { d = suc r.d; x = r.x; arg = r.arg; coord = omega arith; there = r.there })
 
 site_there : (S : List SiteOf) (P : List CoordOf) (a c k s t : ℕ) (n : List ℕ) (args : List ArgOf) (o : Option SiteOf) → slice_get S t ≡ o
@@ -60,7 +60,7 @@ param_there : (S : List SiteOf) (P : List CoordOf) (a c k p : ℕ) (args : List 
 param_there S P a c k p args None e h = absurd (cc)
 param_there S P a c k p args (Some x) e h =
     or_cases ((k == a) && (0 == c)) false h
-    (λ g. let r = and_parts (k == a) (0 == c) g in let q = equal k a r.0 in let z = equal 0 c r.1 in (omega arith, of_param p x refl e (omega arith)))
+    (λ g. let r = and_parts (k == a) (0 == c) g in let q = eqb-true k a r.0 in let z = eqb-true 0 c r.1 in (omega arith, of_param p x refl e (omega arith)))
     (λ g. absurd (cc))
 
 later : (S : List SiteOf) (P : List CoordOf) (b : ArgOf) (args : List ArgOf) (d c : ℕ) → InputThere S P args d c → InputThere S P (b ∷ args) (suc d) c
@@ -171,5 +171,5 @@ named n g vars j v l (FMul at e f) h =
     (named n g vars j v l e p.0, named n g vars j v l f p.1)
 named n g vars j v l (FPow at e k) h =
     let p = and_parts (is_fit (length vars) j (tree vars e)) (nat_le k 16) h in
-    let q = at_most k 16 p.1 in
+    let q = leb-true k 16 p.1 in
     (named n g vars j v l e p.0, omega arith)

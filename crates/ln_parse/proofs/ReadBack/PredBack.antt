@@ -1,17 +1,15 @@
 -- A predicate of a canonical text says that of the table, and its tokens have no fault.
 use Rattle.std.proofs.Common.{◌≡◌, ℕ, true, List, [], length, map, refl, ap, sym, ◌∙◌, subst, arith, append-nil}
-use Rattle.std.specs.Prelude.{count_by}
 use Rattle.std.proofs.lemmas.List.{length-map}
 use Rattle.ln_syntax.specs.declared.raw.RawLet.{RawLet}
 use Rattle.ln_syntax.specs.Raw.{text}
 use Rattle.ln_syntax.specs.File.{Lets}
-use Rattle.ln_names.specs.Rules.{scope, is_site_arg, is_param_arg}
+use Rattle.ln_names.specs.Rules.{scope}
 use Rattle.ln_names.specs.Visits.{visits_by, arg_visits, let_visits, pred_visits, nodes_before}
 use Rattle.ln_names.specs.First.{Clean}
 use Rattle.ln_tree.specs.Formula.{tree}
 use Rattle.ln_tree.specs.Fits.{is_fit}
 use Rattle.ln_tree.specs.Table.{PredOf, TableOf}
-use Rattle.ln_tree.specs.Whole.{arg_name}
 use Rattle.ln_parse.specs.Says.{PredSays}
 use Rattle.ln_parse.specs.ReadsBack.{PredWritten}
 use Rattle.ln_parse.specs.Spanless.{pred_spanless}
@@ -19,7 +17,7 @@ use Rattle.ln_parse.specs.WholeTable.{PredKept}
 use Rattle.ln_parse.proofs.Building.Predicates.{PredAt, same_pred}
 use Rattle.ln_parse.proofs.Expressions.Roles.{Fresh}
 use Rattle.ln_parse.proofs.ReadBack.CleanValue.{clean_join}
-use Rattle.ln_parse.proofs.ReadBack.ScopeNames.{PredIn, InScope, differ_left}
+use Rattle.ln_parse.proofs.ReadBack.ScopeNames.{PredIn, InScope}
 use Rattle.ln_parse.proofs.ReadBack.ValueBack.{RemainingLets, value_back, lets_back}
 use Rattle.ln_parse.proofs.ReadBack.ArgsBack.{Declared, args_back}
 use Rattle.ln_parse.proofs.Wholes.WholeParts.{PredParts}
@@ -35,19 +33,9 @@ pub record PredBack (r : PredAt) (t : TableOf) (p : PredOf) : Type 0 where
 pub pred_back : (r : PredAt) (t : TableOf) (p : PredOf) {i k : ℕ} → Declared r.bytes r.before t → Lets r.ts i k r.lets → Fresh r.ts r.root.from
     → PredWritten r.bytes r.ts t r.name r.args r.lets r.root p → PredKept p → PredParts t.sites t.params p → PredBack r t p
 pred_back r t p d dl fr w k h =
-    let z1 : count_by is_site_arg [] ≡ 0 = refl in
-    let z2 : count_by is_param_arg [] ≡ 0 = refl in
     let z3 : nodes_before r.ts [] ≡ 0 = refl in
-    let f1 = h.few_sites in let f2 = h.few_params in
     let c1 = k.few_lets in let c2 = k.as_many in let c3 = k.few_nodes in
-    let a = args_back r.bytes r.before t d [] r.args p.args (record {
-      writes = w.args_are;
-      known = h.known;
-      short = k.args;
-      differ = differ_left (map (arg_name t.params) p.args) p.let_names h.names;
-      few_sites = omega arith;
-      few_params = omega arith;
-    }) in
+    let a = args_back r.bytes r.before t p d r.args w.args_are k h in
     let g : PredIn r.bytes r.before r.args t p = record {
       args = w.args_are;
       sites = d.sites;

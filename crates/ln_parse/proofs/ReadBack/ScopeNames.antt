@@ -1,9 +1,9 @@
 -- What the names of a canonical text stand for.
-use Rattle.std.proofs.Common.{◌≡◌, ℕ, zero, suc, ◌+◌, ◌<◌, ◌&&◌, ◌||◌, not, Bool, true, false, cond, nat_lt, List, [], ◌∷◌, ◌++◌, length}
+use Rattle.std.proofs.Common.{◌≡◌, ℕ, zero, suc, ◌+◌, ◌<◌, ◌&&◌, not, Bool, true, false, nat_lt, List, [], ◌∷◌, ◌++◌, length}
 use Rattle.std.proofs.Common.{map, Some, None, refl, ap, sym, ◌∙◌, subst, arith, zero-add}
 use Rattle.std.specs.Prelude.{slice_get, position, unwrap_or, bytes_eq, find, nat_le}
-use Rattle.std.specs.List.{list_any, position_from}
-use Rattle.std.proofs.lemmas.Bool.{and_parts, or_left, or_right, ltb-true}
+use Rattle.std.specs.List.{list_any, position_from, position_or_len}
+use Rattle.std.proofs.lemmas.Bool.{and_parts, or_left, or_right, ltb-true, leb-true}
 use Rattle.std.proofs.lemmas.List.{length-map}
 use Rattle.std.proofs.lemmas.Slice.Eq.{bytes_eq-Decides}
 use Rattle.std.proofs.lemmas.Iterator.Adapters.{position_from-zero}
@@ -11,7 +11,7 @@ use Rattle.ln_base.specs.declared.span.Span.{Span}
 use Rattle.ln_syntax.specs.declared.raw.RawArg.{RawArg}
 use Rattle.ln_syntax.specs.declared.raw.RawLet.{RawLet}
 use Rattle.ln_syntax.specs.declared.raw.RawCoord.{RawCoord}
-use Rattle.ln_syntax.specs.Raw.{Item, SiteItem, ParamItem, PredItem, item_name, is_site, is_param, text, same}
+use Rattle.ln_syntax.specs.Raw.{Item, item_name, is_site, is_param, coords_in, text, same}
 use Rattle.ln_names.specs.Rules.{Scope, is_site_arg, is_param_arg, coords_of}
 use Rattle.ln_tree.specs.declared.shape.VarInfo.{VarInfo}
 use Rattle.ln_tree.specs.Variables.{number_or_end}
@@ -28,8 +28,8 @@ use Rattle.ln_parse.proofs.ReadBack.NamePlaces.{NoneIs, Differ, not_there, same_
 use Rattle.ln_parse.proofs.Expressions.Meaning.{arg_called, meaning}
 use Rattle.ln_parse.proofs.ReadBack.CleanValue.{Meant}
 use Rattle.ln_parse.proofs.ReadBack.InputsThere.{InputThere, of_site, of_param, input_there, every_at, at_place, no_place, NamesGood, literal}
-use Rattle.ln_parse.proofs.Expressions.Found.{get_longer}
-use Rattle.ln_parse.proofs.Wholes.TestLemmas.{at_most, get_map}
+use Rattle.ln_parse.proofs.Expressions.Found.{sites_named, params_named, any_site, any_param, coords_found, position_is_len, get_longer}
+use Rattle.ln_parse.proofs.Wholes.TestLemmas.{get_map}
 use Rattle.ln_parse.proofs.Wholes.WholeParts.{SiteParts}
 
 -- names that differ from a list's differ from its parts'
@@ -73,25 +73,12 @@ pub none_called : {A : Type 0} (name : A → List ℕ) (xs : List A) (t : List �
 none_called name [] t h = refl
 none_called name (x ∷ xs) t h = let a = flip t (name x) h.0 in let b = none_called name xs t h.1 in rw (a, b) refl
 
-found_by : {A : Type 0} (p : A → Bool) (y x : A) (xs : List A) (b : Bool) → p y ≡ b → cond b (Some y) (find p xs) ≡ Some x
-    → (find p xs ≡ Some x → list_any p xs ≡ true) → (p y || list_any p xs) ≡ true
-found_by p y x xs true e h on = or_left _ _ e
-found_by p y x xs false e h on = or_right _ _ (on h)
+any_position_by : {A : Type 0} (p : A → Bool) (xs : List A) (j : ℕ) (b : Bool) → list_any p xs ≡ b → position p xs ≡ Some j → b ≡ true
+any_position_by p xs j true e h = refl
+any_position_by p xs j false e h = let q = no_place p xs e in absurd (cc)
 
--- where an element is found, some element passes
-pub any_found : {A : Type 0} (p : A → Bool) (xs : List A) (x : A) → find p xs ≡ Some x → list_any p xs ≡ true
-any_found p [] x h = absurd (cc)
-any_found p (y ∷ xs) x h = found_by p y x xs (p y) refl h (any_found p xs x)
-
-place_by : {A : Type 0} (p : A → Bool) (y : A) (xs : List A) (k j : ℕ) (b : Bool) → p y ≡ b → cond b (Some k) (position_from p (k + 1) xs) ≡ Some j
-    → (position_from p (k + 1) xs ≡ Some j → list_any p xs ≡ true) → (p y || list_any p xs) ≡ true
-place_by p y xs k j true e h on = or_left _ _ e
-place_by p y xs k j false e h on = or_right _ _ (on h)
-
--- and where a position is found
-pub any_place : {A : Type 0} (p : A → Bool) (xs : List A) (k j : ℕ) → position_from p k xs ≡ Some j → list_any p xs ≡ true
-any_place p [] k j h = absurd (cc)
-any_place p (y ∷ xs) k j h = place_by p y xs k j (p y) refl h (any_place p xs (k + 1) j)
+any_position : {A : Type 0} (p : A → Bool) (xs : List A) (j : ℕ) → position p xs ≡ Some j → list_any p xs ≡ true
+any_position p xs j h = any_position_by p xs j (list_any p xs) refl h
 
 written_name : (bytes : List ℕ) (t : TableOf) (r : RawArg) (a : ArgOf) → ArgWritten bytes t r a → text bytes r.name ≡ arg_name t.params a
 written_name bytes t r (SiteArg n k) h = h.1
@@ -148,69 +135,37 @@ arg_found bytes t p (r ∷ raws) (b ∷ args) (suc d) a w f e q =
 
 -- a site type is found by its name
 pub record TypeThere (bytes : List ℕ) (is : List Item) (k : ℕ) (s : SiteOf) (q : Span) : Type 0 where
-  pub name : Span
-  pub raws : List RawCoord
-  pub found : find (λ i. is_site i && same bytes (item_name i) q) is ≡ Some (SiteItem name raws)
-  pub says : map (λ (c : RawCoord). ranged bytes c.name c.range) raws ≡ s.coords
-  pub at : (j : ℕ) → position_from (λ n. same bytes n q) j (site_names is) ≡ Some (j + k)
+  pub known : list_any (λ i. is_site i && same bytes (item_name i) q) is ≡ true
+  pub says : map (λ (c : RawCoord). ranged bytes c.name c.range) (coords_in (find (λ i. is_site i && same bytes (item_name i) q) is)) ≡ s.coords
+  pub at : position (λ n. same bytes n q) (site_names is) ≡ Some k
 
 -- and so is each site type among the items, where their names differ
 pub type_there : (bytes : List ℕ) (is : List Item) (k : ℕ) (s : SiteOf) (q : Span) → Differ (map (λ (x : SiteOf). x.name) (sites_said bytes is))
     → slice_get (sites_said bytes is) k ≡ Some s → text bytes q ≡ s.name → TypeThere bytes is k s q
-type_there bytes [] k s q d e h = absurd (cc)
-type_there bytes (SiteItem n cs ∷ is) zero s q d e h =
-    let z : record { name = text bytes n; coords = map (λ (c : RawCoord). ranged bytes c.name c.range) cs } ≡ s = cc in
-    let m : text bytes q ≡ text bytes n = h ∙ sym (ap (λ (x : SiteOf). x.name) z) in
-    let b : bytes_eq (text bytes n) (text bytes q) ≡ true = rw m (same_bytes (text bytes n)) in
+type_there bytes is k s q d e h =
+    let p = λ (n : Span). same bytes n q in
+    let e2 = get_map (λ (x : SiteOf). x.name) (sites_said bytes is) k s e ∙ ap (λ (w : List ℕ). Some w) (sym h) in
+    let a = place_of_name (text bytes) (site_names is) k (text bytes q) (rw (sites_named bytes is) at d) (rw (sites_named bytes is) at e2) in
+    let z : position_or_len p (site_names is) ≡ k = position_is_len p (site_names is) k a in
     record {
-      name = n;
-      raws = cs;
-      found = rw b refl;
-      says = ap (λ (x : SiteOf). x.coords) z;
-      at = λ j. let k : j ≡ j + 0 = omega arith in rw b (ap (λ (m : ℕ). Some m) k);
+      known = sym (any_site p is) ∙ any_position p (site_names is) k a;
+      says = sym (coords_found bytes p is) ∙ rw (z, e) refl;
+      at = a;
     }
-type_there bytes (SiteItem n cs ∷ is) (suc k) s q d e h =
-    let g = type_there bytes is k s q d.1 e h in
-    let there : slice_get (map (λ (x : SiteOf). x.name) (sites_said bytes is)) k ≡ Some s.name = get_map (λ (x : SiteOf). x.name) (sites_said bytes is) k s e in
-    let b : bytes_eq (text bytes n) (text bytes q) ≡ false =
-    rw h (not_there (text bytes n) (map (λ (x : SiteOf). x.name) (sites_said bytes is)) k s.name d.0 there) in
-    record {
-      name = g.name;
-      raws = g.raws;
-      found = rw b g.found;
-      says = g.says;
-      at = λ j. let k : j + 1 + k ≡ j + suc k = omega arith in rw b (g.at (j + 1) ∙ ap (λ (m : ℕ). Some m) k);
-    }
-type_there bytes (ParamItem n r ∷ is) k s q d e h =
-    let g = type_there bytes is k s q d e h in
-    record { name = g.name; raws = g.raws; found = g.found; says = g.says; at = g.at }
-type_there bytes (PredItem n as' ls r ∷ is) k s q d e h =
-    let g = type_there bytes is k s q d e h in
-    record { name = g.name; raws = g.raws; found = g.found; says = g.says; at = g.at }
 
 -- a param is found by its name
 pub record ParamThere (bytes : List ℕ) (is : List Item) (k : ℕ) (q : Span) : Type 0 where
   pub known : list_any (λ i. is_param i && same bytes (item_name i) q) is ≡ true
-  pub at : (j : ℕ) → position_from (λ n. same bytes n q) j (param_names is) ≡ Some (j + k)
+  pub at : position (λ n. same bytes n q) (param_names is) ≡ Some k
 
 -- and so is each param among the items, where their names differ
 pub param_there : (bytes : List ℕ) (is : List Item) (k : ℕ) (c : CoordOf) (q : Span) → Differ (map (λ (x : CoordOf). x.name) (params_said bytes is))
     → slice_get (params_said bytes is) k ≡ Some c → text bytes q ≡ c.name → ParamThere bytes is k q
-param_there bytes [] k c q d e h = absurd (cc)
-param_there bytes (ParamItem n r ∷ is) zero c q d e h =
-    let z : ranged bytes n r ≡ c = cc in
-    let m : text bytes q ≡ text bytes n = h ∙ sym (ap (λ (x : CoordOf). x.name) z) in
-    let b : bytes_eq (text bytes n) (text bytes q) ≡ true = rw m (same_bytes (text bytes n)) in
-    record { known = or_left _ _ b; at = λ j. let k : j ≡ j + 0 = omega arith in rw b (ap (λ (m : ℕ). Some m) k) }
-param_there bytes (ParamItem n r ∷ is) (suc k) c q d e h =
-    let g = param_there bytes is k c q d.1 e h in
-    let there : slice_get (map (λ (x : CoordOf). x.name) (params_said bytes is)) k ≡ Some c.name =
-    get_map (λ (x : CoordOf). x.name) (params_said bytes is) k c e in
-    let b : bytes_eq (text bytes n) (text bytes q) ≡ false =
-    rw h (not_there (text bytes n) (map (λ (x : CoordOf). x.name) (params_said bytes is)) k c.name d.0 there) in
-    record { known = or_right _ _ g.known; at = λ j. let k : j + 1 + k ≡ j + suc k = omega arith in rw b (g.at (j + 1) ∙ ap (λ (m : ℕ). Some m) k) }
-param_there bytes (SiteItem n cs ∷ is) k c q d e h = let g = param_there bytes is k c q d e h in record { known = g.known; at = g.at }
-param_there bytes (PredItem n as' ls r ∷ is) k c q d e h = let g = param_there bytes is k c q d e h in record { known = g.known; at = g.at }
+param_there bytes is k c q d e h =
+    let p = λ (n : Span). same bytes n q in
+    let e2 = get_map (λ (x : CoordOf). x.name) (params_said bytes is) k c e ∙ ap (λ (w : List ℕ). Some w) (sym h) in
+    let a = place_of_name (text bytes) (param_names is) k (text bytes q) (rw (params_named bytes is) at d) (rw (params_named bytes is) at e2) in
+    record { known = sym (any_param p is) ∙ any_position p (param_names is) k a; at = a }
 
 -- a predicate of the table in a text, after these items and with these arguments, whose names are the table's, short and all different
 pub record PredIn (bytes : List ℕ) (is : List Item) (raws : List RawArg) (t : TableOf) (p : PredOf) : Type 0 where
@@ -244,7 +199,7 @@ let_reads bytes s t p c j l =
     (subst (λ (w : List (List ℕ)). Differ w) c.lets (differ_right (map (arg_name t.params) p.args) p.let_names c.pred.differ)) in
     let m = place_of_name (λ (l : RawLet). text bytes l.name) s.lets j e.0 d e.1 in
     let k : list_any (λ (l : RawLet). bytes_eq (text bytes l.name) e.0) s.lets ≡ true =
-    any_place _ s.lets 0 j (sym (position_from-zero (λ (l : RawLet). bytes_eq (text bytes l.name) e.0) s.lets) ∙ m) in
+    any_position _ s.lets j m in
     let q : IsShortName e.0 = every_at IsShortName p.let_names j e.0 c.pred.good.lets u in
     rw u (record { says = rw m refl; meant = (q.1, or_left _ _ k) })
 
@@ -271,18 +226,19 @@ input_reads bytes s t p v d c (of_site m k x y e f h) =
     let df = subst (λ (w : List SiteOf). Differ (map (λ (x : SiteOf). x.name) w)) (sym g.sites) g.site_names in
     let b = type_there bytes s.items k x a.raw.kind df here kind in
     let parts : SiteParts x = every_at SiteParts t.sites k x g.site_parts f in
-    let nm : map (λ (c : RawCoord). text bytes c.name) b.raws ≡ map (λ (x : CoordOf). x.name) x.coords =
-    sym (coord_map bytes b.raws) ∙ ap (map (λ (x : CoordOf). x.name)) b.says in
+    let raws = coords_of bytes s.items (Some a.raw) in
+    let nm : map (λ (c : RawCoord). text bytes c.name) raws ≡ map (λ (x : CoordOf). x.name) x.coords =
+    sym (coord_map bytes raws) ∙ ap (map (λ (x : CoordOf). x.name)) b.says in
     let dc = subst (λ (w : List (List ℕ)). Differ w) (sym nm) parts.differ in
-    let there : slice_get (map (λ (c : RawCoord). text bytes c.name) b.raws) c ≡ Some y.name =
+    let there : slice_get (map (λ (c : RawCoord). text bytes c.name) raws) c ≡ Some y.name =
     ap (λ (w : List (List ℕ)). slice_get w c) nm ∙ get_map (λ (x : CoordOf). x.name) x.coords c y h in
-    let pc = place_of_name (λ (c : RawCoord). text bytes c.name) b.raws c y.name dc there in
+    let pc = place_of_name (λ (c : RawCoord). text bytes c.name) raws c y.name dc there in
     let pa : position (arg_called bytes is_site_arg m) s.args ≡ Some d =
     position_from-zero (arg_called bytes is_site_arg m) s.args ∙ a.at 0 ∙ ap (λ (w : ℕ). Some w) (zero-add d) in
-    let cs : coords_of bytes s.items (find (arg_called bytes is_site_arg m) s.args) ≡ b.raws = rw a.found (rw b.found (refl {a = b.raws})) in
-    let ka : list_any (arg_called bytes is_site_arg m) s.args ≡ true = any_found (arg_called bytes is_site_arg m) s.args a.raw a.found in
-    let kc : list_any (λ (c : RawCoord). bytes_eq (text bytes c.name) y.name) b.raws ≡ true =
-    any_place _ b.raws 0 c (sym (position_from-zero (λ (c : RawCoord). bytes_eq (text bytes c.name) y.name) b.raws) ∙ pc) in
+    let cs : coords_of bytes s.items (find (arg_called bytes is_site_arg m) s.args) ≡ raws = rw a.found refl in
+    let ka : list_any (arg_called bytes is_site_arg m) s.args ≡ true = any_position (arg_called bytes is_site_arg m) s.args d pa in
+    let kc : list_any (λ (c : RawCoord). bytes_eq (text bytes c.name) y.name) raws ≡ true =
+    any_position _ raws c pc in
     let i : IsShortName m = every_at ArgNames p.args d (SiteArg m k) g.good.args e in
     let j : IsShortName y.name = every_at (λ (z : CoordOf). IsShortName z.name) x.coords c y (every_at SiteNames t.sites k x g.good.sites f).coords h in
     rw (e, f, h) (record { says = rw (pa, cs, pc) refl; meant = (i.1, j.1, ka, rw cs kc) })
@@ -301,8 +257,7 @@ input_reads bytes s t p v d c (of_param k x e f z) =
     none_left x.name names v.more (subst (λ (w : List (List ℕ)). NoneIs x.name w) v.lets (apart args p.let_names d x.name g.differ there)) in
     let nl = none_called (λ (l : RawLet). text bytes l.name) s.lets x.name no in
     let pl : position (λ (l : RawLet). bytes_eq (text bytes l.name) x.name) s.lets ≡ None = no_place _ s.lets nl in
-    let ka : list_any (arg_called bytes is_param_arg x.name) s.args ≡ true = subst (λ (w : List ℕ). list_any (arg_called bytes is_param_arg w) s.args ≡ true) m
-    (any_found (arg_called bytes is_param_arg (arg_name t.params (ParamArg k))) s.args a.raw a.found) in
+    let ka : list_any (arg_called bytes is_param_arg x.name) s.args ≡ true = any_position (arg_called bytes is_param_arg x.name) s.args d pb in
     let i : IsShortName x.name = every_at (λ (y : CoordOf). IsShortName y.name) t.params k x g.good.params f in
     rw (e, f, z) (record { says = rw (pl, pb) refl; meant = (i.1, or_right _ _ ka) })
 
@@ -335,7 +290,7 @@ reads bytes s t p v (FMul at e f) h =
 reads bytes s t p v (FPow at e m) h =
     let q = and_parts (is_fit (length p.vars) (length s.lets) (tree p.vars e)) (nat_le m 16) h in
     let a = reads bytes s t p v e q.0 in
-    let x = a.says in record { says = rw x refl; meant = (a.meant, at_most m 16 q.1) }
+    let x = a.says in record { says = rw x refl; meant = (a.meant, leb-true m 16 q.1) }
 
 -- a fit formula that is written with the table's names means itself, and its names are short and known
 pub means : (bytes : List ℕ) (s : Scope) (t : TableOf) (p : PredOf) → InScope bytes s t p → (f : Formula)

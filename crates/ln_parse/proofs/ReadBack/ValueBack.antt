@@ -1,7 +1,7 @@
 -- The expressions, lets and arguments of a canonical text say those of the table, and their tokens have no fault.
-use Rattle.std.proofs.Common.{◌≡◌, ℕ, suc, ◌+◌, ◌<◌, ◌≤◌, ◌==◌, ◌||◌, true, false, nat_lt, List, [], ◌∷◌, ◌++◌, length, map, None, refl, ap, sym, ◌∙◌}
+use Rattle.std.proofs.Common.{◌≡◌, ℕ, suc, ◌+◌, ◌<◌, ◌≤◌, ◌||◌, Bool, true, false, List, [], ◌∷◌, ◌++◌, length, map, None, refl, ap, sym, ◌∙◌}
 use Rattle.std.proofs.Common.{subst, arith, append_assoc, append-nil, length-append}
-use Rattle.std.specs.Prelude.{bytes_eq}
+use Rattle.std.specs.Prelude.{bytes_eq, count_by}
 use Rattle.std.specs.List.{list_any}
 use Rattle.std.proofs.lemmas.Bool.{and_parts}
 use Rattle.std.proofs.lemmas.List.{map-append}
@@ -27,11 +27,12 @@ use Rattle.ln_parse.specs.ReadsBack.{Every, Spells, LetsWritten}
 use Rattle.ln_parse.specs.Spanless.{spanless}
 use Rattle.ln_parse.specs.WholeTable.{IsShortName}
 use Rattle.ln_parse.specs.Written.{Written, naming, written, spelling}
+use Rattle.ln_parse.proofs.Building.LaidOut.{count_cons, count_append}
 use Rattle.ln_parse.proofs.Expressions.Counts.{node_count_is}
-use Rattle.ln_parse.proofs.Expressions.Roles.{Fresh, fresh_behind}
+use Rattle.ln_parse.proofs.Expressions.Roles.{Fresh, fresh_behind, has_roles}
 use Rattle.ln_parse.proofs.ReadBack.NamePlaces.{NoneIs, Differ}
 use Rattle.ln_parse.proofs.Expressions.Meaning.{meaning, meaning_is}
-use Rattle.ln_parse.proofs.ReadBack.CleanValue.{Meant, value_clean, clean_join, none_three, not_over, not_at}
+use Rattle.ln_parse.proofs.ReadBack.CleanValue.{Meant, value_clean, clean_join, not_over, not_at}
 use Rattle.ln_parse.proofs.ReadBack.ScopeNames.{PredIn, InScope, written_names, means}
 use Rattle.ln_parse.proofs.Wholes.TestLemmas.{neither}
 
@@ -60,9 +61,10 @@ pub value_back : (bytes : List ℕ) (ts : List Token) (s : Scope) (t : TableOf) 
     → ValueBack bytes ts s at f
 value_back bytes ts s t p v f h at sp fr =
     let m = means bytes s t p v f h in
+    let roles = has_roles sp.derives sp.ends fr in
     let same : spanless (resolved bytes s sp.tree) ≡ spanless f = meaning_is bytes s sp.tree ∙ ap (meaning bytes s) sp.same ∙ m.0 in
     let mt : Meant bytes s (spelling bytes sp.tree) = subst (λ (w : Written). Meant bytes s w) (sym sp.same) m.1 in
-    let c : node_count (resolved bytes s sp.tree) ≡ value_nodes ts at = node_count_is bytes s sp.derives sp.ends fr in
+    let c : node_count (resolved bytes s sp.tree) ≡ value_nodes ts at = node_count_is bytes s roles in
     let d = nodes_spanless (resolved bytes s sp.tree) in
     let e = nodes_spanless f in
     let x = ap node_count same in
@@ -72,7 +74,7 @@ value_back bytes ts s t p v f h at sp fr =
       says = record { tree = sp.tree; derives = sp.derives; ends = sp.ends; means = refl };
       same = same;
       count = count;
-      clean = λ m l. value_clean bytes s sp.derives sp.ends fr mt m (omega arith);
+      clean = λ m l. value_clean bytes s roles mt m (omega arith);
     }
 
 -- a name is that of one of the elements exactly where it is among their names
@@ -88,6 +90,21 @@ member u t (x ∷ us) vs h = member u t us vs h.1
 pub new_behind : (us vs : List (List ℕ)) (t : List ℕ) → Differ (us ++ (t ∷ vs)) → list_any (λ u. bytes_eq u t) us ≡ false
 new_behind [] vs t h = refl
 new_behind (u ∷ us) vs t h = let a = member u t us vs h.0 in let b = new_behind us vs t h.1 in rw (a, b) refl
+
+-- of elements whose names differ, none before another has its name
+pub new_among : {A : Type 0} (name : A → List ℕ) (all before : List A) (x : A) (xs : List A) → Differ (map name all) → before ++ (x ∷ xs) ≡ all
+    → list_any (λ d. bytes_eq (name d) (name x)) before ≡ false
+new_among name all before x xs d q =
+    let e : map name all ≡ map name before ++ (name x ∷ map name xs) = ap (map name) (sym q) ∙ map-append name before (x ∷ xs) in
+    any_map name (name x) before ∙ new_behind (map name before) (map name xs) (name x) (subst (λ (w : List (List ℕ)). Differ w) e d)
+
+-- of at most n elements that pass, fewer than n are before another
+pub room : {A : Type 0} (p : A → Bool) (n : ℕ) (all before : List A) (x : A) (xs : List A) → before ++ (x ∷ xs) ≡ all → p x ≡ true → count_by p all ≤ n
+    → count_by p before < n
+room p n all before x xs q h l =
+    let a = ap (count_by p) q in
+    let b = count_append p before (x ∷ xs) in
+    let c : count_by p (x ∷ xs) ≡ 1 + count_by p xs = count_cons p x xs ∙ rw h refl in omega arith
 
 abbrev let_name : List ℕ → RawLet → List ℕ
 let_name bytes l = text bytes l.name
@@ -137,8 +154,7 @@ let_clean bytes s t p at u us g e q l =
     || list_any (λ (m : RawLet). bytes_eq (text bytes m.name) z) s.lets) ≡ false) (sym q) n3 in
     let short : IsShortName u = middle IsShortName names us u (subst (λ (w : List (List ℕ)). Every IsShortName w) e g.good.lets) in
     let sh : length (text bytes at) ≤ 32 = subst (λ (z : List ℕ). length z ≤ 32) (sym q) short.1 in
-    none_three (nat_lt 32 (length (text bytes at))) (length s.lets == 64) (list_any (λ (a : RawArg). same bytes a.name at) s.args
-    || list_any (λ (m : RawLet). same bytes m.name at) s.lets) _ _ _ (not_over 32 _ sh) (not_at (length s.lets) 64 l) n4
+    rw (not_over 32 _ sh, not_at (length s.lets) 64 l, n4) refl
 
 -- the lets of a canonical text say the table's formulas, and their tokens have no fault
 pub lets_back : (bytes : List ℕ) (ts : List Token) (s : Scope) (t : TableOf) (p : PredOf) {i k : ℕ} {ls : List RawLet} → Lets ts i k ls

@@ -11,7 +11,7 @@ use Rattle.ln_parse.specs.ReadsBack.{Every, CoordNamed, SiteNamed, ArgNamed, Let
 use Rattle.ln_parse.proofs.Texts.WordTokens.{number_kind, name_kind}
 use Rattle.ln_parse.proofs.Texts.LexBack.{Clear, toks, lexed}
 use Rattle.ln_parse.proofs.Texts.DeriveBack.{Clears, Sits, sits, whole_clear}
-use Rattle.ln_parse.proofs.Texts.ItemsBack.{FileBack, sites_back}
+use Rattle.ln_parse.proofs.Texts.ItemsBack.{FileBack, like_sites, like_params, like_preds, sites_back}
 
 signed_by : (v : Bool) (n : ℕ) → n < 10 ^ 64 → Clears (λ rest. minus_if v (number n rest))
 signed_by false n h = λ rest s c. (number_kind n h, s, c)
@@ -124,7 +124,7 @@ reads_back t n =
       lexed = lexed (lexemes t []) (table_clear t n);
       items = f.items;
       spelt = f.derives;
-      sites = f.sites;
-      params = f.params;
-      preds = f.preds;
+      sites = like_sites f.like;
+      params = like_params f.like;
+      preds = like_preds f.like;
     }

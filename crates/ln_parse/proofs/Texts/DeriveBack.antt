@@ -1,7 +1,8 @@
 -- The tokens of an expression that is written canonically derive it.
 use Rattle.std.proofs.Common.{◌≡◌, ℕ, zero, suc, ◌+◌, ◌-◌, ◌<◌, ◌≤◌, Bool, true, false, cond, List, [], ◌∷◌, length, take, drop, Some, refl}
-use Rattle.std.proofs.Common.{ap, sym, ◌∙◌, arith, length-drop, codes, ◌++◌, ◌&&◌, ◌==◌}
+use Rattle.std.proofs.Common.{ap, sym, ◌∙◌, arith, length-drop, codes, ◌++◌, ◌==◌}
 use Rattle.ln_base.specs.Words.{is_name, is_letter}
+use Rattle.std.proofs.lemmas.Bool.{and_parts}
 use Rattle.std.proofs.lemmas.Bool.Decides.{nat_tests}
 use Rattle.ln_lex.specs.declared.token.Kind.TheVariants.{Number, ParL, ParR, Plus, Minus, Star, Caret}
 use Rattle.ln_lex.specs.declared.token.Token.{Token}
@@ -243,17 +244,13 @@ derived bytes ts (WPow a n) m i rest h =
 abbrev pub Clears : (List Lexeme → List Lexeme) → Type 0
 Clears f = (rest : List Lexeme) → soft (text_of rest) ≡ true → Clear rest → Clear (f rest)
 
-and_first : (a b : Bool) → (a && b) ≡ true → a ≡ true
-and_first true b h = refl
-and_first false b h = absurd (cc)
-
 no_dot : (b : ℕ) → is_letter b ≡ true → (b == 46) ≡ false
 no_dot b h = grind (arith, nat_tests)
 
 -- no name begins with a dot
 name_undotted : (t : List ℕ) → is_name t ≡ true → (rest : List ℕ) → undotted (t ++ rest) ≡ true
 name_undotted [] h rest = absurd (cc)
-name_undotted (b ∷ bs) h rest = rw (no_dot b (and_first (is_letter b) _ (and_first _ _ h))) refl
+name_undotted (b ∷ bs) h rest = rw (no_dot b (and_parts (is_letter b) _ (and_parts _ _ h).0).0) refl
 
 clear_by : (t : Written) (v : Bool) → Clears (inside t)
     → Clears (λ rest. cond v (inside t rest) (word ParL (codes "(") ∷ inside t (word ParR (codes ")") ∷ rest)))

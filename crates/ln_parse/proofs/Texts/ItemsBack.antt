@@ -2,6 +2,7 @@
 use Rattle.std.proofs.Common.{◌≡◌, ℕ, suc, ◌<◌, ◌^◌, Bool, true, false, ℤ, pos, negsuc, List, [], ◌∷◌, length, map, refl, ap, ◌∙◌, subst, arith, codes, sym}
 use Rattle.std.specs.Prelude.{int_lt, unsigned_abs}
 use Rattle.std.proofs.lemmas.Int.{ints}
+use Rattle.ln_base.specs.declared.span.Span.{Span}
 use Rattle.ln_lex.specs.declared.token.Token.{Token}
 use Rattle.ln_lex.specs.declared.token.Kind.TheVariants.{Name, BraceL, BraceR, ParR, Colon, Semi, Comma, Dots}
 use Rattle.ln_syntax.specs.declared.raw.RawEnd.{RawEnd}
@@ -267,48 +268,58 @@ pred_back bytes ts t p m i rest h =
       after = z.2;
     }
 
--- items that are these predicates
-abbrev pub PredsLike : List ℕ → List Token → TableOf → List Item → List PredOf → Type 0
-PredsLike bytes ts t [] [] = Unit {0}
-PredsLike bytes ts t (PredItem n as' ls r ∷ is) (p ∷ ps) = PredWritten bytes ts t n as' ls r p × PredsLike bytes ts t is ps
-PredsLike bytes ts t is ps = ⊥
-
--- items that are these params, and then these predicates
-abbrev pub ParamsLike : List ℕ → List Token → TableOf → List Item → List CoordOf → List PredOf → Type 0
-ParamsLike bytes ts t is [] ps = PredsLike bytes ts t is ps
-ParamsLike bytes ts t (ParamItem n r ∷ is) (c ∷ cs) ps = (said.ranged bytes n r ≡ c) × ParamsLike bytes ts t is cs ps
-ParamsLike bytes ts t is (c ∷ cs) ps = ⊥
-
 -- items that are these site types, then these params, and then these predicates
-abbrev pub SitesLike : List ℕ → List Token → TableOf → List Item → List SiteOf → List CoordOf → List PredOf → Type 0
-SitesLike bytes ts t is [] cs ps = ParamsLike bytes ts t is cs ps
-SitesLike bytes ts t (SiteItem n raws ∷ is) (s ∷ ss) cs ps =
-    (text bytes n ≡ s.name) × (map (λ (c : RawCoord). said.ranged bytes c.name c.range) raws ≡ s.coords) × SitesLike bytes ts t is ss cs ps
-SitesLike bytes ts t is (s ∷ ss) cs ps = ⊥
+pub data Like (bytes : List ℕ) (ts : List Token) (t : TableOf) : List Item → List SiteOf → List CoordOf → List PredOf → Type 0 where
+  no_more : Like bytes ts t [] [] [] []
+  a_site : {n : Span} {raws : List RawCoord} {is : List Item} {s : SiteOf} {ss : List SiteOf} {cs : List CoordOf} {ps : List PredOf}
+      → text bytes n ≡ s.name → map (λ (c : RawCoord). said.ranged bytes c.name c.range) raws ≡ s.coords → Like bytes ts t is ss cs ps
+      → Like bytes ts t (SiteItem n raws ∷ is) (s ∷ ss) cs ps
+  a_param : {n : Span} {r : RawRange} {is : List Item} {c : CoordOf} {cs : List CoordOf} {ps : List PredOf} → said.ranged bytes n r ≡ c
+      → Like bytes ts t is [] cs ps → Like bytes ts t (ParamItem n r ∷ is) [] (c ∷ cs) ps
+  a_pred : {n : Span} {raws : List RawArg} {ls : List RawLet} {r : Places} {is : List Item} {p : PredOf} {ps : List PredOf}
+      → PredWritten bytes ts t n raws ls r p → Like bytes ts t is [] [] ps → Like bytes ts t (PredItem n raws ls r ∷ is) [] [] (p ∷ ps)
+
+-- such items say these site types
+pub like_sites : {bytes : List ℕ} {ts : List Token} {t : TableOf} {is : List Item} {ss : List SiteOf} {cs : List CoordOf} {ps : List PredOf}
+    → Like bytes ts t is ss cs ps → said.sites_said bytes is ≡ ss
+like_sites no_more = refl
+like_sites (a_site n m l) = let e = like_sites l in rw (n, m, e) refl
+like_sites (a_param e l) = like_sites l
+like_sites (a_pred w l) = like_sites l
+
+-- and these params
+pub like_params : {bytes : List ℕ} {ts : List Token} {t : TableOf} {is : List Item} {ss : List SiteOf} {cs : List CoordOf} {ps : List PredOf}
+    → Like bytes ts t is ss cs ps → said.params_said bytes is ≡ cs
+like_params no_more = refl
+like_params (a_site n m l) = like_params l
+like_params (a_param n l) = let e = like_params l in rw (n, e) refl
+like_params (a_pred w l) = like_params l
+
+-- and these predicates
+pub like_preds : {bytes : List ℕ} {ts : List Token} {t : TableOf} {is : List Item} {ss : List SiteOf} {cs : List CoordOf} {ps : List PredOf}
+    → Like bytes ts t is ss cs ps → PredsWritten bytes ts t is ps
+like_preds no_more = tt
+like_preds (a_site n m l) = like_preds l
+like_preds (a_param n l) = like_preds l
+like_preds (a_pred w l) = (w, like_preds l)
 
 -- the items from place i on, up to the end
 pub record FileBack (bytes : List ℕ) (ts : List Token) (t : TableOf) (i : ℕ) (ss : List SiteOf) (cs : List CoordOf) (ps : List PredOf) : Type 0 where
   pub items : List Item
   pub derives : file.Items ts i (length ts) items
-  pub sites : said.sites_said bytes items ≡ ss
-  pub params : said.params_said bytes items ≡ cs
-  pub preds : PredsWritten bytes ts t items ps
-  pub like : SitesLike bytes ts t items ss cs ps
+  pub like : Like bytes ts t items ss cs ps
 
 preds_back : (bytes : List ℕ) (ts : List Token) (t : TableOf) (ps : List PredOf) → Every (PredNamed t) ps → (i : ℕ)
     → Sits bytes ts i (each (pred t) ps []) → FileBack bytes ts t i [] [] ps
 preds_back bytes ts t [] n i h =
-    record { items = []; derives = subst (λ (k : ℕ). file.Items ts i k []) h file.no_item; sites = refl; params = refl; preds = tt; like = tt }
+    record { items = []; derives = subst (λ (k : ℕ). file.Items ts i k []) h file.no_item; like = no_more }
 preds_back bytes ts t (p ∷ ps) n i h =
     let r = pred_back bytes ts t p n.0 i (each (pred t) ps []) h in
     let m = preds_back bytes ts t ps n.1 r.to r.after in
     record {
       items = PredItem (span_at ts (suc i)) r.raws r.values r.places ∷ m.items;
       derives = file.an_item r.derives m.derives;
-      sites = m.sites;
-      params = m.params;
-      preds = (r.writes, m.preds);
-      like = (r.writes, m.like);
+      like = a_pred r.writes m.like;
     }
 
 params_back : (bytes : List ℕ) (ts : List Token) (t : TableOf) (ps : List PredOf) → Every (PredNamed t) ps → (cs : List CoordOf)
@@ -320,10 +331,7 @@ params_back bytes ts t ps n (c ∷ cs) m i h =
     record {
       items = ParamItem (span_at ts (suc i)) r.raw ∷ f.items;
       derives = file.an_item (file.param h.0 r.name r.colon r.derives r.semi) f.derives;
-      sites = f.sites;
-      params = rw (r.says, f.params) refl;
-      preds = f.preds;
-      like = (r.says, f.like);
+      like = a_param r.says f.like;
     }
 
 -- the tokens of the site types, the params and the predicates spell items that are these
@@ -337,8 +345,5 @@ sites_back bytes ts t ps n cs m (s ∷ ss) k i h =
     record {
       items = SiteItem (span_at ts (suc i)) r.raws ∷ f.items;
       derives = file.an_item r.derives f.derives;
-      sites = rw (r.name, r.says, f.sites) refl;
-      params = f.params;
-      preds = f.preds;
-      like = (r.name, r.says, f.like);
+      like = a_site r.name r.says f.like;
     }

@@ -2,7 +2,7 @@
 use Rattle.std.proofs.Common.{◌≡◌, ℕ, zero, suc, ◌+◌, ◌-◌, ◌<◌, ◌≤◌, ◌&&◌, ◌||◌, Bool, true, false, cond, List, [], ◌∷◌, ◌++◌, length, take}
 use Rattle.std.proofs.Common.{drop, Some, None, refl, ap, sym, ◌∙◌, subst, arith, length-append, length-drop, codes, not, ◌==◌}
 use Rattle.std.specs.Prelude.{bytes_eq, if◌then◌else◌}
-use Rattle.std.proofs.lemmas.Bool.Decides.{nat_tests}
+use Rattle.std.proofs.lemmas.Bool.{not-true, eqb-true}
 use Rattle.std.proofs.lemmas.List.{drop-drop}
 use Rattle.ln_lex.specs.declared.token.Kind.{Kind}
 use Rattle.ln_lex.specs.declared.token.Kind.TheVariants.{Name, Number, Site, Param, Predicate, Let, Sign, Dot}
@@ -115,13 +115,6 @@ number_first b bs rest l d e s = record {
   longest = λ m h w. number_long b bs rest m l d s h w;
 }
 
-not_true : (v : Bool) → not v ≡ true → v ≡ false
-not_true true h = sym h
-not_true false h = refl
-
-eqb_is : (n m : ℕ) → (n == m) ≡ true → n ≡ m
-eqb_is n m h = grind (arith, nat_tests)
-
 two_dots : (b c : ℕ) (cs : List ℕ) (k : Kind) → sign_of b ≡ Some k → Apart k (c ∷ cs) → ((b == 46) && (c == 46)) ≡ false
 two_dots b c cs k s a = by (b == 46) refl
   where
@@ -130,10 +123,10 @@ two_dots b c cs k s a = by (b == 46) refl
         let d : Some Dot ≡ Some k = sym (ap (λ (x : ℕ). sign_of x) q) ∙ s in
         let e : Dot ≡ k = cc in
         let u : undotted (c ∷ cs) ≡ true = subst (λ (x : Kind). Apart x (c ∷ cs)) (sym e) a in
-        not_true (c == 46) u
+        not-true (c == 46) u
 
     by : (v : Bool) → (b == 46) ≡ v → (v && (c == 46)) ≡ false
-    by true e = at_dot (eqb_is b 46 e)
+    by true e = at_dot (eqb-true b 46 e)
     by false e = refl
 
 sign_long : (b : ℕ) (rest : List ℕ) (k : Kind) (m : ℕ) → is_letter b ≡ false → is_digit b ≡ false → sign_of b ≡ Some k → Apart k rest

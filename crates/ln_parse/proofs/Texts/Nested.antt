@@ -2,6 +2,7 @@
 use Rattle.std.proofs.Common.{◌≡◌, ℕ, zero, suc, ◌+◌, ◌-◌, ◌*◌, ◌<◌, ◌≤◌, Bool, true, false, cond, List, [], ◌∷◌, length, take, Option}
 use Rattle.std.proofs.Common.{Some, None, refl, ap, sym, ◌∙◌, subst, arith, codes}
 use Rattle.std.specs.Prelude.{nat_le, slice_get}
+use Rattle.std.proofs.lemmas.Bool.{le-leb}
 use Rattle.ln_lex.specs.declared.token.Kind.TheVariants.{ParL, ParR, Plus, Minus, Star}
 use Rattle.ln_syntax.specs.Raw.{Is}
 use Rattle.ln_syntax.specs.Place.{depth_behind, depth_after, IsShallow}
@@ -54,80 +55,59 @@ wanted OfProduct = 1
 wanted OfUnary = 2
 wanted OfAtom = 3
 
-input_fits : (n : Naming) (r : Room) (o : Option ArgOf) (c : ℕ) → fits r (input n o c) ≡ true
-input_fits n OfSum None c = refl
-input_fits n OfSum (Some (SiteArg a s)) c = refl
-input_fits n OfSum (Some (ParamArg p)) c = refl
-input_fits n OfProduct None c = refl
-input_fits n OfProduct (Some (SiteArg a s)) c = refl
-input_fits n OfProduct (Some (ParamArg p)) c = refl
-input_fits n OfUnary None c = refl
-input_fits n OfUnary (Some (SiteArg a s)) c = refl
-input_fits n OfUnary (Some (ParamArg p)) c = refl
-input_fits n OfAtom None c = refl
-input_fits n OfAtom (Some (SiteArg a s)) c = refl
-input_fits n OfAtom (Some (ParamArg p)) c = refl
+-- what holds of the four rooms holds of each
+by_room : (P : Room → Type 0) → P OfSum → P OfProduct → P OfUnary → P OfAtom → (r : Room) → P r
+by_room P a b c d OfSum = a
+by_room P a b c d OfProduct = b
+by_room P a b c d OfUnary = c
+by_room P a b c d OfAtom = d
 
-leaf_wanted : (r : Room) → nat_le (wanted r) 3 ≡ true
-leaf_wanted OfSum = refl
-leaf_wanted OfProduct = refl
-leaf_wanted OfUnary = refl
-leaf_wanted OfAtom = refl
+wanted_few : (r : Room) → wanted r ≤ 3
+wanted_few = by_room (λ w. wanted w ≤ 3) (omega arith) (omega arith) (omega arith) (omega arith)
+
+input_fits : (n : Naming) (r : Room) (o : Option ArgOf) (c : ℕ) → fits r (input n o c) ≡ true
+input_fits n r None c = refl
+input_fits n r (Some (SiteArg a s)) c = refl
+input_fits n r (Some (ParamArg p)) c = refl
 
 -- an expression is written without parentheses where its tightness is wanted
-fits_is : (n : Naming) (r : Room) (e : Formula) → fits r (written n e) ≡ nat_le (wanted r) (tightness e)
-fits_is n OfSum (FNum at c) = refl
-fits_is n OfProduct (FNum at c) = refl
-fits_is n OfUnary (FNum at c) = refl
-fits_is n OfAtom (FNum at c) = refl
-fits_is n r (FInput at a c) = input_fits n r (slice_get n.args a) c ∙ sym (leaf_wanted r)
-fits_is n OfSum (FName at j) = refl
-fits_is n OfProduct (FName at j) = refl
-fits_is n OfUnary (FName at j) = refl
-fits_is n OfAtom (FName at j) = refl
-fits_is n OfSum (FNeg at e) = refl
-fits_is n OfProduct (FNeg at e) = refl
-fits_is n OfUnary (FNeg at e) = refl
-fits_is n OfAtom (FNeg at e) = refl
-fits_is n OfSum (FAdd at e f) = refl
-fits_is n OfProduct (FAdd at e f) = refl
-fits_is n OfUnary (FAdd at e f) = refl
-fits_is n OfAtom (FAdd at e f) = refl
-fits_is n OfSum (FSub at e f) = refl
-fits_is n OfProduct (FSub at e f) = refl
-fits_is n OfUnary (FSub at e f) = refl
-fits_is n OfAtom (FSub at e f) = refl
-fits_is n OfSum (FMul at e f) = refl
-fits_is n OfProduct (FMul at e f) = refl
-fits_is n OfUnary (FMul at e f) = refl
-fits_is n OfAtom (FMul at e f) = refl
-fits_is n OfSum (FPow at e k) = refl
-fits_is n OfProduct (FPow at e k) = refl
-fits_is n OfUnary (FPow at e k) = refl
-fits_is n OfAtom (FPow at e k) = refl
+abbrev Fitting : Naming → Formula → Room → Type 0
+Fitting n e r = fits r (written n e) ≡ nat_le (wanted r) (tightness e)
 
-leaf_free : (r : Room) → pairs (wanted r) 3 ≡ 0
-leaf_free r = let e = leaf_wanted r in rw e refl
+fits_is : (n : Naming) (r : Room) (e : Formula) → Fitting n e r
+fits_is n r (FNum at c) = by_room (Fitting n (FNum at c)) refl refl refl refl r
+fits_is n r (FInput at a c) = input_fits n r (slice_get n.args a) c ∙ sym (le-leb (wanted r) 3 (wanted_few r))
+fits_is n r (FName at j) = by_room (Fitting n (FName at j)) refl refl refl refl r
+fits_is n r (FNeg at e) = by_room (Fitting n (FNeg at e)) refl refl refl refl r
+fits_is n r (FAdd at e f) = by_room (Fitting n (FAdd at e f)) refl refl refl refl r
+fits_is n r (FSub at e f) = by_room (Fitting n (FSub at e f)) refl refl refl refl r
+fits_is n r (FMul at e f) = by_room (Fitting n (FMul at e f)) refl refl refl refl r
+fits_is n r (FPow at e k) = by_room (Fitting n (FPow at e k)) refl refl refl refl r
 
-nesting_is : (r : Room) (e : Formula) → nesting (wanted r) e ≡ pairs (wanted r) (tightness e) + nesting 0 e
-nesting_is r (FNum at c) = let q = leaf_free r in omega arith
-nesting_is r (FInput at a c) = let q = leaf_free r in omega arith
-nesting_is r (FName at j) = let q = leaf_free r in omega arith
-nesting_is r (FNeg at e) = omega arith
-nesting_is r (FAdd at e f) = omega arith
-nesting_is r (FSub at e f) = omega arith
-nesting_is r (FMul at e f) = omega arith
-nesting_is r (FPow at e n) = omega arith
+leaf_free : (k : ℕ) → k ≤ 3 → pairs k 3 ≡ 0
+leaf_free k h = rw (le-leb k 3 h) refl
 
-tokens_are : (args : List ArgOf) (r : Room) (e : Formula) → tokens_of args (wanted r) e ≡ 2 * pairs (wanted r) (tightness e) + tokens_of args 0 e
-tokens_are args r (FNum at c) = let q = leaf_free r in omega arith
-tokens_are args r (FInput at a c) = let q = leaf_free r in omega arith
-tokens_are args r (FName at j) = let q = leaf_free r in omega arith
-tokens_are args r (FNeg at e) = omega arith
-tokens_are args r (FAdd at e f) = omega arith
-tokens_are args r (FSub at e f) = omega arith
-tokens_are args r (FMul at e f) = omega arith
-tokens_are args r (FPow at e n) = omega arith
+-- an expression is nested as where nothing is wanted, and once more in parentheses
+pub nesting_is : (k : ℕ) → k ≤ 3 → (e : Formula) → nesting k e ≡ pairs k (tightness e) + nesting 0 e
+nesting_is k h (FNum at c) = let q = leaf_free k h in omega arith
+nesting_is k h (FInput at a c) = let q = leaf_free k h in omega arith
+nesting_is k h (FName at j) = let q = leaf_free k h in omega arith
+nesting_is k h (FNeg at e) = omega arith
+nesting_is k h (FAdd at e f) = omega arith
+nesting_is k h (FSub at e f) = omega arith
+nesting_is k h (FMul at e f) = omega arith
+nesting_is k h (FPow at e n) = omega arith
+
+-- it has as many tokens as where nothing is wanted, and two more in parentheses
+pub tokens_are : (args : List ArgOf) (k : ℕ) → k ≤ 3 → (e : Formula) → tokens_of args k e ≡ 2 * pairs k (tightness e) + tokens_of args 0 e
+tokens_are args k h (FNum at c) = let q = leaf_free k h in omega arith
+tokens_are args k h (FInput at a c) = let q = leaf_free k h in omega arith
+tokens_are args k h (FName at j) = let q = leaf_free k h in omega arith
+tokens_are args k h (FNeg at e) = omega arith
+tokens_are args k h (FAdd at e f) = omega arith
+tokens_are args k h (FSub at e f) = omega arith
+tokens_are args k h (FMul at e f) = omega arith
+tokens_are args k h (FPow at e n) = omega arith
 
 pairs_by : (n : Naming) (r : Room) (e : Formula) (v : Bool) → fits r (written n e) ≡ v → pairs (wanted r) (tightness e) ≡ cond v 0 1
 pairs_by n r e v h = let q = sym (fits_is n r e) ∙ h in rw q refl
@@ -137,9 +117,9 @@ wrap_shallow : (n : Naming) (r : Room) (e : Formula) (v : Bool) → fits r (writ
     → ((d : ℕ) → d + nesting 0 e ≤ 64 → (rest : List Lexeme) → Shallow d rest → Shallow d (inside (written n e) rest))
     → (d : ℕ) → d + nesting (wanted r) e ≤ 64 → (rest : List Lexeme) → Shallow d rest
     → Shallow d (cond v (inside (written n e) rest) (word ParL (codes "(") ∷ inside (written n e) (word ParR (codes ")") ∷ rest)))
-wrap_shallow n r e true h f d l rest s = let q = nesting_is r e in f d (omega arith) rest s
+wrap_shallow n r e true h f d l rest s = let q = nesting_is (wanted r) (wanted_few r) e in f d (omega arith) rest s
 wrap_shallow n r e false h f d l rest s =
-    let q = nesting_is r e in
+    let q = nesting_is (wanted r) (wanted_few r) e in
     let p = pairs_by n r e false h in
     let b : d ≡ suc d - 1 = omega arith in
     (λ z. omega arith, f (suc d) (omega arith) (word ParR (codes ")") ∷ rest) (λ z. absurd (cc), subst (λ (x : ℕ). Shallow x rest) b s))
@@ -179,8 +159,11 @@ wrap_words : (n : Naming) (r : Room) (e : Formula) (v : Bool) → fits r (writte
     → ((rest : List Lexeme) → words (inside (written n e) rest) ≡ tokens_of n.args 0 e + words rest)
     → (rest : List Lexeme) → words (cond v (inside (written n e) rest) (word ParL (codes "(") ∷ inside (written n e) (word ParR (codes ")") ∷ rest)))
     ≡ tokens_of n.args (wanted r) e + words rest
-wrap_words n r e true h f rest = let q = tokens_are n.args r e in let p = pairs_by n r e true h in let g = f rest in omega arith
-wrap_words n r e false h f rest = let q = tokens_are n.args r e in let p = pairs_by n r e false h in let g = f (word ParR (codes ")") ∷ rest) in omega arith
+wrap_words n r e true h f rest = let q = tokens_are n.args (wanted r) (wanted_few r) e in let p = pairs_by n r e true h in let g = f rest in omega arith
+wrap_words n r e false h f rest =
+    let q = tokens_are n.args (wanted r) (wanted_few r) e in
+    let p = pairs_by n r e false h in
+    let g = f (word ParR (codes ")") ∷ rest) in omega arith
 
 input_words : (n : Naming) (o : Option ArgOf) (c : ℕ) (rest : List Lexeme) → words (inside (input n o c) rest) ≡ input_tokens o + words rest
 input_words n None c rest = omega arith

@@ -1,5 +1,5 @@
 -- Proves that what the printer appends is the text of the lexemes of names, numbers, operators, elements and lets.
-use Rattle.std.proofs.Common.{drop, map, length, ◌≤◌, ◌+◌, ◌≡◌, ℕ, Bool, true, false, List, [], ◌∷◌, ◌++◌, refl, ap, sym, ◌∙◌}
+use Rattle.std.proofs.Common.{drop, map, length, get_or, ◌<◌, ◌≤◌, ◌+◌, ◌≡◌, ℕ, Bool, true, false, List, [], ◌∷◌, ◌++◌, refl, ap, sym, ◌∙◌}
 use Rattle.std.proofs.Common.{append_assoc, subst, codes, decimal, Some, None, ◌⊎◌, inl, inr, arith}
 use Rattle.std.specs.Prelude.{slice_get, option_map}
 use Rattle.std.proofs.lemmas.Option.{slice_get-map}
@@ -10,7 +10,7 @@ use Rattle.ln_tree.specs.declared.expr.Expr.{Expr}
 use Rattle.ln_tree.specs.declared.name.Name.{Name}
 use Rattle.ln_tree.specs.Names.{name_bytes}
 use Rattle.ln_tree.specs.Formula.{formula}
-use Rattle.ln_parse.proofs.Building.Lists.{IsAt, drop_item}
+use Rattle.ln_parse.proofs.Building.Lists.{drop_item}
 use Rattle.ln_parse.specs.declared.printer.Room.{Room}
 use Rattle.ln_parse.specs.Lexemes.{Lexeme, gap, word, text_of, each, name, number, Puts, opening, closing}
 use Rattle.ln_parse.specs.Written.{Written, Naming}
@@ -90,19 +90,13 @@ tight v w o l r p q t = then p (then (puts_fixed (o.char ∷ []) (λ (rest : Lis
 pub found : {A B : Type 0} (f : A → B) (xs : List A) (i k : ℕ) {x : A} → k ≡ i → Some x ≡ slice_get xs k → slice_get (map f xs) i ≡ Some (f x)
 found f xs i k q e = slice_get-map f xs i ∙ ap (λ o. option_map f o) (sym (e ∙ ap (λ (j : ℕ). slice_get xs j) q))
 
--- the element at place i is appended
-pub record ElementPut {A B : Type 0} (old new : List ℕ) (f : B → List Lexeme → List Lexeme) (g : A → B) (xs : List A) (i : ℕ) : Type 0 where
-  pub element : A
-  pub at : IsAt xs i element
-  pub puts : Puts old new (f (g element))
-
 -- one more element is appended
-pub each_more : {A B : Type 0} {a b c : List ℕ} (f : B → List Lexeme → List Lexeme) (g : A → B) (xs : List A) (i : ℕ) → EachPut a b f g xs i
-    → ElementPut b c f g xs i → EachPut a c f g xs (i + 1)
-each_more f g xs i p h = record {
+pub each_more : {A B : Type 0} {a b c : List ℕ} (f : B → List Lexeme → List Lexeme) (g : A → B) (xs : List A) (i : ℕ) (x : A) → EachPut a b f g xs i
+    → i < length xs → x ≡ get_or xs i x → Puts b c (f (g x)) → EachPut a c f g xs (i + 1)
+each_more f g xs i x p l q h = record {
   on = λ rest.
-      let e : drop i xs ≡ h.element ∷ drop (i + 1) xs = drop_item xs i h.element h.at in
-      h.puts.on (each f (map g (drop (i + 1) xs)) rest) ∙ simp e at (p.on rest);
+      let e : drop i xs ≡ x ∷ drop (i + 1) xs = drop_item xs i x (record { below = l; is = q }) in
+      h.on (each f (map g (drop (i + 1) xs)) rest) ∙ simp e at (p.on rest);
 }
 
 -- all elements are appended

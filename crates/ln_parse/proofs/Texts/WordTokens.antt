@@ -1,11 +1,12 @@
 -- Names and numbers as tokens.
-use Rattle.std.proofs.Common.{◌≡◌, ℕ, suc, ◌+◌, ◌-◌, ◌*◌, ◌<◌, ◌≤◌, ◌^◌, ◌&&◌, ◌||◌, not, Bool, true, false, List, [], ◌∷◌, length, Some}
+use Rattle.std.proofs.Common.{◌≡◌, ℕ, suc, ◌+◌, ◌-◌, ◌*◌, ◌<◌, ◌≤◌, ◌^◌, ◌||◌, not, Bool, true, false, List, [], ◌∷◌, length, Some}
 use Rattle.std.proofs.Common.{refl, ap, ◌∙◌, arith, pow-suc, codes}
 use Rattle.std.specs.Prelude.{bytes_eq, if◌then◌else◌}
 use Rattle.std.specs.Fmt.{decimal}
 use Rattle.std.specs.Str.Parse.{AllDigits}
 use Rattle.std.proofs.lemmas.Fmt.{decimal_is_IsNumeral_wide}
 use Rattle.std.proofs.lemmas.Str.Parse.{tells_digits}
+use Rattle.std.proofs.lemmas.Bool.{and_parts}
 use Rattle.std.proofs.lemmas.Bool.Decides.{nat_tests}
 use Rattle.ln_base.specs.Words.{is_digit, is_letter, is_name_byte, every, is_name, is_word, is_keyword}
 use Rattle.ln_base.specs.Decimal.{decimal_value}
@@ -55,16 +56,12 @@ no_keyword false false false true g h = absurd (cc)
 no_keyword false false false false true h = absurd (cc)
 no_keyword false false false false false h = refl
 
-both_true : (a b : Bool) → (a && b) ≡ true → (a ≡ true) × (b ≡ true)
-both_true true b h = (refl, h)
-both_true false b h = absurd (cc)
-
 -- a name is a NAME
 pub name_kind : (t : List ℕ) → is_name t ≡ true → kind_of t ≡ Some Name
 name_kind [] h = absurd (cc)
 name_kind (b ∷ bs) h =
-    let p = both_true (is_word (b ∷ bs)) (not (is_keyword (b ∷ bs))) h in
-    let q = both_true (is_letter b) (every is_name_byte bs) p.0 in
+    let p = and_parts (is_word (b ∷ bs)) (not (is_keyword (b ∷ bs))) h in
+    let q = and_parts (is_letter b) (every is_name_byte bs) p.0 in
     let k : word_kind (b ∷ bs) ≡ Name = no_keyword (bytes_eq (b ∷ bs) (codes "site")) (bytes_eq (b ∷ bs) (codes "param"))
     (bytes_eq (b ∷ bs) (codes "predicate")) (bytes_eq (b ∷ bs) (codes "let")) (bytes_eq (b ∷ bs) (codes "sign")) p.1 in
     rw (q.0, q.1) (ap (λ (w : Kind). Some w) k)

@@ -12,6 +12,7 @@ use Rattle.ln_parse.specs.ReadsBack.{Every, CoordNamed, SiteNamed, ArgNamed, Let
 use Rattle.ln_parse.specs.Spanless.{IsTextUpToSpans}
 use Rattle.ln_parse.specs.WholeTable.{IsShortName, SiteNames, ArgNames, PredKept, IsWhole}
 use Rattle.ln_parse.specs.Written.{Naming, naming}
+use Rattle.ln_parse.proofs.Texts.ItemsBack.{like_sites, like_params}
 use Rattle.ln_parse.proofs.Texts.ClearText.{table_clear, table_back}
 use Rattle.ln_parse.proofs.ReadBack.FileClean.{file_done}
 use Rattle.ln_parse.proofs.ReadBack.InputsThere.{NamesGood, named, at_place, every_at}
@@ -104,7 +105,7 @@ has_table t w =
         items = b.items;
         spelt = b.derives;
         clean = d.clean;
-        says = record { sites_are = sym b.sites; params_are = sym b.params; preds_are = d.say u refl refl };
+        says = record { sites_are = sym (like_sites b.like); params_are = sym (like_params b.like); preds_are = d.say u refl refl };
       };
       same = ap (λ (ps : List PredOf). record { sites = t.sites; params = t.params; preds = ps }) d.same;
     }

@@ -2,7 +2,7 @@
 use Rattle.std.proofs.Common.{◌≡◌, ℕ, ◌+◌, ◌≤◌, ◌==◌, ◌&&◌, true, List, [], ◌∷◌, length, length-take, map, take, refl, ap, sym, subst, arith}
 use Rattle.std.specs.Prelude.{nat_le}
 use Rattle.std.specs.List.{list_all}
-use Rattle.std.proofs.lemmas.Bool.{and_parts}
+use Rattle.std.proofs.lemmas.Bool.{and_parts, leb-true, eqb-true}
 use Rattle.std.proofs.lemmas.List.{length-map}
 use Rattle.ln_tree.specs.declared.name.Name.{Name}
 use Rattle.ln_tree.specs.declared.items.Coord.{Coord}
@@ -21,7 +21,6 @@ use Rattle.ln_tree.specs.Table.{coord_of, site_of, param_of, arg_of, pred_of, ta
 use Rattle.ln_tree.specs.Whole.{is_whole}
 use Rattle.ln_parse.specs.ReadsBack.{Every}
 use Rattle.ln_parse.specs.WholeTable.{IsShortName, SiteNames, ArgNames, PredKept, IsWhole}
-use Rattle.ln_parse.proofs.Wholes.TestLemmas.{at_most, equal}
 
 taken : (n : ℕ) (xs : List ℕ) → length (take n xs) ≤ n
 taken n xs = omega (arith, length-take n xs)
@@ -69,8 +68,8 @@ pred_kept p =
     let a = and_parts t1 t2 b.0 in
     let l = length-map p.lets formula in
     let m = length-map p.let_names name_bytes in
-    let x = equal (length p.let_names) (length p.lets) b.1 in
-    let y = at_most (length p.lets) 64 a.1 in
+    let x = eqb-true (length p.let_names) (length p.lets) b.1 in
+    let y = leb-true (length p.lets) 64 a.1 in
     record {
       name = short_name p.name;
       args = args_short p.args;
@@ -79,7 +78,7 @@ pred_kept p =
       few_lets = omega arith;
       lets_fit = subst (λ w. lets_fit (length vars) 0 w ≡ true) (trees_are vars p.lets) c.1;
       root_fit = subst (λ (w : ℕ). is_fit (length vars) w (tree vars (formula p.root)) ≡ true) (sym l) d.1;
-      few_nodes = at_most _ _ e.1;
+      few_nodes = leb-true _ _ e.1;
     }
 
 preds_kept : (ps : List Pred) → Every PredKept (map pred_of ps)
@@ -93,7 +92,7 @@ table_is_whole sites params preds k w =
     let c = and_parts (nat_le (length sites) 16 && nat_le (length params) 16 && nat_le (length preds) 16) (list_all (pred_fits sites params) preds) k in
     let b = and_parts (nat_le (length sites) 16 && nat_le (length params) 16) (nat_le (length preds) 16) c.0 in
     let a = and_parts (nat_le (length sites) 16) (nat_le (length params) 16) b.0 in
-    let x = at_most (length sites) 16 a.0 in let y = at_most (length params) 16 a.1 in let z = at_most (length preds) 16 b.1 in
+    let x = leb-true (length sites) 16 a.0 in let y = leb-true (length params) 16 a.1 in let z = leb-true (length preds) 16 b.1 in
     let l = length-map sites site_of in let m = length-map params param_of in let n = length-map preds pred_of in
     record {
       sites = sites_short sites;

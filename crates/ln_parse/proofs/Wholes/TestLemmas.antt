@@ -1,20 +1,12 @@
 -- What tests of numbers and lists say.
-use Rattle.std.proofs.Common.{◌≡◌, ℕ, zero, suc, ◌<◌, ◌≤◌, ◌==◌, ◌||◌, Bool, true, false, cond, nat_lt, List, [], ◌∷◌, map, Some, refl, ap, arith}
-use Rattle.std.specs.Prelude.{ℤ, int_lt, ◌≤ℤ◌, nat_le, slice_get}
+use Rattle.std.proofs.Common.{◌≡◌, ℕ, zero, suc, ◌<◌, ◌||◌, Bool, true, false, nat_lt, List, [], ◌∷◌, map, Some, refl, ap, arith}
+use Rattle.std.specs.Prelude.{ℤ, int_lt, ◌≤ℤ◌, slice_get}
 use Rattle.std.proofs.lemmas.Bool.Decides.{nat_tests}
 use Rattle.std.proofs.lemmas.Int.{ints}
-
--- a number that tests as at most another is at most it
-pub at_most : (n m : ℕ) → nat_le n m ≡ true → n ≤ m
-at_most n m h = grind (arith, nat_tests)
 
 -- a number that tests as below another is below it
 pub below : (n m : ℕ) → nat_lt n m ≡ true → n < m
 below n m h = grind (arith, nat_tests)
-
--- numbers that test as equal are equal
-pub equal : (n m : ℕ) → (n == m) ≡ true → n ≡ m
-equal n m h = grind (arith, nat_tests)
 
 -- of two integers in order, the second isn't below the first
 pub in_order : (x y : ℤ) → x ≤ℤ y → int_lt y x ≡ false
@@ -33,10 +25,6 @@ or_false a b h g = rw (h, g) refl
 pub or_cases : {C : Type 0} (a b : Bool) → (a || b) ≡ true → (a ≡ true → C) → (b ≡ true → C) → C
 or_cases true b h f g = f refl
 or_cases false b h f g = g h
-
--- one where it is so, else none
-abbrev pub one_if : Bool → ℕ
-one_if v = cond v 1 0
 
 -- what is in a list is in its image
 pub get_map : {A B : Type 0} (f : A → B) (xs : List A) (k : ℕ) (x : A) → slice_get xs k ≡ Some x → slice_get (map f xs) k ≡ Some (f x)

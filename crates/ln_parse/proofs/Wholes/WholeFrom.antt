@@ -1,7 +1,7 @@
 -- The table of a file without a fault is whole.
-use Rattle.std.proofs.Common.{◌≡◌, ℕ, zero, suc, ◌+◌, ◌*◌, ◌<◌, ◌≤◌, ◌^◌, ◌==◌, ◌&&◌, not, Bool, true, false, nat_lt, List, [], ◌∷◌, ◌++◌}
+use Rattle.std.proofs.Common.{◌≡◌, ℕ, zero, suc, ◌+◌, ◌*◌, ◌<◌, ◌≤◌, ◌^◌, ◌==◌, ◌&&◌, ◌||◌, not, Bool, true, false, nat_lt, List, [], ◌∷◌, ◌++◌}
 use Rattle.std.proofs.Common.{length, map, take, Option, Some, None, refl, ap, sym, ◌∙◌, subst, arith, append_assoc, append-nil}
-use Rattle.std.specs.Prelude.{ℤ, pos, neg_ℤ, int_lt, nat_le, slice_get, bytes_eq, count_by}
+use Rattle.std.specs.Prelude.{filter_map, ℤ, pos, neg_ℤ, int_lt, nat_le, slice_get, bytes_eq, count_by}
 use Rattle.std.specs.List.{list_any, list_all}
 use Rattle.std.specs.Ordering.{int_eq}
 use Rattle.std.specs.Cmp.{signed_Decides}
@@ -27,7 +27,7 @@ use Rattle.ln_syntax.specs.File as file
 use Rattle.ln_syntax.specs.File.{Spelt}
 use Rattle.ln_syntax.proofs.Spellings.OneTree.{one_tree}
 use Rattle.ln_names.specs.Numbers.{number, signed, end_value}
-use Rattle.ln_names.specs.Rules.{scope, is_param_arg}
+use Rattle.ln_names.specs.Rules.{scope}
 use Rattle.ln_names.specs.Limits.{Each, RangeWithin, CoordWithin, IsKnown, ArgWithin, LetWithin, ItemWithin, FileWithin}
 use Rattle.ln_tree.specs.declared.shape.VarInfo.{VarInfo}
 use Rattle.ln_tree.specs.Variables.{same_site}
@@ -36,14 +36,13 @@ use Rattle.ln_tree.specs.Table.{CoordOf, SiteOf, ArgOf, PredOf, TableOf}
 use Rattle.ln_tree.specs.Whole.{is_new, differ, is_range, site_whole, is_one_of, is_param_said, arg_name, range_name, same_var, same_vars}
 use Rattle.ln_tree.specs.Whole.{nesting, tokens_of, total, end_tokens, range_tokens, site_tokens, param_tokens, pred_tokens, text_tokens}
 use Rattle.ln_tree.specs.Whole.{item_names, pred_whole, vars_behind, is_whole}
-use Rattle.ln_parse.specs.Says.{place, ranged, resolved, Says, LetsSay, PredSays, PredsSay, ItemsSay, arg_said, param_names, sites_said}
+use Rattle.ln_parse.specs.Says.{place, ranged, resolved, Says, LetsSay, PredSays, PredsSay, ItemsSay, arg_said, site_names, param_names, sites_said}
 use Rattle.ln_parse.specs.Says.{params_said, is_site_said}
 use Rattle.ln_parse.specs.Ready.{ReadyValue, ReadyLet, ReadyPred, ReadyItem, ReadySite, ReadyFile, Declares}
 use Rattle.ln_parse.proofs.Expressions.Fitting.{said, all_known}
-use Rattle.ln_parse.proofs.Expressions.Found.{found_at, param_found, get_longer}
+use Rattle.ln_parse.proofs.Expressions.Found.{found_at, sites_named, params_named, any_param, get_longer, each_weaker}
 use Rattle.ln_parse.proofs.Wholes.FromTokens.{depth_step, expression_nests, expression_tokens}
-use Rattle.ln_parse.proofs.Building.Kept.{sees, sites_are, declared}
-use Rattle.ln_parse.proofs.Building.LaidOut.{count_cons}
+use Rattle.ln_parse.proofs.Building.Kept.{sees, sites_are, params_are, declared, pred_name, preds_named}
 use Rattle.ln_parse.proofs.ReadBack.NamePlaces.{NoneIs, Differ}
 use Rattle.ln_parse.proofs.ReadBack.ScopeNames.{flip, coord_map}
 use Rattle.ln_parse.proofs.Wholes.TestLemmas.{in_order, neither, or_false, get_map}
@@ -67,44 +66,30 @@ none_of : (t : List ℕ) (vs : List (List ℕ)) → list_any (λ v. bytes_eq v t
 none_of t [] h = tt
 none_of t (v ∷ vs) h = let q = neither (bytes_eq v t) (list_any (λ w. bytes_eq w t) vs) h in (flip v t q.0, none_of t vs q.1)
 
+none_both : (t : List ℕ) (us vs : List (List ℕ)) → NoneIs t us → NoneIs t vs → NoneIs t (us ++ vs)
+none_both t [] vs a b = b
+none_both t (u ∷ us) vs a b = (a.0, none_both t us vs a.1 b)
+
 -- names that differ go on differing with a further one among them
-insert : (us vs : List (List ℕ)) (t : List ℕ) → Differ (us ++ vs) → list_any (λ u. bytes_eq u t) us ≡ false
-    → list_any (λ v. bytes_eq v t) vs ≡ false → Differ (us ++ (t ∷ vs))
-insert [] vs t d a b = (none_of t vs b, d)
-insert (u ∷ us) vs t d a b = let q = neither (bytes_eq u t) (list_any (λ w. bytes_eq w t) us) a in (none_insert u t us vs d.0 q.0, insert us vs t d.1 q.1 b)
+insert : (us vs : List (List ℕ)) (t : List ℕ) → NoneIs t (us ++ vs) → Differ (us ++ vs) → Differ (us ++ (t ∷ vs))
+insert [] vs t n d = (n, d)
+insert (u ∷ us) vs t n d = (none_insert u t us vs d.0 (flip t u n.0), insert us vs t n.1 d.1)
 
 push : (us : List (List ℕ)) (t : List ℕ) → Differ us → list_any (λ u. bytes_eq u t) us ≡ false → Differ (us ++ (t ∷ []))
-push us t d a = insert us [] t (subst (λ (w : List (List ℕ)). Differ w) (sym (append-nil us)) d) a refl
+push us t d a = insert us [] t (rw append-nil (none_of t us a)) (rw append-nil d)
 
--- names each of which is none of those before it differ
-each_differ : {A : Type 0} (name : A → List ℕ) (before xs : List A) → Differ (map name before)
-    → Each (λ b x. list_any (λ d. bytes_eq (name d) (name x)) b ≡ false) before xs → Differ (map name (before ++ xs))
-each_differ name before [] d e = subst (λ w. Differ (map name w)) (sym (append-nil before)) d
-each_differ name before (x ∷ xs) d e =
-    let n = push (map name before) (name x) d (sym (any_map name (name x) before) ∙ e.0) in
-    let r = each_differ name (before ++ (x ∷ [])) xs (subst (λ (w : List (List ℕ)). Differ w) (sym (map-append name before (x ∷ []))) n) e.1 in
-    subst (λ w. Differ (map name w)) (append_assoc before (x ∷ []) xs) r
-
--- those of lets differ from given ones too
-lets_differ : (bytes : List ℕ) (ts : List Token) (is : List Item) (raws : List RawArg) (before ls : List RawLet)
-    → Differ (map (λ (a : RawArg). text bytes a.name) raws ++ map (λ (l : RawLet). text bytes l.name) before) → Each (LetWithin bytes ts is raws) before ls
-    → Differ (map (λ (a : RawArg). text bytes a.name) raws ++ map (λ (l : RawLet). text bytes l.name) (before ++ ls))
-lets_differ bytes ts is raws before [] d e =
-    subst (λ w. Differ (map (λ (a : RawArg). text bytes a.name) raws ++ map (λ (l : RawLet). text bytes l.name) w)) (sym (append-nil before)) d
-lets_differ bytes ts is raws before (x ∷ ls) d e =
-    let us = map (λ (a : RawArg). text bytes a.name) raws in
-    let vs = map (λ (l : RawLet). text bytes l.name) before in
-    let t = text bytes x.name in
-    let q =
-    neither (list_any (λ (a : RawArg). bytes_eq (text bytes a.name) t) raws) (list_any (λ (m : RawLet). bytes_eq (text bytes m.name) t) before) e.0.new in
-    let a1 : list_any (λ u. bytes_eq u t) us ≡ false = sym (any_map (λ (a : RawArg). text bytes a.name) t raws) ∙ q.0 in
-    let a2 : list_any (λ u. bytes_eq u t) vs ≡ false = sym (any_map (λ (l : RawLet). text bytes l.name) t before) ∙ q.1 in
-    let a3 : list_any (λ u. bytes_eq u t) (us ++ vs) ≡ false = list_any-append (λ u. bytes_eq u t) us vs ∙ rw (a1, a2) refl in
-    let n : Differ ((us ++ vs) ++ (t ∷ [])) = push (us ++ vs) t d a3 in
-    let m : (us ++ vs) ++ (t ∷ []) ≡ us ++ map (λ (l : RawLet). text bytes l.name) (before ++ (x ∷ [])) =
-    append_assoc us vs (t ∷ []) ∙ ap (λ w. us ++ w) (sym (map-append (λ (l : RawLet). text bytes l.name) before (x ∷ []))) in
-    let r = lets_differ bytes ts is raws (before ++ (x ∷ [])) ls (subst (λ (w : List (List ℕ)). Differ w) m n) e.1 in
-    subst (λ w. Differ (us ++ map (λ (l : RawLet). text bytes l.name) w)) (append_assoc before (x ∷ []) ls) r
+-- names each of which is none of these and none of those before it differ
+each_differ : {A : Type 0} (us : List (List ℕ)) (name : A → List ℕ) (before xs : List A) → Differ (us ++ map name before)
+    → Each (λ b x. (list_any (λ u. bytes_eq u (name x)) us || list_any (λ d. bytes_eq (name d) (name x)) b) ≡ false) before xs
+    → Differ (us ++ map name (before ++ xs))
+each_differ us name before [] d e = subst (λ w. Differ (us ++ map name w)) (sym (append-nil before)) d
+each_differ us name before (x ∷ xs) d e =
+    let t = name x in
+    let q = neither (list_any (λ u. bytes_eq u t) us) (list_any (λ d. bytes_eq (name d) t) before) e.0 in
+    let a = list_any-append (λ u. bytes_eq u t) us (map name before) ∙ or_false _ _ q.0 (sym (any_map name t before) ∙ q.1) in
+    let m = append_assoc us (map name before) (t ∷ []) ∙ ap (λ (w : List (List ℕ)). us ++ w) (sym (map-append name before (x ∷ []))) in
+    let n = subst (λ (w : List (List ℕ)). Differ w) m (push (us ++ map name before) t d a) in
+    subst (λ w. Differ (us ++ map name w)) (append_assoc before (x ∷ []) xs) (each_differ us name (before ++ (x ∷ [])) xs n e.1)
 
 -- a range
 range_low : (b : Bool) (n : ℕ) → n < 2 ^ 63 → int_lt (neg_ℤ (pos (2 ^ 63))) (signed b n) ≡ true
@@ -125,16 +110,6 @@ coords_whole : (bytes : List ℕ) (before cs : List RawCoord) → Each (CoordWit
 coords_whole bytes before [] e = refl
 coords_whole bytes before (c ∷ cs) e = and_from _ _ (range_whole bytes c.name c.range e.0.range) (coords_whole bytes (before ++ (c ∷ [])) cs e.1)
 
-coords_new : (bytes : List ℕ) (before cs : List RawCoord) → Each (CoordWithin bytes) before cs
-    → Each (λ b (x : RawCoord). list_any (λ (d : RawCoord). bytes_eq (text bytes d.name) (text bytes x.name)) b ≡ false) before cs
-coords_new bytes before [] e = tt
-coords_new bytes before (c ∷ cs) e = (e.0.new, coords_new bytes (before ++ (c ∷ [])) cs e.1)
-
-args_new : (bytes : List ℕ) (is : List Item) (before cs : List RawArg) → Each (ArgWithin bytes is) before cs
-    → Each (λ b (x : RawArg). list_any (λ (d : RawArg). bytes_eq (text bytes d.name) (text bytes x.name)) b ≡ false) before cs
-args_new bytes is before [] e = tt
-args_new bytes is before (c ∷ cs) e = (e.0.new, args_new bytes is (before ++ (c ∷ [])) cs e.1)
-
 -- a site type
 site_from : (bytes : List ℕ) (n : Span) (cs : List RawCoord) → ReadySite bytes n cs → Each (CoordWithin bytes) [] cs
     → site_whole (record { name = text bytes n; coords = map (λ (c : RawCoord). ranged bytes c.name c.range) cs }) ≡ true
@@ -142,7 +117,8 @@ site_from bytes n cs r e =
     let xs = map (λ (c : RawCoord). ranged bytes c.name c.range) cs in
     let l = length-map cs (λ (c : RawCoord). ranged bytes c.name c.range) in
     let a = r.some in let b = r.few in
-    let d : Differ (map (λ (c : RawCoord). text bytes c.name) cs) = each_differ (λ (c : RawCoord). text bytes c.name) [] cs tt (coords_new bytes [] cs e) in
+    let d : Differ (map (λ (c : RawCoord). text bytes c.name) cs) =
+    each_differ [] (λ (c : RawCoord). text bytes c.name) [] cs tt (each_weaker (CoordWithin bytes) _ (λ b c w. w.new) [] cs e) in
     and_from _ _ (and_from _ _ (and_from _ _ (lt-ltb 0 (length xs) (omega arith)) (le-leb (length xs) 32 (omega arith))) (coords_whole bytes [] cs e))
     (differ_test (map (λ (c : CoordOf). c.name) xs) (subst (λ (w : List (List ℕ)). Differ w) (sym (coord_map bytes cs)) d))
 
@@ -161,12 +137,6 @@ vars_self (v ∷ vs) =
     (and_from _ _ (eq-eqb v.arg v.arg refl) (same_site_self v.site)) (eq-eqb v.coord v.coord refl)) (int_self v.lo)) (int_self v.hi)) (vars_self vs)
 
 -- an argument's name is that of its tokens
-params_named : (bytes : List ℕ) (is : List Item) → map (λ (c : CoordOf). c.name) (params_said bytes is) ≡ map (text bytes) (param_names is)
-params_named bytes [] = refl
-params_named bytes (SiteItem n cs ∷ is) = params_named bytes is
-params_named bytes (ParamItem n r ∷ is) = ap (λ (w : List (List ℕ)). text bytes n ∷ w) (params_named bytes is)
-params_named bytes (PredItem n as' ls p ∷ is) = params_named bytes is
-
 get_back : {A B : Type 0} (f : A → B) (xs : List A) (k : ℕ) (y : B) → slice_get (map f xs) k ≡ Some y → (x : A) × (slice_get xs k ≡ Some x) × (f x ≡ y)
 get_back f [] k y h = absurd (cc)
 get_back f (x ∷ xs) zero y h = (x, refl, cc)
@@ -178,7 +148,7 @@ param_named : (bytes : List ℕ) (is : List Item) (S : List SiteOf) (P : List Co
 param_named bytes is S P name d h =
     let q = λ (n : Span). same bytes n name in
     let k = place q (param_names is) in
-    let f = found_at q (param_names is) (param_found bytes q is h).named in
+    let f = found_at q (param_names is) (any_param q is ∙ h) in
     let g : text bytes f.element ≡ text bytes name = (bytes_eq-Decides (text bytes f.element) (text bytes name)).0 f.passes in
     let a : slice_get (map (λ (c : CoordOf). c.name) (params_said bytes is)) k ≡ Some (text bytes f.element) =
     ap (λ (w : List (List ℕ)). slice_get w k) (params_named bytes is) ∙ get_map (text bytes) (param_names is) k f.element f.there in
@@ -198,17 +168,6 @@ args_named bytes is S P before (r ∷ raws) d e =
     let a = arg_named bytes is S P r r.is_param refl d e.0.known in
     let b = args_named bytes is S P (before ++ (r ∷ [])) raws d e.1 in
     rw (a, b) refl
-
-param_by : (bytes : List ℕ) (is : List Item) (a : RawArg) (b : Bool) → is_param_said (arg_said bytes is a b) ≡ b
-param_by bytes is a true = refl
-param_by bytes is a false = refl
-
-params_are : (bytes : List ℕ) (is : List Item) (args : List RawArg) → count_by is_param_said (said bytes is args) ≡ count_by is_param_arg args
-params_are bytes is [] = refl
-params_are bytes is (a ∷ args) =
-    let e = param_by bytes is a a.is_param in
-    let r = params_are bytes is args in
-    count_cons is_param_said (arg_said bytes is a a.is_param) (said bytes is args) ∙ rw (e, r) (sym (count_cons is_param_arg a args))
 
 -- what an expression at a depth of none says
 record ValueWhole (ts : List Token) (p : Places) (args : List ArgOf) (x : Formula) : Type 0 where
@@ -262,15 +221,16 @@ lets_whole bytes ts is raws (file.a_let {i = i} {j = j} l n q d m g) before (x �
     record { back = y.back; deep = and_from _ _ (le-leb (nesting 0 x) 64 c) y.deep; tokens = omega arith }
 
 -- arguments leave the depth as it is
-args_depth : {ts : List Token} {i k : ℕ} {raws : List RawArg} (d : ℕ) → file.Args ts i k raws → depth_after 0 (take i ts) ≡ d → depth_after 0 (take k ts) ≡ d
-args_depth {ts = ts} d (file.last_arg {i = i} (file.site_arg n c k)) e =
+arg_depth : {ts : List Token} {i : ℕ} {a : RawArg} (d : ℕ) → file.Arg ts i a → depth_after 0 (take i ts) ≡ d
+    → depth_after 0 (take (suc (suc (suc i))) ts) ≡ d
+arg_depth {ts = ts} d (file.site_arg {i = i} n c k) e =
     depth_step ts (suc (suc i)) Name d k (depth_step ts (suc i) Colon d c (depth_step ts i Name d n e))
-args_depth {ts = ts} d (file.last_arg {i = i} (file.param_arg n c k)) e =
+arg_depth {ts = ts} d (file.param_arg {i = i} n c k) e =
     depth_step ts (suc (suc i)) Param d k (depth_step ts (suc i) Colon d c (depth_step ts i Name d n e))
-args_depth {ts = ts} d (file.more_args {i = i} (file.site_arg n c k) m r) e = args_depth d r
-    (depth_step ts (suc (suc (suc i))) Comma d m (depth_step ts (suc (suc i)) Name d k (depth_step ts (suc i) Colon d c (depth_step ts i Name d n e))))
-args_depth {ts = ts} d (file.more_args {i = i} (file.param_arg n c k) m r) e = args_depth d r
-    (depth_step ts (suc (suc (suc i))) Comma d m (depth_step ts (suc (suc i)) Param d k (depth_step ts (suc i) Colon d c (depth_step ts i Name d n e))))
+
+args_depth : {ts : List Token} {i k : ℕ} {raws : List RawArg} (d : ℕ) → file.Args ts i k raws → depth_after 0 (take i ts) ≡ d → depth_after 0 (take k ts) ≡ d
+args_depth d (file.last_arg a) e = arg_depth d a e
+args_depth {ts = ts} d (file.more_args {i = i} a m r) e = args_depth d r (depth_step ts (suc (suc (suc i))) Comma d m (arg_depth d a e))
 
 args_some : {ts : List Token} {i k : ℕ} {raws : List RawArg} → file.Args ts i k raws → (0 < length raws) × (i + 4 * length raws ≤ suc k)
 args_some (file.last_arg a) = (omega arith, omega arith)
@@ -370,10 +330,10 @@ pred_from bytes ts is t p (file.predicate {i = i} {j = j} {k = k} {l = l} {args 
     let f1 = r.site_args in let f2 = r.param_args in
     let f3 = sites_are bytes is raws in let f4 = params_are bytes is raws in
     let names : map (arg_name P) xs ≡ map (λ (a : RawArg). text bytes a.name) raws = args_named bytes is S P [] raws d aw in
-    let df1 : Differ (map (λ (a : RawArg). text bytes a.name) raws) =
-    each_differ (λ (a : RawArg). text bytes a.name) [] raws tt (args_new bytes is [] raws aw) in
-    let df2 =
-    lets_differ bytes ts is raws [] ls (subst (λ (w : List (List ℕ)). Differ w) (sym (append-nil (map (λ (a : RawArg). text bytes a.name) raws))) df1) lw in
+    let us = map (λ (a : RawArg). text bytes a.name) raws in
+    let df1 : Differ us = each_differ [] (λ (a : RawArg). text bytes a.name) [] raws tt (each_weaker (ArgWithin bytes is) _ (λ b a w. w.new) [] raws aw) in
+    let df2 = each_differ us (λ (l : RawLet). text bytes l.name) [] ls (rw append-nil df1) (each_weaker (LetWithin bytes ts is raws) _
+    (λ b l w. rw (any_map (λ (a : RawArg). text bytes a.name) (text bytes l.name) raws) at w.new) [] ls lw) in
     let df3 : Differ (map (arg_name P) xs ++ p.let_names) = rw (names, s.names_are) df2 in
     let t0 = y.tokens in let t1 = v.tokens in let t2 = v.deep in
     let tests : pred_tests S P p.shape_name p.name p.args p.sites p.vars p.let_names p.lets p.root ≡ true =
@@ -457,119 +417,45 @@ items_whole bytes ts t all before (file.an_item {x = x} {xs = xs} (file.predicat
     let a = v.tokens in let g = m.tokens in
     record { sites = m.sites; params = m.params; preds = and_from _ _ v.whole m.preds; tokens = omega arith }
 
--- the names of items by kind
-abbrev pred_texts : List ℕ → List Item → List (List ℕ)
-pred_texts bytes [] = []
-pred_texts bytes (SiteItem n cs ∷ is) = pred_texts bytes is
-pred_texts bytes (ParamItem n r ∷ is) = pred_texts bytes is
-pred_texts bytes (PredItem n as' ls r ∷ is) = text bytes n ∷ pred_texts bytes is
-
-abbrev site_texts : List ℕ → List Item → List (List ℕ)
-site_texts bytes is = map (λ (s : SiteOf). s.name) (sites_said bytes is)
-
-abbrev param_texts : List ℕ → List Item → List (List ℕ)
-param_texts bytes is = map (λ (c : CoordOf). c.name) (params_said bytes is)
-
 -- a name that no item has is none of those of any kind
 record Spread (bytes : List ℕ) (t : List ℕ) (is : List Item) : Type 0 where
-  sites : list_any (λ u. bytes_eq u t) (site_texts bytes is) ≡ false
-  params : list_any (λ u. bytes_eq u t) (param_texts bytes is) ≡ false
-  preds : list_any (λ u. bytes_eq u t) (pred_texts bytes is) ≡ false
+  sites : NoneIs t (map (text bytes) (site_names is))
+  params : NoneIs t (map (text bytes) (param_names is))
+  preds : NoneIs t (map (text bytes) (filter_map pred_name is))
 
-spread : (bytes : List ℕ) (t : List ℕ) (is : List Item) → list_any (λ i. bytes_eq (text bytes (item_name i)) t) is ≡ false → Spread bytes t is
-spread bytes t [] h = record { sites = refl; params = refl; preds = refl }
+spread : (bytes : List ℕ) (t : List ℕ) (is : List Item) → NoneIs t (map (λ (i : Item). text bytes (item_name i)) is) → Spread bytes t is
+spread bytes t [] h = record { sites = tt; params = tt; preds = tt }
 spread bytes t (SiteItem n cs ∷ is) h =
-    let q = neither (bytes_eq (text bytes n) t) _ h in
-    let r = spread bytes t is q.1 in
-    record { sites = or_false _ _ q.0 r.sites; params = r.params; preds = r.preds }
+    let r = spread bytes t is h.1 in
+    record { sites = (h.0, r.sites); params = r.params; preds = r.preds }
 spread bytes t (ParamItem n rr ∷ is) h =
-    let q = neither (bytes_eq (text bytes n) t) _ h in
-    let r = spread bytes t is q.1 in
-    record { sites = r.sites; params = or_false _ _ q.0 r.params; preds = r.preds }
+    let r = spread bytes t is h.1 in
+    record { sites = r.sites; params = (h.0, r.params); preds = r.preds }
 spread bytes t (PredItem n as' ls rr ∷ is) h =
-    let q = neither (bytes_eq (text bytes n) t) _ h in
-    let r = spread bytes t is q.1 in
-    record { sites = r.sites; params = r.params; preds = or_false _ _ q.0 r.preds }
+    let r = spread bytes t is h.1 in
+    record { sites = r.sites; params = r.params; preds = (h.0, r.preds) }
 
+-- the names of the site types, of the params and of the predicates
 abbrev all_texts : List ℕ → List Item → List (List ℕ)
-all_texts bytes is = site_texts bytes is ++ (param_texts bytes is ++ pred_texts bytes is)
+all_texts bytes is = map (text bytes) (site_names is) ++ (map (text bytes) (param_names is) ++ map (text bytes) (filter_map pred_name is))
 
--- the names of one more item
-record More (bytes : List ℕ) (before : List Item) (x : Item) : Type 0 where
-  sites : site_texts bytes (before ++ (x ∷ [])) ≡ site_texts bytes before ++ site_texts bytes (x ∷ [])
-  params : param_texts bytes (before ++ (x ∷ [])) ≡ param_texts bytes before ++ param_texts bytes (x ∷ [])
-  preds : pred_texts bytes (before ++ (x ∷ [])) ≡ pred_texts bytes before ++ pred_texts bytes (x ∷ [])
+none_of_all : (bytes : List ℕ) (t : List ℕ) (is : List Item) → NoneIs t (map (λ (i : Item). text bytes (item_name i)) is) → NoneIs t (all_texts bytes is)
+none_of_all bytes t is h = let s = spread bytes t is h in none_both t _ _ s.sites (none_both t _ _ s.params s.preds)
 
-more : (bytes : List ℕ) (before : List Item) (x : Item) → More bytes before x
-more bytes [] x = record { sites = refl; params = refl; preds = refl }
-more bytes (SiteItem m ds ∷ before) x =
-    let r = more bytes before x in
-    record { sites = ap (λ (w : List (List ℕ)). text bytes m ∷ w) r.sites; params = r.params; preds = r.preds }
-more bytes (ParamItem m rr ∷ before) x =
-    let r = more bytes before x in
-    record { sites = r.sites; params = ap (λ (w : List (List ℕ)). text bytes m ∷ w) r.params; preds = r.preds }
-more bytes (PredItem m as' ls rr ∷ before) x =
-    let r = more bytes before x in
-    record { sites = r.sites; params = r.params; preds = ap (λ (w : List (List ℕ)). text bytes m ∷ w) r.preds }
-
-any_false : (t : List ℕ) (us vs : List (List ℕ)) → list_any (λ u. bytes_eq u t) us ≡ false → list_any (λ u. bytes_eq u t) vs ≡ false
-    → list_any (λ u. bytes_eq u t) (us ++ vs) ≡ false
-any_false t us vs h g = list_any-append (λ u. bytes_eq u t) us vs ∙ or_false _ _ h g
-
--- an item with a name of its own keeps the names apart
-item_push : (bytes : List ℕ) (before : List Item) (x : Item) → Differ (all_texts bytes before)
-    → list_any (λ i. bytes_eq (text bytes (item_name i)) (text bytes (item_name x))) before ≡ false → Differ (all_texts bytes (before ++ (x ∷ [])))
-item_push bytes before (SiteItem n cs) d h =
-    let S = site_texts bytes before in let P = param_texts bytes before in let Q = pred_texts bytes before in
+-- names of items that differ differ kind by kind
+kinds_differ : (bytes : List ℕ) (is : List Item) → Differ (map (λ (i : Item). text bytes (item_name i)) is) → Differ (all_texts bytes is)
+kinds_differ bytes [] d = tt
+kinds_differ bytes (SiteItem n cs ∷ is) d = (none_of_all bytes (text bytes n) is d.0, kinds_differ bytes is d.1)
+kinds_differ bytes (ParamItem n r ∷ is) d =
+    insert (map (text bytes) (site_names is)) _ (text bytes n) (none_of_all bytes (text bytes n) is d.0) (kinds_differ bytes is d.1)
+kinds_differ bytes (PredItem n as' ls r ∷ is) d =
+    let S = map (text bytes) (site_names is) in
+    let P = map (text bytes) (param_names is) in
+    let Q = map (text bytes) (filter_map pred_name is) in
     let t = text bytes n in
-    let m = more bytes before (SiteItem n cs) in let sp = spread bytes t before h in
-    let a : Differ (S ++ (t ∷ (P ++ Q))) = insert S (P ++ Q) t d sp.sites (any_false t P Q sp.params sp.preds) in
-    let e : all_texts bytes (before ++ (SiteItem n cs ∷ [])) ≡ S ++ (t ∷ (P ++ Q)) = let x = m.sites in
-    let y = m.params ∙ append-nil P in
-    let z = m.preds ∙ append-nil Q in
-    rw (x, y, z) (append_assoc S (t ∷ []) (P ++ Q)) in
-    subst (λ (w : List (List ℕ)). Differ w) (sym e) a
-item_push bytes before (ParamItem n rr) d h =
-    let S = site_texts bytes before in let P = param_texts bytes before in let Q = pred_texts bytes before in
-    let t = text bytes n in
-    let m = more bytes before (ParamItem n rr) in let sp = spread bytes t before h in
-    let d2 : Differ ((S ++ P) ++ Q) = subst (λ (w : List (List ℕ)). Differ w) (sym (append_assoc S P Q)) d in
-    let a : Differ ((S ++ P) ++ (t ∷ Q)) = insert (S ++ P) Q t d2 (any_false t S P sp.sites sp.params) sp.preds in
-    let e : all_texts bytes (before ++ (ParamItem n rr ∷ [])) ≡ (S ++ P) ++ (t ∷ Q) = let x = m.sites ∙ append-nil S in
-    let y = m.params in
-    let z = m.preds ∙ append-nil Q in
-    let g = append_assoc P (t ∷ []) Q in
-    rw (x, y, z, g) (sym (append_assoc S P (t ∷ Q))) in
-    subst (λ (w : List (List ℕ)). Differ w) (sym e) a
-item_push bytes before (PredItem n as' ls rr) d h =
-    let S = site_texts bytes before in let P = param_texts bytes before in let Q = pred_texts bytes before in
-    let t = text bytes n in
-    let m = more bytes before (PredItem n as' ls rr) in let sp = spread bytes t before h in
-    let a : Differ ((S ++ (P ++ Q)) ++ (t ∷ [])) = push (S ++ (P ++ Q)) t d (any_false t S (P ++ Q) sp.sites (any_false t P Q sp.params sp.preds)) in
-    let e : all_texts bytes (before ++ (PredItem n as' ls rr ∷ [])) ≡ (S ++ (P ++ Q)) ++ (t ∷ []) = let x = m.sites ∙ append-nil S in
-    let y = m.params ∙ append-nil P in
-    let z = m.preds in
-    let g = append_assoc P Q (t ∷ []) in
-    rw (x, y, z) (ap (λ (w : List (List ℕ)). S ++ w) (sym g) ∙ sym (append_assoc S (P ++ Q) (t ∷ []))) in
-    subst (λ (w : List (List ℕ)). Differ w) (sym e) a
-
-items_differ : (bytes : List ℕ) (ts : List Token) (before is : List Item) → Differ (all_texts bytes before)
-    → Each (ItemWithin bytes ts) before is → Differ (all_texts bytes (before ++ is))
-items_differ bytes ts before [] d e = subst (λ (w : List Item). Differ (all_texts bytes w)) (sym (append-nil before)) d
-items_differ bytes ts before (x ∷ is) d e = subst (λ (w : List Item). Differ (all_texts bytes w)) (append_assoc before (x ∷ []) is)
-    (items_differ bytes ts (before ++ (x ∷ [])) is (item_push bytes before x d e.0.new) e.1)
-
-preds_named : (bytes : List ℕ) (ts : List Token) (t : TableOf) (before is : List Item) (ps : List PredOf) → PredsSay bytes ts before t is ps
-    → map (λ (p : PredOf). p.name) ps ≡ pred_texts bytes is
-preds_named bytes ts t before [] [] s = refl
-preds_named bytes ts t before [] (p ∷ ps) s = absurd s
-preds_named bytes ts t before (SiteItem n cs ∷ is) ps s = preds_named bytes ts t (before ++ (SiteItem n cs ∷ [])) is ps s
-preds_named bytes ts t before (ParamItem n r ∷ is) ps s = preds_named bytes ts t (before ++ (ParamItem n r ∷ [])) is ps s
-preds_named bytes ts t before (PredItem n as' ls r ∷ is) [] s = absurd s
-preds_named bytes ts t before (PredItem n as' ls r ∷ is) (p ∷ ps) s =
-    let a = s.0.name_is in
-    let b = preds_named bytes ts t (before ++ (PredItem n as' ls r ∷ [])) is ps s.1 in
-    rw (a, b) refl
+    let a : NoneIs t ((S ++ P) ++ Q) = rw (append_assoc S P Q) (none_of_all bytes t is d.0) in
+    let b : Differ ((S ++ P) ++ Q) = rw (append_assoc S P Q) (kinds_differ bytes is d.1) in
+    subst (λ (w : List (List ℕ)). Differ w) (append_assoc S P (t ∷ Q)) (insert (S ++ P) Q t a b)
 
 -- the table that the items of a file without a fault say is whole
 pub whole_from : (bytes : List ℕ) (ts : List Token) (is : List Item) → length ts ≤ 65536 → IsShallow ts → Spelt ts is
@@ -586,11 +472,12 @@ whole_from bytes ts is l h d r w t s =
     }) in
     let a : list_all site_whole t.sites ≡ true = ap (list_all site_whole) s.sites_are ∙ m.sites in
     let b : list_all is_range t.params ≡ true = ap (list_all is_range) s.params_are ∙ m.params in
-    let n : item_names t ≡ all_texts bytes is = let x = s.sites_are in
-    let y = s.params_are in
+    let x = ap (map (λ (v : SiteOf). v.name)) s.sites_are ∙ sites_named bytes is in
+    let y = ap (map (λ (v : CoordOf). v.name)) s.params_are ∙ params_named bytes is in
     let z = preds_named bytes ts t [] is t.preds s.preds_are in
-    rw (x, y, z) refl in
-    let c : differ (item_names t) ≡ true = ap differ n ∙ differ_test (all_texts bytes is) (items_differ bytes ts [] is tt w.each) in
+    let n : item_names t ≡ all_texts bytes is = rw (x, y, z) refl in
+    let own = each_differ [] (λ (i : Item). text bytes (item_name i)) [] is tt (each_weaker (ItemWithin bytes ts) _ (λ b i v. v.new) [] is w.each) in
+    let c : differ (item_names t) ≡ true = ap differ n ∙ differ_test (all_texts bytes is) (kinds_differ bytes is own) in
     let k1 = ap (λ (v : List SiteOf). total site_tokens v) s.sites_are in
     let k2 = ap (λ (v : List CoordOf). total param_tokens v) s.params_are in
     let k3 = m.tokens in

@@ -5,7 +5,7 @@ use Rattle.std.specs.Prelude.{ℤ, pos, neg_ℤ, int_lt, unsigned_abs, nat_le, c
 use Rattle.std.specs.List.{list_any, list_all}
 use Rattle.std.specs.Ordering.{int_eq}
 use Rattle.std.specs.Cmp.{signed_Decides}
-use Rattle.std.proofs.lemmas.Bool.{and_parts}
+use Rattle.std.proofs.lemmas.Bool.{and_parts, leb-true, eqb-true}
 use Rattle.std.proofs.lemmas.Bool.Decides.{nat_tests}
 use Rattle.std.proofs.lemmas.Int.{ints}
 use Rattle.std.proofs.lemmas.Slice.Eq.{bytes_eq-Decides}
@@ -17,7 +17,7 @@ use Rattle.ln_tree.specs.Whole.{same_var, same_vars, nesting, pred_whole, item_n
 use Rattle.ln_tree.proofs.LaidLemmas.{same-site}
 use Rattle.ln_parse.specs.ReadsBack.{Every}
 use Rattle.ln_parse.proofs.ReadBack.NamePlaces.{NoneIs, Differ}
-use Rattle.ln_parse.proofs.Wholes.TestLemmas.{at_most, below, equal}
+use Rattle.ln_parse.proofs.Wholes.TestLemmas.{below}
 
 -- what a test finds of all elements holds of each
 pub every : {A : Type 0} (p : A → Bool) (xs : List A) → list_all p xs ≡ true → Every (λ x. p x ≡ true) xs
@@ -79,24 +79,10 @@ site_parts s h =
     let c = and_parts (nat_lt 0 (length s.coords)) (nat_le (length s.coords) 32) b.0 in
     record {
       some = below _ _ c.0;
-      few = at_most _ _ c.1;
+      few = leb-true _ _ c.1;
       ranges = every_map (λ x. is_range x ≡ true) InRange s.coords in_range (every is_range s.coords b.1);
       differ = differing _ a.1;
     }
-
--- two variables agree in each of their parts
-record SameVar (v w : VarInfo) : Type 0 where
-  arg : v.arg ≡ w.arg
-  site : v.site ≡ w.site
-  coord : v.coord ≡ w.coord
-  lo : v.lo ≡ w.lo
-  hi : v.hi ≡ w.hi
-
-var_is : (v w : VarInfo) → SameVar v w → v ≡ w
-var_is v w s =
-    let made : ◌≡◌ {A = VarInfo} (record { arg = v.arg; site = v.site; coord = v.coord; lo = v.lo; hi = v.hi }) w =
-    rw (s.arg, s.site, s.coord, s.lo, s.hi) refl in
-    made
 
 same_var_is : (i j : VarInfo) → same_var i j ≡ true → i ≡ j
 same_var_is i j h =
@@ -104,13 +90,14 @@ same_var_is i j h =
     let b = and_parts ((i.arg == j.arg) && same_site i.site j.site && (i.coord == j.coord)) (int_eq i.lo j.lo) a.0 in
     let c = and_parts ((i.arg == j.arg) && same_site i.site j.site) (i.coord == j.coord) b.0 in
     let d = and_parts (i.arg == j.arg) (same_site i.site j.site) c.0 in
-    var_is i j (record {
-      arg = equal i.arg j.arg d.0;
-      site = same-site i.site j.site d.1;
-      coord = equal i.coord j.coord c.1;
-      lo = (signed_Decides i.lo j.lo).0 b.1;
-      hi = (signed_Decides i.hi j.hi).0 a.1;
-    })
+    let arg = eqb-true i.arg j.arg d.0 in
+    let site = same-site i.site j.site d.1 in
+    let coord = eqb-true i.coord j.coord c.1 in
+    let lo = (signed_Decides i.lo j.lo).0 b.1 in
+    let hi = (signed_Decides i.hi j.hi).0 a.1 in
+    let made : ◌≡◌ {A = VarInfo} (record { arg = i.arg; site = i.site; coord = i.coord; lo = i.lo; hi = i.hi }) j =
+    rw (arg, site, coord, lo, hi) refl in
+    made
 
 -- the same variables are equal
 pub same_vars_are : (is js : List VarInfo) → same_vars is js ≡ true → is ≡ js
@@ -161,14 +148,14 @@ pred_parts S P p h =
       shape_name = (bytes_eq-Decides p.shape_name p.name).0 a.0;
       some = below _ _ a.1;
       known = b.1;
-      few_sites = at_most _ _ c.1;
-      few_params = at_most _ _ d.1;
-      sites = equal _ _ e.1;
+      few_sites = leb-true _ _ c.1;
+      few_params = leb-true _ _ d.1;
+      sites = eqb-true _ _ e.1;
       vars = same_vars_are _ _ f.1;
       names = differing _ g.1;
-      lets = every_map (λ e. nat_le (nesting 0 e) 64 ≡ true) (λ e. nesting 0 e ≤ 64) p.lets (λ e q. at_most _ _ q)
+      lets = every_map (λ e. nat_le (nesting 0 e) 64 ≡ true) (λ e. nesting 0 e ≤ 64) p.lets (λ e q. leb-true _ _ q)
           (every (λ e. nat_le (nesting 0 e) 64) p.lets i.1);
-      root = at_most _ _ j.1;
+      root = leb-true _ _ j.1;
     }
 
 -- a table
@@ -195,5 +182,5 @@ table_parts t h =
       preds = every_map (λ p. pred_whole t.sites t.params p ≡ true) (PredParts t.sites t.params) t.preds (pred_parts t.sites t.params)
           (every (pred_whole t.sites t.params) t.preds b.1);
       names = differing _ c.1;
-      tokens = at_most _ _ d.1;
+      tokens = leb-true _ _ d.1;
     }

@@ -2,8 +2,7 @@
 use Rattle.std.proofs.Common.{◌≡◌, ℕ, ◌+◌, ◌-◌, ◌*◌, zero, suc, Bool, true, false, leb, List, [], ◌∷◌, length, refl, sym, ◌∙◌, ap, subst}
 use Rattle.std.proofs.Common.{arith, ◌⊎◌, inl, inr, if◌then◌else◌}
 use Rattle.std.proofs.Math.IntN.{ℤ, pos, ◌*ℤ◌}
-use Rattle.std.proofs.lemmas.Bool.{and_parts, cases_eq}
-use Rattle.std.proofs.lemmas.Bool.Decides.{nat_tests}
+use Rattle.std.proofs.lemmas.Bool.{and_parts, cases_eq, leb-true}
 use Rattle.std.proofs.lemmas.Int.{ints}
 use Rattle.ln_algebra.proofs.Vectors.Covering.{factor_at-derived, length-minus}
 use Rattle.ln_algebra.proofs.Deriving.Derived.{factor_at-length}
@@ -112,11 +111,9 @@ plus-minus [] a l c = refl
 plus-minus (n ∷ m) [] l c = absurd (omega arith)
 plus-minus (n ∷ m) (k ∷ a) l c =
     let p = and_parts (leb k n) (covers m a) c in
-    let e : (n - k) + k ≡ n = above n k p.0 in
+    let e : (n - k) + k ≡ n = omega (arith, leb-true k n p.0) in
     let r : plus (minus m a) a ≡ m = plus-minus m a (omega arith) p.1 in
-    rw (e, r) refl where
-      above : (x y : ℕ) → leb y x ≡ true → (x - y) + y ≡ x
-      above x y h = grind (arith, nat_tests)
+    rw (e, r) refl
 
 zero_times : (k : ℕ) → pos 0 *ℤ pos k ≡ pos 0
 zero_times k = omega (arith, ints)

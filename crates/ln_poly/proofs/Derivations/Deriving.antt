@@ -1,17 +1,15 @@
 -- The terms of a scaled derivative.
-use Rattle.std.proofs.Common.{◌≡◌, All, Less, ℕ, ◌+◌, ◌-◌, ◌*◌, ◌<◌, ◌≤◌, ◌^◌, zero, suc, refl, sym, ◌∙◌, ap, subst, arith, List, [], ◌∷◌}
-use Rattle.std.proofs.Common.{length, take, get_or, Bool, true, false, leb, unsigned_abs, ◌&&◌}
-use Rattle.std.proofs.lemmas.Bool.{cases_lt}
-use Rattle.std.proofs.lemmas.Bool.Decides.{nat_tests}
+use Rattle.std.proofs.Common.{◌≡◌, All, Less, ℕ, ◌+◌, ◌-◌, ◌<◌, ◌≤◌, ◌^◌, zero, suc, refl, sym, ◌∙◌, ap, subst, arith, List, [], ◌∷◌}
+use Rattle.std.proofs.Common.{length, drop, get_or, Bool, true, false, leb, unsigned_abs, ◌&&◌}
+use Rattle.std.proofs.lemmas.Bool.{cases_lt, le-leb, lt-leb}
 use Rattle.std.proofs.lemmas.Int.{ints}
-use Rattle.std.proofs.lemmas.List.{take_all}
+use Rattle.std.proofs.lemmas.List.{drop_all}
 use Rattle.std.proofs.lemmas.List.Elements.{All-nil, All-push}
-use Rattle.std.proofs.lemmas.List.Sums.{get_or-le-sum_by, sum_by-cons, sum_by_more}
-use Rattle.std.specs.List.{sum_by}
 use mathlib.Core.Logic.{◌⊎◌, inl, inr}
 use Rattle.std.proofs.Math.IntN.{ℤ, pos, ◌+ℤ◌, ◌*ℤ◌}
+use Rattle.std.proofs.Math.Nat.{le-mul_of_pos_right, mul-pos}
 use Rattle.ln_algebra.proofs.Bounding.Bounds.{weighted-derived}
-use Rattle.ln_algebra.specs.Vector.{sum_over}
+use Rattle.ln_algebra.proofs.Vectors.Covering.{length-minus}
 use Rattle.ln_algebra.specs.Terms.{binomial, binomials, covers, derived, factor_at, minus}
 use Rattle.ln_algebra.specs.Weights.{monomial_weight, weighted_sum}
 use Rattle.ln_bound.specs.Light.{most}
@@ -27,8 +25,8 @@ use Rattle.ln_poly.proofs.TermLists.Coefficients.{coefficient_at-nil, coefficien
 use Rattle.ln_tree.proofs.Powers.{power-apart, power-here}
 use Rattle.ln_poly.proofs.Sorting.Merging.{above-none, none-above}
 use Rattle.ln_poly.proofs.Derivations.Combined.{binomial-none}
-use Rattle.ln_poly.proofs.TermLists.Products.{length-vector, sum_over-more}
-use Rattle.ln_poly.proofs.Loads.Weighing.{pow-some, size-some, weight-pairs, weight-some}
+use Rattle.ln_poly.proofs.TermLists.Products.{drop-read, length-vector}
+use Rattle.ln_poly.proofs.Loads.Weighing.{pow-some, size-some}
 
 -- ---- the vector of one variable
 -- after its variable a single pair has no exponent
@@ -38,13 +36,10 @@ single-here v w n e = omega (arith, power-here w (v, n) e)
 single-apart : (v w n : ℕ) → (v ≡ w → ⊥) → exponent w ((v, n) ∷ []) ≡ 0
 single-apart v w n e = omega (arith, power-apart w (v, n) e)
 
-nothing-covered : (e : ℕ) → leb 0 e ≡ true
-nothing-covered e = grind (arith, nat_tests)
-
 covers-behind : (w k v n : ℕ) (ps : Pairs) → v < w → covers (exponents_from w k ps) (exponents_from w k ((v, n) ∷ [])) ≡ true
 covers-behind w zero v n ps h = refl
 covers-behind w (suc k) v n ps h =
-    rw (single-apart v w n (λ e. absurd (omega arith)), nothing-covered (exponent w ps), covers-behind (suc w) k v n ps (omega arith)) refl
+    rw (single-apart v w n (λ e. absurd (omega arith)), le-leb 0 (exponent w ps) (omega arith), covers-behind (suc w) k v n ps (omega arith)) refl
 
 and-true : (b : Bool) → (b && true) ≡ b
 and-true true = refl
@@ -55,7 +50,7 @@ covers-single w zero v n ps h l = absurd (omega arith)
 covers-single w (suc k) v n ps h l = by_case (cases_lt w v) (λ g. covers-single (suc w) k v n ps g (omega arith)) where
   by_case : (w < v) ⊎ (v ≤ w) → (suc w ≤ v → covers (exponents_from (suc w) k ps) (exponents_from (suc w) k ((v, n) ∷ [])) ≡ leb n (exponent v ps))
       → covers (exponents_from w (suc k) ps) (exponents_from w (suc k) ((v, n) ∷ [])) ≡ leb n (exponent v ps)
-  by_case (inl g) ih = rw (single-apart v w n (λ e. absurd (omega arith)), nothing-covered (exponent w ps)) (ih (omega arith))
+  by_case (inl g) ih = rw (single-apart v w n (λ e. absurd (omega arith)), le-leb 0 (exponent w ps) (omega arith)) (ih (omega arith))
   by_case (inr g) ih =
       let e : w ≡ v = omega arith in
       rw (single-here v w n (sym e), covers-behind (suc w) k v n ps (omega arith), and-true (leb n (exponent w ps))) (ap (λ z. leb n (exponent z ps)) e)
@@ -83,106 +78,55 @@ binomials-single w (suc k) v n ps h l = by_case (cases_lt w v) (λ g. binomials-
       let e : w ≡ v = omega arith in
       rw (single-here v w n (sym e), binomials-behind (suc w) k v n ps (omega arith)) (omega (arith, ap (λ z. binomial (exponent z ps) n) e))
 
--- ---- the part of one term
--- what the derivative of a term adds to the coefficient at m
-abbrev pub derived_part : ℕ → ℕ → ℕ → List ℕ → Pairs × ℤ → ℤ
-derived_part k v n m t = factor_at (derivative k v n (t ∷ [])) m
-
--- the weight of the derivative of a term
-abbrev pub derived_weight : ℕ → ℕ → ℕ → (ℕ → ℕ) → Pairs × ℤ → ℕ
-derived_weight k v n w t = weighted_sum w (derivative k v n (t ∷ []))
-
-derivative-cons : (k v n : ℕ) (m : List ℕ) (t : Pairs × ℤ) (f : Sparse)
-    → factor_at (derivative k v n (t ∷ f)) m ≡ derived_part k v n m t +ℤ factor_at (derivative k v n f) m
-derivative-cons k v n m t f = by_case (covers (vector k t.0) (vector k ((v, n) ∷ []))) refl where
-  by_case : (b : Bool) → covers (vector k t.0) (vector k ((v, n) ∷ [])) ≡ b
-      → factor_at (derivative k v n (t ∷ f)) m ≡ derived_part k v n m t +ℤ factor_at (derivative k v n f) m
-  by_case true e = rw e (omega (arith, ints))
-  by_case false e = rw e (omega (arith, ints))
-
-weight-cons : (k v n : ℕ) (w : ℕ → ℕ) (t : Pairs × ℤ) (f : Sparse)
-    → weighted_sum w (derivative k v n (t ∷ f)) ≡ derived_weight k v n w t + weighted_sum w (derivative k v n f)
-weight-cons k v n w t f = by_case (covers (vector k t.0) (vector k ((v, n) ∷ []))) refl where
-  by_case : (b : Bool) → covers (vector k t.0) (vector k ((v, n) ∷ [])) ≡ b
-      → weighted_sum w (derivative k v n (t ∷ f)) ≡ derived_weight k v n w t + weighted_sum w (derivative k v n f)
-  by_case true e = rw e (omega arith)
-  by_case false e = rw e (omega arith)
-
-derivative-sum : (k v n : ℕ) (m : List ℕ) (f : Sparse) → factor_at (derivative k v n f) m ≡ sum_over (derived_part k v n m) f
-derivative-sum k v n m [] = refl
-derivative-sum k v n m (t ∷ f) = derivative-cons k v n m t f ∙ ap (λ z. derived_part k v n m t +ℤ z) (derivative-sum k v n m f)
-
-weight-sum : (k v n : ℕ) (w : ℕ → ℕ) (f : Sparse) → weighted_sum w (derivative k v n f) ≡ sum_by (derived_weight k v n w) f
-weight-sum k v n w [] = refl
-weight-sum k v n w (t ∷ f) =
-    weight-cons k v n w t f ∙ ap (λ z. derived_weight k v n w t + z) (weight-sum k v n w f) ∙ sym (sum_by-cons (derived_weight k v n w) t f)
-
-derivative-more : (k v n : ℕ) (m : List ℕ) (f : Sparse) (i : ℕ) (t : Pairs × ℤ) → i < length f → t ≡ get_or f i t
-    → factor_at (derivative k v n (take (i + 1) f)) m ≡ factor_at (derivative k v n (take i f)) m +ℤ derived_part k v n m t
-derivative-more k v n m f i t h e =
-    derivative-sum k v n m (take (i + 1) f) ∙ sum_over-more (derived_part k v n m) f i t h
-    ∙ ap (λ z. sum_over (derived_part k v n m) (take i f) +ℤ derived_part k v n m z) (sym e)
-    ∙ ap (λ z. z +ℤ derived_part k v n m t) (sym (derivative-sum k v n m (take i f)))
-
-weight-more : (k v n : ℕ) (w : ℕ → ℕ) (f : Sparse) (i : ℕ) (t : Pairs × ℤ) → i < length f → t ≡ get_or f i t
-    → weighted_sum w (derivative k v n (take (i + 1) f)) ≡ weighted_sum w (derivative k v n (take i f)) + derived_weight k v n w t
-weight-more k v n w f i t h e =
-    weight-sum k v n w (take (i + 1) f) ∙ sum_by_more (derived_weight k v n w) f i t h
-    ∙ ap (λ z. sum_by (derived_weight k v n w) (take i f) + derived_weight k v n w z) (sym e)
-    ∙ ap (λ z. z + derived_weight k v n w t) (sym (weight-sum k v n w (take i f)))
-
-weight-within : (k v n : ℕ) (w : ℕ → ℕ) (f : Sparse) (i : ℕ) (t : Pairs × ℤ) → i < length f → t ≡ get_or f i t
-    → derived_weight k v n w t ≤ weighted_sum w (derivative k v n f)
-weight-within k v n w f i t h e =
-    let x : derived_weight k v n w t ≡ derived_weight k v n w (get_or f i t) = ap (derived_weight k v n w) e in
-    omega (arith, x, get_or-le-sum_by (derived_weight k v n w) f i t h, weight-sum k v n w f)
-
--- ---- a term that the derivative drops
-low-test : (n e : ℕ) → e < n → leb n e ≡ false
-low-test n e h = grind (arith, nat_tests)
-
-high-test : (n e : ℕ) → n ≤ e → leb n e ≡ true
-high-test n e h = grind (arith, nat_tests)
-
-dropped-part : (k v n : ℕ) (m : List ℕ) (t : Pairs × ℤ) → v < k → exponent v t.0 < n → derived_part k v n m t ≡ pos 0
-dropped-part k v n m t l h =
-    let c : covers (vector k t.0) (vector k ((v, n) ∷ [])) ≡ false = covers-single 0 k v n t.0 (omega arith) (omega arith) ∙ low-test n (exponent v t.0) h in
+-- ---- one term
+-- a term that the derivative drops
+dropped : (k v n : ℕ) (t : Pairs × ℤ) (f : Sparse) → v < k → exponent v t.0 < n → derivative k v n (t ∷ f) ≡ derivative k v n f
+dropped k v n t f l h =
+    let c : covers (vector k t.0) (vector k ((v, n) ∷ [])) ≡ false = covers-single 0 k v n t.0 (omega arith) (omega arith) ∙ lt-leb n (exponent v t.0) h in
     rw c refl
 
--- ---- a term that it keeps
-kept-part : (k v n : ℕ) (m : List ℕ) (t : Pairs × ℤ) (e : Pairs) → v < k → n ≤ exponent v t.0 → IsLowered e t.0 v n
-    → derived_part k v n m t ≡ part_at k (e, t.1 *ℤ pos (binomial (exponent v t.0) n)) m
-unfolding part_at
-kept-part k v n m t e l h r =
-    let c : covers (vector k t.0) (vector k ((v, n) ∷ [])) ≡ true = covers-single 0 k v n t.0 (omega arith) (omega arith) ∙ high-test n (exponent v t.0) h in
-    rw (c, minus-single 0 k v n e t.0 r.exponents, binomials-single 0 k v n t.0 (omega arith) (omega arith)) (omega (arith, ints))
+-- a term that it keeps, with the vector that remains
+kept : (k v n : ℕ) (t : Pairs × ℤ) (f : Sparse) (m : List ℕ) → v < k → n ≤ exponent v t.0 → minus (vector k t.0) (vector k ((v, n) ∷ [])) ≡ m
+    → derivative k v n (t ∷ f) ≡ record { exponents = m; factor = t.1 *ℤ pos (binomial (exponent v t.0) n) } ∷ derivative k v n f
+kept k v n t f m l h p =
+    let c : covers (vector k t.0) (vector k ((v, n) ∷ [])) ≡ true = covers-single 0 k v n t.0 (omega arith) (omega arith) ∙ le-leb n (exponent v t.0) h in
+    rw (c, p, binomials-single 0 k v n t.0 (omega arith) (omega arith)) refl
 
-kept-weight : (k v n : ℕ) (w : ℕ → ℕ) (t : Pairs × ℤ) (e : Pairs) → v < k → n ≤ exponent v t.0 → IsLowered e t.0 v n
-    → derived_weight k v n w t ≡ unsigned_abs (t.1 *ℤ pos (binomial (exponent v t.0) n)) * monomial_weight w (vector k e)
-kept-weight k v n w t e l h r =
-    let c : covers (vector k t.0) (vector k ((v, n) ∷ [])) ≡ true = covers-single 0 k v n t.0 (omega arith) (omega arith) ∙ high-test n (exponent v t.0) h in
-    rw (c, minus-single 0 k v n e t.0 r.exponents, binomials-single 0 k v n t.0 (omega arith) (omega arith)) (omega arith)
+-- what it adds to a coefficient
+kept-coefficient : (k v n : ℕ) (m : List ℕ) (t : Pairs × ℤ) (f : Sparse) (e : Pairs) → v < k → n ≤ exponent v t.0 → IsLowered e t.0 v n
+    → factor_at (derivative k v n (t ∷ f)) m ≡ part_at k (e, t.1 *ℤ pos (binomial (exponent v t.0) n)) m +ℤ factor_at (derivative k v n f) m
+unfolding part_at
+kept-coefficient k v n m t f e l h r = ap (λ z. factor_at z m) (kept k v n t f (vector k e) l h (minus-single 0 k v n e t.0 r.exponents))
+
+monomial-some : (w : ℕ → ℕ) (m : List ℕ) → ((u : ℕ) → u < length m → 0 < w u) → 0 < monomial_weight w m
+monomial-some w [] h = omega arith
+monomial-some w (n ∷ m) h =
+    mul-pos (pow-some (w 0) n (h 0 (omega arith))) (monomial-some (λ v. w (suc v)) m (λ u l. h (suc u) (omega arith)))
+
+-- its factor weighs no more than it does
+kept-weight : (vars : List VarInfo) (v n : ℕ) (t : Pairs × ℤ) (f : Sparse) → v < length vars → n ≤ exponent v t.0
+    → unsigned_abs (t.1 *ℤ pos (binomial (exponent v t.0) n)) + weighted_sum (sizes vars) (derivative (length vars) v n f)
+    ≤ weighted_sum (sizes vars) (derivative (length vars) v n (t ∷ f))
+kept-weight vars v n t f l h =
+    let k : ℕ = length vars in
+    let a : List ℕ = vector k ((v, n) ∷ []) in
+    let m : List ℕ = minus (vector k t.0) a in
+    let e : length m ≡ k = length-minus (vector k t.0) a (length-vector 0 k t.0 ∙ sym (length-vector 0 k ((v, n) ∷ []))) ∙ length-vector 0 k t.0 in
+    let s : 0 < monomial_weight (sizes vars) m = monomial-some (sizes vars) m (λ u q. size-some vars u (omega (arith, q, e))) in
+    omega (
+      arith,
+      ap (weighted_sum (sizes vars)) (kept k v n t f m l h refl),
+      le-mul_of_pos_right (unsigned_abs (t.1 *ℤ pos (binomial (exponent v t.0) n))) s,
+    )
 
 lowered-below : (k v n : ℕ) (e ps : Pairs) → IsLowered e ps v n → IsAbove ps k → IsAbove e k
 lowered-below k v n e ps r a = none-above k e r.rising (λ u l. omega (arith, r.exponents u, above-none k u ps a l))
-
-times-some : (a b : ℕ) → 0 < b → a ≤ a * b
-times-some a zero h = absurd (omega arith)
-times-some a (suc b) h = omega arith
-
-kept-light : (vars : List VarInfo) (v n : ℕ) (t : Pairs × ℤ) (e : Pairs) → v < length vars → n ≤ exponent v t.0 → IsLowered e t.0 v n
-    → IsAbove t.0 (length vars) → unsigned_abs (t.1 *ℤ pos (binomial (exponent v t.0) n)) ≤ derived_weight (length vars) v n (sizes vars) t
-kept-light vars v n t e l h r a =
-    let b : IsAbove e (length vars) = lowered-below (length vars) v n e t.0 r a in
-    let c : ℕ = unsigned_abs (t.1 *ℤ pos (binomial (exponent v t.0) n)) in
-    rw (kept-weight (length vars) v n (sizes vars) t e l h r, weight-pairs (sizes vars) (length vars) e b)
-    (times-some c _ (weight-some (length vars) (sizes vars) (size-some vars) e b))
 
 -- ---- the loop
 -- the loop in `derive` begins with no term derived and an empty result
 pub deriving-init : (f : Sparse) (k v n : ℕ) (w : ℕ → ℕ) → IsDeriving [] f k v n 0 w
 deriving-init f k v n w = record {
-  coefficients = λ m. coefficient_at-nil k m;
+  coefficients = λ m. omega (arith, ints, coefficient_at-nil k m);
   size = omega (arith, size-nil);
   rising = All-nil (λ z. IsRising z.0);
   below = All-nil (λ z. IsAbove z.0 k);
@@ -209,17 +153,25 @@ deriving-step vars f' f out out' v n i t q l poly b h e r x y = by_case (cases_l
   earlier : (j : ℕ) (d : Pairs × ℤ) → j < i → pairs_cmp (get_or f' j d).0 t.0 ≡ Less
   earlier j d k = subst (λ z. pairs_cmp (get_or f' j d).0 z.0 ≡ Less) (sym e) (sorted-at f' j i d t k h (subst AreSorted (sym q) poly.sorted))
 
+  k : ℕ
+  k = length vars
+
+  rest : Sparse
+  rest = drop (i + 1) f'
+
+  here : drop i f' ≡ t ∷ rest
+  here = drop-read f' i t h e
+
   by_case : (exponent v t.0 < n) ⊎ (n ≤ exponent v t.0) → IsDeriving out' f' (length vars) v n (i + 1) (sizes vars)
   by_case (inl g) = record {
     coefficients = λ m. omega (
       arith,
       ints,
-      ap (λ z. coefficient_at (length vars) z m) (x g),
+      ap (λ z. coefficient_at k z m) (x g),
       r.coefficients m,
-      derivative-more (length vars) v n m f' i t h e,
-      dropped-part (length vars) v n m t l g,
+      ap (λ z. factor_at z m) (ap (derivative k v n) here ∙ dropped k v n t rest l g),
     );
-    size = omega (arith, ap size_of (x g), r.size, weight-more (length vars) v n (sizes vars) f' i t h e);
+    size = omega (arith, ap size_of (x g), r.size, ap (weighted_sum (sizes vars)) (ap (derivative k v n) here ∙ dropped k v n t rest l g));
     rising = subst AreRising (sym (x g)) r.rising;
     below = subst (AreBelow (length vars)) (sym (x g)) r.below;
     sorted = subst AreSorted (sym (x g)) r.sorted;
@@ -232,19 +184,19 @@ deriving-step vars f' f out out' v n i t q l poly b h e r x y = by_case (cases_l
         coefficients = λ m. omega (
           arith,
           ints,
-          ap (λ z. coefficient_at (length vars) z m) p.put,
-          coefficient_at-push (length vars) m out (p.exps, c),
+          ap (λ z. coefficient_at k z m) p.put,
+          coefficient_at-push k m out (p.exps, c),
           r.coefficients m,
-          derivative-more (length vars) v n m f' i t h e,
-          kept-part (length vars) v n m t p.exps l g p.lowered,
+          ap (λ z. factor_at (derivative k v n z) m) here,
+          kept-coefficient k v n m t rest p.exps l g p.lowered,
         );
         size = omega (
           arith,
           ap size_of p.put,
           size-push out (p.exps, c),
           r.size,
-          weight-more (length vars) v n (sizes vars) f' i t h e,
-          kept-light vars v n t p.exps l g p.lowered above,
+          ap (λ z. weighted_sum (sizes vars) (derivative k v n z)) here,
+          kept-weight vars v n t rest l g,
         );
         rising = subst AreRising (sym p.put) (All-push (λ z. IsRising z.0) out (p.exps, c) r.rising p.lowered.rising);
         below = subst (AreBelow (length vars)) (sym p.put)
@@ -264,48 +216,32 @@ pub record AreDerived (out f : Sparse) (k v n : ℕ) (w : ℕ → ℕ) : Type 0 
 -- the end of the loop in `derive`: the derivatives of all terms are appended
 pub deriving-end : (out f' f : Sparse) (k v n i : ℕ) (w : ℕ → ℕ) → f' ≡ f → length f' ≤ i → IsDeriving out f' k v n i w → AreDerived out f k v n w
 deriving-end out f' f k v n i w q h r =
-    let a : take i f' ≡ f = take_all i f' h ∙ q in
+    let none : drop i f' ≡ [] = drop_all i f' h in
     record {
-      coefficients = λ m. r.coefficients m ∙ ap (λ z. factor_at (derivative k v n z) m) a;
-      size = omega (arith, r.size, ap (λ z. weighted_sum w (derivative k v n z)) a);
+      coefficients = λ m. omega (
+        arith,
+        ints,
+        r.coefficients m,
+        ap (λ z. factor_at (derivative k v n z) m) none,
+        ap (λ z. factor_at (derivative k v n z) m) q,
+      );
+      size = omega (arith, r.size, ap (λ z. weighted_sum w (derivative k v n z)) q);
     }
 
--- ---- room for one term more
-length-minus : (m a : List ℕ) → length (minus m a) ≤ length m
-length-minus [] a = omega arith
-length-minus (n ∷ m) [] = omega arith
-length-minus (n ∷ m) (k ∷ a) = omega (arith, length-minus m a)
-
-both-some : (a b : ℕ) → 0 < a → 0 < b → 0 < a * b
-both-some zero b p q = absurd (omega arith)
-both-some (suc a) zero p q = absurd (omega arith)
-both-some (suc a) (suc b) p q = omega arith
-
-monomial-some : (w : ℕ → ℕ) (m : List ℕ) → ((u : ℕ) → u < length m → 0 < w u) → 0 < monomial_weight w m
-monomial-some w [] h = omega arith
-monomial-some w (n ∷ m) h = both-some (w 0 ^ n) (monomial_weight (λ v. w (suc v)) m) (pow-some (w 0) n (h 0 (omega arith)))
-    (monomial-some (λ v. w (suc v)) m (λ u l. h (suc u) (omega arith)))
-
-kept-room : (vars : List VarInfo) (v n : ℕ) (t : Pairs × ℤ) → v < length vars → n ≤ exponent v t.0
-    → unsigned_abs (t.1 *ℤ pos (binomial (exponent v t.0) n)) ≤ derived_weight (length vars) v n (sizes vars) t
-kept-room vars v n t l h =
-    let k : ℕ = length vars in
-    let c : covers (vector k t.0) (vector k ((v, n) ∷ [])) ≡ true = covers-single 0 k v n t.0 (omega arith) (omega arith) ∙ high-test n (exponent v t.0) h in
-    let m : List ℕ = minus (vector k t.0) (vector k ((v, n) ∷ [])) in
-    let some : 0 < monomial_weight (sizes vars) m =
-    monomial-some (sizes vars) m (λ u q. size-some vars u (omega (arith, length-minus (vector k t.0) (vector k ((v, n) ∷ [])), length-vector 0 k t.0))) in
-    let x = times-some (unsigned_abs (t.1 *ℤ pos (binomial (exponent v t.0) n))) (monomial_weight (sizes vars) m) some in
-    rw (c, binomials-single 0 k v n t.0 (omega arith) (omega arith)) (omega (arith, x))
-
 -- in `derive` the factor of each term's derivative is below 2^127, as the weighted sum of the derivative is
-pub deriving-room : (vars : List VarInfo) (f' f : Sparse) (v n i : ℕ) (t : Pairs × ℤ) → f' ≡ f → v < length vars
-    → weighted_sum (sizes vars) (derivative (length vars) v n f) ≤ most → i < length f' → t ≡ get_or f' i t → n ≤ exponent v t.0
+pub deriving-room : (vars : List VarInfo) (f' f out : Sparse) (v n i : ℕ) (t : Pairs × ℤ) → f' ≡ f → v < length vars
+    → weighted_sum (sizes vars) (derivative (length vars) v n f) ≤ most → i < length f' → t ≡ get_or f' i t
+    → IsDeriving out f' (length vars) v n i (sizes vars) → n ≤ exponent v t.0
     → unsigned_abs (t.1 *ℤ pos (binomial (exponent v t.0) n)) < 2 ^ 127
-deriving-room vars f' f v n i t q l s h e g =
-    let x : derived_weight (length vars) v n (sizes vars) t ≤ weighted_sum (sizes vars) (derivative (length vars) v n f) =
-    subst (λ z. derived_weight (length vars) v n (sizes vars) t ≤ weighted_sum (sizes vars) (derivative (length vars) v n z)) q
-    (weight-within (length vars) v n (sizes vars) f' i t h e) in
-    omega (arith, x, s, kept-room vars v n t l g)
+deriving-room vars f' f out v n i t q l s h e r g =
+    omega (
+      arith,
+      s,
+      ap (λ z. weighted_sum (sizes vars) (derivative (length vars) v n z)) q,
+      r.size,
+      ap (λ z. weighted_sum (sizes vars) (derivative (length vars) v n z)) (drop-read f' i t h e),
+      kept-weight vars v n t (drop (i + 1) f') l g,
+    )
 
 -- ---- derivatives of a polynomial whose weight isn't too large
 -- by weights that are the same up to its last variable a monomial weighs the same

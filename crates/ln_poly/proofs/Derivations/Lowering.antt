@@ -1,8 +1,9 @@
 -- The exponent of one variable, lowered.
-use Rattle.std.proofs.Common.{◌≡◌, ℕ, ◌+◌, ◌-◌, ◌<◌, ◌≤◌, ◌^◌, zero, suc, refl, sym, ◌∙◌, ap, arith, [], ◌∷◌, ◌++◌, length, take, get_or}
+use Rattle.std.proofs.Common.{◌≡◌, ℕ, ◌+◌, ◌-◌, ◌<◌, ◌≤◌, ◌^◌, zero, suc, sym, ◌∙◌, ap, arith, [], ◌∷◌, ◌++◌, length, take, get_or}
 use Rattle.std.proofs.lemmas.Bool.{cases_eq}
 use mathlib.Core.Logic.{◌⊎◌, inl, inr}
-use Rattle.std.proofs.Math.Nat.{pow-zero, pow-suc}
+use Rattle.std.proofs.Math.Nat.{pow-zero, pow-suc, pow-le-pow_right}
+use Rattle.std.proofs.lemmas.Nat.{pow_pos}
 use Rattle.ln_algebra.specs.Terms.{binomial}
 use Rattle.ln_tree.specs.Exps.{IsAbove, IsRising, Pairs, exponent}
 use Rattle.ln_tree.proofs.Pairs.{rising-push}
@@ -10,11 +11,9 @@ use Rattle.ln_tree.proofs.Powers.{exponent-more, power-apart, power-here, small-
 use Rattle.ln_poly.specs.Times.{power_at}
 use Rattle.ln_poly.specs.Derivative.{IsLowering}
 use Rattle.ln_poly.proofs.Sorting.Merging.{above-none, exponent-push, none-above}
-use Rattle.ln_poly.proofs.Loads.Weighing.{pow-le}
+use Rattle.ln_poly.proofs.Derivations.Combined.{binomial-none}
 
--- ---- rising pairs
 -- ---- lowering
-
 -- what is lowered and out is below the next pair
 pub lowering-above : (out ps : Pairs) (v n i : ℕ) → IsLowering out ps v n i → IsRising ps → i < length ps → IsAbove out (get_or ps i (0, 0)).0
 lowering-above out ps v n i r s h = none-above (get_or ps i (0, 0)).0 out r.rising
@@ -75,14 +74,7 @@ lowering-skip out ps v n i k r s h a b l = record {
 pub binomial-pair : (n k : ℕ) → binomial n k + binomial n (suc k) ≤ 2 ^ n
 binomial-pair zero zero = rw pow-zero (omega arith)
 binomial-pair zero (suc k) = omega arith
-binomial-pair (suc n) zero = rw pow-suc (omega (arith, binomial-pair n 0, binomial-first n, pow-some n))
-  where
-    binomial-first : (m : ℕ) → binomial m 0 ≡ 1
-    binomial-first zero = refl
-    binomial-first (suc m) = refl
-
-    pow-some : (m : ℕ) → 1 ≤ 2 ^ m
-    pow-some m = let x : 2 ^ 0 ≤ 2 ^ (0 + m) = pow-le 2 0 m (omega arith) in let y : 0 + m ≡ m = omega arith in rw (y, pow-zero) at x
+binomial-pair (suc n) zero = rw pow-suc (omega (arith, binomial-pair n 0, binomial-none n, pow_pos n))
 binomial-pair (suc n) (suc k) = rw pow-suc (omega (arith, binomial-pair n k, binomial-pair n (suc k)))
 
 -- at most 2^126 below 128
@@ -91,8 +83,6 @@ binomial-small zero zero h = omega arith
 binomial-small zero (suc n) h = omega arith
 binomial-small (suc e) zero h = omega arith
 binomial-small (suc e) (suc n) h =
-    let d : ℕ = 126 - e in
-    let x : 2 ^ e ≤ 2 ^ (e + d) = pow-le 2 e d (omega arith) in
-    let y : e + d ≡ 126 = omega arith in
-    let z : 2 ^ e ≤ 2 ^ 126 = rw y at x in
+    let l : e ≤ 126 = omega arith in
+    let z : 2 ^ e ≤ 2 ^ 126 = pow-le-pow_right (omega arith) l in
     omega (arith, z, binomial-pair e n)

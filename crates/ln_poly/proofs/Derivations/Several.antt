@@ -42,12 +42,6 @@ several-init n f h p b e = record {
 }
 
 -- ---- one variable more
--- each pair's variable is one of the first n
-pub variable-at : (n : ℕ) (ps : Pairs) (i : ℕ) → IsAbove ps n → i < length ps → (get_or ps i (0, 0)).0 < n
-variable-at n [] i a h = absurd (omega arith)
-variable-at n (p ∷ ps) zero a h = a.0
-variable-at n (p ∷ ps) (suc i) a h = variable-at n ps i a.1 (omega arith)
-
 -- pairs below a variable and the pair of the variable have no variable in common
 apart-from : (w n v k : ℕ) (xs : Pairs) → IsAbove xs v → AreApart (exponents_from w n xs) (exponents_from w n ((v, k) ∷ []))
 apart-from w zero v k xs a = tt

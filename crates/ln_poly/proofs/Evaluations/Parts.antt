@@ -1,15 +1,15 @@
 -- What the pairs of a monomial add to a scaled derivative.
 use Rattle.std.proofs.Common.{◌≡◌, ℕ, ◌+◌, ◌-◌, ◌*◌, ◌<◌, ◌≤◌, zero, suc, refl, sym, ◌∙◌, ap, subst, arith, List, [], ◌∷◌, length, get_or}
-use Rattle.std.proofs.Common.{Bool, true, false, ◌&&◌, leb, ◌⊎◌, inl, inr}
+use Rattle.std.proofs.Common.{Bool, true, false, leb, ◌⊎◌, inl, inr}
 use Rattle.std.proofs.Math.IntN.{ℤ, pos, ◌+ℤ◌, ◌*ℤ◌}
-use Rattle.std.proofs.lemmas.Bool.{and_parts, cases_eq, leb-true}
-use Rattle.std.proofs.lemmas.Bool.Decides.{nat_tests}
+use Rattle.std.proofs.lemmas.Bool.{and_parts, and_right, cases_eq, le-leb, leb-true, lt-leb}
 use Rattle.std.proofs.lemmas.Int.{ints}
 use Rattle.ln_algebra.proofs.Expanded.Ring.{four, mul_assoc, mul_one, one_mul}
 use Rattle.ln_algebra.specs.Terms.{Term, binomial, binomials, covers, derived, minus, monomial, power_of, value}
 use Rattle.ln_tree.specs.Exps.{AllAbove, IsAbove, IsRising, Pairs, exponent, exponents_from, vector}
 use Rattle.ln_tree.proofs.Powers.{all_above-none, power-apart, power-here}
 use Rattle.ln_poly.specs.Values.{part, parts, term_value}
+use Rattle.ln_poly.proofs.TermLists.Vectors.{exponents-behind}
 
 -- the pairs begin at v or after it
 abbrev From : ℕ → Pairs → Type 0
@@ -19,12 +19,6 @@ From v (p ∷ ps) = v ≤ p.0
 from-above : (v w : ℕ) (ps : Pairs) → v ≤ suc w → AllAbove w ps → From v ps
 from-above v w [] h a = tt
 from-above v w (p ∷ ps) h a = omega (arith, a.0)
-
-not-below : (v n : ℕ) (p : ℕ × ℕ) (ps : Pairs) → p.0 < v → exponents_from v n (p ∷ ps) ≡ exponents_from v n ps
-not-below v zero p ps h = refl
-not-below v (suc n) p ps h =
-    let e : exponent v (p ∷ ps) ≡ exponent v ps = omega (arith, power-apart v p (λ q. absurd (omega (arith, q)))) in
-    rw (e, not-below (suc v) n p ps (omega arith)) refl
 
 -- no exponent is needed where none is there
 nothing : (y : ℤ) (e k : ℕ) → e ≡ 0 → leb k e ≡ true → pos (binomial e k) *ℤ power_of y (e - k) ≡ pos 1
@@ -76,7 +70,7 @@ vector-parts x y a v (suc n) (p ∷ ps) s f r b c = by_case (cases_eq p.0 v)
         → (suc v ≤ p.0 → covers rest below ≡ true → SaysRest x y a below (p ∷ ps) rest)
         → pos (binomials (E ∷ rest) (k ∷ below)) *ℤ monomial y (minus (E ∷ rest) (k ∷ below)) ≡ parts x a (p ∷ ps)
     by_case (inl o) ih other =
-        let t : rest ≡ exponents_from (suc v) n ps = not-below (suc v) n p ps (omega (arith, o)) in
+        let t : rest ≡ exponents_from (suc v) n ps = exponents-behind (suc v) n p.0 p.1 ps (omega (arith, o)) in
         let j : covers (exponents_from (suc v) n ps) below ≡ true = ap (λ m. covers m below) (sym t) ∙ q.1 in
         let i : SaysRest x y a below ps rest = subst (SaysRest x y a below ps) (sym t) (ih tt j) in
         let e : E ≡ p.1 = omega (arith, power-here v p o, all_above-none v ps (subst (λ z. AllAbove z ps) o r.2)) in
@@ -100,28 +94,17 @@ vector-parts x y a v (suc n) (p ∷ ps) s f r b c = by_case (cases_eq p.0 v)
 covers-more : (v n : ℕ) (m a : Pairs) → ((u : ℕ) → exponent u a ≤ exponent u m) → covers (exponents_from v n m) (exponents_from v n a) ≡ true
 covers-more v zero m a h = refl
 covers-more v (suc n) m a h =
-    let t : leb (exponent v a) (exponent v m) ≡ true = at (exponent v a) (exponent v m) (h v) in
-    rw (t, covers-more (suc v) n m a h) refl
-  where
-    at : (k e : ℕ) → k ≤ e → leb k e ≡ true
-    at k e h = grind (arith, nat_tests)
+    rw (le-leb (exponent v a) (exponent v m) (h v), covers-more (suc v) n m a h) refl
 
 covers-less : (v n u : ℕ) (m a : Pairs) → v ≤ u → u < v + n → exponent u m < exponent u a → covers (exponents_from v n m) (exponents_from v n a) ≡ false
 covers-less v zero u m a h l d = absurd (omega arith)
 covers-less v (suc n) u m a h l d = by_case (cases_eq v u) (λ g. covers-less (suc v) n u m a g (omega arith) d) where
-  at : (k e : ℕ) → e < k → leb k e ≡ false
-  at k e h = grind (arith, nat_tests)
-
-  and-false : (b : Bool) → (b && false) ≡ false
-  and-false true = refl
-  and-false false = refl
-
   by_case : (v ≡ u) ⊎ (v ≡ u → ⊥) → (suc v ≤ u → covers (exponents_from (suc v) n m) (exponents_from (suc v) n a) ≡ false)
       → covers (exponents_from v (suc n) m) (exponents_from v (suc n) a) ≡ false
   by_case (inl o) ih =
-      let t : leb (exponent v a) (exponent v m) ≡ false = at (exponent v a) (exponent v m) (subst (λ z. exponent z m < exponent z a) (sym o) d) in
+      let t : leb (exponent v a) (exponent v m) ≡ false = lt-leb (exponent v a) (exponent v m) (subst (λ z. exponent z m < exponent z a) (sym o) d) in
       rw t refl
-  by_case (inr o) ih = rw (ih (omega (arith, o))) (and-false (leb (exponent v a) (exponent v m)))
+  by_case (inr o) ih = rw (ih (omega (arith, o))) (and_right (leb (exponent v a) (exponent v m)) false refl)
 
 -- what is covered has no larger exponent
 pub covered-at : (v n u : ℕ) (m a : Pairs) → v ≤ u → u < v + n → covers (exponents_from v n m) (exponents_from v n a) ≡ true → exponent u a ≤ exponent u m

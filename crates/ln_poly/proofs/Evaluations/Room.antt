@@ -1,8 +1,8 @@
 -- No number on the way to a value exceeds 127 bits.
-use Rattle.std.proofs.Common.{◌≡◌, ℕ, ◌+◌, ◌-◌, ◌*◌, ◌^◌, ◌<◌, ◌≤◌, zero, suc, refl, sym, ◌∙◌, ap, arith, List, [], ◌∷◌, length, max, unsigned_abs}
-use Rattle.std.proofs.Math.IntN.{ℤ, pos, negsuc, ◌*ℤ◌}
+use Rattle.std.proofs.Common.{◌≡◌, ℕ, ◌+◌, ◌-◌, ◌*◌, ◌^◌, ◌<◌, ◌≤◌, zero, suc, sym, ◌∙◌, ap, arith, List, [], ◌∷◌, length, max, unsigned_abs}
+use Rattle.std.proofs.Math.IntN.{ℤ, pos, ◌*ℤ◌}
 use Rattle.std.specs.Prelude.{◌≤ℤ◌}
-use Rattle.std.proofs.Math.Nat.{mul-le-mul_left, mul-le-mul_right, pow-suc}
+use Rattle.std.proofs.Math.Nat.{le-mul_of_pos_right, mul-le-mul_left, mul-le-mul_right, pow-suc, mul_assoc as nat_mul_assoc}
 use Rattle.std.proofs.lemmas.Int.{ints, unsigned_abs-mul}
 use Rattle.ln_algebra.proofs.Bounding.Bounds.{binomial-power}
 use Rattle.ln_algebra.proofs.Expanded.Ring.{mul_assoc}
@@ -11,15 +11,7 @@ use Rattle.ln_bound.specs.Light.{most}
 use Rattle.ln_bound.specs.Value.{weights}
 use Rattle.ln_tree.specs.declared.shape.VarInfo.{VarInfo}
 use Rattle.ln_tree.specs.Row.{AreWithin, values}
-use Rattle.ln_poly.proofs.Loads.Weighing.{pow-some}
-
--- ---- products
-times-le : (a b : ℕ) → 0 < b → a ≤ a * b
-times-le a zero h = absurd (omega arith)
-times-le a (suc b) h = omega arith
-
-times-assoc : (a b c : ℕ) → (a * b) * c ≡ a * (b * c)
-times-assoc a b c = omega arith
+use Rattle.ln_poly.proofs.Loads.Weighing.{abs-some, pow-some}
 
 -- ---- a power
 -- M of a number: its absolute value, and at least 1
@@ -41,7 +33,7 @@ raised-fits z y x n k h r =
     let P : ℕ = m ^ (n - (k + 1)) in
     let p : m ^ (n - k) ≡ P * m = ap (λ j. m ^ j) (raised-left n k h) ∙ pow-suc m (n - (k + 1)) in
     let s : 0 < P = pow-some m (n - (k + 1)) (omega arith) in
-    let l : unsigned_abs x ≤ P * m = omega (arith, times-le m P s, (let c : P * m ≡ m * P = omega arith in c)) in
+    let l : unsigned_abs x ≤ P * m = omega (arith, le-mul_of_pos_right m s, (let c : P * m ≡ m * P = omega arith in c)) in
     omega (arith, unsigned_abs-mul y x, mul-le-mul_left (unsigned_abs y) l, ap (λ j. unsigned_abs y * j) p, r.room)
 
 -- the step of `raised`: one factor more
@@ -70,27 +62,19 @@ pair-room z x e k h r =
     let m : ℕ = size x in
     let B : ℕ = binomial e k in
     let l : unsigned_abs z * (B * m ^ (e - k)) ≤ unsigned_abs z * (m + 1) ^ e = mul-le-mul_left (unsigned_abs z) (binomial-power m e k h) in
-    let c : (unsigned_abs z * B) * m ^ (e - k) ≡ unsigned_abs z * (B * m ^ (e - k)) = times-assoc (unsigned_abs z) B (m ^ (e - k)) in
+    let c : (unsigned_abs z * B) * m ^ (e - k) ≡ unsigned_abs z * (B * m ^ (e - k)) = nat_mul_assoc (unsigned_abs z) B (m ^ (e - k)) in
     omega (arith, l, c, ap (λ j. j * m ^ (e - k)) (unsigned_abs-mul z (pos B)), r)
 
 -- in `with_pair` the number times the binomial is within the limit
 pub pair-fits : (z x : ℤ) (e k : ℕ) → k ≤ e → unsigned_abs z * (size x + 1) ^ e ≤ most → unsigned_abs (z *ℤ pos (binomial e k)) ≤ most
 pair-fits z x e k h r =
     let m : ℕ = size x in
-    omega (arith, times-le (unsigned_abs (z *ℤ pos (binomial e k))) (m ^ (e - k)) (pow-some m (e - k) (omega arith)), pair-room z x e k h r)
+    omega (arith, le-mul_of_pos_right (unsigned_abs (z *ℤ pos (binomial e k))) (pow-some m (e - k) (omega arith)), pair-room z x e k h r)
 
 -- in `with_pair` the binomial is within the limit, where the number isn't 0
 pub ways-fit : (z x : ℤ) (e k : ℕ) → k ≤ e → (z ≡ pos 0 → ⊥) → unsigned_abs z * (size x + 1) ^ e ≤ most → binomial e k ≤ most
-ways-fit z x e k h n r = omega (arith, pair-fits z x e k h r, unsigned_abs-mul z (pos (binomial e k)), some-times (unsigned_abs z) (binomial e k) (some z n))
-  where
-    some : (z : ℤ) → (z ≡ pos 0 → ⊥) → 0 < unsigned_abs z
-    some (pos zero) n = absurd (n refl)
-    some (pos (suc k)) n = omega arith
-    some (negsuc k) n = omega arith
-
-    some-times : (a b : ℕ) → 0 < a → b ≤ a * b
-    some-times zero b h = absurd (omega arith)
-    some-times (suc a) b h = omega arith
+ways-fit z x e k h n r =
+    omega (arith, pair-fits z x e k h r, unsigned_abs-mul z (pos (binomial e k)), le-mul_of_pos_right (binomial e k) (abs-some z n))
 
 -- the result of `with_pair`: the number times the binomial times the power that remains
 pub pair-value : (z y x : ℤ) (e k w : ℕ) → w ≡ binomial e k → y ≡ (z *ℤ pos w) *ℤ power_of x (e - k) → y ≡ z *ℤ (pos (binomial e k) *ℤ power_of x (e - k))

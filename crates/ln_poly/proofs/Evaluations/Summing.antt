@@ -1,11 +1,11 @@
 -- A term pair by pair, and a polynomial term by term, by the remaining ones.
 use Rattle.std.proofs.Common.{◌≡◌, ℕ, ◌+◌, ◌-◌, ◌*◌, ◌^◌, ◌<◌, ◌≤◌, zero, suc, refl, sym, ◌∙◌, ap, arith, List, [], ◌∷◌, length, get_or}
-use Rattle.std.proofs.Common.{drop, drop-cons, unsigned_abs, true}
+use Rattle.std.proofs.Common.{drop, unsigned_abs, true}
 use Rattle.std.proofs.Math.IntN.{ℤ, pos, ◌+ℤ◌, ◌*ℤ◌}
-use Rattle.std.proofs.Math.Nat.{mul-le-mul, mul-le-mul_left, mul-le-mul_right, pow-le-pow_left, pow-suc, pow-zero}
+use Rattle.std.proofs.Math.Nat.{le-mul_of_pos_right, mul-le-mul, mul-le-mul_left, mul-le-mul_right, pow-le-pow_left, pow-suc, pow-zero}
+use Rattle.std.proofs.Math.Nat.{mul_assoc as nat_mul_assoc}
 use Rattle.std.proofs.lemmas.Int.{ints, unsigned_abs-mul}
-use Rattle.std.proofs.lemmas.List.{drop_all}
-use Rattle.std.proofs.lemmas.List.Sums.{sum_by-cons}
+use Rattle.std.proofs.lemmas.List.{drop_all, drop_more}
 use Rattle.ln_algebra.proofs.Expanded.Ring.{mul_assoc, mul_one}
 use Rattle.ln_algebra.specs.Terms.{binomial, derived, power_of, value}
 use Rattle.ln_bound.specs.Light.{most}
@@ -15,16 +15,13 @@ use Rattle.ln_tree.specs.Exps.{IsAbove, IsRising, Pairs, exponent, vector}
 use Rattle.ln_tree.specs.Row.{AreWithin, values}
 use Rattle.ln_poly.specs.Sparse.{Sparse, terms_of}
 use Rattle.ln_poly.specs.Weight.{pairs_weight, term_weight, total_weight}
-use Rattle.ln_poly.proofs.Loads.Weighing.{weight-some}
+use Rattle.ln_poly.proofs.Loads.Weighing.{grown-one, grown-some, total-cons, variable-at, weight-some}
 use Rattle.ln_poly.specs.Values.{part, parts, term_value}
 use Rattle.ln_tree.proofs.Powers.{found}
 use Rattle.ln_algebra.specs.Terms.{covers}
 use Rattle.ln_algebra.proofs.Bounding.Bounds.{binomial-power}
 use Rattle.ln_poly.proofs.Evaluations.Parts.{covered-at, term-adds}
 use Rattle.ln_poly.proofs.Evaluations.Room.{row-size, size}
-
-times-assoc : (a b c : ℕ) → (a * b) * c ≡ a * (b * c)
-times-assoc a b c = omega arith
 
 power-abs : (x : ℤ) (n : ℕ) → unsigned_abs (power_of x n) ≤ size x ^ n
 power-abs x zero = rw pow-zero (omega arith)
@@ -48,39 +45,27 @@ pub record IsProduct (vars : List VarInfo) (x : ℕ → ℤ) (a ps : Pairs) (c y
   pub room : unsigned_abs y * pairs_weight (weights vars) (drop i ps) ≤ unsigned_abs c * pairs_weight (weights vars) ps
 
 weight-there : (vars : List VarInfo) (v : ℕ) → v < length vars → 0 < weights vars v
-weight-there [] v h = absurd (omega arith)
-weight-there (i ∷ is) zero h = omega arith
-weight-there (i ∷ is) (suc v) h = weight-there is v (omega (arith, h))
+weight-there vars v h = omega (arith, grown-some 1 vars v h, grown-one vars v)
 
 above-behind : (n : ℕ) (ps : Pairs) (i : ℕ) → IsAbove ps n → IsAbove (drop i ps) n
 above-behind n ps zero h = h
 above-behind n [] (suc i) h = tt
 above-behind n (p ∷ ps) (suc i) h = above-behind n ps i h.1
 
--- each pair's variable is one of the first n
-pub pair-above : (n : ℕ) (ps : Pairs) (i : ℕ) → IsAbove ps n → i < length ps → (get_or ps i (0, 0)).0 < n
-pair-above n [] i h l = absurd (omega arith)
-pair-above n (p ∷ ps) zero h l = h.0
-pair-above n (p ∷ ps) (suc i) h l = pair-above n ps i h.1 (omega (arith, l))
-
 module _ (vars : List VarInfo) (zs : List ℤ) (a ps : Pairs) (c y : ℤ) (i : ℕ) (there : i < length ps) (row : AreWithin vars zs)
     (above : IsAbove ps (length vars)) (r : IsProduct vars (values zs) a ps c y i) where
   behind : drop i ps ≡ get_or ps i (0, 0) ∷ drop (i + 1) ps
-  behind = drop-cons ps i (0, 0) there ∙ ap (λ j. get_or ps i (0, 0) ∷ drop j ps) (let e : suc i ≡ i + 1 = omega arith in e)
+  behind = drop_more ps i (0, 0) there
 
   heavy : unsigned_abs y * (weights vars (get_or ps i (0, 0)).0 ^ (get_or ps i (0, 0)).1 * pairs_weight (weights vars) (drop (i + 1) ps))
       ≤ unsigned_abs c * pairs_weight (weights vars) ps
   heavy = rw behind at r.room
 
   sized : size (values zs (get_or ps i (0, 0)).0) + 1 ≤ weights vars (get_or ps i (0, 0)).0
-  sized = row-size vars zs (get_or ps i (0, 0)).0 row (pair-above (length vars) ps i above there)
+  sized = row-size vars zs (get_or ps i (0, 0)).0 row (variable-at (length vars) ps i above there)
 
   rest-some : 0 < pairs_weight (weights vars) (drop (i + 1) ps)
   rest-some = weight-some (length vars) (weights vars) (weight-there vars) (drop (i + 1) ps) (above-behind (length vars) ps (i + 1) above)
-
-  times-le : (k j : ℕ) → 0 < j → k ≤ k * j
-  times-le k zero h = absurd (omega arith)
-  times-le k (suc j) h = omega arith
 
   -- there is room for the product so far times what the next pair adds, where the term's weight is within the limit
   pub product-room : unsigned_abs c * pairs_weight (weights vars) ps ≤ most
@@ -90,7 +75,7 @@ module _ (vars : List VarInfo) (zs : List ℤ) (a ps : Pairs) (c y : ℤ) (i : �
       let e : ℕ = (get_or ps i (0, 0)).1 in
       let W : ℕ = pairs_weight (weights vars) (drop (i + 1) ps) in
       let p : (size (values zs (get_or ps i (0, 0)).0) + 1) ^ e ≤ w ^ e = pow-le-pow_left sized e in
-      let q : w ^ e ≤ w ^ e * W = times-le (w ^ e) W rest-some in
+      let q : w ^ e ≤ w ^ e * W = le-mul_of_pos_right (w ^ e) rest-some in
       let s : unsigned_abs y * (size (values zs (get_or ps i (0, 0)).0) + 1) ^ e ≤ unsigned_abs y * (w ^ e * W) =
       mul-le-mul_left (unsigned_abs y) (let t : (size (values zs (get_or ps i (0, 0)).0) + 1) ^ e ≤ w ^ e * W = omega (arith, p, q) in t) in
       omega (arith, s, heavy, h)
@@ -109,7 +94,7 @@ module _ (vars : List VarInfo) (zs : List ℤ) (a ps : Pairs) (c y : ℤ) (i : �
       let t : unsigned_abs y * unsigned_abs P ≤ unsigned_abs y * w ^ e = mul-le-mul_left (unsigned_abs y) s in
       let u : (unsigned_abs y * unsigned_abs P) * W ≤ (unsigned_abs y * w ^ e) * W = mul-le-mul_right W t in
       let f : unsigned_abs z ≡ unsigned_abs y * unsigned_abs P = ap unsigned_abs q ∙ unsigned_abs-mul y P in
-      record { value = v ∙ r.value; room = omega (arith, u, heavy, times-assoc (unsigned_abs y) (w ^ e) W, ap (λ j. j * W) f) }
+      record { value = v ∙ r.value; room = omega (arith, u, heavy, nat_mul_assoc (unsigned_abs y) (w ^ e) W, ap (λ j. j * W) f) }
 
 -- the end of the loop in `product`: the factor times what all pairs add, which is at most the term's weight
 pub product-end : (vars : List VarInfo) (x : ℕ → ℤ) (a ps : Pairs) (c y : ℤ) (i : ℕ) → length ps ≤ i → IsProduct vars x a ps c y i
@@ -125,7 +110,7 @@ pub pair-within : (n : ℕ) (ps m a : Pairs) (i : ℕ) → ps ≡ m → IsRising
     → covers (vector n m) (vector n a) ≡ true → exponent (get_or ps i (0, 0)).0 a ≤ (get_or ps i (0, 0)).1
 pair-within n ps m a i e r b h c =
     let v : ℕ = (get_or ps i (0, 0)).0 in
-    omega (arith, covered-at 0 n v m a (omega arith) (omega (arith, pair-above n ps i b h)) c, ap (exponent v) e, found v ps i r h refl)
+    omega (arith, covered-at 0 n v m a (omega arith) (omega (arith, variable-at n ps i b h)) c, ap (exponent v) e, found v ps i r h refl)
 
 -- ---- a polynomial
 -- a sum and the value of the terms from number i on
@@ -138,17 +123,11 @@ pub record IsSummed (vars : List VarInfo) (x : ℕ → ℤ) (a : Pairs) (f : Spa
 pub summed-begin : (vars : List VarInfo) (x : ℕ → ℤ) (a : Pairs) (f : Sparse) → total_weight (weights vars) f ≤ most → IsSummed vars x a f (pos 0) 0
 summed-begin vars x a f h = record { value = omega (arith, ints); room = omega (arith, h) }
 
-total-cons : (w : ℕ → ℕ) (t : Pairs × ℤ) (f : Sparse) → total_weight w (t ∷ f) ≡ term_weight w t + total_weight w f
-unfolding total_weight
-total-cons w t f = sum_by-cons (term_weight w) t f
-
 -- the terms from one on weigh as much as that one and those after it
 pub total-at : (w : ℕ → ℕ) (f : Sparse) (i : ℕ) (t : Pairs × ℤ) → i < length f → t ≡ get_or f i t
     → total_weight w (drop i f) ≡ term_weight w t + total_weight w (drop (i + 1) f)
 total-at w f i t h e =
-    ap (total_weight w) (drop-cons f i t h) ∙ total-cons w (get_or f i t) (drop (suc i) f)
-    ∙ ap (λ z. term_weight w z + total_weight w (drop (suc i) f)) (sym e)
-    ∙ ap (λ j. term_weight w t + total_weight w (drop j f)) (let q : suc i ≡ i + 1 = omega arith in q)
+    ap (total_weight w) (drop_more f i t h) ∙ total-cons w (get_or f i t) (drop (i + 1) f) ∙ ap (λ z. term_weight w z + total_weight w (drop (i + 1) f)) (sym e)
 
 -- each term is light
 pub term-light : (w : ℕ → ℕ) (f : Sparse) (i : ℕ) (t : Pairs × ℤ) (s : ℕ) → i < length f → t ≡ get_or f i t
@@ -167,8 +146,7 @@ module _ (vars : List VarInfo) (x : ℕ → ℤ) (a : Pairs) (f : Sparse) (sum :
   summed-on z rising above q h =
       let n : ℕ = length vars in
       let A : List ℕ = vector n a in
-      let e : drop i f ≡ t ∷ drop (i + 1) f =
-      drop-cons f i t there ∙ ap (λ y. y ∷ drop (suc i) f) (sym is) ∙ ap (λ j. t ∷ drop j f) (let q : suc i ≡ i + 1 = omega arith in q) in
+      let e : drop i f ≡ t ∷ drop (i + 1) f = drop_more f i t there ∙ ap (λ y. y ∷ drop (i + 1) f) (sym is) in
       let s : value x (derived A (terms_of n (drop i f))) ≡ term_value n x a t +ℤ value x (derived A (terms_of n (drop (i + 1) f))) =
       ap (λ g. value x (derived A (terms_of n g))) e ∙ term-adds n x a t (terms_of n (drop (i + 1) f)) rising above in
       record { value = omega (arith, ints, r.value, s, q); room = omega (arith, ints, h, total-at (weights vars) f i t there is, r.room) }

@@ -1,9 +1,11 @@
 -- Where the size of a closed tree is within the limit, it has a normal polynomial.
-use Rattle.std.proofs.Common.{◌≡◌, ◌⊎◌, inl, inr, ℕ, ◌*◌, ◌<◌, ◌≤◌, ◌^◌, zero, suc, refl, sym, ◌∙◌, ap, subst, arith, true, Bool, false}
+use Rattle.std.proofs.Common.{◌≡◌, ◌⊎◌, inl, inr, ℕ, ◌*◌, ◌<◌, ◌≤◌, ◌^◌, refl, sym, ◌∙◌, ap, subst, arith, true, Bool, false}
 use Rattle.std.proofs.Common.{if◌then◌else◌, List, [], ◌∷◌, length, map, unsigned_abs}
+use Rattle.std.proofs.Math.Nat.{le-mul_of_pos_right}
 use Rattle.std.proofs.lemmas.Int.{ints}
+use Rattle.std.proofs.lemmas.Nat.{pow_pos}
 use Rattle.std.proofs.lemmas.List.Elements.{All-cons, All-nil}
-use Rattle.std.proofs.Math.IntN.{ℤ, pos}
+use Rattle.std.proofs.Math.IntN.{pos}
 use Rattle.ln_algebra.proofs.Bounding.Weights.{weighted-expanded}
 use Rattle.ln_algebra.proofs.Expanded.Expansion.{Over-expanded, expanded}
 use Rattle.ln_algebra.proofs.Expanded.Normal.{normal_is, zero_cases}
@@ -24,9 +26,9 @@ use Rattle.ln_poly.specs.Ready.{IsLight}
 use Rattle.ln_poly.specs.Sparse.{AreBelow, IsPoly, Sparse, coefficient_at, part_at, size_of}
 use Rattle.ln_poly.proofs.Expansions.Lets.{degree-weight, root-light}
 use Rattle.ln_poly.proofs.Expansions.Normals.{normal-of}
-use Rattle.ln_poly.proofs.Loads.Room.{times-le, times-le-left, two-power, two-sizes}
+use Rattle.ln_poly.proofs.Loads.Room.{times-le-left, two-power, two-sizes}
 use Rattle.ln_poly.proofs.Loads.Sizing.{light-pred}
-use Rattle.ln_poly.proofs.Loads.Weighing.{pow-some}
+use Rattle.ln_poly.proofs.Loads.Weighing.{abs-some}
 use Rattle.ln_poly.proofs.Sorting.Added.{HasSum, sum-exists}
 use Rattle.ln_poly.proofs.TermLists.Coefficients.{coefficient_at-cons, coefficient_at-nil, size-cons, size-nil}
 use Rattle.ln_poly.proofs.TermLists.Leaves.{no-terms, one-term}
@@ -41,24 +43,16 @@ record HasTerm (n : ℕ) (t : Term) : Type 0 where
   vector_is : vector n pairs ≡ t.exponents
   small : unsigned_abs t.factor ≤ unsigned_abs t.factor * monomial_weight two t.exponents
 
-above-zero : (z : ℤ) → (z ≡ pos 0 → ⊥) → 0 < unsigned_abs z
-above-zero z n = by_case (unsigned_abs z) refl where
-  by_case : (k : ℕ) → unsigned_abs z ≡ k → 0 < unsigned_abs z
-  by_case zero e = let q : z ≡ pos 0 = omega (arith, ints, e) in absurd (n q)
-  by_case (suc k) e = omega (arith, e)
-
-power-some : (a b : ℕ) → 2 ^ a ≤ b → 0 < b
-power-some a b h = omega (arith, h, pow-some 2 a (omega arith))
-
 term-exists : (n : ℕ) (t : Term) → length t.exponents ≡ n → (t.factor ≡ pos 0 → ⊥)
     → unsigned_abs t.factor * monomial_weight two t.exponents ≤ most → HasTerm n t
 term-exists n t e z l =
     let m = t.exponents in
     let w = monomial_weight two m in
     let d : 2 ^ total_degree m ≤ w = degree-weight n two m (two-sizes n) e in
-    let s : w ≤ unsigned_abs t.factor * w = times-le-left w (unsigned_abs t.factor) (above-zero t.factor z) in
+    let s : w ≤ unsigned_abs t.factor * w = times-le-left w (unsigned_abs t.factor) (abs-some t.factor z) in
+    let some : 0 < w = omega (arith, d, pow_pos (total_degree m)) in
     let a : total_degree m < 127 = two-power (total_degree m) w d (omega (arith, s, l)) in
-    let c : unsigned_abs t.factor ≤ unsigned_abs t.factor * w = times-le (unsigned_abs t.factor) w (power-some (total_degree m) w d) in
+    let c : unsigned_abs t.factor ≤ unsigned_abs t.factor * w = le-mul_of_pos_right (unsigned_abs t.factor) some in
     record {
       pairs = pairs_from 0 m;
       form = one-term (pairs_from 0 m) t.factor (pairs-rising 0 m (omega (arith, a))) z (omega (arith, c, l));

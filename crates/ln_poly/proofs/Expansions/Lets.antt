@@ -1,10 +1,10 @@
 -- The lets of a predicate, expanded one after the other, and what is known of the root.
 use Rattle.std.proofs.Common.{◌≡◌, ℕ, ◌+◌, ◌*◌, ◌^◌, ◌<◌, ◌≤◌, true, zero, suc, refl, sym, ◌∙◌, ap, arith, subst, All, List, [], ◌∷◌, ◌++◌}
-use Rattle.std.proofs.Common.{length, map, drop, take, get_or, append_assoc, unsigned_abs}
+use Rattle.std.proofs.Common.{add-one, length, map, drop, take, get_or, append_assoc, unsigned_abs}
 use Rattle.std.proofs.Math.IntN.{ℤ}
-use Rattle.std.proofs.Math.Nat.{pow-zero}
+use Rattle.std.proofs.Math.Nat.{pow-le-pow_left, pow-zero}
 use Rattle.std.proofs.lemmas.Bool.{and_parts}
-use Rattle.std.proofs.lemmas.List.{drop_more, map-append, take_more}
+use Rattle.std.proofs.lemmas.List.{drop_more, length-map, length_push, map-append, map_more}
 use Rattle.std.proofs.lemmas.Nat.{mul-le, pow-add}
 use Rattle.std.proofs.lemmas.List.Elements.{All-head, All-tail}
 use Rattle.ln_algebra.proofs.Bounding.Weights.{weighted-normal}
@@ -31,8 +31,8 @@ use Rattle.ln_poly.proofs.Sorting.Collected.{collected}
 use Rattle.ln_poly.proofs.Expansions.Expanding.{Nodes, few-both, stop-before, stop-behind}
 use Rattle.ln_poly.proofs.Expansions.Normals.{lets-more}
 use Rattle.ln_poly.proofs.TermLists.Products.{length-vector}
-use Rattle.ln_poly.proofs.Loads.Room.{AreTwo, factor-some, normal-weight, power_le, times-le-left, total-cons, two-power}
-use Rattle.ln_poly.proofs.Loads.Weighing.{weight-pairs}
+use Rattle.ln_poly.proofs.Loads.Room.{AreTwo, factor-some, normal-weight, times-le-left, two-power}
+use Rattle.ln_poly.proofs.Loads.Weighing.{total-cons, weight-pairs}
 
 -- ---- lets
 -- one let more
@@ -43,10 +43,6 @@ closed-after done (u ∷ ts) t = closed-after (done ++ inlined done u ∷ []) ts
 closed-more : (vars : List VarInfo) (fs : List Formula) (f : Formula)
     → closed_lets vars (fs ++ f ∷ []) ≡ closed_lets vars fs ++ inlined (closed_lets vars fs) (tree vars f) ∷ []
 closed-more vars fs f = ap (inlined_after []) (map-append (tree vars) fs (f ∷ [])) ∙ closed-after [] (map (tree vars) fs) (tree vars f)
-
-length-more : (fs : List Sparse) (f : Sparse) → length (fs ++ f ∷ []) ≡ suc (length fs)
-length-more [] f = refl
-length-more (g ∷ fs) f = ap suc (length-more fs f)
 
 -- some lets are expanded, the rest follow
 pub record LetsExpanded (vars : List VarInfo) (whole front rest : List Formula) (polys : List Sparse) : Type 0 where
@@ -72,7 +68,7 @@ lets-next vars whole front rest f polys p a h =
           (expanded_lets vars (closed_lets vars front ++ inlined (closed_lets vars front) (tree vars f) ∷ []) rest))
           ∙ ap (λ ts. a.nodes ++ expanded vars (closed_lets vars front) f ++ expanded_lets vars ts rest) (sym e);
       few = few-both (length vars) a.nodes (expanded vars (closed_lets vars front) f) a.few h.few;
-      fit = subst (λ k. lets_fit (length vars) k (map (tree vars) rest) ≡ true) (sym (length-more polys p))
+      fit = subst (λ k. lets_fit (length vars) k (map (tree vars) rest) ≡ true) (sym (length_push polys p ∙ add-one (length polys)))
           (and_parts (is_fit (length vars) (length polys) (tree vars f)) _ a.fit).1;
       light = subst (λ ts. LetsAreLight (length vars) two ts (map (tree vars) rest)) (sym e) a.light.1;
     }
@@ -89,8 +85,7 @@ rest-is lets j e l h = ap (map formula) (drop_more lets j e l) ∙ ap (λ f. for
 
 front-is : (lets : List Expr) (j : ℕ) (e : Expr) → j < length lets → e ≡ get_or lets j e
     → map formula (take (j + 1) lets) ≡ map formula (take j lets) ++ formula e ∷ []
-front-is lets j e l h = ap (map formula) (take_more lets j e l) ∙ map-append formula (take j lets) (get_or lets j e ∷ [])
-    ∙ ap (λ f. map formula (take j lets) ++ formula f ∷ []) (sym h)
+front-is lets j e l h = map_more formula lets j e l ∙ ap (λ f. map formula (take j lets) ++ formula f ∷ []) (sym h)
 
 -- at a place one let comes next
 pub lets-at : (vars : List VarInfo) (lets : List Expr) (j : ℕ) (e : Expr) (polys : List Sparse) → j < length lets → e ≡ get_or lets j e
@@ -124,14 +119,7 @@ length-normal n (t ∷ ts) (f ∷ fs) a = ap suc (length-normal n ts fs a.1)
 
 length-after : (done ts : List Tree) → length (inlined_after done ts) ≡ length done + length ts
 length-after done [] = omega arith
-length-after done (t ∷ ts) = omega (arith, length-after (done ++ inlined done t ∷ []) ts, length-end done (inlined done t)) where
-  length-end : (us : List Tree) (u : Tree) → length (us ++ u ∷ []) ≡ suc (length us)
-  length-end [] u = refl
-  length-end (x ∷ us) u = ap suc (length-end us u)
-
-length-trees : (vars : List VarInfo) (es : List Expr) → length (map (tree vars) (map formula es)) ≡ length es
-length-trees vars [] = refl
-length-trees vars (e ∷ es) = ap suc (length-trees vars es)
+length-after done (t ∷ ts) = omega (arith, length-after (done ++ inlined done t ∷ []) ts, length_push done (inlined done t))
 
 -- there are as many polynomials as lets
 pub length-polys : (vars : List VarInfo) (es : List Expr) (fs : List Sparse)
@@ -140,7 +128,8 @@ length-polys vars es fs a = omega (
   arith,
   length-normal (length vars) (closed_lets vars (map formula es)) fs a,
   length-after [] (map (tree vars) (map formula es)),
-  length-trees vars es,
+  length-map (map formula es) (tree vars),
+  length-map es formula,
 )
 
 -- ---- the root
@@ -164,7 +153,7 @@ pub degree-weight : (n : ℕ) (w : ℕ → ℕ) (m : List ℕ) → AreTwo n w �
 degree-weight n w [] t e = omega (arith, pow-zero 2)
 degree-weight zero w (k ∷ m) t e = absurd (omega arith)
 degree-weight (suc n) w (k ∷ m) t e = rw pow-add
-    (mul-le _ _ _ _ (power_le 2 (w 0) k (t 0 (omega arith))) (degree-weight n (λ v. w (suc v)) m (λ v h. t (suc v) (omega arith)) (omega arith)))
+    (mul-le _ _ _ _ (pow-le-pow_left (t 0 (omega arith)) k) (degree-weight n (λ v. w (suc v)) m (λ v h. t (suc v) (omega arith)) (omega arith)))
 
 term-degree : (n : ℕ) (w : ℕ → ℕ) (f : Sparse) (k : ℕ) (d : Pairs × ℤ) → AreTwo n w → AreBelow n f → All (λ t. IsFactor t.1) f
     → k < length f → 2 ^ total_degree (vector n (get_or f k d).0) ≤ total_weight w f

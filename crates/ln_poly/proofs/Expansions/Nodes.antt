@@ -51,6 +51,12 @@ module _ (vars : List VarInfo) (ls : List Tree) (F : Formula) where
   two-err x y zs r a p q k = rw a (MatchResult-weaker r k (λ h t. tt) (λ s t. stop-behind (length vars)
       (expanded vars ls x ++ expanded vars ls y) zs s (few-both (length vars) (expanded vars ls x) (expanded vars ls y) p q) t))
 
+  -- a stop in the first operand is the stop of the whole
+  pub first-stops : (x y : Formula) (zs : Nodes) (s : PolyStop) → expanded vars ls F ≡ expanded vars ls x ++ expanded vars ls y ++ zs
+      → StopsExpanding (length vars) (expanded vars ls x) s → StopsExpanding (length vars) (expanded vars ls F) s
+  first-stops x y zs s a k = rw a (stop-before (length vars) (expanded vars ls x ++ expanded vars ls y) zs s
+      (stop-before (length vars) (expanded vars ls x) (expanded vars ls y) s k))
+
   -- where no node of the first operand has too many terms, a stop in the second is the stop of the whole
   pub second-stops : (x y : Formula) (zs : Nodes) (s : PolyStop) → expanded vars ls F ≡ expanded vars ls x ++ expanded vars ls y ++ zs
       → HaveFewTerms (length vars) (expanded vars ls x) → StopsExpanding (length vars) (expanded vars ls y) s
@@ -100,21 +106,21 @@ module _ (vars : List VarInfo) (ls : List Tree) where
   light-two Times d e l = (l.0, l.1)
 
   -- what is expanded of an operation on two: the nodes of the first operand, those of the second, and then the operation itself
-  pub expanded-two : (k : Two) (at : Span) (x y : Formula) → expanded vars ls (formula_of k at x y)
+  expanded-two : (k : Two) (at : Span) (x y : Formula) → expanded vars ls (formula_of k at x y)
       ≡ (expanded vars ls x ++ expanded vars ls y) ++ (at, two_of k (inlined ls (tree vars x)) (inlined ls (tree vars y))) ∷ []
   expanded-two Plus at x y = refl
   expanded-two Minus at x y = refl
   expanded-two Times at x y = refl
 
   -- to substitute the lets in an operation on two is to substitute them in both operands
-  pub inlined-two : (k : Two) (at : Span) (x y : Formula)
+  inlined-two : (k : Two) (at : Span) (x y : Formula)
       → inlined ls (tree vars (formula_of k at x y)) ≡ two_of k (inlined ls (tree vars x)) (inlined ls (tree vars y))
   inlined-two Plus at x y = refl
   inlined-two Minus at x y = refl
   inlined-two Times at x y = refl
 
   -- what is known of an operation is known of both operands
-  pub record AreReady (j : ℕ) (t : ℕ) (k : Two) (e x y : Formula) : Type 0 where
+  pub record AreReady (j : ℕ) (t : ℕ) (k : Two) (at : Span) (e x y : Formula) : Type 0 where
     pub first_falls : node_count x < t
     pub second_falls : node_count y < t
     pub first_fits : is_fit (length vars) j (tree vars x) ≡ true
@@ -122,10 +128,12 @@ module _ (vars : List VarInfo) (ls : List Tree) where
     pub first_light : AreLight (length vars) two ls (tree vars x)
     pub second_light : AreLight (length vars) two ls (tree vars y)
     pub room : (f g : Sparse) → IsNormal (length vars) (inlined ls (tree vars x)) f → IsNormal (length vars) (inlined ls (tree vars y)) g → HaveRoom k f g
+    pub nodes : expanded vars ls e ≡ (expanded vars ls x ++ expanded vars ls y) ++ (at, two_of k (inlined ls (tree vars x)) (inlined ls (tree vars y))) ∷ []
+    pub whole : inlined ls (tree vars e) ≡ two_of k (inlined ls (tree vars x)) (inlined ls (tree vars y))
 
   -- the operands of an operation that fits, with no node that weighs too much, are such too, and there is room for its result
   pub are-ready : (j : ℕ) (t : ℕ) (k : Two) (at : Span) (e x y : Formula) → e ≡ formula_of k at x y → node_count e ≡ t
-      → is_fit (length vars) j (tree vars e) ≡ true → AreLight (length vars) two ls (tree vars e) → AreReady j t k e x y
+      → is_fit (length vars) j (tree vars e) ≡ true → AreLight (length vars) two ls (tree vars e) → AreReady j t k at e x y
   are-ready j t k at e x y q d h l =
       let q' : tree vars e ≡ two_of k (tree vars x) (tree vars y) = ap (tree vars) q ∙ tree_two vars k at x y in
       let c : node_count e ≡ node_count x + node_count y + 1 = ap node_count q ∙ count_two k at x y in
@@ -139,4 +147,6 @@ module _ (vars : List VarInfo) (ls : List Tree) where
         first_light = (light-two k (tree vars x) (tree vars y) m).0;
         second_light = (light-two k (tree vars x) (tree vars y) m).1;
         room = λ f g a b. have-room k (tree vars x) (tree vars y) f g m a b;
+        nodes = ap (expanded vars ls) q ∙ expanded-two k at x y;
+        whole = ap (λ (z : Formula). inlined ls (tree vars z)) q ∙ inlined-two k at x y;
       }

@@ -3,14 +3,13 @@ use Rattle.std.proofs.Common.{◌≡◌, ℕ, ◌+◌, ◌<◌, zero, suc, refl,
 use Rattle.std.proofs.Common.{false, true, Bool, if◌then◌else◌, ◌++◌, ◌≢◌, ◌^◌, unsigned_abs, ◌⊎◌, inl, inr}
 use Rattle.std.specs.Prelude.{slice_index_or}
 use Rattle.std.proofs.Math.IntN.{ℤ, pos, ◌+ℤ◌, ◌-ℤ◌}
-use Rattle.std.proofs.lemmas.Bool.Decides.{nat_tests}
+use Rattle.std.proofs.lemmas.Bool.{ne_eqb}
 use Rattle.std.proofs.lemmas.Int.{ints}
 use Rattle.std.proofs.lemmas.List.Elements.{All-cons, All-nil}
 use Rattle.ln_algebra.proofs.Expanded.Expansion.{zeros, unit_vector}
 use Rattle.ln_algebra.proofs.Expanded.Normal.{normal_is, zero_cases}
 use Rattle.ln_algebra.proofs.Expanded.Shift.{product-same, product_is}
 use Rattle.ln_algebra.specs.Coefficient.{normal_coefficient, product}
-use Rattle.ln_algebra.specs.Stage.{IsMonomial}
 use Rattle.ln_algebra.specs.Vector.{is_zero, same_vector}
 use Rattle.ln_algebra.specs.Terms.{factor_at}
 use Rattle.ln_algebra.specs.Tree.{Add, Input, Mul, Neg, Num, Pow, Sub, Tree}
@@ -21,6 +20,7 @@ use Rattle.ln_poly.specs.Ready.{AreNormal}
 use Rattle.ln_poly.specs.Within.{TakesMore}
 use Rattle.ln_poly.proofs.TermLists.Leaves.{no-terms, one-term}
 use Rattle.ln_poly.proofs.TermLists.Products.{over-terms}
+use Rattle.ln_poly.proofs.TermLists.Vectors.{exponents-behind}
 
 -- ---- vectors of leaves
 -- no exponents are those of the vector of zeros
@@ -30,17 +30,12 @@ vector-none v (suc n) = ap (λ z. 0 ∷ z) (vector-none (suc v) n)
 
 -- a variable that came before
 vector-before : (v n u : ℕ) → u < v → exponents_from v n ((u, 1) ∷ []) ≡ zeros n
-vector-before v zero u h = refl
-vector-before v (suc n) u h = let f : eqb u v ≡ false = other u v h in rw f (ap (λ z. 0 ∷ z) (vector-before (suc v) n u (omega arith))) where
-  other : (x y : ℕ) → x < y → eqb x y ≡ false
-  other x y l = grind (arith, nat_tests)
+vector-before v n u h = exponents-behind v n u 1 [] h ∙ vector-none v n
 
 vector-unit : (v n u x : ℕ) → x ≡ v + u → exponents_from v n ((x, 1) ∷ []) ≡ unit_vector n u
 vector-unit v zero u x q = refl
 vector-unit v (suc n) zero x q = let t : eqb x v ≡ true = eq-eqb x v (omega arith) in rw t (ap (λ z. 1 ∷ z) (vector-before (suc v) n x (omega arith)))
-vector-unit v (suc n) (suc u) x q = let f : eqb x v ≡ false = other x v u q in rw f (ap (λ z. 0 ∷ z) (vector-unit (suc v) n u x (omega arith))) where
-  other : (a b k : ℕ) → a ≡ b + suc k → eqb a b ≡ false
-  other a b k l = grind (arith, nat_tests)
+vector-unit v (suc n) (suc u) x q = rw (ne_eqb x v (λ e. absurd (omega (arith, e, q)))) (ap (λ z. 0 ∷ z) (vector-unit (suc v) n u x (omega arith)))
 
 -- ---- leaves
 module _ (n : ℕ) where
@@ -137,17 +132,22 @@ module _ (n : ℕ) where
   pub power-more : (e : Tree) (k : ℕ) (f : Sparse) → IsNormal n (Mul (Pow e k) e) f → IsNormal n (Pow e (suc k)) f
   power-more e k f p = normal-of (Pow e (suc k)) f p.form p.below (coefficients-of (Mul (Pow e k) e) f p)
 
+  -- an expression with the normal coefficients of one that has too many terms has too many
+  many-same : (d e : Tree) → ((m : List ℕ) → normal_coefficient d m ≡ normal_coefficient e m) → HasTooManyTerms n d → HasTooManyTerms n e
+  many-same d e s h = record {
+    vectors = h.vectors;
+    distinct = h.distinct;
+    monomials = λ m i. let t = h.monomials m i in record { size = t.size; nonzero = λ z. t.nonzero (s m ∙ z) };
+    many = h.many;
+  }
+
   -- e^(k + 1) has too many terms where e^k times e has
   pub power-many : (e : Tree) (k : ℕ) → HasTooManyTerms n (Mul (Pow e k) e) → HasTooManyTerms n (Pow e (suc k))
-  power-many e k h = record { vectors = h.vectors; distinct = h.distinct; monomials = λ m i. of_product m (h.monomials m i); many = h.many } where
-    of_product : (m : List ℕ) → IsMonomial n (Mul (Pow e k) e) m → IsMonomial n (Pow e (suc k)) m
-    of_product m t = record { size = t.size; nonzero = t.nonzero }
+  power-many e k = many-same (Mul (Pow e k) e) (Pow e (suc k)) (λ m. refl)
 
   -- e^k times e has too many terms where e^(k + 1) has
   pub power-many-back : (e : Tree) (k : ℕ) → HasTooManyTerms n (Pow e (suc k)) → HasTooManyTerms n (Mul (Pow e k) e)
-  power-many-back e k h = record { vectors = h.vectors; distinct = h.distinct; monomials = λ m i. of_power m (h.monomials m i); many = h.many } where
-    of_power : (m : List ℕ) → IsMonomial n (Pow e (suc k)) m → IsMonomial n (Mul (Pow e k) e) m
-    of_power m t = record { size = t.size; nonzero = t.nonzero }
+  power-many-back e k = many-same (Pow e (suc k)) (Mul (Pow e k) e) (λ m. refl)
 
   -- ---- lets
   -- the polynomial at place j is the normal polynomial of the let there

@@ -1,5 +1,5 @@
--- Where no node of a predicate has too large a weight, no closed tree of it has.
-use Rattle.std.proofs.Common.{◌≡◌, ℕ, ◌^◌, ◌≤◌, true, zero, suc, refl, sym, ◌∙◌, ap, arith, subst, pos, List, [], ◌∷◌, ◌++◌, length, map}
+-- Where no node of a predicate has too large a weight, its closed root hasn't.
+use Rattle.std.proofs.Common.{◌≡◌, ℕ, ◌^◌, ◌≤◌, true, zero, suc, refl, ◌∙◌, ap, arith, pos, List, [], ◌∷◌, ◌++◌, length, map}
 use Rattle.std.specs.Prelude.{slice_index_or}
 use Rattle.std.proofs.lemmas.Bool.{and_parts}
 use Rattle.std.proofs.lemmas.List.{map-append}
@@ -12,8 +12,8 @@ use Rattle.ln_bound.proofs.Soundness.WidthLaws.{lt_test}
 use Rattle.ln_tree.specs.declared.shape.VarInfo.{VarInfo}
 use Rattle.ln_tree.specs.Fits.{is_fit, lets_fit}
 use Rattle.ln_tree.specs.Formula.{FAdd, FInput, FMul, FName, FNeg, FNum, FPow, FSub, Formula, tree}
-use Rattle.ln_poly.specs.Expansion.{closed_lets}
-use Rattle.ln_poly.specs.Ready.{AreLight, IsLight, LetsAreLight}
+use Rattle.ln_poly.specs.Expansion.{closed_lets, closed_root}
+use Rattle.ln_poly.specs.Ready.{IsLight}
 
 named : (w : ℕ → ℕ) (ts : List Tree) (j : ℕ) → weight w (slice_index_or ts j (Num (pos 0))) ≡ slice_index_or (map (weight w) ts) j 0
 named w [] j = refl
@@ -58,74 +58,45 @@ inputs-inlined n k ts (Sub d e) a f = let g = and_parts (is_fit n k d) _ f in (i
 inputs-inlined n k ts (Mul d e) a f = let g = and_parts (is_fit n k d) _ f in (inputs-inlined n k ts d a g.0, inputs-inlined n k ts e a g.1)
 inputs-inlined n k ts (Pow e m) a f = let g = and_parts (is_fit n k e) _ f in inputs-inlined n k ts e a g.0
 
-module _ (vars : List VarInfo) where
-  -- one node
-  light-node : (k : ℕ) (ts : List Tree) (f : Formula) → AreClosed (length vars) ts → is_fit (length vars) k (tree vars f) ≡ true
-      → weight_of vars (map (weight (weights vars)) ts) f ≤ most → IsLight (length vars) (weights vars) (inlined ts (tree vars f))
-  light-node k ts f a g l = record {
-    inputs = inputs-inlined (length vars) k ts (tree vars f) a g;
-    light = omega (arith, l, weight-inlined (weights vars) ts (tree vars f));
-  }
+-- closed lets are over n variables where each is fit after those before it
+pub lets-closed : (n k : ℕ) (done ts : List Tree) → AreClosed n done → lets_fit n k ts ≡ true → AreClosed n (inlined_after done ts)
+lets-closed n k done [] a g = a
+lets-closed n k done (t ∷ ts) a g =
+    let h = and_parts (is_fit n k t) _ g in
+    lets-closed n (suc k) (done ++ inlined done t ∷ []) ts (closed-more n done (inlined done t) a (inputs-inlined n k done t a h.0)) h.1
 
-  -- all nodes of an expression
-  pub light-nodes : (k : ℕ) (ts : List Tree) (f : Formula) → AreClosed (length vars) ts → is_fit (length vars) k (tree vars f) ≡ true
-      → HaveWeights (weighed vars (map (weight (weights vars)) ts) f) → AreLight (length vars) (weights vars) ts (tree vars f)
-  light-nodes k ts (FNum at c) a g l = light-node k ts (FNum at c) a g l.0
-  light-nodes k ts (FInput at i c) a g l = light-node k ts (FInput at i c) a g l.0
-  light-nodes k ts (FName at j) a g l = light-node k ts (FName at j) a g l.0
-  light-nodes k ts (FNeg at e) a g l =
-      let p = light_parts (weighed vars (map (weight (weights vars)) ts) e) _ l in
-      (light-nodes k ts e a g p.0, light-node k ts (FNeg at e) a g p.1.0)
-  light-nodes k ts (FAdd at e f) a g l =
-      let p = light_parts (weighed vars (map (weight (weights vars)) ts) e ++ weighed vars (map (weight (weights vars)) ts) f) _ l in
-      let q = light_parts (weighed vars (map (weight (weights vars)) ts) e) (weighed vars (map (weight (weights vars)) ts) f) p.0 in
-      let h = and_parts (is_fit (length vars) k (tree vars e)) _ g in
-      (light-nodes k ts e a h.0 q.0, light-nodes k ts f a h.1 q.1, light-node k ts (FAdd at e f) a g p.1.0)
-  light-nodes k ts (FSub at e f) a g l =
-      let p = light_parts (weighed vars (map (weight (weights vars)) ts) e ++ weighed vars (map (weight (weights vars)) ts) f) _ l in
-      let q = light_parts (weighed vars (map (weight (weights vars)) ts) e) (weighed vars (map (weight (weights vars)) ts) f) p.0 in
-      let h = and_parts (is_fit (length vars) k (tree vars e)) _ g in
-      (light-nodes k ts e a h.0 q.0, light-nodes k ts f a h.1 q.1, light-node k ts (FSub at e f) a g p.1.0)
-  light-nodes k ts (FMul at e f) a g l =
-      let p = light_parts (weighed vars (map (weight (weights vars)) ts) e ++ weighed vars (map (weight (weights vars)) ts) f) _ l in
-      let q = light_parts (weighed vars (map (weight (weights vars)) ts) e) (weighed vars (map (weight (weights vars)) ts) f) p.0 in
-      let h = and_parts (is_fit (length vars) k (tree vars e)) _ g in
-      (light-nodes k ts e a h.0 q.0, light-nodes k ts f a h.1 q.1, light-node k ts (FMul at e f) a g p.1.0)
-  light-nodes k ts (FPow at e m) a g l =
-      let p = light_parts (weighed vars (map (weight (weights vars)) ts) e) _ l in
-      let h = and_parts (is_fit (length vars) k (tree vars e)) _ g in
-      (light-nodes k ts e a h.0 p.0, light-node k ts (FPow at e m) a g p.1.0)
+-- the weights of closed lets, with one let more
+pub next-weights : (w : ℕ → ℕ) (ts : List Tree) (e : Tree)
+    → map (weight w) (ts ++ inlined ts e ∷ []) ≡ map (weight w) ts ++ weight_over w (map (weight w) ts) e ∷ []
+next-weights w ts e = map-append (weight w) ts (inlined ts e ∷ []) ∙ ap (λ z. map (weight w) ts ++ z ∷ []) (weight-inlined w ts e)
 
-  next-weights : (ts : List Tree) (f : Formula) → map (weight (weights vars)) (ts ++ inlined ts (tree vars f) ∷ [])
-      ≡ map (weight (weights vars)) ts ++ weight_of vars (map (weight (weights vars)) ts) f ∷ []
-  next-weights ts f = map-append (weight (weights vars)) ts (inlined ts (tree vars f) ∷ [])
-      ∙ ap (λ z. map (weight (weights vars)) ts ++ z ∷ []) (weight-inlined (weights vars) ts (tree vars f))
+-- ---- the root
+lets-weigh : (vars : List VarInfo) (done : List Tree) (fs : List Formula)
+    → map (weight (weights vars)) (inlined_after done (map (tree vars) fs)) ≡ let_weights vars (map (weight (weights vars)) done) fs
+lets-weigh vars done [] = refl
+lets-weigh vars done (f ∷ fs) = lets-weigh vars (done ++ inlined done (tree vars f) ∷ []) fs
+    ∙ ap (λ ws. let_weights vars ws fs) (next-weights (weights vars) done (tree vars f))
 
-  -- what holds of the lets: they are light, and the root after them is
-  pub record LightLets (done : List Tree) (fs : List Formula) : Type 0 where
-    pub lets : LetsAreLight (length vars) (weights vars) done (map (tree vars) fs)
-    pub closed : AreClosed (length vars) (inlined_after done (map (tree vars) fs))
-    pub weigh : map (weight (weights vars)) (inlined_after done (map (tree vars) fs)) ≡ let_weights vars (map (weight (weights vars)) done) fs
+root-weighed : (vars : List VarInfo) (ws : List ℕ) (f : Formula) → HaveWeights (weighed vars ws f) → weight_of vars ws f ≤ most
+root-weighed vars ws (FNum at c) l = l.0
+root-weighed vars ws (FInput at i c) l = l.0
+root-weighed vars ws (FName at j) l = l.0
+root-weighed vars ws (FNeg at e) l = (light_parts (weighed vars ws e) _ l).1.0
+root-weighed vars ws (FAdd at e f) l = (light_parts (weighed vars ws e ++ weighed vars ws f) _ l).1.0
+root-weighed vars ws (FSub at e f) l = (light_parts (weighed vars ws e ++ weighed vars ws f) _ l).1.0
+root-weighed vars ws (FMul at e f) l = (light_parts (weighed vars ws e ++ weighed vars ws f) _ l).1.0
+root-weighed vars ws (FPow at e m) l = (light_parts (weighed vars ws e) _ l).1.0
 
-  -- this holds of fit lets after closed ones where the weight of none of their nodes is too large
-  pub light-lets : (k : ℕ) (done : List Tree) (fs : List Formula) → AreClosed (length vars) done → lets_fit (length vars) k (map (tree vars) fs) ≡ true
-      → HaveWeights (weighed_lets vars (map (weight (weights vars)) done) fs) → LightLets done fs
-  light-lets k done [] a g l = record { lets = tt; closed = a; weigh = refl }
-  light-lets k done (f ∷ fs) a g l =
-      let h = and_parts (is_fit (length vars) k (tree vars f)) _ g in
-      let p = light_parts (weighed vars (map (weight (weights vars)) done) f) _ l in
-      let i = inputs-inlined (length vars) k done (tree vars f) a h.0 in
-      let e = next-weights done f in
-      let l' : HaveWeights (weighed_lets vars (map (weight (weights vars)) (done ++ inlined done (tree vars f) ∷ [])) fs) =
-      subst (λ ws. HaveWeights (weighed_lets vars ws fs)) (sym e) p.1 in
-      let r = light-lets (suc k) (done ++ inlined done (tree vars f) ∷ []) fs (closed-more (length vars) done (inlined done (tree vars f)) a i) h.1 l' in
-      record { lets = (light-nodes k done f a h.0 p.0, r.lets); closed = r.closed; weigh = r.weigh ∙ ap (λ ws. let_weights vars ws fs) e }
-
-  -- the lets and the root of a predicate no node of which has too large a weight
-  pub light-pred : (k : ℕ) (lets : List Formula) (root : Formula) → lets_fit (length vars) 0 (map (tree vars) lets) ≡ true
-      → is_fit (length vars) k (tree vars root) ≡ true → HaveWeights (weighed_pred vars lets root)
-      → LetsAreLight (length vars) (weights vars) [] (map (tree vars) lets) × AreLight (length vars) (weights vars) (closed_lets vars lets) (tree vars root)
-  light-pred k lets root g h l =
-      let p = light_parts (weighed_lets vars [] lets) _ l in
-      let r = light-lets 0 [] lets tt g p.0 in
-      (r.lets, light-nodes k (closed_lets vars lets) root r.closed h (subst (λ ws. HaveWeights (weighed vars ws root)) (sym r.weigh) p.1))
+-- where no node of a predicate has too large a weight, its closed root hasn't
+pub whole-light : (vars : List VarInfo) (k : ℕ) (lets : List Formula) (root : Formula) → lets_fit (length vars) 0 (map (tree vars) lets) ≡ true
+    → is_fit (length vars) k (tree vars root) ≡ true → HaveWeights (weighed_pred vars lets root)
+    → IsLight (length vars) (weights vars) (closed_root vars lets root)
+whole-light vars k lets root g h l = record {
+  inputs = inputs-inlined (length vars) k (closed_lets vars lets) (tree vars root) (lets-closed (length vars) 0 [] (map (tree vars) lets) tt g) h;
+  light = omega (
+    arith,
+    root-weighed vars (let_weights vars [] lets) root (light_parts (weighed_lets vars [] lets) _ l).1,
+    weight-inlined (weights vars) (closed_lets vars lets) (tree vars root),
+    ap (λ ws. weight_over (weights vars) ws (tree vars root)) (lets-weigh vars [] lets),
+  );
+}

@@ -1,13 +1,11 @@
 -- Where the weight of a closed tree isn't too large, its normal polynomial may be computed with in 128 bits.
 use Rattle.std.proofs.Common.{◌≡◌, ℕ, ◌+◌, ◌*◌, ◌<◌, ◌≤◌, ◌^◌, zero, suc, arith, All, [], ◌∷◌, length, get_or, unsigned_abs, ◌⊎◌, inl, inr}
 use Rattle.std.proofs.Common.{eqb, Bool, true, false, if◌then◌else◌}
-use Rattle.std.proofs.Math.IntN.{ℤ, pos}
-use Rattle.std.proofs.Math.Nat.{pow-zero, pow-suc, pow-le-pow_right}
+use Rattle.std.proofs.Math.IntN.{ℤ}
+use Rattle.std.proofs.Math.Nat.{le-mul_of_pos_right, pow-zero, pow-le-pow_left, pow-le-pow_right}
 use Rattle.std.proofs.lemmas.Bool.{cases_lt}
-use Rattle.std.proofs.lemmas.Int.{ints}
 use Rattle.std.proofs.lemmas.Nat.{mul-le, pow-add}
 use Rattle.std.proofs.lemmas.List.Elements.{All-head, All-tail}
-use Rattle.std.proofs.lemmas.List.Sums.{sum_by-cons}
 use Rattle.ln_algebra.proofs.Bounding.Weights.{weighted-normal}
 use Rattle.ln_algebra.specs.Tree.{Add, InputsBelow, Tree}
 use Rattle.ln_algebra.specs.Weights.{weight}
@@ -16,12 +14,12 @@ use Rattle.ln_algebra.specs.Sizes.{two}
 use Rattle.ln_tree.specs.Exps.{IsAbove, Pairs, exponent}
 use Rattle.ln_poly.specs.Sparse.{AreBelow, IsFactor, Sparse, size_of, terms_of}
 use Rattle.ln_poly.specs.Rows.{PowersFit}
-use Rattle.ln_poly.specs.Weight.{pairs_weight, term_weight, total_weight}
+use Rattle.ln_poly.specs.Weight.{pairs_weight, total_weight}
 use Rattle.ln_poly.specs.Expansion.{IsNormal}
 use Rattle.ln_poly.specs.Ready.{IsLight}
 use Rattle.ln_poly.proofs.TermLists.Coefficients.{size-cons, size-nil}
 use Rattle.ln_poly.proofs.Sorting.Collected.{collected}
-use Rattle.ln_poly.proofs.Loads.Weighing.{pow-some, total-weight}
+use Rattle.ln_poly.proofs.Loads.Weighing.{abs-some, pow-some, total-cons, total-weight, weight-some}
 
 -- each of the first n weights is at least 2
 abbrev pub AreTwo : ℕ → (ℕ → ℕ) → Type 0
@@ -32,46 +30,25 @@ pub two-sizes : (n : ℕ) → AreTwo n two
 two-sizes n v h = omega arith
 
 -- ---- weights of pairs
-product-some : (a b : ℕ) → 0 < a → 0 < b → 0 < a * b
-product-some (suc a) (suc b) p q = omega arith
-product-some zero b p q = absurd (omega arith)
-product-some (suc a) zero p q = absurd (omega arith)
-
 -- a number is at most its product with one above 0
-pub times-le : (a b : ℕ) → 0 < b → a ≤ a * b
-times-le a zero h = absurd (omega arith)
-times-le a (suc b) h = omega arith
-
--- the same with the factors in the other order
 pub times-le-left : (a b : ℕ) → 0 < b → a ≤ b * a
-times-le-left a b h = omega (arith, times-le a b h)
+times-le-left a b h = omega (arith, le-mul_of_pos_right a h)
 
 -- where each variable weighs at least 2, the weight of pairs is above 0
-pub pairs-some : (n : ℕ) (w : ℕ → ℕ) (ps : Pairs) → AreTwo n w → IsAbove ps n → 0 < pairs_weight w ps
-pairs-some n w [] t a = omega arith
-pairs-some n w (p ∷ ps) t a = product-some (w p.0 ^ p.1) (pairs_weight w ps) (pow-some (w p.0) p.1 (omega (arith, t p.0 a.0))) (pairs-some n w ps t a.1)
-
--- a power of a larger base is no smaller
-pub power_le : (a b n : ℕ) → a ≤ b → a ^ n ≤ b ^ n
-power_le a b zero h = omega (arith, pow-zero a, pow-zero b)
-power_le a b (suc n) h = omega (arith, pow-suc a n, pow-suc b n, mul-le _ _ _ _ (power_le a b n h) h)
+pairs-some : (n : ℕ) (w : ℕ → ℕ) (ps : Pairs) → AreTwo n w → IsAbove ps n → 0 < pairs_weight w ps
+pairs-some n w ps t a = weight-some n w (λ v l. omega (arith, t v l)) ps a
 
 -- 2 to the power of an exponent is at most the weight of the pairs
 pub exponent-weight : (n : ℕ) (w : ℕ → ℕ) (v : ℕ) (ps : Pairs) → AreTwo n w → IsAbove ps n → 2 ^ exponent v ps ≤ pairs_weight w ps
 exponent-weight n w v [] t a = omega (arith, pow-zero 2)
 exponent-weight n w v (p ∷ ps) t a = by_case (eqb p.0 v) (exponent-weight n w v ps t a.1) where
   by_case : (b : Bool) → 2 ^ exponent v ps ≤ pairs_weight w ps → 2 ^ ((if b then p.1 else 0) + exponent v ps) ≤ w p.0 ^ p.1 * pairs_weight w ps
-  by_case true ih = rw pow-add (mul-le _ _ _ _ (power_le 2 (w p.0) p.1 (t p.0 a.0)) ih)
+  by_case true ih = rw pow-add (mul-le _ _ _ _ (pow-le-pow_left (t p.0 a.0) p.1) ih)
   by_case false ih =
       let z : 0 + exponent v ps ≡ exponent v ps = omega arith in
       rw z (omega (arith, ih, times-le-left (pairs_weight w ps) (w p.0 ^ p.1) (pow-some (w p.0) p.1 (omega (arith, t p.0 a.0)))))
 
 -- ---- weights of polynomials
--- a list's weight is that of its first term and that of the others
-pub total-cons : (w : ℕ → ℕ) (t : Pairs × ℤ) (f : Sparse) → total_weight w (t ∷ f) ≡ term_weight w t + total_weight w f
-unfolding total_weight
-total-cons w t f = sum_by-cons (term_weight w) t f
-
 -- the sum of the absolute factors is at most the weight
 pub size-weight : (n : ℕ) (w : ℕ → ℕ) (f : Sparse) → AreTwo n w → AreBelow n f → size_of f ≤ total_weight w f
 size-weight n w [] t b = omega (arith, size-nil)
@@ -81,15 +58,12 @@ size-weight n w (x ∷ f) t b =
       size-cons x f,
       total-cons w x f,
       size-weight n w f t (All-tail (λ z. IsAbove z.0 n) x f b),
-      times-le (unsigned_abs x.1) (pairs_weight w x.0) (pairs-some n w x.0 t (All-head (λ z. IsAbove z.0 n) x f b)),
+      le-mul_of_pos_right (unsigned_abs x.1) (pairs-some n w x.0 t (All-head (λ z. IsAbove z.0 n) x f b)),
     )
 
 -- a term's factor has an absolute value above 0
 pub factor-some : (z : ℤ) → IsFactor z → 0 < unsigned_abs z
-factor-some z f = by_case (cases_lt 0 (unsigned_abs z)) where
-  by_case : (0 < unsigned_abs z) ⊎ (unsigned_abs z ≤ 0) → 0 < unsigned_abs z
-  by_case (inl l) = l
-  by_case (inr l) = let e : z ≡ pos 0 = omega (arith, ints, l) in absurd (f.0 e)
+factor-some z f = abs-some z f.0
 
 -- 2 to the power of an exponent of a term is at most the weight
 pub term-exponent : (n : ℕ) (w : ℕ → ℕ) (f : Sparse) (k : ℕ) (d : Pairs × ℤ) (v : ℕ) → AreTwo n w → AreBelow n f → All (λ t. IsFactor t.1) f

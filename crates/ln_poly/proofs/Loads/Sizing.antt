@@ -2,7 +2,6 @@
 -- counts at least 2, and in a size it does.
 use Rattle.std.proofs.Common.{◌≡◌, ℕ, ◌≤◌, true, suc, refl, sym, ◌∙◌, ap, arith, subst, All, List, [], ◌∷◌, ◌++◌, length, map}
 use Rattle.std.proofs.lemmas.Bool.{and_parts}
-use Rattle.std.proofs.lemmas.List.{map-append}
 use Rattle.ln_algebra.specs.Vector.{total_degree}
 use Rattle.ln_tree.specs.Exps.{vector}
 use Rattle.ln_algebra.specs.Tree.{Tree, inlined, inlined_after}
@@ -19,13 +18,12 @@ use Rattle.ln_bound.proofs.Soundness.KeptLaws.{parts_of}
 use Rattle.ln_bound.specs.Value.{weights}
 use Rattle.ln_poly.specs.Expansion.{IsNormal, closed_lets, closed_root}
 use Rattle.ln_poly.specs.Sparse.{Sparse, terms_of}
-use Rattle.ln_poly.proofs.Expansions.Lets.{pred-fit, root-degrees, root-light, root-weight}
+use Rattle.ln_poly.proofs.Expansions.Lets.{pred-fit, root-degrees, root-weight}
 use Rattle.ln_poly.specs.Ready.{AreLight, IsLight, LetsAreLight}
-use Rattle.ln_poly.proofs.Loads.Lightness.{AreClosed, closed-more, inputs-inlined, weight-inlined}
-use Rattle.ln_poly.proofs.Loads.Lightness.{light-pred as light-weights}
+use Rattle.ln_poly.proofs.Loads.Lightness.{AreClosed, closed-more, inputs-inlined, lets-closed, next-weights, weight-inlined, whole-light}
 use Rattle.ln_interval.specs.Range.{Range}
 use Rattle.ln_algebra.specs.Sizes.{two}
-use Rattle.ln_bound.specs.Ranges.{range_over, ranges, size_over}
+use Rattle.ln_bound.specs.Ranges.{range_over, ranges}
 use Rattle.ln_bound.specs.Loads.{load_of, loaded, loaded_lets, loaded_pred, ranges_of_lets, sizes_of_lets}
 
 module _ (vars : List VarInfo) where
@@ -66,30 +64,26 @@ module _ (vars : List VarInfo) where
       let h = and_parts (is_fit (length vars) k (tree vars e)) _ g in
       (light-nodes ps k ts e a h.0 p.0, light-node ps k ts (FPow at e m) a g p.1.0)
 
-  next-weights : (ts : List Tree) (f : Formula)
-      → map (weight two) (ts ++ inlined ts (tree vars f) ∷ []) ≡ map (weight two) ts ++ size_over (map (weight two) ts) (tree vars f) ∷ []
-  next-weights ts f = map-append (weight two) ts (inlined ts (tree vars f) ∷ []) ∙ ap (λ z. map (weight two) ts ++ z ∷ []) (weight-inlined two ts (tree vars f))
+  lets-weigh : (done : List Tree) (fs : List Formula)
+      → map (weight two) (inlined_after done (map (tree vars) fs)) ≡ sizes_of_lets vars (map (weight two) done) fs
+  lets-weigh done [] = refl
+  lets-weigh done (f ∷ fs) =
+      lets-weigh (done ++ inlined done (tree vars f) ∷ []) fs ∙ ap (λ ws. sizes_of_lets vars ws fs) (next-weights two done (tree vars f))
 
-  -- what holds of the lets
-  pub record LightLets (done : List Tree) (fs : List Formula) : Type 0 where
-    pub lets : LetsAreLight (length vars) two done (map (tree vars) fs)
-    pub closed : AreClosed (length vars) (inlined_after done (map (tree vars) fs))
-    pub weigh : map (weight two) (inlined_after done (map (tree vars) fs)) ≡ sizes_of_lets vars (map (weight two) done) fs
-
-  -- this holds of fit lets after closed ones where the load of none of their nodes is too large
+  -- fit lets after closed ones are light where the load of none of their nodes is too large
   pub light-lets : (ps : List Range) (k : ℕ) (done : List Tree) (fs : List Formula) → AreClosed (length vars) done
-      → lets_fit (length vars) k (map (tree vars) fs) ≡ true → HaveWeights (loaded_lets vars ps (map (weight two) done) fs) → LightLets done fs
-  light-lets ps k done [] a g l = record { lets = tt; closed = a; weigh = refl }
+      → lets_fit (length vars) k (map (tree vars) fs) ≡ true → HaveWeights (loaded_lets vars ps (map (weight two) done) fs)
+      → LetsAreLight (length vars) two done (map (tree vars) fs)
+  light-lets ps k done [] a g l = tt
   light-lets ps k done (f ∷ fs) a g l =
       let h = and_parts (is_fit (length vars) k (tree vars f)) _ g in
       let p = light_parts (loaded vars ps (map (weight two) done) f) _ l in
       let i = inputs-inlined (length vars) k done (tree vars f) a h.0 in
-      let e = next-weights done f in
+      let more : List Tree = done ++ inlined done (tree vars f) ∷ [] in
       let qs = ps ++ range_over (ranges vars) ps (tree vars f) ∷ [] in
-      let l' : HaveWeights (loaded_lets vars qs (map (weight two) (done ++ inlined done (tree vars f) ∷ [])) fs) =
-      subst (λ ws. HaveWeights (loaded_lets vars qs ws fs)) (sym e) p.1 in
-      let r = light-lets qs (suc k) (done ++ inlined done (tree vars f) ∷ []) fs (closed-more (length vars) done (inlined done (tree vars f)) a i) h.1 l' in
-      record { lets = (light-nodes ps k done f a h.0 p.0, r.lets); closed = r.closed; weigh = r.weigh ∙ ap (λ ws. sizes_of_lets vars ws fs) e }
+      let rest : HaveWeights (loaded_lets vars qs (map (weight two) more) fs) =
+      subst (λ ws. HaveWeights (loaded_lets vars qs ws fs)) (sym (next-weights two done (tree vars f))) p.1 in
+      (light-nodes ps k done f a h.0 p.0, light-lets qs (suc k) more fs (closed-more (length vars) done (inlined done (tree vars f)) a i) h.1 rest)
 
   -- the lets and the root of a predicate no node of which has too large a range or size
   pub light-pred : (k : ℕ) (lets : List Formula) (root : Formula) → lets_fit (length vars) 0 (map (tree vars) lets) ≡ true
@@ -97,10 +91,10 @@ module _ (vars : List VarInfo) where
       → LetsAreLight (length vars) two [] (map (tree vars) lets) × AreLight (length vars) two (closed_lets vars lets) (tree vars root)
   light-pred k lets root g h l =
       let p = light_parts (loaded_lets vars [] [] lets) _ l in
-      let r = light-lets [] 0 [] lets tt g p.0 in (
-        r.lets,
-        light-nodes (ranges_of_lets vars [] lets) k (closed_lets vars lets) root r.closed h
-            (subst (λ ws. HaveWeights (loaded vars (ranges_of_lets vars [] lets) ws root)) (sym r.weigh) p.1),
+      let closed = lets-closed (length vars) 0 [] (map (tree vars) lets) tt g in (
+        light-lets [] 0 [] lets tt g p.0,
+        light-nodes (ranges_of_lets vars [] lets) k (closed_lets vars lets) root closed h
+            (subst (λ ws. HaveWeights (loaded vars (ranges_of_lets vars [] lets) ws root)) (sym (lets-weigh [] lets)) p.1),
       )
 
 -- the w-weighted sum of the normal polynomial is within the limit where no node's weight is too large
@@ -108,9 +102,7 @@ pub light-root : (vars : List VarInfo) (k : ℕ) (lets : List Formula) (root : F
     → lets_fit (length vars) 0 (map (tree vars) lets) ≡ true → is_fit (length vars) k (tree vars root) ≡ true → HaveWeights (weighed_pred vars lets root)
     → IsNormal (length vars) (closed_root vars lets root) f → weighted_sum (weights vars) (terms_of (length vars) f) ≤ most
 light-root vars k lets root f g h l p =
-    let r = light-weights vars k lets root g h l in
-    root-weight (length vars) (weights vars) (closed_root vars lets root) f
-    (root-light (length vars) (weights vars) (closed_lets vars lets) (tree vars root) r.1) p
+    root-weight (length vars) (weights vars) (closed_root vars lets root) f (whole-light vars k lets root g h l) p
 
 -- no degree is above 126 where the size is within the limit
 pub size-degrees : (n : ℕ) (e : Tree) (f : Sparse) → IsLight n two e → IsNormal n e f → All (λ t. total_degree (vector n t.0) ≤ 126) f

@@ -1,12 +1,11 @@
 -- Weights, pair by pair and term by term.
 use Rattle.std.proofs.Common.{◌≡◌, ℕ, ◌+◌, ◌*◌, ◌<◌, ◌≤◌, ◌^◌, zero, suc, refl, sym, ◌∙◌, ap, subst, arith, List, [], ◌∷◌, length, ◌-◌}
-use Rattle.std.proofs.Common.{take, get_or, true, false, eqb, eq-eqb, unsigned_abs, add-one}
+use Rattle.std.proofs.Common.{take, get_or, true, eqb, eq-eqb, unsigned_abs, add-one}
 use Rattle.std.specs.Prelude.{MatchOption, None, Option, Some, slice_get}
-use Rattle.std.proofs.Math.IntN.{ℤ}
-use Rattle.std.proofs.Math.Nat.{pow-zero, pow-suc, mul-le-mul_left}
-use Rattle.std.proofs.lemmas.Nat.{pow-add}
+use Rattle.std.proofs.Math.IntN.{ℤ, negsuc, pos}
+use Rattle.std.proofs.Math.Nat.{pow-zero, pow-suc, mul-le-mul_left, mul-pos, mul_assoc, one-le-pow, pow-le-pow_right}
 use Rattle.std.proofs.lemmas.List.{take_all}
-use Rattle.std.proofs.lemmas.Bool.Decides.{nat_tests}
+use Rattle.std.proofs.lemmas.Bool.{ne_eqb}
 use Rattle.std.proofs.lemmas.List.Sums.{sum_by-cons, sum_by_more, sum_by-take-le}
 use Rattle.std.proofs.lemmas.List.Elements.{All-head, All-tail}
 use Rattle.ln_algebra.proofs.Bounding.Weights.{monomial_weight-plus}
@@ -19,6 +18,7 @@ use Rattle.ln_tree.specs.Exps.{IsAbove, Pairs, exponents_from, vector}
 use Rattle.ln_poly.specs.Sparse.{AreBelow, Sparse, terms_of}
 use Rattle.ln_poly.specs.Weight.{IsWeighed, grown, grown_or, pairs_weight, term_weight, total_weight}
 use Rattle.ln_poly.proofs.TermLists.Products.{length-vector, vector-plus}
+use Rattle.ln_poly.proofs.TermLists.Vectors.{exponents-behind}
 
 -- ---- monomials
 -- no pair: the monomial 1
@@ -26,18 +26,9 @@ weight-none : (w : ℕ → ℕ) (v n : ℕ) → monomial_weight w (exponents_fro
 weight-none w v zero = refl
 weight-none w v (suc n) = rw pow-zero (omega (arith, weight-none (λ u. w (suc u)) (suc v) n))
 
-other-number : (x y : ℕ) → x < y → eqb x y ≡ false
-other-number x y h = grind (arith, nat_tests)
-
-number-other : (x y : ℕ) → y < x → eqb x y ≡ false
-number-other x y h = grind (arith, nat_tests)
-
 -- a variable that came before
 weight-before : (w : ℕ → ℕ) (v n u e : ℕ) → u < v → monomial_weight w (exponents_from v n ((u, e) ∷ [])) ≡ 1
-weight-before w v zero u e h = refl
-weight-before w v (suc n) u e h =
-    let f : eqb u v ≡ false = other-number u v h in
-    rw f (rw pow-zero (omega (arith, weight-before (λ x. w (suc x)) (suc v) n u e (omega arith))))
+weight-before w v n u e h = ap (monomial_weight w) (exponents-behind v n u e [] h) ∙ weight-none w v n
 
 weight-single : (w : ℕ → ℕ) (v n u x e : ℕ) → x ≡ v + u → u < n → monomial_weight w (exponents_from v n ((x, e) ∷ [])) ≡ w u ^ e
 weight-single w v zero u x e q h = absurd (omega arith)
@@ -47,8 +38,8 @@ weight-single w v (suc n) zero x e q h =
       plus_zero : (k : ℕ) → k + 0 ≡ k
       plus_zero k = omega arith
 weight-single w v (suc n) (suc u) x e q h =
-    let f : eqb x v ≡ false = number-other x v (omega arith) in
-    rw f (rw pow-zero (omega (arith, weight-single (λ y. w (suc y)) (suc v) n u x e (omega arith) (omega arith))))
+    rw (ne_eqb x v (λ e. absurd (omega (arith, e, q))), pow-zero)
+    (omega (arith, weight-single (λ y. w (suc y)) (suc v) n u x e (omega arith) (omega arith)))
 
 -- the weight of pairs is that of their vector
 pub weight-pairs : (w : ℕ → ℕ) (n : ℕ) (ps : Pairs) → IsAbove ps n → monomial_weight w (vector n ps) ≡ pairs_weight w ps
@@ -72,6 +63,11 @@ total-weight w n (t ∷ f) a =
       ap (λ z. unsigned_abs t.1 * z) (weight-pairs w n t.0 (All-head (λ z. IsAbove z.0 n) t f a)),
     )
 
+-- a list's weight is that of its first term and that of the others
+pub total-cons : (w : ℕ → ℕ) (t : Pairs × ℤ) (f : Sparse) → total_weight w (t ∷ f) ≡ term_weight w t + total_weight w f
+unfolding total_weight
+total-cons w t f = sum_by-cons (term_weight w) t f
+
 -- one term more adds its weight
 pub total-more : (w : ℕ → ℕ) (f : Sparse) (i : ℕ) (t : Pairs × ℤ) → i < length f → t ≡ get_or f i t
     → total_weight w (take (i + 1) f) ≡ total_weight w (take i f) + term_weight w t
@@ -94,22 +90,19 @@ pub total-heavy : (w : ℕ → ℕ) (f : Sparse) (i : ℕ) (t : Pairs × ℤ) (s
 total-heavy w f i t s h e p q = omega (arith, total-more w f i t h e, total-take w f (i + 1))
 
 -- ---- powers
+-- a number that isn't 0 has an absolute value above 0
+pub abs-some : (z : ℤ) → (z ≡ pos 0 → ⊥) → 0 < unsigned_abs z
+abs-some (pos zero) n = absurd (n refl)
+abs-some (pos (suc k)) n = omega arith
+abs-some (negsuc k) n = omega arith
+
 -- a power of a number above 0 is above 0
 pub pow-some : (m k : ℕ) → 0 < m → 0 < m ^ k
-pow-some m zero h = rw pow-zero (omega arith)
-pow-some m (suc k) h = rw pow-suc (product-some (m ^ k) m (pow-some m k h) h) where
-  product-some : (a b : ℕ) → 0 < a → 0 < b → 0 < a * b
-  product-some (suc a) (suc b) p q = omega arith
-  product-some zero b p q = absurd (omega arith)
-  product-some (suc a) zero p q = absurd (omega arith)
-
-times-le : (a b : ℕ) → 0 < b → a ≤ a * b
-times-le a zero h = absurd (omega arith)
-times-le a (suc b) h = omega arith
+pow-some m k h = omega (arith, one-le-pow k m h)
 
 -- a higher power of a number above 0 is no smaller
 pub pow-le : (m a d : ℕ) → 0 < m → m ^ a ≤ m ^ (a + d)
-pow-le m a d h = rw pow-add (times-le (m ^ a) (m ^ d) (pow-some m d h))
+pow-le m a d h = let l : a ≤ a + d = omega arith in pow-le-pow_right h l
 
 -- a lower power that is too large
 pub scaled-heavy : (w m k e p : ℕ) → 0 < m → k < e → p ≡ w * m ^ k → most < p * m → most < w * m ^ e
@@ -119,10 +112,8 @@ scaled-heavy w m k e p h l q r =
     let y : (k + 1) + d ≡ e = omega arith in
     let z : m ^ (k + 1) ≤ m ^ e = rw y at x in
     let u : m ^ (k + 1) ≡ m ^ k * m = rw add-one (pow-suc m k) in
-    let v : p * m ≡ w * (m ^ k * m) = ap (λ t. t * m) q ∙ times-assoc w (m ^ k) m in
-    omega (arith, mul-le-mul_left w z, ap (λ t. w * t) u, v) where
-      times-assoc : (a b c : ℕ) → (a * b) * c ≡ a * (b * c)
-      times-assoc a b c = omega arith
+    let v : p * m ≡ w * (m ^ k * m) = ap (λ t. t * m) q ∙ mul_assoc w (m ^ k) m in
+    omega (arith, mul-le-mul_left w z, ap (λ t. w * t) u, v)
 
 -- ---- pairs
 -- each variable's size is above 0
@@ -137,20 +128,20 @@ grown-some n [] v h = absurd (omega arith)
 grown-some n (i ∷ vars) zero h = omega arith
 grown-some n (i ∷ vars) (suc v) h = grown-some n vars v (omega arith)
 
+-- each pair's variable is one of the first n
+pub variable-at : (n : ℕ) (ps : Pairs) (i : ℕ) → IsAbove ps n → i < length ps → (get_or ps i (0, 0)).0 < n
+variable-at n [] i a h = absurd (omega arith)
+variable-at n (p ∷ ps) zero a h = a.0
+variable-at n (p ∷ ps) (suc i) a h = variable-at n ps i a.1 (omega arith)
+
 -- the weight of each pair's variable is above 0
 pub size-at : (n : ℕ) (vars : List VarInfo) (ps : Pairs) (i : ℕ) → i < length ps → IsAbove ps (length vars) → 0 < grown n vars (get_or ps i (0, 0)).0
-size-at n vars [] i h a = absurd (omega arith)
-size-at n vars (p ∷ ps) zero h a = grown-some n vars p.0 a.0
-size-at n vars (p ∷ ps) (suc i) h a = size-at n vars ps i (omega arith) a.1
+size-at n vars ps i h a = grown-some n vars (get_or ps i (0, 0)).0 (variable-at (length vars) ps i a h)
 
 -- the weight of pairs isn't 0 where that of no variable is
 pub weight-some : (n : ℕ) (w : ℕ → ℕ) → ((v : ℕ) → v < n → 0 < w v) → (ps : Pairs) → IsAbove ps n → 0 < pairs_weight w ps
 weight-some n w h [] a = omega arith
-weight-some n w h (p ∷ ps) a = product-some (w p.0 ^ p.1) (pairs_weight w ps) (pow-some (w p.0) p.1 (h p.0 a.0)) (weight-some n w h ps a.1) where
-  product-some : (a b : ℕ) → 0 < a → 0 < b → 0 < a * b
-  product-some (suc a) (suc b) p q = omega arith
-  product-some zero b p q = absurd (omega arith)
-  product-some (suc a) zero p q = absurd (omega arith)
+weight-some n w h (p ∷ ps) a = mul-pos (pow-some (w p.0) p.1 (h p.0 a.0)) (weight-some n w h ps a.1)
 
 pairs-more : (w : ℕ → ℕ) (ps : Pairs) (i : ℕ) → i < length ps
     → pairs_weight w (take (i + 1) ps) ≡ pairs_weight w (take i ps) * w (get_or ps i (0, 0)).0 ^ (get_or ps i (0, 0)).1
@@ -159,10 +150,7 @@ pairs-more w (p ∷ ps) zero h = omega arith
 pairs-more w (p ∷ ps) (suc i) h =
     let ih : pairs_weight w (take (suc i) ps) ≡ pairs_weight w (take i ps) * w (get_or ps i (0, 0)).0 ^ (get_or ps i (0, 0)).1 =
     rw add-one at (pairs-more w ps i (omega arith)) in
-    rw add-one (ap (λ z. w p.0 ^ p.1 * z) ih ∙ sym (times-assoc (w p.0 ^ p.1) (pairs_weight w (take i ps)) (w (get_or ps i (0, 0)).0 ^ (get_or ps i (0, 0)).1)))
-  where
-    times-assoc : (a b c : ℕ) → (a * b) * c ≡ a * (b * c)
-    times-assoc a b c = omega arith
+    rw add-one (ap (λ z. w p.0 ^ p.1 * z) ih ∙ sym (mul_assoc (w p.0 ^ p.1) (pairs_weight w (take i ps)) (w (get_or ps i (0, 0)).0 ^ (get_or ps i (0, 0)).1)))
 
 pairs-take : (n : ℕ) (vars : List VarInfo) (ps : Pairs) (i : ℕ) → IsAbove ps (length vars)
     → pairs_weight (grown n vars) (take i ps) ≤ pairs_weight (grown n vars) ps
@@ -175,27 +163,21 @@ pub weighed-step : (p q c : ℕ) (w : ℕ → ℕ) (ps : Pairs) (i : ℕ) → Is
     → q ≡ p * w (get_or ps i (0, 0)).0 ^ (get_or ps i (0, 0)).1 → q ≤ most → IsWeighed q c w ps (i + 1)
 weighed-step p q c w ps i r h e s = record {
   product = e ∙ ap (λ z. z * w (get_or ps i (0, 0)).0 ^ (get_or ps i (0, 0)).1) r.product
-      ∙ times-assoc c (pairs_weight w (take i ps)) (w (get_or ps i (0, 0)).0 ^ (get_or ps i (0, 0)).1) ∙ ap (λ z. c * z) (sym (pairs-more w ps i h));
+      ∙ mul_assoc c (pairs_weight w (take i ps)) (w (get_or ps i (0, 0)).0 ^ (get_or ps i (0, 0)).1) ∙ ap (λ z. c * z) (sym (pairs-more w ps i h));
   small = s;
-} where
-  times-assoc : (a b c : ℕ) → (a * b) * c ≡ a * (b * c)
-  times-assoc a b c = omega arith
+}
 
 -- where the product with the next pair's power exceeds the limit, the term's weight does
 pub weighed-heavy : (n p c : ℕ) (vars : List VarInfo) (ps : Pairs) (i : ℕ) → IsAbove ps (length vars) → IsWeighed p c (grown n vars) ps i
     → i < length ps → most < p * grown n vars (get_or ps i (0, 0)).0 ^ (get_or ps i (0, 0)).1 → most < c * pairs_weight (grown n vars) ps
 weighed-heavy n p c vars ps i a r h q =
     let e : ℕ = grown n vars (get_or ps i (0, 0)).0 ^ (get_or ps i (0, 0)).1 in
-    let x : p * e ≡ c * (pairs_weight (grown n vars) (take i ps) * e) = ap (λ z. z * e) r.product ∙ times-assoc c (pairs_weight (grown n vars) (take i ps)) e in
-    omega (arith, x, ap (λ z. c * z) (pairs-more (grown n vars) ps i h), mul-le-mul_left c (pairs-take n vars ps (i + 1) a)) where
-      times-assoc : (a b c : ℕ) → (a * b) * c ≡ a * (b * c)
-      times-assoc a b c = omega arith
+    let x : p * e ≡ c * (pairs_weight (grown n vars) (take i ps) * e) = ap (λ z. z * e) r.product ∙ mul_assoc c (pairs_weight (grown n vars) (take i ps)) e in
+    omega (arith, x, ap (λ z. c * z) (pairs-more (grown n vars) ps i h), mul-le-mul_left c (pairs-take n vars ps (i + 1) a))
 
 -- the step of `scaled`: one factor more
 pub scaled-step : (w m k p q : ℕ) → p ≡ w * m ^ k → q ≡ p * m → q ≡ w * m ^ (k + 1)
-scaled-step w m k p q e f = f ∙ ap (λ t. t * m) e ∙ times-assoc w (m ^ k) m ∙ ap (λ t. w * t) (sym (ap (λ t. m ^ t) (add-one k) ∙ pow-suc m k)) where
-  times-assoc : (a b c : ℕ) → (a * b) * c ≡ a * (b * c)
-  times-assoc a b c = omega arith
+scaled-step w m k p q e f = f ∙ ap (λ t. t * m) e ∙ mul_assoc w (m ^ k) m ∙ ap (λ t. w * t) (sym (ap (λ t. m ^ t) (add-one k) ∙ pow-suc m k))
 
 -- ---- the results of `weight`, whatever the lists are called
 -- where the sum with one more term exceeds the limit, the weighted sum of all terms does
@@ -223,7 +205,8 @@ grown-none vars v = by_there (slice_get vars v)
     by_there None = refl
     by_there (Some i) = omega arith
 
-grown-one : (vars : List VarInfo) (v : ℕ) → grown 1 vars v ≡ weights vars v
+-- w of a variable is its M and 1 more
+pub grown-one : (vars : List VarInfo) (v : ℕ) → grown 1 vars v ≡ weights vars v
 grown-one vars v = by_there (slice_get vars v)
   where
     by_there : (o : Option VarInfo) → grown_or 1 o ≡ weight_or o

@@ -69,7 +69,7 @@ unkeyed-factors ws (t ∷ ks) h l =
     All-cons (λ z. IsFactor z.1) (opened ws t.0, t.1) (unkeyed ws ks) (h.0, omega (arith, l)) (unkeyed-factors ws ks h.1 (omega (arith, l)))
 
 part-packable : (ws : List ℕ) (left : ℕ) (f g : Sparse) (i : ℕ) → ArePackable ws left f g → All (λ s. All (Opens ws s) g) f
-part-packable ws left f g i p j d h k e l v = product-exponent ws left f g j k d e p h l v
+part-packable ws left f g i p j d h k e l v = product-exponent ws left f g p j k d e h l v
 
 -- what is known of each number of a product of the first rows
 pub rows-numbers : (ws : List ℕ) (left : ℕ) (ks : Keyed) (f g : Sparse) (i : ℕ) → ArePackable ws left f g

@@ -4,17 +4,17 @@ use Rattle.std.proofs.Common.{set, refl, sym, ◌∙◌, ap, arith, subst, take,
 use Rattle.std.proofs.Math.IntN.{ℤ}
 use Rattle.std.proofs.Math.Nat.{max-le, max-zero, max_comm, mul-le-mul_right, pow-le-pow_right, zero-div, zero-max}
 use Rattle.std.proofs.lemmas.Grind.{get_or-set_at}
-use Rattle.std.proofs.lemmas.Nat.{pow-add}
+use Rattle.std.proofs.lemmas.Nat.{pow-add, pow_pos}
 use Rattle.std.proofs.lemmas.Bool.{cases_eq, cases_lt}
-use Rattle.std.proofs.lemmas.List.{drop_all, drop_more, get_or_default, get_or-replicate, length-replicate, length-set, get_or-set_other, length-take-le}
-use Rattle.std.proofs.lemmas.List.{map-append, take_all, take_more, take_more_set}
-use Rattle.std.proofs.lemmas.List.Elements.{All-get_or, All-head, All-nil, All-push, All-set, All-tail}
+use Rattle.std.proofs.lemmas.List.{drop_all, drop_more, get_or_default, get_or-map, get_or-replicate, length-map, length-replicate}
+use Rattle.std.proofs.lemmas.List.{length-set, get_or-set_other, length-take-le, map-append, take_all, take_more, take_more_set}
+use Rattle.std.proofs.lemmas.List.Elements.{All-get_or, All-head, All-nil, All-push, All-replicate, All-set, All-tail}
 use Rattle.ln_tree.specs.Exps.{AllAbove, IsAbove, IsRising, Pairs, exponent}
 use Rattle.ln_tree.proofs.Powers.{all_above-none, power, power-apart, power-here}
 use Rattle.ln_poly.specs.Lean.{largest}
 use Rattle.ln_poly.specs.Packed.{AreFields, AreSmall, keyed, number, packed, pairs_from, taken, weights}
 use Rattle.ln_poly.specs.Sparse.{AreBelow, AreRising, Sparse}
-use Rattle.ln_poly.proofs.Loads.Weighing.{pow-some}
+use Rattle.ln_poly.proofs.TermLists.Products.{drop-read}
 use Rattle.ln_poly.specs.Words.{IsPlace, fields_below, half}
 use Rattle.ln_poly.proofs.Packing.Numbers.{number-adds}
 use Rattle.ln_poly.proofs.Packing.Words.{half-le}
@@ -45,25 +45,21 @@ packed-cons ws p ps l =
     ∙ ap (λ z. z + packed ws ps) (number-alone ws 0 p.0 p (omega arith) l)
 
 weights-get : (ss : List ℕ) (i : ℕ) → i < length ss → get_or (weights ss) i 0 ≡ 2 ^ get_or ss i 0
-weights-get [] i l = absurd (omega arith)
-weights-get (s ∷ ss) zero l = refl
-weights-get (s ∷ ss) (suc i) l = weights-get ss i (omega arith)
+weights-get ss i l = get_or-map (λ s. 2 ^ s) ss i 0 0 l
 
 -- there are as many weights as fields
 pub weights-length : (ss : List ℕ) → length (weights ss) ≡ length ss
-weights-length [] = refl
-weights-length (s ∷ ss) = ap suc (weights-length ss)
+weights-length ss = length-map ss (λ s. 2 ^ s)
 
 -- what is packed before place i and what remains is the whole; one more pair is packed
 pub packed-step : (ss : List ℕ) (ps : Pairs) (i n s : ℕ) (p : ℕ × ℕ) → n + packed (weights ss) (drop i ps) ≡ packed (weights ss) ps → i < length ps
     → p ≡ get_or ps i p → p.0 < length ss → s ≡ get_or ss p.0 0
     → (n + p.1 * 2 ^ s) + packed (weights ss) (drop (i + 1) ps) ≡ packed (weights ss) ps
 packed-step ss ps i n s p h l e k q =
-    let d : drop i ps ≡ p ∷ drop (i + 1) ps = drop_more ps i p l ∙ ap (λ z. z ∷ drop (i + 1) ps) (sym e) in
     let c : packed (weights ss) (p ∷ drop (i + 1) ps) ≡ p.1 * get_or (weights ss) p.0 0 + packed (weights ss) (drop (i + 1) ps) =
     packed-cons (weights ss) p (drop (i + 1) ps) (omega (arith, k, weights-length ss)) in
     let w : p.1 * get_or (weights ss) p.0 0 ≡ p.1 * 2 ^ s = ap (λ z. p.1 * z) (weights-get ss p.0 k ∙ ap (λ z. 2 ^ z) (sym q)) in
-    omega (arith, h, c, w, ap (packed (weights ss)) d)
+    omega (arith, h, c, w, ap (packed (weights ss)) (drop-read ps i p l e))
 
 -- ---- the largest exponents
 -- what is raised so far, and the remaining pairs
@@ -139,8 +135,7 @@ largest-begin tops f e = record {
   largest = λ v h. rw (e, get_or-replicate {A = ℕ} 256 v 0 0 h) (max-zero (largest f v));
   below = All-nil (λ t. IsAbove t.0 256);
   rising = All-nil (λ t. IsRising t.0);
-  small = subst (All (λ t. t < 128)) (sym e)
-      (λ i d h. rw (get_or-replicate {A = ℕ} 256 i 0 d (omega (arith, h, length-replicate {A = ℕ} 256 0))) (omega arith));
+  small = subst (All (λ t. t < 128)) (sym e) (All-replicate (λ t. t < 128) 256 0 (omega arith));
 }
 
 -- one term more
@@ -156,7 +151,7 @@ largest-step tops tops' f i t r l e h s a w = record {
   small = s;
 } where
   d : drop i f ≡ t ∷ drop (i + 1) f
-  d = drop_more f i t l ∙ ap (λ y. y ∷ drop (i + 1) f) (sym e)
+  d = drop-read f i t l e
 
   more : take (i + 1) f ≡ take i f ++ (t ∷ [])
   more = take_more f i t l ∙ ap (λ z. take i f ++ (z ∷ [])) (sym e)
@@ -176,9 +171,6 @@ pub largest-rising : (tops : List ℕ) (f : Sparse) (i : ℕ) → length f ≤ i
 largest-rising tops f i l r = subst AreRising (take_all i f l) r.rising
 
 -- ---- the fields
-two-positive : (k : ℕ) → 0 < 2 ^ k
-two-positive k = pow-some 2 k (omega arith)
-
 -- where the last field begins
 abbrev pub end_of : ℕ → List ℕ → ℕ
 end_of left [] = left
@@ -222,7 +214,7 @@ laid-begin top n left shifts s l e = record {
   fields = tt;
   end = half-is n s ∙ ap (λ z. 2 ^ z) (sym l);
   small = omega (arith, l, s);
-  places = subst (All (IsPlace n)) (sym e) (λ i d h. rw (get_or-replicate {A = ℕ} 256 i 0 d (omega (arith, h, length-replicate {A = ℕ} 256 0))) first);
+  places = subst (All (IsPlace n)) (sym e) (All-replicate (IsPlace n) 256 0 first);
   long = rw e (length-replicate {A = ℕ} 256 0);
   many = λ t h. omega (arith, l, h);
 } where
@@ -235,7 +227,7 @@ pub laid-step : (top : ℕ → ℕ) (n : ℕ) (shifts : List ℕ) (left left' wi
     → AreLaid top n (set shifts v left') left' (v + 1)
 laid-step top n shifts left left' width v r h t e i k m = record {
   fields = subst (λ z. AreFields top (half n) 0 z) (sym more)
-      (fields-push top (half n) 0 v (2 ^ left') (weights (take v shifts)) r.fields (two-positive left') long fits);
+      (fields-push top (half n) 0 v (2 ^ left') (weights (take v shifts)) r.fields (pow_pos left') long fits);
   end = ap (end_of (half n)) more ∙ end-push (half n) (2 ^ left') (weights (take v shifts));
   small = omega (arith, e, r.small);
   places = All-set (IsPlace n) shifts v left' i r.places;

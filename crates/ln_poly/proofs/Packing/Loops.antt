@@ -1,15 +1,16 @@
 -- The steps of the loops over terms whose monomials are numbers.
 use Rattle.std.proofs.Common.{◌≡◌, ℕ, ◌+◌, ◌*◌, ◌<◌, ◌≤◌, ◌^◌, zero, suc, [], ◌∷◌, ◌++◌, append_assoc, append-nil, length, get_or, set, ◌-◌, ◌/◌, refl, sym}
-use Rattle.std.proofs.Common.{◌∙◌, ap, arith, subst, take, drop, unsigned_abs, Bool, true, false, IsTrue, ◌↔◌, ◌⊎◌, inl, inr}
-use Rattle.std.proofs.lemmas.Bool.{cases_lt}
+use Rattle.std.proofs.Common.{◌∙◌, ap, arith, subst, take, drop, unsigned_abs, Bool, false, IsTrue, ◌↔◌, ◌≢◌}
+use Rattle.std.proofs.lemmas.Bool.{iff_false}
 use Rattle.std.proofs.Math.IntN.{ℤ, pos, ◌+ℤ◌, ◌*ℤ◌}
-use Rattle.std.proofs.Math.Nat.{mul-le-mul_left, mul-le-mul_right}
+use Rattle.std.proofs.Math.Nat.{add-mul, mul-le-mul_left, mul-le-mul_right}
 use Rattle.std.proofs.lemmas.Int.{unsigned_abs-mul}
-use Rattle.std.proofs.lemmas.List.{drop_more, length-append, length-drop, length-set, length-take-le, take-append-drop, take_all, take_more_set}
+use Rattle.std.proofs.lemmas.List.{length-append, length-drop, length-set, length-take-le, take-append-drop, take_more_set}
 use Rattle.ln_poly.specs.Keyed.{AreAllProducts, AreAscending, HaveFactors, IsMerge, Keyed, ProductsFit, both, first, left_over}
 use Rattle.ln_poly.specs.Keyed.{neither, right_over, row, second, weight_of}
-use Rattle.std.proofs.lemmas.List.Elements.{All-drop, All-take}
-use Rattle.ln_poly.proofs.Packing.Rows.{distributed, one-row, rows-joined, weight-append}
+use Rattle.std.proofs.lemmas.List.Elements.{All-drop, All-from_recursion, All-take, recursion_from_All}
+use Rattle.ln_poly.proofs.Packing.Rows.{one-row, rows-joined, weight-append}
+use Rattle.ln_poly.proofs.TermLists.Products.{drop-read}
 
 -- what is done begins the merge of f and g, whose terms from i and j on remain
 abbrev pub IsMerging : Keyed → Keyed → Keyed → ℕ → ℕ → Type 0
@@ -24,19 +25,16 @@ AreMerging old out f g i j k = IsMerging (take k out) f g i j × (length out ≡
 
 -- a number that isn't below another
 pub not-below : (b : Bool) (x y : ℕ) → IsTrue b ↔ (x < y) → b ≡ false → y ≤ x
-not-below b x y t e = by_case (cases_lt x y) where
-  by_case : (x < y) ⊎ (y ≤ x) → y ≤ x
-  by_case (inr h) = h
-  by_case (inl h) = let q : true ≡ false = sym (t.1 h) ∙ e in cc
+not-below b x y t e = omega (arith, iff_false t e)
 
 -- each step, where both lists have terms
 module _ (old out f g : Keyed) (i j k : ℕ) (s t : ℕ × ℤ) (a : s ≡ get_or f i s) (b : t ≡ get_or g j t) (m : AreMerging old out f g i j k)
     (l : i < length f) (r : j < length g) (room : length f + length g ≤ length old) where
   from-f : drop i f ≡ s ∷ drop (i + 1) f
-  from-f = drop_more f i s l ∙ ap (λ z. z ∷ drop (i + 1) f) (sym a)
+  from-f = drop-read f i s l a
 
   from-g : drop j g ≡ t ∷ drop (j + 1) g
-  from-g = drop_more g j t r ∙ ap (λ z. z ∷ drop (j + 1) g) (sym b)
+  from-g = drop-read g j t r b
 
   -- what the first terms merge to
   rebuilt : (h h' : Keyed) → IsMerge (s ∷ drop (i + 1) f) (t ∷ drop (j + 1) g) h' → IsMerge f g (take k out ++ h')
@@ -108,10 +106,6 @@ merging-end out done f g i j m n l k e = by_case (drop i f) (drop j g) refl refl
     some (a ∷ f) zero s x l p = omega arith
     some (a ∷ f) (suc i) s x l p = omega (arith, some f i s x (omega (arith, l)) p)
 
--- the second part is all that comes after the first
-pub rest-is : (f : Keyed) (k : ℕ) → take (length f - k) (drop k f) ≡ drop k f
-rest-is f k = take_all (length f - k) (drop k f) (omega (arith, length-drop k f))
-
 -- what remains of both lists is written
 pub merged-end : (old out out1 out2 f g x y : Keyed) (i j k : ℕ) → AreMerging old out f g i j k → (i < length f → j < length g → ⊥)
     → x ≡ drop i f → y ≡ drop j g → take (k + length x) out1 ≡ take k out ++ x
@@ -154,7 +148,7 @@ product-room g i s t e l room = omega (
 -- the size of the products of a list in two parts
 whole-weight : (f f' f'' g : Keyed) → f ≡ f' ++ f'' → weight_of f * weight_of g ≡ weight_of f' * weight_of g + weight_of f'' * weight_of g
 whole-weight f f' f'' g e =
-    ap (λ z. z * weight_of g) (ap weight_of e ∙ weight-append f' f'') ∙ distributed (weight_of f') (weight_of f'') (weight_of g)
+    ap (λ z. z * weight_of g) (ap weight_of e ∙ weight-append f' f'') ∙ add-mul (weight_of f') (weight_of f'') (weight_of g)
 
 -- there is room for the sum of the products of both parts
 pub sum-room : (a b f f' f'' g : Keyed) → AreAllProducts a f' g → AreAllProducts b f'' g → f ≡ f' ++ f'' → weight_of f * weight_of g < 2 ^ 127
@@ -165,17 +159,16 @@ sum-room a b f f' f'' g p q e room = omega (arith, p.size, q.size, whole-weight 
 pub halves-joined : (a b h f f' f'' g : Keyed) → AreAllProducts a f' g → AreAllProducts b f'' g → IsMerge a b h → f ≡ f' ++ f'' → AreAllProducts h f g
 halves-joined a b h f f' f'' g p q m e = subst (λ z. AreAllProducts h z g) (sym e) (rows-joined a b h f' f'' g p q m)
 
+abbrev has_factor : ℕ × ℤ → Type 0
+has_factor t = t.1 ≢ pos 0
+
 -- no factor of a half is 0
 factors-take : (k : ℕ) (f : Keyed) → HaveFactors f → HaveFactors (take k f)
-factors-take zero f h = tt
-factors-take (suc k) [] h = tt
-factors-take (suc k) (t ∷ f) h = (h.0, factors-take k f h.1)
+factors-take k f h = recursion_from_All has_factor (take k f) (All-take has_factor k f (All-from_recursion has_factor f h))
 
 -- nor of the other
 factors-drop : (k : ℕ) (f : Keyed) → HaveFactors f → HaveFactors (drop k f)
-factors-drop zero f h = h
-factors-drop (suc k) [] h = tt
-factors-drop (suc k) (t ∷ f) h = factors-drop k f h.1
+factors-drop k f h = recursion_from_All has_factor (drop k f) (All-drop has_factor k f (All-from_recursion has_factor f h))
 
 -- ---- the two halves
 -- one term
@@ -209,7 +202,7 @@ halves-first f g = let k : length f / 2 ≤ length f = omega arith in ap (λ z. 
 
 -- the products of both parts are as many as all
 pub parts-long : (f f' f'' g : Keyed) → f ≡ f' ++ f'' → length f * length g ≡ length f' * length g + length f'' * length g
-parts-long f f' f'' g e = ap (λ z. z * length g) (ap length e ∙ length-append f' f'') ∙ distributed (length f') (length f'') (length g)
+parts-long f f' f'' g e = ap (λ z. z * length g) (ap length e ∙ length-append f' f'') ∙ add-mul (length f') (length f'') (length g)
 
 -- the products of the first terms fit
 pub first-fit : (left k : ℕ) (f g : Keyed) → ProductsFit left f g → ProductsFit left (take k f) g

@@ -44,6 +44,10 @@ merge-weight _ _ _ (second s t f g h l m) = omega (arith, merge-weight (s ∷ f)
 merge-weight _ _ _ (both s t f g h e n m) = omega (arith, merge-weight f g h m, abs-add s.1 t.1)
 merge-weight _ _ _ (neither s t f g h e z m) = omega (arith, merge-weight f g h m)
 
+has-more : (s t : ℕ × ℤ) (f g : Keyed) (k : ℕ) → Has f k ⊎ Has g k → Has (s ∷ f) k ⊎ Has (t ∷ g) k
+has-more s t f g k (inl i) = inl (inr i)
+has-more s t f g k (inr i) = inr (inr i)
+
 -- a number of what is merged is one of either
 pub merge-has : (f g h : Keyed) (k : ℕ) → IsMerge f g h → Has h k → Has f k ⊎ Has g k
 merge-has _ _ _ k (left_over f) i = inl i
@@ -59,14 +63,8 @@ merge-has _ _ _ k (second s t f g h l m) (inr i) = by_case (merge-has (s ∷ f) 
   by_case (inl j) = inl j
   by_case (inr j) = inr (inr j)
 merge-has _ _ _ k (both s t f g h e n m) (inl d) = inl (inl d)
-merge-has _ _ _ k (both s t f g h e n m) (inr i) = by_case (merge-has f g h k m i) where
-  by_case : Has f k ⊎ Has g k → Has (s ∷ f) k ⊎ Has (t ∷ g) k
-  by_case (inl j) = inl (inr j)
-  by_case (inr j) = inr (inr j)
-merge-has _ _ _ k (neither s t f g h e z m) i = by_case (merge-has f g h k m i) where
-  by_case : Has f k ⊎ Has g k → Has (s ∷ f) k ⊎ Has (t ∷ g) k
-  by_case (inl j) = inl (inr j)
-  by_case (inr j) = inr (inr j)
+merge-has _ _ _ k (both s t f g h e n m) (inr i) = has-more s t f g k (merge-has f g h k m i)
+merge-has _ _ _ k (neither s t f g h e z m) i = has-more s t f g k (merge-has f g h k m i)
 
 over-lower : (a b : ℕ) (f : Keyed) → a < b → AreOver b f → AreOver a f
 over-lower a b [] l o = tt

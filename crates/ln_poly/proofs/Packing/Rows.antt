@@ -1,16 +1,13 @@
 -- Products of terms whose monomials are numbers, row by row.
 use Rattle.std.proofs.Common.{◌≡◌, ◌≢◌, ◌⊎◌, inl, inr, ℕ, ◌+◌, ◌*◌, [], ◌∷◌, ◌++◌, refl, ◌∙◌, ap, arith, Bool, unsigned_abs}
 use Rattle.std.proofs.Math.IntN.{ℤ, pos, ◌+ℤ◌, ◌*ℤ◌}
+use Rattle.std.proofs.Math.Nat.{add-mul}
 use Rattle.std.proofs.lemmas.Int.{ints, unsigned_abs-mul}
 use Rattle.ln_algebra.specs.Vector.{sum_over}
 use Rattle.ln_algebra.proofs.Expanded.Sums.{sum_over-append}
 use Rattle.ln_algebra.proofs.Ordering.Products.{times-zero}
 use Rattle.ln_poly.specs.Keyed.{AreAllProducts, AreAscending, AreOver, Has, HaveFactors, IsMerge, IsSumIn, Keyed, passing, row, weight_of}
 use Rattle.ln_poly.proofs.Packing.Merges.{merge-ascending, merge-factors, merge-has, merge-passing, merge-weight}
-
--- the products of a sum
-pub distributed : (x y z : ℕ) → (x + y) * z ≡ x * z + y * z
-distributed x y z = omega arith
 
 -- ---- sizes and members of joined lists
 -- the size of a joined list is the sum of both
@@ -38,7 +35,8 @@ row-ascending : (s : ℕ × ℤ) (g : Keyed) → AreAscending g → AreAscending
 row-ascending s [] a = tt
 row-ascending s (t ∷ g) a = (row-over s t.0 g a.0, row-ascending s g a.1)
 
-nonzero-product : (x y : ℤ) → x ≢ pos 0 → y ≢ pos 0 → x *ℤ y ≢ pos 0
+-- a product isn't 0 where neither factor is
+pub nonzero-product : (x y : ℤ) → x ≢ pos 0 → y ≢ pos 0 → x *ℤ y ≢ pos 0
 nonzero-product x y f g e = by_case (times-zero x y e) where
   by_case : (x ≡ pos 0) ⊎ (y ≡ pos 0) → ⊥
   by_case (inl h) = f h
@@ -82,7 +80,7 @@ rows-joined a b h f f' g p q m = record {
     p.size,
     q.size,
     ap (λ z. z * weight_of g) (weight-append f f'),
-    distributed (weight_of f) (weight_of f') (weight_of g),
+    add-mul (weight_of f) (weight_of f') (weight_of g),
   );
   ascending = merge-ascending a b h m p.ascending q.ascending;
   nonzero = merge-factors a b h m p.nonzero q.nonzero;

@@ -1,10 +1,10 @@
 -- Terms of two polynomials as numbers: each sum of two numbers is that of a product, and they are in its order.
-use Rattle.std.proofs.Common.{◌≡◌, ◌⊎◌, inl, inr, ℕ, ◌+◌, ◌-◌, ◌<◌, ◌≤◌, zero, suc, List, [], ◌∷◌, length, get_or}
+use Rattle.std.proofs.Common.{◌≡◌, ◌⊎◌, inl, inr, ℕ, ◌+◌, ◌-◌, ◌<◌, ◌≤◌, suc, List, [], ◌∷◌, length, get_or}
 use Rattle.std.proofs.Common.{refl, ◌∙◌, ap, arith, All, Less, Equal, Greater}
 use Rattle.std.proofs.Math.IntN.{ℤ, pos}
-use Rattle.std.proofs.Math.Nat.{le-max_left, le-max_right, max-le}
+use Rattle.std.proofs.lemmas.List.Recursion.{max_bounds, max_least}
 use Rattle.std.proofs.lemmas.Bool.{cases_lt}
-use Rattle.std.proofs.lemmas.List.Elements.{All-cons, All-head, All-nil, All-tail}
+use Rattle.std.proofs.lemmas.List.Elements.{All-cons, All-head, All-map, All-nil, All-tail}
 use Rattle.std.specs.List.{AllByRecursion}
 use Rattle.std.specs.List.Sorted.{IsStrictlySortedBy}
 use Rattle.std.specs.Ordering.{is_eq, ordering_reverse}
@@ -24,14 +24,11 @@ use Rattle.ln_poly.proofs.TermLists.Exponents.{exponent-small}
 -- ---- the largest exponents
 -- no exponent exceeds the largest
 pub largest-at : (f : Sparse) (i v : ℕ) (d : Pairs × ℤ) → i < length f → exponent v (get_or f i d).0 ≤ largest f v
-largest-at [] i v d h = absurd (omega arith)
-largest-at (t ∷ f) zero v d h = le-max_left (exponent v t.0) (largest f v)
-largest-at (t ∷ f) (suc i) v d h = omega (arith, largest-at f i v d (omega arith), le-max_right (exponent v t.0) (largest f v))
+largest-at f i v d h = max_bounds (λ g. largest g v) (λ t. exponent v t.0) refl (λ t g. refl) f i d h
 
 -- what no exponent exceeds the largest doesn't
 largest-most : (f : Sparse) (v m : ℕ) → ((i : ℕ) (d : Pairs × ℤ) → i < length f → exponent v (get_or f i d).0 ≤ m) → largest f v ≤ m
-largest-most [] v m h = omega arith
-largest-most (t ∷ f) v m h = max-le (h 0 t (omega arith)) (largest-most f v m (λ i d l. h (suc i) d (omega (arith, l))))
+largest-most f v m h = max_least (λ g. largest g v) (λ t. exponent v t.0) refl (λ t g. refl) f ([], pos 0) m (λ i l. h i ([], pos 0) l)
 
 -- where those of all products fit, the largest of both do
 pub largest-both : (f g : Sparse) (v : ℕ) → AreRising f → AreRising g → All (λ s. PowersFit s g) f → largest f v + largest g v < 128
@@ -70,54 +67,46 @@ pub record IsOpened (ws : List ℕ) (f g : Sparse) (k : ℕ) : Type 0 where
 none-from : (n v : ℕ) (f : Sparse) (i : ℕ) (d : Pairs × ℤ) → i < length f → AreBelow n f → n ≤ v → exponent v (get_or f i d).0 ≡ 0
 none-from n v f i d h a l = above-none n v (get_or f i d).0 (a i d h) l
 
--- the exponents of the number of a product
-pub product-exponent : (ws : List ℕ) (left : ℕ) (f g : Sparse) (i j : ℕ) (d e : Pairs × ℤ) → ArePackable ws left f g → i < length f → j < length g → (v : ℕ)
-    → exponent v (opened ws (packed ws (get_or f i d).0 + packed ws (get_or g j e).0)) ≡ exponent v (get_or f i d).0 + exponent v (get_or g j e).0
-product-exponent ws left f g i j d e p h l v = rw (← sum) (opened-exponent (top_of f g) left ws m p.fields high none v) where
-  m : ℕ → ℕ
-  m u = exponent u (get_or f i d).0 + exponent u (get_or g j e).0
+-- the product of a term of f and one of g
+module _ (ws : List ℕ) (left : ℕ) (f g : Sparse) (p : ArePackable ws left f g) (i j : ℕ) (d e : Pairs × ℤ) (h : i < length f) (l : j < length g) where
+  abbrev both : ℕ → ℕ
+  both u = exponent u (get_or f i d).0 + exponent u (get_or g j e).0
 
-  sum : number ws 0 m ≡ packed ws (get_or f i d).0 + packed ws (get_or g j e).0
-  sum = number-adds ws 0 (λ u. exponent u (get_or f i d).0) (λ u. exponent u (get_or g j e).0) m (λ u. refl)
+  both-number : number ws 0 both ≡ packed ws (get_or f i d).0 + packed ws (get_or g j e).0
+  both-number = number-adds ws 0 (λ u. exponent u (get_or f i d).0) (λ u. exponent u (get_or g j e).0) both (λ u. refl)
 
-  high : (u : ℕ) → m u ≤ top_of f g u
-  high u = omega (arith, largest-at f i u d h, largest-at g j u e l)
+  both-high : (u : ℕ) → both u ≤ top_of f g u
+  both-high u = omega (arith, largest-at f i u d h, largest-at g j u e l)
 
-  none : (u : ℕ) → length ws ≤ u → m u ≡ 0
-  none u k = omega (arith, none-from (length ws) u f i d h p.left_below k, none-from (length ws) u g j e l p.right_below k)
+  both-none : (n u : ℕ) → AreBelow n f → AreBelow n g → n ≤ u → both u ≡ 0
+  both-none n u a b k = omega (arith, none-from n u f i d h a k, none-from n u g j e l b k)
 
-product-small : (ws : List ℕ) (left : ℕ) (f g : Sparse) (i j : ℕ) (d e : Pairs × ℤ) → ArePackable ws left f g → i < length f → j < length g
-    → AreSmall (taken ws (packed ws (get_or f i d).0 + packed ws (get_or g j e).0))
-product-small ws left f g i j d e p h l = rw (← sum) (taken-small (top_of f g) left ws m p.fields high (λ u. p.powers i d h j e l u)) where
-  m : ℕ → ℕ
-  m u = exponent u (get_or f i d).0 + exponent u (get_or g j e).0
+  -- the exponents of its number
+  pub product-exponent : (v : ℕ) → exponent v (opened ws (packed ws (get_or f i d).0 + packed ws (get_or g j e).0))
+      ≡ exponent v (get_or f i d).0 + exponent v (get_or g j e).0
+  product-exponent v = rw (← both-number)
+      (opened-exponent (top_of f g) left ws both p.fields both-high (λ u k. both-none (length ws) u p.left_below p.right_below k) v)
 
-  sum : number ws 0 m ≡ packed ws (get_or f i d).0 + packed ws (get_or g j e).0
-  sum = number-adds ws 0 (λ u. exponent u (get_or f i d).0) (λ u. exponent u (get_or g j e).0) m (λ u. refl)
+  product-small : AreSmall (taken ws (packed ws (get_or f i d).0 + packed ws (get_or g j e).0))
+  product-small = rw (← both-number) (taken-small (top_of f g) left ws both p.fields both-high (λ u. p.powers i d h j e l u))
 
-  high : (u : ℕ) → m u ≤ top_of f g u
-  high u = omega (arith, largest-at f i u d h, largest-at g j u e l)
+  opened-product : (k : ℕ) → packed ws (get_or f i d).0 + packed ws (get_or g j e).0 ≡ k → IsOpened ws f g k
+  opened-product k q = record {
+    small = small;
+    rising = small-rising 0 (taken ws k) small;
+    within = above (length ws) p.left_below p.right_below;
+    below = above;
+    under = λ v. omega (arith, powers v, both-high v);
+    same = number-same ws 0 (λ v. exponent v (opened ws k)) both (λ v _ _. powers v) ∙ both-number ∙ q;
+  } where
+    small : AreSmall (taken ws k)
+    small = rw (← q) product-small
 
-opened-product : (ws : List ℕ) (left : ℕ) (f g : Sparse) (i j k : ℕ) (d e : Pairs × ℤ) → ArePackable ws left f g → i < length f → j < length g
-    → packed ws (get_or f i d).0 + packed ws (get_or g j e).0 ≡ k → IsOpened ws f g k
-opened-product ws left f g i j k d e p h l q = record {
-  small = small;
-  rising = small-rising 0 (taken ws k) small;
-  within = above (length ws) p.left_below p.right_below;
-  below = above;
-  under = λ v. omega (arith, powers v, largest-at f i v d h, largest-at g j v e l);
-  same = number-same ws 0 (λ v. exponent v (opened ws k)) (λ v. exponent v (get_or f i d).0 + exponent v (get_or g j e).0) (λ v _ _. powers v)
-      ∙ number-adds ws 0 (λ u. exponent u (get_or f i d).0) (λ u. exponent u (get_or g j e).0) _ (λ u. refl) ∙ q;
-} where
-  small : AreSmall (taken ws k)
-  small = rw (← q) (product-small ws left f g i j d e p h l)
+    powers : (v : ℕ) → exponent v (opened ws k) ≡ exponent v (get_or f i d).0 + exponent v (get_or g j e).0
+    powers v = rw (← q) (product-exponent v)
 
-  powers : (v : ℕ) → exponent v (opened ws k) ≡ exponent v (get_or f i d).0 + exponent v (get_or g j e).0
-  powers v = rw (← q) (product-exponent ws left f g i j d e p h l v)
-
-  above : (n : ℕ) → AreBelow n f → AreBelow n g → IsAbove (opened ws k) n
-  above n a b = none-above n (opened ws k) (small-rising 0 (taken ws k) small)
-      (λ v z. omega (arith, powers v, none-from n v f i d h a z, none-from n v g j e l b z))
+    above : (n : ℕ) → AreBelow n f → AreBelow n g → IsAbove (opened ws k) n
+    above n a b = none-above n (opened ws k) (small-rising 0 (taken ws k) small) (λ v z. omega (arith, powers v, both-none n v a b z))
 
 -- where a number of f's terms stands
 record IsKeyAt (ws : List ℕ) (f : Sparse) (a : ℕ) : Type 0 where
@@ -135,7 +124,7 @@ pub sum-opened : (ws : List ℕ) (left : ℕ) (f g : Sparse) (k : ℕ) → ArePa
 sum-opened ws left f g k p s =
     let a : IsKeyAt ws f s.a = key-at ws f s.a s.left in
     let b : IsKeyAt ws g s.b = key-at ws g s.b s.right in
-    opened-product ws left f g a.at b.at k ([], pos 0) ([], pos 0) p a.within b.within (omega (arith, a.is, b.is, s.sum))
+    opened-product ws left f g p a.at b.at ([], pos 0) ([], pos 0) a.within b.within k (omega (arith, a.is, b.is, s.sum))
 
 -- ---- the order
 -- where the first of two monomials comes before the other, it has the smaller number
@@ -217,11 +206,8 @@ keyed-ascending top left ws (t ∷ f) p s b u h = (
 
 -- they are below `left`
 pub keyed-low : (top : ℕ → ℕ) (left : ℕ) (ws : List ℕ) (f : Sparse) → AreFields top left 0 ws → 0 < left → AreUpTo top f → All (λ t. t.0 < left) (keyed ws f)
-keyed-low top left ws [] p s u = All-nil (λ t. t.0 < left)
-keyed-low top left ws (t ∷ f) p s u =
-    All-cons (λ z. z.0 < left) (packed ws t.0, t.1) (keyed ws f)
-    (number-below top left 0 ws (λ v. exponent v t.0) p s (All-head (λ z. (v : ℕ) → exponent v z.0 ≤ top v) t f u))
-    (keyed-low top left ws f p s (All-tail (λ z. (v : ℕ) → exponent v z.0 ≤ top v) t f u))
+keyed-low top left ws f p s u = All-map (λ (t : ℕ × ℤ). t.0 < left) (λ (t : Pairs × ℤ). (packed ws t.0, t.1)) f
+    (λ i d l. number-below top left 0 ws (λ v. exponent v (get_or f i d).0) p s (u i d l))
 
 -- no factor is 0
 pub keyed-factors : (ws : List ℕ) (f : Sparse) → All (λ t. IsFactor t.1) f → HaveFactors (keyed ws f)

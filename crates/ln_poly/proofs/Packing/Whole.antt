@@ -1,21 +1,21 @@
 -- The product of two polynomials by their numbers.
 use Rattle.std.proofs.Common.{◌≡◌, inl, inr, ℕ, ◌+◌, ◌-◌, ◌*◌, ◌/◌, ◌<◌, ◌≤◌, ◌^◌, zero, suc, List, [], ◌∷◌}
 use Rattle.std.proofs.Common.{◌++◌, length, get_or, take, drop, refl, sym, ◌∙◌, ap}
-use Rattle.std.proofs.Common.{arith, subst, All, min, Bool, true, false, ◌↔◌}
-use Rattle.std.proofs.Math.Nat.{min-le_right, mul-le-mul_right}
+use Rattle.std.proofs.Common.{arith, subst, All, min}
+use Rattle.std.proofs.Math.Nat.{add-mul, min-le_right, mul-le-mul_right}
 use Rattle.std.proofs.lemmas.Nat.{pow_pos}
-use Rattle.std.proofs.lemmas.List.{length-drop, length-take-le, take-append-le, take-map, take_all}
+use Rattle.std.proofs.lemmas.List.{length-drop, length-map, length-take-le, take-map, take_all, take_at}
 use Rattle.std.proofs.lemmas.List.Elements.{All-cons, All-nil}
 use Rattle.ln_poly.specs.Keyed.{AreAllProducts, AreAscending, Has, IsGivenUp, IsMerge, Keyed, ProductsFit, weight_of}
 use Rattle.ln_poly.specs.Lean.{largest}
-use Rattle.ln_poly.specs.Packed.{AreFields, ArePackable, AreSmall, keyed, taken, top_of, unkeyed, weights}
+use Rattle.ln_poly.specs.Packed.{AreFields, ArePackable, AreSmall, keyed, opened, packed, taken, top_of, unkeyed, weights}
 use Rattle.ln_poly.specs.Rows.{IsRows, PowersFit}
 use Rattle.ln_poly.specs.Sparse.{AreBelow, AreRising, IsPoly, Sparse, size_of}
 use Rattle.ln_poly.specs.Within.{TakesMore}
 use Rattle.ln_poly.specs.Words.{IsPlace, half}
 use Rattle.ln_poly.proofs.Packing.Back.{rows-numbers, rows-poly, rows-unkeyed, weight-keyed}
 use Rattle.ln_poly.proofs.Packing.Fields.{fields-same, weights-length}
-use Rattle.ln_poly.proofs.Packing.Rows.{distributed, no-row, rows-joined, weight-append}
+use Rattle.ln_poly.proofs.Packing.Rows.{no-row, rows-joined, weight-append}
 use Rattle.ln_poly.proofs.Packing.Terms.{keyed-ascending, keyed-factors, keyed-low, largest-both, left-up-to, right-up-to}
 use Rattle.ln_poly.proofs.TermLists.Bounded.{take-take, takes-more}
 
@@ -101,25 +101,19 @@ module _ (n : ℕ) (ws : List ℕ) (f g : Sparse) (p : ArePackable ws (half n) f
   pub product-poly : (h : Keyed) → AreAllProducts h (keyed ws f) (keyed ws g) → size_of f * size_of g < 2 ^ 127 → IsPoly (unkeyed ws h)
   product-poly h a room = rows-poly ws (half n) h f g (length f) p (all-rows h a) room
 
-  -- there are as many numbers as terms
-  pub keyed-length : (e : Sparse) → length (keyed ws e) ≡ length e
-  keyed-length [] = refl
-  keyed-length (t ∷ e) = ap suc (keyed-length e)
-
-  -- and as many terms as numbers
-  pub unkeyed-length : (ks : Keyed) → length (unkeyed ws ks) ≡ length ks
-  unkeyed-length [] = refl
-  unkeyed-length (t ∷ ks) = ap suc (unkeyed-length ks)
+  keyed-length : (e : Sparse) → length (keyed ws e) ≡ length e
+  keyed-length e = length-map e (λ t. (packed ws t.0, t.1))
 
   -- a product that is given up has more terms
   pub given-up : (most : ℕ) → size_of f * size_of g < 2 ^ 127 → IsGivenUp (keyed ws f) (keyed ws g) most → TakesMore f g most
   given-up most room u =
       let a : AreAllProducts u.done (keyed ws (take u.rows f)) (keyed ws g) =
       subst (λ z. AreAllProducts u.done z (keyed ws g)) (take-map _ u.rows f) u.products in
+      let terms : length (unkeyed ws u.done) ≡ length u.done = length-map u.done (λ t. (opened ws t.0, t.1)) in
       let many : most + (length f - u.rows) * length g < length (unkeyed ws u.done) = omega (
         arith,
         u.many,
-        unkeyed-length u.done,
+        terms,
         ap (λ z. (z - u.rows) * length (keyed ws g)) (keyed-length f),
         ap (λ z. (length f - u.rows) * z) (keyed-length g),
       ) in
@@ -159,7 +153,7 @@ next-room done f f' g i j p e l room =
     sym (weight-append (take i f) f') ∙ ap weight_of (ap (λ z. take i f ++ z) e ∙ take-take i (j - i) j f (omega (arith, l))) in
     let m : (weight_of (take i f) + weight_of f') * weight_of g ≤ weight_of f * weight_of g =
     mul-le-mul_right (weight_of g) (omega (arith, w, weight-take j f)) in
-    omega (arith, p.size, m, room, distributed (weight_of (take i f)) (weight_of f') (weight_of g))
+    omega (arith, p.size, m, room, add-mul (weight_of (take i f)) (weight_of f') (weight_of g))
 
 -- there is memory for the next rows
 pub next-long : (f f' g : Keyed) (i j l : ℕ) → f' ≡ take (j - i) (drop i f) → j ≤ length f → j - i ≤ 64 → min (length f) 64 * length g ≤ l
@@ -205,17 +199,9 @@ size-small f g n e h =
     let l : n ≤ 64 = omega (arith, e, min-le_right (length f) 64) in
     omega (arith, h, mul-le-mul_right (length g) l)
 
--- a test that fails
-pub no-more : (b : Bool) (P : Type 0) → (b ≡ true) ↔ P → b ≡ false → P → ⊥
-no-more b P t e p = let q : true ≡ false = sym (t.1 p) ∙ e in cc
-
--- a list of which all is written
-written : (n : ℕ) (xs zs : Keyed) → length xs ≡ n → take n (xs ++ zs) ≡ xs
-written n xs zs e = take-append-le n xs zs (omega (arith, e)) ∙ take_all n xs (omega (arith, e))
-
 -- the products so far and the next ones, merged in memory that is cut off after them
 pub with-next : (done f g e d p m t x y : Keyed) (n k a b : ℕ) → AreAllProducts done e g → AreAllProducts (take n p) f g
     → IsMerge done (take n d) (take k m) → d ≡ take a (p ++ x) → length p ≡ a → t ≡ take k (take b (m ++ y)) → length m ≡ b → AreAllProducts t (e ++ f) g
 with-next done f g e d p m t x y n k a b u v w q l r h =
-    let i : IsMerge done (take n p) (take k m) = subst (λ z. IsMerge done (take n z) (take k m)) (q ∙ written a p x l) w in
-    subst (λ z. AreAllProducts z (e ++ f) g) (sym (r ∙ ap (take k) (written b m y h))) (rows-joined done (take n p) (take k m) e f g u v i)
+    let i : IsMerge done (take n p) (take k m) = subst (λ z. IsMerge done (take n z) (take k m)) (q ∙ take_at p x a l) w in
+    subst (λ z. AreAllProducts z (e ++ f) g) (sym (r ∙ ap (take k) (take_at m y b h))) (rows-joined done (take n p) (take k m) e f g u v i)

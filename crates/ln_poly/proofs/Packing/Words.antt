@@ -2,13 +2,13 @@
 use Rattle.std.proofs.Common.{◌≡◌, ◌⊎◌, inl, inr, ℕ, zero, suc, ◌+◌, ◌-◌, ◌*◌, ◌/◌, ◌%◌, ◌<◌, ◌≤◌, ◌^◌, ◌↔◌, All, List, [], ◌∷◌, ◌++◌, length, get_or, set}
 use Rattle.std.proofs.Common.{refl, sym, ◌∙◌, ap, arith, subst, take, drop, replicate, IsTrue}
 use Rattle.std.proofs.Math.Nat.{add-mul-div_left, add-mul-div_right, div-div-eq-div-mul, div-eq_of_lt, div-mul-le_self, mod-eq_of_lt, mul-le-mul_left}
-use Rattle.std.proofs.Math.Nat.{mul_assoc, mul_comm, mul_left_comm}
+use Rattle.std.proofs.Math.Nat.{add-mul, mul_assoc, mul_comm, mul_left_comm}
 use Rattle.std.proofs.Math.Nat.{lt_of_mul-lt-mul_right, pow-le-pow_right}
 use Rattle.std.proofs.Math.Dec.{ltb}
 use Rattle.std.proofs.lemmas.Bool.{cases_lt, lt-ltb, ltb-true}
 use Rattle.std.proofs.lemmas.Nat.{pow-add, pow_pos}
 use Rattle.std.proofs.lemmas.List.{drop_all, get_or-replicate, length-replicate, length-set, length-take-le, take_all, take_more, take_more_set}
-use Rattle.std.proofs.lemmas.List.Elements.{All-get_or, All-head, All-set, All-tail, All-take}
+use Rattle.std.proofs.lemmas.List.Elements.{All-get_or, All-head, All-replicate, All-set, All-tail, All-take}
 use Rattle.ln_poly.specs.Words.{AreWords, IsPlace, half, value}
 
 -- each word is below the base
@@ -90,11 +90,7 @@ pub record IsSum (n : ℕ) (a b words : List ℕ) (carry i : ℕ) : Type 0 where
 
 -- 0 in each word
 zeros : (n : ℕ) → AreWords n (replicate n 0)
-zeros n = (length-replicate n 0, λ i d h. rw (get_or-replicate {A = ℕ} n i 0 d (omega (arith, h, length-replicate {A = ℕ} n 0))) (omega arith))
-
--- the products of a sum
-distributed : (x y z : ℕ) → (x + y) * z ≡ x * z + y * z
-distributed x y z = omega arith
+zeros n = (length-replicate n 0, All-replicate (λ w. w < 2 ^ 127) n 0 (omega arith))
 
 -- no word yet
 pub sum-begin : (n : ℕ) (a b words : List ℕ) → words ≡ replicate n 0 → IsSum n a b words 0 0
@@ -285,7 +281,7 @@ module _ (n shift i s : ℕ) (p : IsPlace n shift) (a : i ≡ shift / 127) (b : 
       let m : w / 2 ^ s * 2 ^ s % 2 ^ 128 ≡ w / 2 ^ s * 2 ^ s = mod-eq_of_lt (omega (arith, l, low)) in
       let v : x + w / 2 ^ s * 2 ^ s ≡ w = omega (arith, y, m, l) in
       let d : x * 2 ^ (127 * i) + w / 2 ^ s * 2 ^ s * 2 ^ (127 * i) ≡ w * 2 ^ (127 * i) =
-      sym (distributed x (w / 2 ^ s * 2 ^ s) (2 ^ (127 * i))) ∙ ap (λ z. z * 2 ^ (127 * i)) v in
+      sym (add-mul x (w / 2 ^ s * 2 ^ s) (2 ^ (127 * i))) ∙ ap (λ z. z * 2 ^ (127 * i)) v in
       let e : value ws / 2 ^ shift * 2 ^ shift ≡ w / 2 ^ s * 2 ^ s * 2 ^ (127 * i) =
       ap (λ z. z * 2 ^ shift) (taken-exponent ws q h) ∙ times-weight (w / 2 ^ s) in
       omega (arith, value-set ws i x long, d, e)

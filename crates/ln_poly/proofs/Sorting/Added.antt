@@ -1,7 +1,7 @@
 -- Two polynomials have a sum.
 use Rattle.std.proofs.Common.{◌≡◌, ◌⊎◌, inl, inr, ℕ, ◌+◌, ◌-◌, ◌<◌, ◌≤◌, ◌^◌, zero, suc, refl, sym, ◌∙◌, ap, subst, arith, [], ◌∷◌, ◌++◌}
 use Rattle.std.proofs.Common.{length, get_or, Less, Equal, Greater}
-use Rattle.std.proofs.lemmas.List.{length_push}
+use Rattle.std.proofs.lemmas.List.{length_push, nil_from_length}
 use Rattle.std.proofs.Math.IntN.{ℤ, pos, ◌+ℤ◌}
 use Rattle.std.specs.Ordering.{MatchOrdering}
 use Rattle.std.specs.declared.cmp.Ordering.{Ordering}
@@ -30,10 +30,6 @@ ends (t ∷ f) = inr (by_rest (ends f)) where
 -- it has at least one
 some : (f : Sparse) → HasLast f → 0 < length f
 some f l = omega (arith, ap length l.stands, length_push l.front l.last)
-
-none : (f : Sparse) → length f ≡ 0 → f ≡ []
-none [] h = refl
-none (t ∷ f) h = absurd (omega arith)
 
 -- ---- one step
 -- a term that is taken from two lists, and the remaining terms of both
@@ -111,7 +107,8 @@ merged-by f g done f0 g0 m room (inr s) next = by_factor (zero_cases s.term.1) w
   by_factor (inr n) = next s.first s.second (s.term ∷ done) s.taken.shorter (merging-put f g s.first s.second done f0 g0 s.term m s.taken room n)
 
 merged : (k : ℕ) (f g done f0 g0 : Sparse) → length f + length g ≤ k → IsMerging f g done f0 g0 → size_of f0 + size_of g0 < 2 ^ 127 → HasSum f0 g0
-merged zero f g done f0 g0 l m room = record { poly = done; sum = merging-end f g done f0 g0 m (none f (omega arith)) (none g (omega arith)) }
+merged zero f g done f0 g0 l m room =
+    record { poly = done; sum = merging-end f g done f0 g0 m (nil_from_length f (omega arith)) (nil_from_length g (omega arith)) }
 merged (suc k) f g done f0 g0 l m room = merged-by f g done f0 g0 m room (step f g) (λ f' g' done' h n. merged k f' g' done' f0 g0 (omega (arith, l, h)) n room)
 
 -- the sum of two polynomials

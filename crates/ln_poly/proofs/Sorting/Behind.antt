@@ -1,7 +1,7 @@
 -- Pairs after others, all of whose variables are lower.
 use Rattle.std.proofs.Common.{◌≡◌, ℕ, ◌+◌, ◌-◌, ◌<◌, zero, suc, sym, ◌∙◌, ap, subst, arith, [], ◌∷◌, ◌++◌, length, take, get_or}
 use Rattle.std.proofs.Common.{true, nat_lt}
-use Rattle.std.proofs.lemmas.Bool.Decides.{nat_tests}
+use Rattle.std.proofs.lemmas.Bool.{ltb-true}
 use Rattle.ln_tree.specs.Exps.{IsAbove, IsRising, Pairs, exponent}
 use Rattle.ln_tree.proofs.Powers.{above-at, above-take}
 use Rattle.ln_tree.proofs.Monomials.{above-lower}
@@ -30,13 +30,10 @@ low-last (p ∷ o ∷ a) (q ∷ b) (suc i) r s h k l =
     let before : p.0 < q.0 = omega (arith, r.2.0, rest.0.0) in
     ((before, above-lower p.0 q.0 b before s.2), rest)
 
-low-test : (x y : ℕ) → nat_lt x y ≡ true → x < y
-low-test x y e = grind (arith, nat_tests)
-
 -- the test in `are_low`: where the last variable of the first is below the first of the second, each is below each
 pub low-tested : (a b : Pairs) → IsRising a → IsRising b → 0 < length a → 0 < length b
     → nat_lt (get_or a (length a - 1) (0, 0)).0 (get_or b 0 (0, 0)).0 ≡ true → AreLow a b
-low-tested a b r s h k t = low-last a b (length a - 1) r s (omega (arith, h)) k (low-test (get_or a (length a - 1) (0, 0)).0 (get_or b 0 (0, 0)).0 t)
+low-tested a b r s h k t = low-last a b (length a - 1) r s (omega (arith, h)) k (ltb-true (get_or a (length a - 1) (0, 0)).0 (get_or b 0 (0, 0)).0 t)
 
 -- what is out so far is below the next pair
 above-more : (a b : Pairs) (i : ℕ) → AreLow a b → IsRising b → i < length b → IsAbove a (get_or b i (0, 0)).0

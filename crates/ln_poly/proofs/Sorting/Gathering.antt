@@ -2,13 +2,13 @@
 use Rattle.std.proofs.Common.{◌≡◌, ℕ, ◌<◌, ◌≤◌, ◌^◌, ◌≢◌, zero, suc, refl, sym, ap, subst, arith, List, [], ◌∷◌, set, get_or, Bool, true, false, cond, not}
 use Rattle.std.proofs.lemmas.Int.{ints}
 use Rattle.std.proofs.Math.IntN.{ℤ, pos}
-use lib.Signed.{◌<ℤ◌}
 use Rattle.std.proofs.lemmas.List.{get_or-map, length-map}
 use Rattle.std.specs.List.{filter, All, AllByRecursion}
 use Rattle.std.specs.List.Sorted.{IsStrictlySortedBy}
-use Rattle.std.specs.Ordering.{int_cmp, int_eq, on}
-use Rattle.std.specs.declared.cmp.Ordering.TheVariants.{Less, Greater}
-use Rattle.std.proofs.lemmas.Cmp.{by_ranked, int_ranked}
+use Rattle.std.specs.Ordering.{int_eq, on}
+use Rattle.std.specs.declared.cmp.Ordering.TheVariants.{Less}
+use Rattle.std.proofs.lemmas.Bool.{false≢true, not-false}
+use Rattle.std.proofs.lemmas.Bool.Decides.{Decides-int_eq}
 use Rattle.std.proofs.lemmas.List.Elements.{All-cons, All-filter, All-nil}
 use Rattle.std.proofs.lemmas.List.Kept.{IsStrictlySortedBy-filter}
 use Rattle.ln_tree.specs.Exps.{Pairs, IsRising, pairs_cmp}
@@ -24,29 +24,17 @@ exps-set (x ∷ xs) (suc i) e a c h = ap (λ z. x.0 ∷ z) (exps-set xs i e a c 
 -- ---- zeros
 -- the test of equality of integers
 pub int_eq-is : (y z : ℤ) → int_eq y z ≡ true → y ≡ z
-int_eq-is y z h = by_ranked (y <ℤ z) (y ≡ z) (z <ℤ y) (int_cmp y z) (int_ranked y z (int_cmp y z) refl) (λ e _. absurd (no-lt h e))
-    (λ _ k. k) (λ e _. absurd (no-gt h e))
-  where
-    no-lt : int_eq y z ≡ true → int_cmp y z ≡ Less → ⊥
-    no-lt h e = cc
-
-    no-gt : int_eq y z ≡ true → int_cmp y z ≡ Greater → ⊥
-    no-gt h e = cc
+int_eq-is y z h = (Decides-int_eq y z).0 h
 
 -- is the factor another than 0?
 abbrev pub has_factor : Pairs × ℤ → Bool
 has_factor t = not (int_eq t.1 (pos 0))
 
 zero_factor : (t : Pairs × ℤ) → has_factor t ≡ false → t.1 ≡ pos 0
-zero_factor t h = int_eq-is t.1 (pos 0) (by_case (int_eq t.1 (pos 0)) h) where
-  by_case : (b : Bool) → not b ≡ false → b ≡ true
-  by_case true h = refl
-  by_case false h = cc
+zero_factor t h = int_eq-is t.1 (pos 0) (not-false (int_eq t.1 (pos 0)) h)
 
 some_factor : (t : Pairs × ℤ) → has_factor t ≡ true → t.1 ≢ pos 0
-some_factor t h = λ e. let f : not (int_eq (pos 0) (pos 0)) ≡ true = rw e at h in absurd (false-true f) where
-  false-true : false ≡ true → ⊥
-  false-true e = cc
+some_factor t h = λ e. let f : not (int_eq (pos 0) (pos 0)) ≡ true = rw e at h in absurd (false≢true f)
 
 -- leaving out zeros changes no coefficient
 pub filtered-coefficient : (n : ℕ) (m : List ℕ) (xs : Sparse) → coefficient_at n (filter has_factor xs) m ≡ coefficient_at n xs m

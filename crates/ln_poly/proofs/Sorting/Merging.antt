@@ -1,8 +1,7 @@
 -- The pairs of two lists, merged.
 use Rattle.std.proofs.Common.{◌≡◌, ℕ, ◌+◌, ◌<◌, ◌≤◌, zero, suc, refl, sym, arith, [], ◌∷◌, ◌++◌, length, drop, get_or, Bool, true}
 use Rattle.std.proofs.Common.{false, if◌then◌else◌, eqb, eq-eqb, subst}
-use Rattle.std.proofs.lemmas.Bool.{cases_lt}
-use Rattle.std.proofs.lemmas.Bool.Decides.{nat_tests}
+use Rattle.std.proofs.lemmas.Bool.{cases_lt, ne_eqb}
 use mathlib.Core.Logic.{◌⊎◌, inl, inr}
 use Rattle.std.proofs.lemmas.List.{drop_more}
 use Rattle.ln_tree.specs.Exps.{AllAbove, IsAbove, IsRising, Pairs, exponent}
@@ -185,9 +184,7 @@ merged-small out a b i j m h v = omega (arith, m.exponents v, h v)
 -- where all variables of the pairs are below k, each variable from k on has the exponent 0
 pub above-none : (k v : ℕ) (ps : Pairs) → IsAbove ps k → k ≤ v → exponent v ps ≡ 0
 above-none k v [] a h = refl
-above-none k v (p ∷ ps) a h = let ne : eqb p.0 v ≡ false = no p.0 v (omega (arith, a.0)) in rw ne (omega (arith, above-none k v ps a.1 h)) where
-  no : (x y : ℕ) → x < y → eqb x y ≡ false
-  no x y l = grind (arith, nat_tests)
+above-none k v (p ∷ ps) a h = rw (ne_eqb p.0 v (λ e. absurd (omega (arith, a.0, e)))) (omega (arith, above-none k v ps a.1 h))
 
 -- where no variable from k on has an exponent, all variables of rising pairs are below k
 pub none-above : (k : ℕ) (ps : Pairs) → IsRising ps → ((v : ℕ) → k ≤ v → exponent v ps ≡ 0) → IsAbove ps k

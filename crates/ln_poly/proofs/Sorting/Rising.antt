@@ -1,6 +1,6 @@
 -- Terms in order, and one more after them.
 use Rattle.std.proofs.Common.{◌≡◌, ℕ, ◌<◌, zero, suc, arith, All, [], ◌∷◌, ◌++◌, length, get_or, Less}
-use Rattle.std.proofs.lemmas.List.Elements.{All-head, All-tail}
+use Rattle.std.proofs.lemmas.List.Elements.{All-from_recursion, All-head, All-tail}
 use Rattle.std.proofs.Math.IntN.{ℤ}
 use Rattle.std.specs.List.{AllByRecursion}
 use Rattle.std.specs.List.Sorted.{IsStrictlySortedBy}
@@ -31,9 +31,7 @@ sorted-push (y ∷ xs) x s a = (
 -- each is before those after it
 first-before : (e : Pairs) (xs : Sparse) (i : ℕ) (d : Pairs × ℤ) → i < length xs
     → AllByRecursion (λ (y : Pairs × ℤ). pairs_cmp e y.0 ≡ Less) xs → pairs_cmp e (get_or xs i d).0 ≡ Less
-first-before e [] i d h a = absurd (omega arith)
-first-before e (x ∷ xs) zero d h a = a.0
-first-before e (x ∷ xs) (suc i) d h a = first-before e xs i d (omega arith) a.1
+first-before e xs i d h a = All-from_recursion (λ (y : Pairs × ℤ). pairs_cmp e y.0 ≡ Less) xs a i d h
 
 -- of two terms of a sorted list, the earlier one has the lower monomial
 pub sorted-at : (xs : Sparse) (j i : ℕ) (d e : Pairs × ℤ) → j < i → i < length xs

@@ -1,10 +1,10 @@
 -- Coefficients and sizes of lists of terms.
 use Rattle.std.proofs.Common.{◌≡◌, ℕ, ◌+◌, ◌<◌, ◌≤◌, zero, suc, refl, ◌∙◌, ap, arith, List, [], ◌∷◌, ◌++◌, length, take, set, get_or, Bool}
-use Rattle.std.proofs.Common.{true, false, if◌then◌else◌, unsigned_abs, add-one}
+use Rattle.std.proofs.Common.{true, false, if◌then◌else◌, unsigned_abs}
 use Rattle.std.proofs.lemmas.Int.{ints}
 use Rattle.std.proofs.Math.IntN.{ℤ, pos, ◌+ℤ◌}
-use Rattle.std.proofs.lemmas.List.{get_or_default}
-use Rattle.std.proofs.lemmas.List.Sums.{get_or-le-sum_by, sum_by-set, sum_by_push, sum_by_more, sum_by-take-le, sum_by-append, sum_by-cons}
+use Rattle.std.proofs.lemmas.List.{get_or_default, take_more}
+use Rattle.std.proofs.lemmas.List.Sums.{get_or-le-sum_by, sum_by-set, sum_by_push, sum_by_more, sum_by-take-le, sum_by-cons}
 use Rattle.ln_algebra.specs.Vector.{same_vector}
 use Rattle.ln_tree.specs.Exps.{Pairs, vector}
 use Rattle.ln_poly.specs.Sparse.{Sparse, coefficient_at, part_at, size_of}
@@ -32,12 +32,7 @@ coefficient_at-push n m xs t = omega (arith, ints, coefficient_at-append n m xs 
 -- the first i + 1 terms have the coefficient of the first i and what term i adds
 pub coefficient_at-more : (n : ℕ) (m : List ℕ) (xs : Sparse) (i : ℕ) (d : Pairs × ℤ) → i < length xs
     → coefficient_at n (take (i + 1) xs) m ≡ coefficient_at n (take i xs) m +ℤ part_at n (get_or xs i d) m
-coefficient_at-more n m [] i d h = absurd (omega arith)
-coefficient_at-more n m (x ∷ xs) zero d h = omega (arith, ints, coefficient_at-cons n m x [], coefficient_at-nil n m)
-coefficient_at-more n m (x ∷ xs) (suc i) d h =
-    let ih : coefficient_at n (take (suc i) xs) m ≡ coefficient_at n (take i xs) m +ℤ part_at n (get_or xs i d) m =
-    rw add-one at (coefficient_at-more n m xs i d (omega arith)) in
-    rw add-one (omega (arith, ints, ih, coefficient_at-cons n m x (take (suc i) xs), coefficient_at-cons n m x (take i xs)))
+coefficient_at-more n m xs i d h = ap (λ z. coefficient_at n z m) (take_more xs i d h) ∙ coefficient_at-push n m (take i xs) (get_or xs i d)
 
 -- a term that is replaced no longer adds its part; the new one adds its own
 pub coefficient_at-set : (n : ℕ) (m : List ℕ) (xs : Sparse) (i : ℕ) (t d : Pairs × ℤ) → i < length xs

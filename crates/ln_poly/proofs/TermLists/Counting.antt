@@ -6,8 +6,7 @@ use Rattle.std.proofs.lemmas.Int.{ints}
 use Rattle.std.proofs.lemmas.List.Elements.{All-head, All-tail}
 use Rattle.ln_base.specs.declared.span.Span.{Span}
 use Rattle.std.specs.Prelude.{nat_lt}
-use Rattle.std.proofs.lemmas.Bool.{cases_lt}
-use Rattle.std.proofs.lemmas.Bool.Decides.{nat_tests}
+use Rattle.std.proofs.lemmas.Bool.{cases_lt, ltb-false}
 use Rattle.ln_algebra.proofs.Expanded.Degree.{coefficient-above}
 use Rattle.ln_algebra.proofs.Expanded.Normal.{same_vector-is, same_vector-refl}
 use Rattle.ln_algebra.specs.Coefficient.{normal_coefficient}
@@ -165,10 +164,4 @@ counted-many n at e f l p = record { before = []; node = e; after = []; stands =
 
 -- where the test for more than 1,024 fails, there are at most 1,024
 pub few_test : (n : ℕ) → nat_lt 1024 n ≡ false → n ≤ 1024
-few_test n h = by_case (cases_lt 1024 n) where
-  test_lt : (a b : ℕ) → a < b → nat_lt a b ≡ true
-  test_lt a b l = grind (arith, nat_tests)
-
-  by_case : (1024 < n) ⊎ (n ≤ 1024) → n ≤ 1024
-  by_case (inl l) = let t : nat_lt 1024 n ≡ true = test_lt 1024 n l in let e : true ≡ false = sym t ∙ h in cc
-  by_case (inr g) = g
+few_test n h = ltb-false 1024 n h

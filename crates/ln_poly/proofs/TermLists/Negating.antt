@@ -5,7 +5,7 @@ use Rattle.std.proofs.Math.IntN.{ℤ, pos, neg_ℤ}
 use Rattle.std.proofs.lemmas.Int.{ints, to_z-of_z}
 use mir.Syntax.{w128}
 use Rattle.std.proofs.lemmas.List.{length-set}
-use Rattle.std.proofs.lemmas.List.Elements.{All-cons, All-head, All-nil, All-tail}
+use Rattle.std.proofs.lemmas.List.Elements.{All-map}
 use Rattle.std.specs.Prelude.{All}
 use Rattle.std.specs.List.{AllByRecursion}
 use Rattle.std.specs.List.Sorted.{IsStrictlySortedBy}
@@ -23,6 +23,10 @@ part-negated n m t = by_case (same_vector (vector n t.0) m) where
   by_case true = refl
   by_case false = refl
 
+-- a term with the other sign
+abbrev turned_sign : Pairs × ℤ → Pairs × ℤ
+turned_sign t = (t.0, neg_ℤ t.1)
+
 -- each coefficient has the other sign
 pub coefficient-negated : (n : ℕ) (m : List ℕ) (f : Sparse) → coefficient_at n (negated f) m ≡ neg_ℤ (coefficient_at n f m)
 coefficient-negated n m [] = omega (arith, ints, coefficient_at-nil n m)
@@ -39,15 +43,11 @@ size-negated (t ∷ f) = omega (arith, size-cons t f, size-cons (t.0, neg_ℤ t.
 
 -- the pairs still rise
 pub rising-negated : (f : Sparse) → AreRising f → AreRising (negated f)
-rising-negated [] r = All-nil (λ t. IsRising t.0)
-rising-negated (t ∷ f) r = All-cons (λ z. IsRising z.0) (t.0, neg_ℤ t.1) (negated f) (All-head (λ z. IsRising z.0) t f r)
-    (rising-negated f (All-tail (λ z. IsRising z.0) t f r))
+rising-negated f r = All-map (λ t. IsRising t.0) turned_sign f r
 
 -- the variables are still below n
 pub below-negated : (n : ℕ) (f : Sparse) → AreBelow n f → AreBelow n (negated f)
-below-negated n [] r = All-nil (λ t. IsAbove t.0 n)
-below-negated n (t ∷ f) r = All-cons (λ z. IsAbove z.0 n) (t.0, neg_ℤ t.1) (negated f) (All-head (λ z. IsAbove z.0 n) t f r)
-    (below-negated n f (All-tail (λ z. IsAbove z.0 n) t f r))
+below-negated n f r = All-map (λ t. IsAbove t.0 n) turned_sign f r
 
 -- ---- the form
 less-negated : (t : Pairs × ℤ) (f : Sparse) → AllByRecursion (λ u. on (λ t. t.0) pairs_cmp t u ≡ Less) f
@@ -65,9 +65,7 @@ factor-negated z h =
     (λ e. h.0 (omega (arith, ints, e)), let a : unsigned_abs (neg_ℤ z) ≡ unsigned_abs z = omega (arith, ints) in let b = h.1 in omega (arith, a, b))
 
 factors-negated : (f : Sparse) → All (λ t. IsFactor t.1) f → All (λ t. IsFactor t.1) (negated f)
-factors-negated [] h = All-nil (λ t. IsFactor t.1)
-factors-negated (t ∷ f) h = All-cons (λ z. IsFactor z.1) (t.0, neg_ℤ t.1) (negated f) (factor-negated t.1 (All-head (λ z. IsFactor z.1) t f h))
-    (factors-negated f (All-tail (λ z. IsFactor z.1) t f h))
+factors-negated f h = All-map (λ t. IsFactor t.1) turned_sign f (λ k d l. factor-negated (get_or f k d).1 (h k d l))
 
 -- a polynomial with the other sign is a polynomial
 pub poly-negated : (f : Sparse) → IsPoly f → IsPoly (negated f)

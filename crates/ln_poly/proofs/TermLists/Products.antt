@@ -1,9 +1,9 @@
 -- Sums of products of terms.
 use Rattle.std.proofs.Common.{◌≡◌, ℕ, ◌+◌, ◌*◌, ◌<◌, ◌≤◌, ◌^◌, zero, suc, refl, sym, ◌∙◌, ap, subst, arith, List, [], ◌∷◌, ◌++◌, length}
-use Rattle.std.proofs.Common.{take, append_assoc, get_or, set, if◌then◌else◌, unsigned_abs, add-one}
-use Rattle.std.proofs.Math.Nat.{mul-le-mul_left}
+use Rattle.std.proofs.Common.{take, drop, append_assoc, get_or, set, if◌then◌else◌, unsigned_abs}
+use Rattle.std.proofs.Math.Nat.{mul-le-mul_left, mul-le-mul_right}
 use Rattle.std.proofs.lemmas.Int.{ints, unsigned_abs-mul}
-use Rattle.std.proofs.lemmas.List.{take_all, take_more}
+use Rattle.std.proofs.lemmas.List.{drop_more, get_or_at, set_at, take_all, take_more}
 use Rattle.std.proofs.lemmas.List.Elements.{All-nil, All-push}
 use Rattle.std.proofs.Math.IntN.{ℤ, pos, ◌+ℤ◌, ◌*ℤ◌}
 use Rattle.ln_algebra.specs.Vector.{plus, same_vector, sum_over}
@@ -21,11 +21,14 @@ use Rattle.ln_poly.proofs.Sorting.Merging.{above-none, none-above}
 -- a sum over one element more adds what that element adds
 pub sum_over-more : {A : Type 0} (f : A → ℤ) (xs : List A) (i : ℕ) (d : A) → i < length xs
     → sum_over f (take (i + 1) xs) ≡ sum_over f (take i xs) +ℤ f (get_or xs i d)
-sum_over-more f [] i d h = absurd (omega arith)
-sum_over-more f (x ∷ xs) zero d h = omega (arith, ints)
-sum_over-more f (x ∷ xs) (suc i) d h =
-    let ih : sum_over f (take (suc i) xs) ≡ sum_over f (take i xs) +ℤ f (get_or xs i d) = rw add-one at (sum_over-more f xs i d (omega arith)) in
-    rw add-one (omega (arith, ints, ih))
+sum_over-more f xs i d h =
+    let e : sum_over f (take i xs ++ (get_or xs i d ∷ [])) ≡ sum_over f (take i xs) +ℤ (f (get_or xs i d) +ℤ pos 0) =
+    sum_over-append f (take i xs) (get_or xs i d ∷ []) in
+    omega (arith, ints, ap (sum_over f) (take_more xs i d h), e)
+
+-- the elements from a place on are the one that is read there and those after it
+pub drop-read : {A : Type 0} (xs : List A) (i : ℕ) (x : A) → i < length xs → x ≡ get_or xs i x → drop i xs ≡ x ∷ drop (i + 1) xs
+drop-read xs i x h e = drop_more xs i x h ∙ ap (λ z. z ∷ drop (i + 1) xs) (sym e)
 
 -- ---- copies of terms
 -- the step of the loop in `put_all`: one more term is appended
@@ -65,22 +68,14 @@ row_at-nil : (n : ℕ) (m : List ℕ) (s : Pairs × ℤ) → row_at n m s [] ≡
 unfolding row_at
 row_at-nil n m s = refl
 
-set-last : {A : Type 0} (xs : List A) (x y : A) → set (xs ++ (x ∷ [])) (length xs) y ≡ xs ++ (y ∷ [])
-set-last [] x y = refl
-set-last (z ∷ xs) x y = ap (λ ys. z ∷ ys) (set-last xs x y)
-
-get-last : {A : Type 0} (xs : List A) (x d : A) → get_or (xs ++ (x ∷ [])) (length xs) d ≡ x
-get-last [] x d = refl
-get-last (z ∷ xs) x d = get-last xs x d
-
 -- a product whose exponents are written after it is appended
 pub product-put : (old put : Sparse) (k : ℕ) (none e : Pairs) (z : ℤ) (s t x : Pairs × ℤ) → put ≡ old ++ ((none, z) ∷ []) → z ≡ s.1 *ℤ t.1 → k ≡ length old
     → x ≡ get_or put k x → ((v : ℕ) → exponent v e ≡ exponent v s.0 + exponent v t.0) → IsRising e → IsProductPut (set put k (e, x.1)) old s t
 product-put old put k none e z s t x p m l g h r =
-    let q : x ≡ (none, z) = g ∙ ap (λ y. get_or y k x) p ∙ ap (λ i. get_or (old ++ ((none, z) ∷ [])) i x) l ∙ get-last old (none, z) x in
+    let q : x ≡ (none, z) = g ∙ ap (λ y. get_or y k x) p ∙ get_or_at old (none, z) [] x k (sym l) in
     record {
       exps = e;
-      put = ap (λ y. set y k (e, x.1)) p ∙ ap (λ i. set (old ++ ((none, z) ∷ [])) i (e, x.1)) l ∙ set-last old (none, z) (e, x.1)
+      put = ap (λ y. set y k (e, x.1)) p ∙ set_at old (none, z) [] (e, x.1) k (sym l)
           ∙ ap (λ (y : Pairs × ℤ). old ++ ((e, y.1) ∷ [])) q ∙ ap (λ y. old ++ ((e, y) ∷ [])) m;
       exponents = h;
       rising = r;
@@ -96,13 +91,10 @@ row-init old g s = record {
   alone = λ e. subst (AreProducts s []) (sym e) tt;
 }
 
-abs-is : (s t : Pairs × ℤ) → unsigned_abs (s.1 *ℤ t.1) ≡ unsigned_abs s.1 * unsigned_abs t.1
-abs-is s t = unsigned_abs-mul s.1 t.1
-
 -- the factor of the next product of a row is below 2^127
 pub row-room : (old g : Sparse) (s t : Pairs × ℤ) (i : ℕ) → i < length g → t ≡ get_or g i t
     → size_of old + unsigned_abs s.1 * size_of g < 2 ^ 127 → unsigned_abs (s.1 *ℤ t.1) < 2 ^ 127
-row-room old g s t i h e room = omega (arith, abs-is s t, mul-le-mul_left (unsigned_abs s.1) (item-small g i t h e))
+row-room old g s t i h e room = omega (arith, unsigned_abs-mul s.1 t.1, mul-le-mul_left (unsigned_abs s.1) (item-small g i t h e))
 
 put-rising : (out old : Sparse) (s t : Pairs × ℤ) → IsProductPut out old s t → AreRising old → AreRising out
 put-rising out old s t p r = subst AreRising (sym p.put) (All-push (λ z. IsRising z.0) old (p.exps, s.1 *ℤ t.1) r p.rising)
@@ -144,7 +136,7 @@ row-step out out' old g s t i r h e p = record {
   size =
       let f : unsigned_abs t.1 ≡ unsigned_abs (get_or g i t).1 = ap (λ q. unsigned_abs q.1) e in
       let k : size_of (take (i + 1) g) ≡ size_of (take i g) + unsigned_abs t.1 = omega (arith, f, size-more g i t h) in
-      omega (arith, r.size, ap size_of p.put, size-push out (p.exps, s.1 *ℤ t.1), abs-is s t, ap (λ q. unsigned_abs s.1 * q) k);
+      omega (arith, r.size, ap size_of p.put, size-push out (p.exps, s.1 *ℤ t.1), unsigned_abs-mul s.1 t.1, ap (λ q. unsigned_abs s.1 * q) k);
   rising = λ w. put-rising out' out s t p (r.rising w);
   below = λ k a b w. put-below out' out s t k p a (subst (λ z. IsAbove z.0 k) (sym e) (b i t h)) (r.below k a b w);
   alone = λ o. alone-step out out' g s t i h e p (r.alone o);
@@ -163,15 +155,12 @@ rows-begin f g = record {
 rows-total : (f : Sparse) (s : Pairs × ℤ) (i : ℕ) → i < length f → s ≡ get_or f i s → size_of (take (i + 1) f) ≡ size_of (take i f) + unsigned_abs s.1
 rows-total f s i h e = let k : unsigned_abs s.1 ≡ unsigned_abs (get_or f i s).1 = ap (λ z. unsigned_abs z.1) e in omega (arith, k, size-more f i s h)
 
-mul-le-mul_right' : (a b k : ℕ) → a ≤ b → a * k ≤ b * k
-mul-le-mul_right' a b k h = omega (arith, mul-le-mul_left k h)
-
 -- there is room for one row more
 pub rows-room : (out f g : Sparse) (s : Pairs × ℤ) (i : ℕ) → IsRows out f g i → i < length f → s ≡ get_or f i s
     → size_of f * size_of g < 2 ^ 127 → size_of out + unsigned_abs s.1 * size_of g < 2 ^ 127
 rows-room out f g s i r h e room =
     let l : size_of (take i f) + unsigned_abs s.1 ≤ size_of f = omega (arith, rows-total f s i h e, size-take f (i + 1)) in
-    omega (arith, r.size, room, mul-le-mul_right' (size_of (take i f) + unsigned_abs s.1) (size_of f) (size_of g) l)
+    omega (arith, r.size, room, mul-le-mul_right (size_of g) l)
 
 -- one row more
 pub rows-step : (out out' f g : Sparse) (s : Pairs × ℤ) (i : ℕ) → IsRows out f g i → i < length f → s ≡ get_or f i s

@@ -1,6 +1,6 @@
 -- The pairs of an exponent vector.
 use Rattle.std.proofs.Common.{◌≡◌, ℕ, ◌+◌, ◌<◌, ◌≤◌, zero, suc, refl, arith, ap, List, [], ◌∷◌, length, eqb, eq-eqb, false, true}
-use Rattle.std.proofs.lemmas.Bool.Decides.{nat_tests}
+use Rattle.std.proofs.lemmas.Bool.{ne_eqb}
 use Rattle.ln_algebra.specs.Vector.{total_degree}
 use Rattle.ln_tree.specs.Exps.{AllAbove, IsAbove, IsRising, Pairs, exponent, exponents_from}
 use Rattle.ln_poly.specs.Packed.{pairs_from}
@@ -24,25 +24,17 @@ pairs-above v n (zero ∷ m) h = pairs-above (suc v) n m (omega (arith, h))
 pairs-above v n (suc k ∷ m) h = (omega (arith, h), pairs-above (suc v) n m (omega (arith, h)))
 
 -- ---- their exponents
-other : (x y : ℕ) → y < x → eqb x y ≡ false
-other x y h = grind (arith, nat_tests)
-
-before : (x y : ℕ) → x < y → eqb x y ≡ false
-before x y h = grind (arith, nat_tests)
-
 exponent-before : (u v : ℕ) (m : List ℕ) → u < v → exponent u (pairs_from v m) ≡ 0
 exponent-before u v [] h = refl
 exponent-before u v (zero ∷ m) h = exponent-before u (suc v) m (omega arith)
 exponent-before u v (suc k ∷ m) h =
-    let e : eqb v u ≡ false = other v u h in
-    let ih : exponent u (pairs_from (suc v) m) ≡ 0 = exponent-before u (suc v) m (omega arith) in
-    rw e (omega (arith, ih))
+    rw (ne_eqb v u (λ e. absurd (omega (arith, e)))) (omega (arith, exponent-before u (suc v) m (omega arith)))
 
 -- a pair of an earlier variable changes nothing
-exponents-behind : (v n u k : ℕ) (ps : Pairs) → u < v → exponents_from v n ((u, k) ∷ ps) ≡ exponents_from v n ps
+pub exponents-behind : (v n u k : ℕ) (ps : Pairs) → u < v → exponents_from v n ((u, k) ∷ ps) ≡ exponents_from v n ps
 exponents-behind v zero u k ps h = refl
 exponents-behind v (suc n) u k ps h =
-    let e : eqb u v ≡ false = before u v h in
+    let e : eqb u v ≡ false = ne_eqb u v (λ q. absurd (omega (arith, q))) in
     let z : 0 + exponent v ps ≡ exponent v ps = omega arith in
     let ih : exponents_from (suc v) n ((u, k) ∷ ps) ≡ exponents_from (suc v) n ps = exponents-behind (suc v) n u k ps (omega arith) in
     rw (e, z, ih) refl

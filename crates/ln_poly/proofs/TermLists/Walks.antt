@@ -1,17 +1,17 @@
 -- Products of one term with a polynomial, which are in the order of its terms.
-use Rattle.std.proofs.Common.{◌≡◌, ◌≢◌, ◌⊎◌, inl, inr, ℕ, ◌-◌, ◌*◌, ◌<◌, ◌^◌, refl, sym, ◌∙◌, ap, subst, arith}
+use Rattle.std.proofs.Common.{◌≡◌, ◌≢◌, ℕ, ◌-◌, ◌*◌, ◌<◌, ◌^◌, refl, sym, ◌∙◌, ap, subst, arith}
 use Rattle.std.proofs.Common.{All, [], ◌∷◌, length, take, get_or, unsigned_abs, Less}
 use Rattle.std.proofs.lemmas.List.{take_all}
 use Rattle.std.proofs.lemmas.List.Elements.{All-cons, All-head, All-nil, All-tail}
-use Rattle.std.proofs.Math.IntN.{ℤ, pos, ◌*ℤ◌}
+use Rattle.std.proofs.Math.IntN.{ℤ, pos}
 use Rattle.std.specs.List.{AllByRecursion}
 use Rattle.std.specs.List.Sorted.{IsStrictlySortedBy}
 use Rattle.std.specs.Ordering.{on}
-use Rattle.ln_algebra.proofs.Ordering.Products.{times-zero}
 use Rattle.ln_tree.specs.Exps.{IsRising, Pairs, pairs_cmp}
 use Rattle.ln_tree.proofs.Monomials.{products-kept}
 use Rattle.ln_poly.specs.Rows.{AreProducts, IsProduct, IsRow, IsRows}
 use Rattle.ln_poly.specs.Sparse.{AreRising, IsFactor, IsPoly, Sparse, size_of}
+use Rattle.ln_poly.proofs.Packing.Rows.{nonzero-product}
 use Rattle.ln_poly.proofs.TermLists.Coefficients.{size-cons, size-nil}
 use Rattle.ln_poly.specs.Within.{TakesMore}
 use Rattle.ln_poly.proofs.TermLists.Bounded.{takes-more}
@@ -41,19 +41,14 @@ products-sorted s (t ∷ g) (x ∷ xs) r a h = (
 )
 
 -- ---- the factors
-factor-product : (x y z : ℤ) → y ≢ pos 0 → z ≢ pos 0 → x ≡ y *ℤ z → x ≢ pos 0
-factor-product x y z f g e n = by_case (times-zero y z (sym e ∙ n)) where
-  by_case : (y ≡ pos 0) ⊎ (z ≡ pos 0) → ⊥
-  by_case (inl h) = f h
-  by_case (inr h) = g h
-
 products-factors : (s : Pairs × ℤ) (g xs : Sparse) → s.1 ≢ pos 0 → All (λ t. IsFactor t.1) g → AreProducts s g xs → size_of xs < 2 ^ 127
     → All (λ t. IsFactor t.1) xs
 products-factors s [] [] n f a z = All-nil (λ t. IsFactor t.1)
 products-factors s [] (y ∷ xs) n f a z = absurd a
 products-factors s (t ∷ g) [] n f a z = absurd a
 products-factors s (t ∷ g) (x ∷ xs) n f a z =
-    All-cons (λ t. IsFactor t.1) x xs (factor-product x.1 s.1 t.1 n (All-head (λ z. IsFactor z.1) t g f).0 a.0.factor, omega (arith, z, size-cons x xs))
+    let some : x.1 ≢ pos 0 = λ e. nonzero-product s.1 t.1 n (All-head (λ z. IsFactor z.1) t g f).0 (sym a.0.factor ∙ e) in
+    All-cons (λ t. IsFactor t.1) x xs (some, omega (arith, z, size-cons x xs))
     (products-factors s g xs n (All-tail (λ z. IsFactor z.1) t g f) a.1 (omega (arith, z, size-cons x xs)))
 
 products-rising : (s : Pairs × ℤ) (g xs : Sparse) → AreProducts s g xs → AreRising xs

@@ -3,23 +3,30 @@ use Rattle.std.proofs.Common.{◌≡◌, ◌⊎◌, inl, inr, ℕ, zero, suc, �
 use Rattle.std.proofs.Common.{take, ◌++◌, refl, sym, ◌∙◌, ap, arith}
 use Rattle.std.specs.Prelude.{All, Contains, Some, slice_get}
 use Rattle.std.proofs.lemmas.List.{append-nil, get_or-map, length-map, map-append}
-use Rattle.std.proofs.lemmas.List.Elements.{All-cons, All-head, All-nil, All-tail}
+use Rattle.std.proofs.lemmas.List.Elements.{All-cons, All-head, All-map, All-nil, All-tail, Contains-get_or}
 use Rattle.std.proofs.lemmas.Option.{get_or_from_slice_get, slice_get-get_or, slice_get_within}
 use Rattle.std.specs.List.{range_with_len}
+use Rattle.ln_algebra.specs.Orders.{Before, Rank}
+use Rattle.ln_algebra.specs.Stage.{IsStageListBy}
 use Rattle.ln_algebra.specs.Vector.{In}
 use Rattle.ln_tree.specs.declared.shape.VarInfo.{VarInfo}
 use Rattle.ln_tree.specs.Exps.{IsAbove, Pairs, vector}
 use Rattle.ln_order.specs.Orders.{IsOrderOf, orders_of}
 use Rattle.ln_order.specs.Prefixes.{IsPrefixOf, beside, joined, prefixes_of, segments_from}
+use Rattle.ln_order.specs.Sites.{sites_of}
 use Rattle.ln_order.proofs.Listing.OrdersLemmas.{member-is}
 use Rattle.ln_order.proofs.Listing.PrefixLemmas.{beside_at, beside-all, front_number, joined-all, prefix-is}
 use Rattle.ln_order.specs.Prefixes.{number_of_front}
 use Rattle.ln_poly.specs.Sparse.{Sparse}
 use Rattle.ln_stage.specs.FirstSight.{list_along, shared_count}
 use Rattle.ln_stage.specs.Kept.{numbers_by, tallied_by}
-use Rattle.ln_stage.specs.Lists.{Passes, all_covering, all_seen_behind, first_seen, stage_count, stage_weight}
-use Rattle.ln_stage.specs.Staged.{Staged, block_vector, count_numbers, lists_in, vectors_of}
-use Rattle.ln_stage.specs.Tally.{IsOver as IsPast, Tallied, pairs_of}
+use Rattle.ln_stage.specs.Lists.{AreStageListsIn, Passes, all_covering, all_seen_behind, first_seen, stage_count, stage_weight}
+use Rattle.ln_stage.specs.StageList.{IsMonomialOf}
+use Rattle.ln_stage.specs.Staged.{Staged, StopsListingIn, block_vector, count_numbers, lists_in, vectors_of}
+use Rattle.ln_stage.specs.Tally.{IsOver as IsPast, IsStoppedBy, Tallied, pairs_of}
+use Rattle.ln_stage.specs.Visit.{AreListed}
+use Rattle.ln_stage.specs.declared.stop.StageStop.{StageStop}
+use Rattle.ln_stage.specs.declared.stop.StageStop.TheVariants.{Zero, Stages, NoMemory}
 use Rattle.ln_stage.proofs.Sights.FirstSightLemmas.{first-sight-by-prefixes, segments-are-fewer}
 use Rattle.ln_stage.proofs.Results.FoldLemmas.{AllSized, IsAllSeenBy, Sized, all-sized, extends-refl, seen-by}
 use Rattle.ln_stage.proofs.Walks.PairsLemmas.{above-pairs, vector-pairs_of}
@@ -61,22 +68,20 @@ maps-agree F G (x ∷ xs) h =
     let ih = maps-agree F G xs (λ y c. h y (suc c.0, omega (arith, c.1), c.2)) in
     ap (λ z. z ∷ map F xs) (h x (0, omega arith, refl)) ∙ ap (λ z. G x ∷ z) ih
 
-maps-all : (P : ℕ → Type 0) (F : List ℕ → List ℕ) (os : List (List ℕ)) → ((o : List ℕ) → All P (F o)) → All (λ l. All P l) (map F os)
-maps-all P F [] h = All-nil (λ l. All P l)
-maps-all P F (o ∷ os) h = All-cons (λ l. All P l) (F o) (map F os) (h o) (maps-all P F os h)
-
 count-map : (g : ℕ → List ℕ) (ls : List (List ℕ)) → count_numbers ls ≡ stage_count (map (map g) ls)
 count-map g [] = refl
 count-map g (l ∷ ls) = omega (arith, count-map g ls, length-map l g)
 
 -- ---- what is kept of lists that are along what is at prefixes
--- the list of each order is what is at its prefixes, one after the other, over all n variables
-pub record AreAlong (k n : ℕ) (L S : List ℕ → List (List ℕ)) : Type 0 where
+-- by an order of infinitesimals, L is the stage list of each order, and what S has at its prefixes, one after the other
+pub record AreAlong (rank : Rank) (k : ℕ) (vars : List VarInfo) (f : Sparse) (L S : List ℕ → List (List ℕ)) : Type 0 where
   pub few : k ≤ 5
-  pub sized : (p : List ℕ) → IsPrefixOf k p → Sized n (S p)
+  pub lists : (o : List ℕ) → IsOrderOf k o
+      → IsStageListBy (Before rank (sites_of vars o)) (length vars) (sites_of vars o) (IsMonomialOf (length vars) f) (L o)
+  pub sized : (p : List ℕ) → IsPrefixOf k p → Sized (length vars) (S p)
   pub along : (o : List ℕ) → IsOrderOf k o → L o ≡ list_along S o
 
-module _ (k : ℕ) (vars : List VarInfo) (f : Sparse) (L S : List ℕ → List (List ℕ)) (x : AreAlong k (length vars) L S) where
+module _ {rank : Rank} {k : ℕ} {vars : List VarInfo} {f : Sparse} {L S : List ℕ → List (List ℕ)} (x : AreAlong rank k vars f L S) where
   -- the segments of all prefixes
   abbrev pub parts : List (List (List ℕ))
   parts = map S (prefixes_of k)
@@ -99,6 +104,16 @@ module _ (k : ℕ) (vars : List VarInfo) (f : Sparse) (L S : List ℕ → List (
   abbrev pub found : List (List (List ℕ))
   found = map L (orders_of k)
 
+  -- each of them is the stage list of its order
+  pub found-lists : AreStageListsIn rank k vars f found
+  found-lists = record {
+    size = length-map (orders_of k) L;
+    each = λ j h.
+        let l : j < length (orders_of k) = omega (arith, h, length-map (orders_of k) L) in
+        rw (get_or-map L (orders_of k) j [] [] l)
+        (x.lists (get_or (orders_of k) j []) (member-is k (get_or (orders_of k) j []) (Contains-get_or (orders_of k) j [] l)));
+  }
+
   module _ (most heavy : ℕ) where
     -- nothing yet
     abbrev pub start : Tallied
@@ -120,6 +135,13 @@ module _ (k : ℕ) (vars : List VarInfo) (f : Sparse) (L S : List ℕ → List (
     past-passes (inl (inl l)) = inl (omega (arith, l, seen.count, seen.most, segments-are-fewer k (S), same-count))
     past-passes (inl (inr l)) = inr (omega (arith, l, seen.weight, seen.heavy, ap (all_covering (length vars) f) same-first))
     past-passes (inr l) = inl (omega (arith, l, same-count))
+
+    -- why listing stops
+    pub stops : (stop : StageStop) → (f ≡ [] → ⊥) → IsStoppedBy stop (IsPast kept ⊎ (most < shared_count k S (prefixes_of k)))
+        → StopsListingIn rank k vars f most heavy stop
+    stops Zero n s = absurd s
+    stops Stages n s = (n, (found, found-lists, past-passes s))
+    stops (NoMemory m) n s = tt
 
     abbrev blocks : List (List ℕ)
     blocks = all_seen_behind [] parts
@@ -220,37 +242,43 @@ module _ (k : ℕ) (vars : List VarInfo) (f : Sparse) (L S : List ℕ → List (
 
     -- each number in a list of the result is that of a block
     pub result-numbers : All (λ l. All (λ i. i < length result.exps) l) result.lists
-    result-numbers = maps-all (λ i. i < length kept.exps) list_at (orders_of k)
-        (λ o. joined-all (λ i. i < length kept.exps) (λ i. beside (prefixes_of k) segments (take i o)) (range_with_len 0 (suc (length o) - 0))
-        (λ i. beside-all (λ i. i < length kept.exps) (prefixes_of k) segments (take i o) segments-within))
+    result-numbers = All-map (λ l. All (λ i. i < length kept.exps) l) list_at (orders_of k)
+        (λ j o l. joined-all (λ i. i < length kept.exps) (λ i. beside (prefixes_of k) segments (take i (get_or (orders_of k) j o)))
+        (range_with_len 0 (suc (length (get_or (orders_of k) j o)) - 0))
+        (λ i. beside-all (λ i. i < length kept.exps) (prefixes_of k) segments (take i (get_or (orders_of k) j o)) segments-within))
 
     -- all lists together have as many numbers as the segments have, each segment counted once for every order that it is in
     pub lists-count : count_numbers (lists_in k segments) ≡ shared_count k S (prefixes_of k)
     lists-count = count-map (block_vector (length vars) kept.exps) (map list_at (orders_of k)) ∙ ap stage_count result-vectors ∙ same-count
 
-    -- where the count of all lists is within its limit, so is the result's stage count
-    pub final-count : (c : ℕ) → c ≡ shared_count k S (prefixes_of k) → c ≤ most → stage_count (vectors_of (length vars) result) ≤ most
-    final-count c e h = omega (arith, h, e, same-count, ap stage_count result-vectors)
-
-    -- where the weight at the end is within its limit, so is the result's stage weight
-    pub final-weight : kept.weight ≤ kept.heavy → stage_weight (length vars) f (vectors_of (length vars) result) ≤ heavy
-    final-weight h = omega (arith, h, seen.weight, seen.heavy, ap (all_covering (length vars) f) same-first, ap (stage_weight (length vars) f) result-vectors)
-
     -- ---- what the program has at its end
-    -- the blocks, segments and lists that the program has at its end are the result
-    pub final-is : (st : Staged) (exps : List Pairs) (segs lists : List (List ℕ)) (u : Tallied)
-        → st ≡ record { sites = k; exps = exps; segments = segs; lists = lists } → exps ≡ u.exps → u ≡ kept → segs ≡ segments
-        → lists ≡ lists_in k segs → st ≡ result
-    final-is st exps segs lists u e i q s l =
-        let y : exps ≡ kept.exps = i ∙ ap (λ (z : Tallied). z.exps) q in
-        let z : lists ≡ lists_in k segments = l ∙ ap (lists_in k) s in
-        e ∙ rw (y, s, z) refl
+    module _ {segs : List (List ℕ)} {c : ℕ} {u : Tallied} (a : AreListed S k (length vars) f start most segs c u) where
+      -- there is one segment for each prefix
+      pub final-size : length segs ≡ length (prefixes_of k)
+      final-size = ap length a.segments ∙ segments-size
 
-    -- the program's count at its end is how many numbers there are in all lists
-    pub counted-is : (c : ℕ) (segs lists : List (List ℕ)) → segs ≡ segments → lists ≡ lists_in k segs → c ≡ shared_count k S (prefixes_of k)
-        → c ≡ count_numbers lists
-    counted-is c segs lists s l e = e ∙ sym lists-count ∙ ap count_numbers (sym (l ∙ ap (lists_in k) s))
+      -- the count is how many numbers there are in all lists
+      pub final-counted : c ≡ count_numbers (lists_in k segs)
+      final-counted = a.count ∙ sym lists-count ∙ ap (λ z. count_numbers (lists_in k z)) (sym a.segments)
 
-    -- where the program's weight is within its limit at its end, so is the weight of what is kept
-    pub weighed-is : (u : Tallied) → u ≡ kept → u.weight ≤ u.heavy → kept.weight ≤ kept.heavy
-    weighed-is u e h = omega (arith, h, ap (λ (z : Tallied). z.weight) e, ap (λ (z : Tallied). z.heavy) e)
+      -- the blocks, segments and lists are the result
+      pub final-is : {st : Staged} {exps : List Pairs} → st ≡ record { sites = k; exps = exps; segments = segs; lists = lists_in k segs }
+          → exps ≡ u.exps → st ≡ result
+      final-is e i = let y = i ∙ ap (λ (z : Tallied). z.exps) a.tally in e ∙ rw (y, a.segments) refl
+
+      -- the result's stage count is within its limit
+      pub final-count : stage_count (vectors_of (length vars) result) ≤ most
+      final-count = omega (arith, a.within, a.count, same-count, ap stage_count result-vectors)
+
+      -- where the weight is within its limit, so is the result's stage weight
+      pub final-weight : u.weight ≤ u.heavy → stage_weight (length vars) f (vectors_of (length vars) result) ≤ heavy
+      final-weight h = omega (
+        arith,
+        h,
+        ap (λ (z : Tallied). z.weight) a.tally,
+        ap (λ (z : Tallied). z.heavy) a.tally,
+        seen.weight,
+        seen.heavy,
+        ap (all_covering (length vars) f) same-first,
+        ap (stage_weight (length vars) f) result-vectors,
+      )

@@ -1,8 +1,7 @@
 -- The segments of all prefixes, one after the other.
 use Rattle.std.proofs.Common.{◌≡◌, ◌⊎◌, inl, inr, zero, suc, ℕ, ◌+◌, ◌-◌, ◌*◌, ◌<◌, ◌≤◌, Bool, List, [], ◌∷◌, ◌++◌, append_assoc, length}
 use Rattle.std.proofs.Common.{length-append, map, get_or, drop, refl, sym, ◌∙◌, ap, subst, arith}
-use Rattle.std.proofs.lemmas.List.{append-nil, drop-map, drop_all, drop_more}
-use Rattle.ln_tree.specs.declared.shape.VarInfo.{VarInfo}
+use Rattle.std.proofs.lemmas.List.{append-nil, drop-map, drop_more}
 use Rattle.ln_order.specs.declared.front.Front.{Front}
 use Rattle.ln_order.specs.Fronts.{front_places}
 use Rattle.ln_order.specs.Orders.{orders_of}
@@ -14,10 +13,10 @@ use Rattle.ln_stage.specs.FirstSight.{shared_count}
 use Rattle.ln_stage.specs.Kept.{numbers_by, tallied_by}
 use Rattle.ln_stage.specs.Lists.{covering}
 use Rattle.ln_stage.specs.Tally.{IsOver, IsStoppedBy, Tallied, next_list, number_in, pairs_of, see, see_all}
-use Rattle.ln_stage.specs.Visit.{AreCuts, AreCutsFor}
+use Rattle.ln_stage.specs.Visit.{AreCuts, AreCutsFor, AreListed}
 use Rattle.ln_stage.specs.declared.stop.StageStop.{StageStop}
-use Rattle.ln_stage.specs.declared.stop.StageStop.TheVariants.{Zero, Stages, NoMemory}
 use Rattle.ln_stage.proofs.Results.FoldLemmas.{over-by}
+use Rattle.ln_stage.proofs.Walks.TurnLemmas.{stopped-more}
 use Rattle.ln_stage.proofs.Walks.VisitLemmas.{cuts-go}
 
 -- ---- the list at hand
@@ -39,90 +38,84 @@ pub at-prefix : (all : List Front) (k i : ℕ) (p : Front) → map front_places 
     → IsPrefixOf k (front_places p)
 at-prefix all k i p e h q = subst (λ z. IsPrefixOf k (front_places z)) (sym q) (front-is-prefix all k e i p h)
 
-module _ (L : List ℕ → List (List ℕ)) (n : ℕ) (f : Sparse) where
-  unfolding-tally : (t : Tallied) (p : List ℕ) (ps : List (List ℕ)) → tallied_by L n f t (p ∷ ps) ≡ tallied_by L n f (next_list (see_all n f t (L p))) ps
-  unfolding tallied_by
-  unfolding-tally t p ps = refl
+-- where the loop over the prefixes is: the rest of them leads to the same numbers, count and tally as all do
+pub record IsUpTo (L : List ℕ → List (List ℕ)) (k n : ℕ) (f : Sparse) (start : Tallied) (all rest : List (List ℕ)) (most : ℕ)
+    (now : Tallied) (segs : List (List ℕ)) (c : ℕ) : Type 0 where
+  pub tally : tallied_by L n f now rest ≡ tallied_by L n f start all
+  pub segments : segs ++ numbers_by L n f now rest ≡ numbers_by L n f start all
+  pub count : c + shared_count k L rest ≡ shared_count k L all
+  pub within : c ≤ most
+  pub empty : now.list ≡ []
 
-  unfolding-numbers : (t : Tallied) (p : List ℕ) (ps : List (List ℕ))
-      → numbers_by L n f t (p ∷ ps) ≡ (see_all n f t (L p)).list ∷ numbers_by L n f (next_list (see_all n f t (L p))) ps
-  unfolding numbers_by
-  unfolding-numbers t p ps = refl
+-- its beginning
+pub up-begins : {L : List ℕ → List (List ℕ)} {k n : ℕ} {f : Sparse} {start : Tallied} {all segs : List (List ℕ)} {most : ℕ} → start.list ≡ [] → segs ≡ []
+    → IsUpTo L k n f start all all most start segs 0
+up-begins e s = record { tally = refl; segments = rw s refl; count = omega arith; within = omega arith; empty = e }
 
-  tally-nil : (t : Tallied) → tallied_by L n f t [] ≡ t
-  unfolding tallied_by
-  tally-nil t = refl
+module _ {L : List ℕ → List (List ℕ)} {k n : ℕ} {f : Sparse} {start now : Tallied} {all ps segs : List (List ℕ)} {most c : ℕ}
+    (x : IsUpTo L k n f start all ps most now segs c) where
+  -- its end
+  pub up-ends : ps ≡ [] → all ≡ prefixes_of k → AreListed L k n f start most segs c now
+  unfolding tallied_by numbers_by
+  up-ends e a = record {
+    segments = sym (append-nil segs) ∙ ap (λ z. segs ++ numbers_by L n f now z) (sym e) ∙ x.segments ∙ ap (numbers_by L n f start) a;
+    count = omega (arith, x.count, ap (shared_count k L) e, ap (shared_count k L) a);
+    within = x.within;
+    tally = ap (tallied_by L n f now) (sym e) ∙ x.tally ∙ ap (tallied_by L n f start) a;
+  }
 
-  numbers-nil : (t : Tallied) → numbers_by L n f t [] ≡ []
-  unfolding numbers_by
-  numbers-nil t = refl
-
-  module _ (t u : Tallied) (p : List ℕ) (ps rest : List (List ℕ)) (e : ps ≡ p ∷ rest) where
-    -- with the list at the first place seen and a new list begun, the rest of the places lead to the same end
-    pub tally-goes : (T : Tallied) → u ≡ next_list (see_all n f t (L p)) → tallied_by L n f t ps ≡ T → tallied_by L n f u rest ≡ T
-    tally-goes T q h = ap (λ z. tallied_by L n f z rest) q ∙ sym (unfolding-tally t p rest) ∙ ap (tallied_by L n f t) (sym e) ∙ h
-
-    -- with the numbers at the first place appended to those so far, the numbers at the rest of the places complete the same lists
-    pub segments-go : (N old new : List (List ℕ)) (l : List ℕ) → u ≡ next_list (see_all n f t (L p)) → l ≡ (see_all n f t (L p)).list
-        → new ≡ old ++ l ∷ [] → old ++ numbers_by L n f t ps ≡ N → new ++ numbers_by L n f u rest ≡ N
-    segments-go N old new l q x m h =
-        ap (λ z. z ++ numbers_by L n f u rest) m ∙ append_assoc old (l ∷ []) (numbers_by L n f u rest)
-        ∙ ap (λ z. old ++ l ∷ numbers_by L n f z rest) q ∙ ap (λ z. old ++ z ∷ numbers_by L n f (next_list (see_all n f t (L p))) rest) x
-        ∙ ap (λ z. old ++ z) (sym (unfolding-numbers t p rest)) ∙ ap (λ z. old ++ numbers_by L n f t z) (sym e) ∙ h
-
-    -- a segment as often as it occurs in a list
-    pub shares-here : (k S c share size : ℕ) (l : List ℕ) → l ≡ (see_all n f t (L p)).list → t.list ≡ [] → size ≡ length l
-        → share ≡ length (orders_of (k - length p)) → c + shared_count k L ps ≡ S → (c + share * size) + shared_count k L rest ≡ S
-    shares-here k S c share size l x z y w h =
-        let a : size ≡ length (L p) = omega (arith, y, ap length x, list-more n f t (L p), ap length z) in
-        let b : share * size ≡ length (orders_of (k - length p)) * length (L p) = ap (λ m. m * size) w ∙ ap (λ m. length (orders_of (k - length p)) * m) a in
-        omega (arith, h, b, ap (shared_count k L) e)
+  module _ {p : List ℕ} {rest : List (List ℕ)} (e : ps ≡ p ∷ rest) where
+    tally-goes : tallied_by L n f (next_list (see_all n f now (L p))) rest ≡ tallied_by L n f start all
+    unfolding tallied_by
+    tally-goes = ap (tallied_by L n f now) (sym e) ∙ x.tally
 
     -- what is over a limit stays so
-    pub over-goes : (T : Tallied) (B : Type 0) (x : StageStop) → tallied_by L n f t ps ≡ T → IsStoppedBy x (IsOver (see_all n f t (L p)))
-        → IsStoppedBy x (IsOver T ⊎ B)
-    over-goes T B Zero h s = s
-    over-goes T B Stages h s =
-        inl (subst IsOver (sym (unfolding-tally t p rest) ∙ ap (tallied_by L n f t) (sym e) ∙ h) (over-by L n f (next_list (see_all n f t (L p))) rest s))
-    over-goes T B (NoMemory m) h s = tt
+    pub up-over : (B : Type 0) (stop : StageStop) → IsStoppedBy stop (IsOver (see_all n f now (L p)))
+        → IsStoppedBy stop (IsOver (tallied_by L n f start all) ⊎ B)
+    up-over B stop h = stopped-more stop
+        (λ o. inl (subst IsOver tally-goes (over-by L n f (next_list (see_all n f now (L p))) rest o))) h
 
-  -- a stop because the count so far exceeds the limit is one because the count of all lists does
-  pub count-passes : (k S c m most : ℕ) (A : Type 0) (x : StageStop) (rest : List (List ℕ)) → m + shared_count k L rest ≡ S
-      → IsStoppedBy x (most < m) → IsStoppedBy x (A ⊎ (most < S))
-  count-passes k S c m most A Zero rest h s = s
-  count-passes k S c m most A Stages rest h s = inr (omega (arith, h, s))
-  count-passes k S c m most A (NoMemory _) rest h s = tt
+    module _ {l : List ℕ} {share size : ℕ} (seen : l ≡ (see_all n f now (L p)).list) (sized : size ≡ length l)
+        (shared : share ≡ length (orders_of (k - length p))) where
+      -- a segment as often as it occurs in a list
+      shares-here : (c + share * size) + shared_count k L rest ≡ shared_count k L all
+      shares-here =
+          let a : size ≡ length (L p) = omega (arith, sized, ap length seen, list-more n f now (L p), ap length x.empty) in
+          let b : share * size ≡ length (orders_of (k - length p)) * length (L p) =
+          ap (λ m. m * size) shared ∙ ap (λ m. length (orders_of (k - length p)) * m) a in
+          omega (arith, x.count, b, ap (shared_count k L) e)
 
-  -- at the end
-  module _ (all : List Front) (i : ℕ) (past : length all ≤ i) where
-    none-left : map front_places (drop i all) ≡ []
-    none-left = ap (map front_places) (drop_all i all past)
+      -- a stop because the count so far exceeds the limit is one because the count of all lists does
+      pub up-passes : (A : Type 0) (stop : StageStop) → IsStoppedBy stop (most < c + share * size)
+          → IsStoppedBy stop (A ⊎ (most < shared_count k L all))
+      up-passes A stop h = stopped-more stop (λ o. inr (omega (arith, shares-here, o))) h
 
-    -- where no prefix is left, what is kept so far is what is kept at the end
-    pub tally-ends : (t T : Tallied) → tallied_by L n f t (map front_places (drop i all)) ≡ T → t ≡ T
-    tally-ends t T h = sym (tally-nil t) ∙ ap (tallied_by L n f t) (sym none-left) ∙ h
-
-    -- where no prefix is left, the segments so far are all segments
-    pub segments-end : (t : Tallied) (N old : List (List ℕ)) → old ++ numbers_by L n f t (map front_places (drop i all)) ≡ N → old ≡ N
-    segments-end t N old h = sym (append-nil old) ∙ ap (λ z. old ++ z) (sym (numbers-nil t)) ∙ ap (λ z. old ++ numbers_by L n f t z) (sym none-left) ∙ h
-
-    -- where no prefix is left, the count so far is the count of all lists
-    pub count-ends : (k S c : ℕ) → c + shared_count k L (map front_places (drop i all)) ≡ S → c ≡ S
-    count-ends k S c h = omega (arith, h, ap (shared_count k L) none-left)
+      -- one prefix more
+      pub up-goes : {u : Tallied} {new : List (List ℕ)} {m : ℕ} → u ≡ next_list (see_all n f now (L p)) → new ≡ segs ++ l ∷ []
+          → m ≡ c + share * size → m ≤ most → IsUpTo L k n f start all rest most u new m
+      unfolding numbers_by
+      up-goes q w z y = record {
+        tally = ap (λ v. tallied_by L n f v rest) q ∙ tally-goes;
+        segments = rw (w, q, seen) (append_assoc segs ((see_all n f now (L p)).list ∷ []) (numbers_by L n f (next_list (see_all n f now (L p))) rest)
+            ∙ ap (λ v. segs ++ numbers_by L n f now v) (sym e) ∙ x.segments);
+        count = omega (arith, z, shares-here);
+        within = y;
+        empty = ap (λ (v : Tallied). v.list) q;
+      }
 
 -- nothing comes before the first prefix
-cuts-first : (vars : List VarInfo) (f : Sparse) (k : ℕ) (cuts : List Bool) → AreCutsFor vars f (prefixes_of k) cuts
-cuts-first vars f zero cuts = λ j l. absurd (omega (arith, l))
-cuts-first vars f (suc k) cuts = λ j l. absurd (omega (arith, l))
+cuts-first : (cut : List ℕ → Bool) (k : ℕ) (cuts : List Bool) → AreCutsFor cut (prefixes_of k) cuts
+cuts-first cut zero cuts = λ j l. absurd (omega (arith, l))
+cuts-first cut (suc k) cuts = λ j l. absurd (omega (arith, l))
 
 -- the beginning of the loop over the prefixes: no prefix is before the first, so the cuts before it are known
-pub cuts-begin : (vars : List VarInfo) (f : Sparse) (ps : List (List ℕ)) (k : ℕ) (cuts : List Bool) → ps ≡ prefixes_of k → AreCutsFor vars f ps cuts
-cuts-begin vars f ps k cuts e = subst (λ z. AreCutsFor vars f z cuts) (sym e) (cuts-first vars f k cuts)
+pub cuts-begin : (cut : List ℕ → Bool) (ps : List (List ℕ)) (k : ℕ) (cuts : List Bool) → ps ≡ prefixes_of k → AreCutsFor cut ps cuts
+cuts-begin cut ps k cuts e = subst (λ z. AreCutsFor cut z cuts) (sym e) (cuts-first cut k cuts)
 
 -- the cuts of the prefix that follows
-pub cuts-follow : (vars : List VarInfo) (f : Sparse) (all : List Front) (k i : ℕ) (p : Front) (cuts : List Bool)
+pub cuts-follow : (cut : List ℕ → Bool) (all : List Front) (k i : ℕ) (p : Front) (cuts : List Bool)
     → k ≤ 5 → map front_places all ≡ prefixes_of k → i < length all → p ≡ get_or all i p
-    → AreCuts vars f (length (front_places p) + 1) (front_places p) cuts → AreCutsFor vars f (map front_places (drop (i + 1) all)) cuts
-cuts-follow vars f all k i p cuts few e h q a =
-    cuts-go vars f (prefixes_of k) i (front_places p) (map front_places (drop (i + 1) all)) cuts (λ j l. fronts-follow k j few l)
+    → AreCuts cut (length (front_places p) + 1) (front_places p) cuts → AreCutsFor cut (map front_places (drop (i + 1) all)) cuts
+cuts-follow cut all k i p cuts few e h q a =
+    cuts-go cut (prefixes_of k) i (front_places p) (map front_places (drop (i + 1) all)) cuts (λ j l. fronts-follow k j few l)
     (ap (drop i) (sym e) ∙ drop-map front_places i all ∙ more-prefixes all i p h q) a

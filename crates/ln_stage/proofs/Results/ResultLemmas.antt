@@ -1,32 +1,25 @@
 -- The segments and lists that are found are the stages.
-use Rattle.std.proofs.Common.{◌≡◌, ◌⊎◌, Bool, false, ℕ, zero, suc, ◌+◌, ◌<◌, ◌≤◌, true, List, [], ◌∷◌, length, map, get_or, take, ◌++◌}
+use Rattle.std.proofs.Common.{◌≡◌, Bool, false, ℕ, zero, suc, ◌+◌, ◌<◌, ◌≤◌, true, List, [], ◌∷◌, length, get_or, take, ◌++◌}
 use Rattle.std.proofs.Common.{refl, sym, ◌∙◌, ap, subst, arith}
-use Rattle.std.specs.Prelude.{◌↔◌, Contains, IsTrue}
-use Rattle.std.proofs.lemmas.List.{get_or-map, length-map}
-use Rattle.std.proofs.lemmas.List.Elements.{Contains-get_or}
+use Rattle.std.specs.Prelude.{◌↔◌, IsTrue}
 use Rattle.std.specs.List.{range_with_len}
+use Rattle.ln_algebra.specs.Orders.{BySmallest}
 use Rattle.ln_algebra.specs.Vector.{zeros}
 use Rattle.ln_algebra.specs.Walk.{walk}
 use Rattle.ln_algebra.proofs.Expanded.Expansion.{length-zeros}
 use Rattle.ln_tree.specs.declared.shape.VarInfo.{VarInfo}
 use Rattle.ln_tree.specs.Variables.{is_laid_out}
-use Rattle.ln_order.specs.Orders.{IsOrderOf, orders_of}
-use Rattle.ln_order.specs.Prefixes.{prefixes_of}
+use Rattle.ln_order.specs.Orders.{IsOrderOf}
 use Rattle.ln_order.specs.Sites.{ranking_of, sites_of}
-use Rattle.ln_order.proofs.Listing.OrdersLemmas.{member-is}
 use Rattle.ln_order.proofs.Signs.RankingLemmas.{ranking-is}
 use Rattle.ln_poly.specs.Sparse.{AreBelow, IsPoly, Sparse}
-use Rattle.ln_stage.specs.FirstSight.{last_walk, prefix_walk, shared_count}
+use Rattle.ln_stage.specs.FirstSight.{last_walk, prefix_walk}
 use Rattle.ln_stage.specs.Kept.{all_rows, list_of, listed, rows}
-use Rattle.ln_stage.specs.Lists.{AreStageLists}
 use Rattle.ln_stage.specs.Segments.{AreSegments, IsSegmentOf}
 use Rattle.ln_stage.specs.SiteWalk.{prefix_walks, site_walk, site_walks}
 use Rattle.ln_stage.specs.StageList.{IsStageListOf}
-use Rattle.ln_stage.specs.Staged.{AreStagesOf, StopsListing}
-use Rattle.ln_stage.specs.Tally.{IsOver as IsPast, IsStoppedBy}
+use Rattle.ln_stage.specs.Staged.{AreStagesOf}
 use Rattle.ln_stage.specs.Visit.{segment_at}
-use Rattle.ln_stage.specs.declared.stop.StageStop.{StageStop}
-use Rattle.ln_stage.specs.declared.stop.StageStop.TheVariants.{Zero, Stages, NoMemory}
 use Rattle.ln_stage.proofs.Sights.FirstSightLemmas.{list-along}
 use Rattle.ln_stage.proofs.Results.FoldLemmas.{Sized}
 use Rattle.ln_stage.proofs.Results.KeptLemmas.{AreAlong, sized-in}
@@ -76,22 +69,6 @@ walks-length b vars ms q [] = refl
 walks-length b vars ms q (s ∷ o) = ap suc (walks-length b vars ms (q ++ s ∷ []) o)
 
 module _ (k : ℕ) (vars : List VarInfo) (f : Sparse) (few : k ≤ 5) (laid : is_laid_out k vars ≡ true) (poly : IsPoly f) (b : AreBelow (length vars) f) where
-  the-list : (o : List ℕ) → Contains (orders_of k) o → IsStageListOf (length vars) (sites_of vars o) f (list_of vars f o)
-  the-list o c = list-stages k vars f o laid (member-is k o c) (poly-terms f poly) b
-
-  -- the stage lists of all orders
-  abbrev pub found : List (List (List ℕ))
-  found = map (list_of vars f) (orders_of k)
-
-  -- each list that is found is the stage list of its order
-  pub found-lists : AreStageLists k vars f found
-  found-lists = record {
-    size = length-map (orders_of k) (list_of vars f);
-    each = λ j h.
-        let l : j < length (orders_of k) = omega (arith, h, length-map (orders_of k) (list_of vars f)) in
-        rw (get_or-map (list_of vars f) (orders_of k) j [] [] l) (the-list (get_or (orders_of k) j []) (Contains-get_or (orders_of k) j [] l));
-  }
-
   -- the segment of a prefix
   the-segment : (o : List ℕ) (j : ℕ) → IsOrderOf k o → j ≤ k → IsSegmentOf (length vars) (sites_of vars o) f j (segment_at vars f (take j o))
   unfolding segment_at
@@ -106,37 +83,30 @@ module _ (k : ℕ) (vars : List VarInfo) (f : Sparse) (few : k ≤ 5) (laid : is
       subst (IsSegmentOf (length vars) (sites_of vars o) f j) (walks-at 127 vars (all_rows (length vars) f) o j (omega (arith, h, p.size))) s
 
   -- the lists are along the segments
-  pub by-prefixes : AreAlong k (length vars) (list_of vars f) (segment_at vars f)
+  pub by-prefixes : AreAlong BySmallest k vars f (list_of vars f) (segment_at vars f)
   unfolding segment_at
   by-prefixes = record {
     few = few;
+    lists = λ o p. list-stages k vars f o laid p (poly-terms f poly) b;
     sized = λ p r. subst (λ q. Sized (length vars) (segment_at vars f q)) (sym r.front) (sized-in (length vars)
         (segment_at vars f (take r.places r.order)) (λ a i. ((the-segment r.order r.places r.full r.within).stages a i).0.over.size));
     along = λ o p. list-along vars f o;
   }
 
   module _ (most heavy : ℕ) where
-    -- why listing stops
-    pub stops : (x : StageStop) → (f ≡ [] → ⊥) → IsStoppedBy x (IsPast (by_lists.kept k vars f (list_of vars f) (segment_at vars f) by-prefixes most heavy)
-        ⊎ (most < shared_count k (segment_at vars f) (prefixes_of k))) → StopsListing k vars f most heavy x
-    stops Zero n s = absurd s
-    stops Stages n s = (n, (found, found-lists, by_lists.past-passes k vars f (list_of vars f) (segment_at vars f) by-prefixes most heavy s))
-    stops (NoMemory m) n s = tt
-
     -- what is kept at the end makes the polynomial's stages
-    pub result-stages : AreStagesOf k vars f (by_lists.result k vars f (list_of vars f) (segment_at vars f) by-prefixes most heavy)
+    pub result-stages : AreStagesOf k vars f (by_lists.result by-prefixes most heavy)
     result-stages = record {
       sites = refl;
-      lists = rw (by_lists.result-vectors k vars f (list_of vars f) (segment_at vars f) by-prefixes most heavy) found-lists;
-      first_sight = by_lists.result-first k vars f (list_of vars f) (segment_at vars f) by-prefixes most heavy;
-      below = by_lists.result-below k vars f (list_of vars f) (segment_at vars f) by-prefixes most heavy;
-      numbers = by_lists.result-numbers k vars f (list_of vars f) (segment_at vars f) by-prefixes most heavy;
+      lists = rw (by_lists.result-vectors by-prefixes most heavy) (by_lists.found-lists by-prefixes);
+      first_sight = by_lists.result-first by-prefixes most heavy;
+      below = by_lists.result-below by-prefixes most heavy;
+      numbers = by_lists.result-numbers by-prefixes most heavy;
       segments = record {
-        size = by_lists.segments-size k vars f (list_of vars f) (segment_at vars f) by-prefixes most heavy;
-        each = λ o j p h. subst (IsSegmentOf (length vars) (sites_of vars o) f j)
-            (sym (by_lists.part-vectors k vars f (list_of vars f) (segment_at vars f) by-prefixes most heavy o j p h)) (the-segment o j p h);
+        size = by_lists.segments-size by-prefixes most heavy;
+        each = λ o j p h. rw (by_lists.part-vectors by-prefixes most heavy o j p h) (the-segment o j p h);
         make = refl;
-        numbers = by_lists.segments-within k vars f (list_of vars f) (segment_at vars f) by-prefixes most heavy;
+        numbers = by_lists.segments-within by-prefixes most heavy;
       };
     }
 

@@ -1,10 +1,12 @@
 -- The first step of a listing: all terms, and the vector of zeros.
-use Rattle.std.proofs.Common.{◌≡◌, inl, inr, ℕ, zero, suc, ◌+◌, ◌<◌, true, List, [], ◌∷◌, ◌++◌, length, get_or, replicate, refl, sym, ◌∙◌, ap, arith, pos}
+use Rattle.std.proofs.Common.{◌≡◌, inl, inr, ℕ, zero, suc, ◌+◌, ◌<◌, ◌≤◌, Bool, true, false, eqb}
+use Rattle.std.proofs.Common.{eqb-true, List, [], ◌∷◌, ◌++◌, length, get_or, replicate, refl, sym, ◌∙◌, ap, arith, pos}
 use Rattle.std.specs.Prelude.{All, filter}
-use Rattle.std.specs.List.{range_with_len}
+use Rattle.std.specs.List.{AllByRecursion, IsDistinct, list_any, range_with_len}
 use Rattle.std.proofs.lemmas.Bool.{le-leb}
 use Rattle.std.proofs.lemmas.List.{get_or-map, length-map, same_lists}
 use Rattle.std.proofs.lemmas.List.Elements.{All-replicate}
+use Rattle.std.proofs.lemmas.Map.Steps.{length-le_from_distinct_below}
 use Rattle.std.proofs.lemmas.List.FromFn.{get_or-map-range_with_len, get_or-range_with_len, length-map-range_with_len, length-range_with_len}
 use Rattle.ln_algebra.specs.Earlier.{Sites}
 use Rattle.ln_algebra.specs.Vector.{covers, zeros}
@@ -79,3 +81,26 @@ start-step f n vs kept p below rising some r ek ep =
       none_yet = λ v m. ap (λ z. get_or z v 0) ep ∙ zeros-get n v;
       small = rw (ep, ← zeros-replicate n) (All-replicate (λ x. x < 128) n 0 (omega arith));
     }
+
+-- ---- a ranking has no more variables than there are
+fresh-distinct : (n : ℕ) (vs : List ℕ) → AreFresh n vs → IsDistinct eqb vs
+unfolding IsDistinct
+fresh-distinct n [] f = tt
+fresh-distinct n (v ∷ vs) f = (others vs f.1, fresh-distinct n vs f.2) where
+  others : (ws : List ℕ) → (Member ws v → ⊥) → AllByRecursion (λ y. eqb v y ≡ false) ws
+  others [] h = tt
+  others (w ∷ ws) h = (differ (eqb v w) refl, others ws (λ m. h (inr m))) where
+    differ : (b : Bool) → eqb v w ≡ b → b ≡ false
+    differ true q = absurd (h (inl (eqb-true v w q)))
+    differ false q = refl
+
+fresh-below : (n : ℕ) (vs : List ℕ) → AreFresh n vs → (q : ℕ) → list_any (eqb q) vs ≡ true → q < n
+fresh-below n [] f q h = cc
+fresh-below n (v ∷ vs) f q h = by (eqb q v) refl (fresh-below n vs f.2 q) where
+  by : (b : Bool) → eqb q v ≡ b → (list_any (eqb q) vs ≡ true → q < n) → q < n
+  by true e ih = rw (eqb-true q v e) f.0
+  by false e ih = ih (rw e at h)
+
+-- there are at most n variables below n of which none occurs twice
+pub fresh-few : (n : ℕ) (vs : List ℕ) → AreFresh n vs → length vs ≤ n
+fresh-few n vs f = length-le_from_distinct_below vs n (fresh-distinct n vs f) (fresh-below n vs f)

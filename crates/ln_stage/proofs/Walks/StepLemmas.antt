@@ -8,7 +8,7 @@ use Rattle.std.proofs.Math.ListN.{length-set}
 use Rattle.std.proofs.lemmas.List.Elements.{All-filter, All-head, All-tail, All-set, filter-append}
 use Rattle.std.proofs.lemmas.List.Sums.{sum_by-cons}
 use Rattle.ln_algebra.specs.Vector.{covers}
-use Rattle.ln_algebra.specs.Walk.{Found, Member, all_same, at_least, before, steps, unless_none, walk}
+use Rattle.ln_algebra.specs.Walk.{Found, Member, all_same, at_least, unless_none, walk}
 use Rattle.ln_tree.specs.Exps.{Pairs, exponent, vector}
 use Rattle.ln_tree.proofs.Powers.{vector-get, vector-length}
 use Rattle.ln_poly.specs.Sparse.{Sparse, AreBelow, AreRising}
@@ -183,27 +183,3 @@ see-limits cover t a (inr l) = inr (more (number_in t.exps a == length t.exps)) 
 pub over-more : (n : ℕ) (f : Sparse) (t : Tallied) (xs : List (List ℕ)) → IsOver t → IsOver (see_all n f t xs)
 over-more n f t [] h = h
 over-more n f t (x ∷ xs) h = over-more n f (see (covering n f x) t (pairs_of x)) xs (see-limits (covering n f x) t (pairs_of x) h)
-
--- ---- the exponents in turn
-module _ (go : List (List ℕ) → List ℕ → Found) (v : ℕ) (ms : List (List ℕ)) (p : List ℕ) (k e : ℕ) where
-  some-rows : (r : Found) → 0 < length (at_least v e ms) → unless_none (at_least v e ms) r ≡ r
-  some-rows r h = by (at_least v e ms) h where
-    by : (l : List (List ℕ)) → 0 < length l → unless_none l r ≡ r
-    by [] h = absurd (omega arith)
-    by (m ∷ l) h = refl
-
-  -- none has this exponent
-  pub steps-none : length (at_least v e ms) ≡ 0 → steps go v ms p (suc k) e ≡ ([], false)
-  steps-none h = by (at_least v e ms) h where
-    by : (l : List (List ℕ)) → length l ≡ 0 → unless_none l (before (go (at_least v e ms) (set p v e)) (steps go v ms p k (suc e))) ≡ ([], false)
-    by [] h = refl
-    by (m ∷ l) h = absurd (omega arith)
-
-  -- the cut ends the list
-  pub steps-cut : 0 < length (at_least v e ms) → (go (at_least v e ms) (set p v e)).1 ≡ true → steps go v ms p (suc k) e ≡ go (at_least v e ms) (set p v e)
-  steps-cut h c = some-rows _ h ∙ (rw c refl)
-
-  -- the list goes on
-  pub steps-more : 0 < length (at_least v e ms) → (go (at_least v e ms) (set p v e)).1 ≡ false
-      → steps go v ms p (suc k) e ≡ ((go (at_least v e ms) (set p v e)).0 ++ (steps go v ms p k (suc e)).0, (steps go v ms p k (suc e)).1)
-  steps-more h c = some-rows _ h ∙ (rw c refl)

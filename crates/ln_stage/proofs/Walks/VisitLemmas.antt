@@ -13,15 +13,15 @@ use Rattle.ln_tree.specs.Variables.{is_laid_out}
 use Rattle.ln_order.specs.Prefixes.{Follows, IsPrefixOf}
 use Rattle.ln_order.specs.Sites.{ranking_of, sites_of, vars_of}
 use Rattle.ln_order.proofs.Signs.RankingLemmas.{ranking-is, ranking-append}
-use Rattle.ln_poly.specs.Sparse.{Sparse}
+use Rattle.ln_order.proofs.Signs.SitesLemmas.{kept as shape-keeps}
+use Rattle.ln_poly.specs.Sparse.{AreBelow, AreRising, Sparse}
 use Rattle.ln_stage.specs.FirstSight.{last_walk, prefix_walk}
 use Rattle.ln_stage.specs.Kept.{AreFresh, all_rows, listed, listed_at, listed_behind, rows, tail}
 use Rattle.ln_stage.specs.SiteWalk.{front_walk, site_walk, unless_cut}
-use Rattle.ln_stage.specs.Visit.{AreCuts, AreCutsFor, cut_before, cut_in, is_cut_at, segment_at}
-use Rattle.ln_stage.specs.Tally.{Tallied, see_all}
+use Rattle.ln_stage.specs.Visit.{AreCuts, AreCutsFor, IsStart, cut_before, cut_in, is_cut_at, segment_at}
 use Rattle.ln_stage.proofs.Walks.SiteLemmas.{fresh-behind}
 use Rattle.ln_stage.proofs.Walks.SiteWalkLemmas.{ranking-last, walk-goes-site-by-site}
-use Rattle.ln_stage.proofs.Walks.StartLemmas.{fresh-ranking, rows-all}
+use Rattle.ln_stage.proofs.Walks.StartLemmas.{fresh-few, fresh-ranking, rows-all, start-step}
 use Rattle.ln_stage.proofs.Walks.WalkLemmas.{at-zero}
 
 -- ---- a prefix and its last site
@@ -57,16 +57,15 @@ pairs l b (m, c) e q = ap (λ z. (z, b)) e ∙ ap (λ z. (m, z)) q
 
 module _ (vars : List VarInfo) (f : Sparse) where
   -- the segment and the cut, from the walk of the last site
-  at-last : (p : List ℕ) (n : ℕ) → length p ≡ suc n → (segment_at vars f p ≡ (site_walk 127 vars (all_rows (length vars) f) (take n p) (get_or p n 0)).0)
-      × (is_cut_at vars f p ≡ (site_walk 127 vars (all_rows (length vars) f) (take n p) (get_or p n 0)).1)
+  at-last : (p : List ℕ) (n : ℕ) → length p ≡ suc n
+      → (segment_at vars f p, is_cut_at vars f p) ≡ site_walk 127 vars (all_rows (length vars) f) (take n p) (get_or p n 0)
   unfolding segment_at is_cut_at
-  at-last p n e = (
-    ap (prefix_walk 127 vars (all_rows (length vars) f)) (last-split p n e) ∙ walked-last 127 vars (all_rows (length vars) f) (take n p) (get_or p n 0),
-    ap (λ z. (front_walk 127 vars (all_rows (length vars) f) z).1) (last-split p n e)
-        ∙ ap (λ z. z.1) (walk-goes-site-by-site 127 vars (all_rows (length vars) f) (take n p) (get_or p n 0)),
-  )
+  at-last p n e = pairs _ _ _
+      (ap (prefix_walk 127 vars (all_rows (length vars) f)) (last-split p n e) ∙ walked-last 127 vars (all_rows (length vars) f) (take n p) (get_or p n 0))
+      (ap (λ z. (front_walk 127 vars (all_rows (length vars) f) z).1) (last-split p n e)
+      ∙ ap (λ z. z.1) (walk-goes-site-by-site 127 vars (all_rows (length vars) f) (take n p) (get_or p n 0)))
 
-  before-is : (p : List ℕ) (n : ℕ) → length p ≡ suc n → cut_before vars f p ≡ is_cut_at vars f (take n p)
+  before-is : (p : List ℕ) (n : ℕ) → length p ≡ suc n → cut_before (is_cut_at vars f) p ≡ is_cut_at vars f (take n p)
   before-is [] n e = absurd (omega (arith, e))
   before-is (x ∷ p) n e = let q : length p ≡ n = omega (arith, e) in ap (λ m. is_cut_at vars f (take m (x ∷ p))) q
 
@@ -74,99 +73,61 @@ module _ (vars : List VarInfo) (f : Sparse) where
   unfolding is_cut_at
   front-cut q b h = h
 
-  some-cut : (p : List ℕ) → cut_before vars f p ≡ true → (n : ℕ) × (length p ≡ suc n)
+  some-cut : (p : List ℕ) → cut_before (is_cut_at vars f) p ≡ true → (n : ℕ) × (length p ≡ suc n)
   some-cut [] h = cc
   some-cut (x ∷ p) h = (length p, refl)
 
   -- where the cut is before the prefix, its segment is empty
-  pub nothing-behind : (p : List ℕ) → cut_before vars f p ≡ true → (segment_at vars f p ≡ []) × (is_cut_at vars f p ≡ true)
+  pub nothing-behind : (p : List ℕ) → cut_before (is_cut_at vars f) p ≡ true → ◌≡◌ {A = Found} (segment_at vars f p, is_cut_at vars f p) ([], true)
   nothing-behind p h =
       let n = some-cut p h in
-      let a = at-last p n.0 n.1 in
       let z = unless-true (front_walk 127 vars (all_rows (length vars) f) (take n.0 p)) (tail 127 (vars_of (get_or p n.0 0) vars 0)
       (ranking_of vars (take n.0 p)) (all_rows (length vars) f) (zeros (length vars))) (front-cut (take n.0 p) true (sym (before-is p n.0 n.1) ∙ h)) in
-      (a.0 ∙ ap (λ y. y.0) z, a.1 ∙ ap (λ y. y.1) z)
+      at-last p n.0 n.1 ∙ z
 
   -- ---- what the program lists
   rows-start : rows (length (zeros (length vars))) f (range_with_len 0 (length f)) ≡ all_rows (length vars) f
   rows-start = ap (λ z. rows z f (range_with_len 0 (length f))) (length-zeros (length vars)) ∙ rows-all (length vars) f
 
-  -- at the empty prefix
-  pub listed-first : (p vs kept start : List ℕ) → length p ≡ 0 → vs ≡ ranking_of vars p → kept ≡ range_with_len 0 (length f)
-      → start ≡ zeros (length vars) → listed_at f vs kept start 0 ≡ (segment_at vars f p, is_cut_at vars f p)
-  unfolding listed segment_at is_cut_at
-  listed-first [] vs kept start e v k s = at-zero f vs kept start ∙ rw (v, k, s) (ap (λ ms. walk 128 [] ms (zeros (length vars))) rows-start)
-  listed-first (x ∷ p) vs kept start e v k s = absurd (omega (arith, e))
+  module _ {p vs kept exps : List ℕ} (w : IsStart vars f p vs kept exps) {sites : List ℕ} (places : sites ≡ p) where
+    -- at the empty prefix
+    pub first-is : length sites ≡ 0 → listed_at f vs kept exps 0 ≡ (segment_at vars f p, is_cut_at vars f p)
+    unfolding listed segment_at is_cut_at
+    first-is e = at-zero f vs kept exps ∙ rw (w.ranking, w.all, w.none, none p (ap length (sym places) ∙ e))
+        (ap (λ ms. walk 128 [] ms (zeros (length vars))) rows-start) where
+          none : (q : List ℕ) → length q ≡ 0 → q ≡ []
+          none [] h = refl
+          none (x ∷ q) h = absurd (omega (arith, h))
 
-  -- the variables of its last site go first
-  vars-first : (p vs us : List ℕ) (n : ℕ) → length p ≡ suc n → vs ≡ ranking_of vars p → us ≡ vars_of (get_or p n 0) vars 0
-      → vs ≡ us ++ ranking_of vars (take n p)
-  vars-first p vs us n e v u = v ∙ ap (ranking_of vars) (last-split p n e) ∙ ranking-last vars (take n p) (get_or p n 0)
-      ∙ ap (λ z. z ++ ranking_of vars (take n p)) (sym u)
-
-  within-vars : (p vs us : List ℕ) (n : ℕ) → length p ≡ suc n → vs ≡ ranking_of vars p → us ≡ vars_of (get_or p n 0) vars 0 → length us ≤ length vs
-  within-vars p vs us n e v u = omega (arith, ap length (vars-first p vs us n e v u), length-append us (ranking_of vars (take n p)))
-
-  -- at any other
-  listed-last : (p vs us kept start : List ℕ) (n : ℕ) → length p ≡ suc n → cut_before vars f p ≡ false → vs ≡ ranking_of vars p
-      → us ≡ vars_of (get_or p n 0) vars 0 → kept ≡ range_with_len 0 (length f) → start ≡ zeros (length vars)
-      → listed_behind f (take (length us) vs) (drop (length us) vs) kept start ≡ (segment_at vars f p, is_cut_at vars f p)
-  unfolding listed_behind
-  listed-last p vs us kept start n e c v u k s =
-      let g = vars-first p vs us n e v u in
-      let l : take (length us) vs ≡ us = ap (take (length us)) g ∙ take-append_seam us (ranking_of vars (take n p)) in
-      let r : drop (length us) vs ≡ ranking_of vars (take n p) = ap (drop (length us)) g ∙ drop-append_seam us (ranking_of vars (take n p)) in
-      let a = at-last p n e in
-      let z = unless-false (front_walk 127 vars (all_rows (length vars) f) (take n p)) (tail 127 (vars_of (get_or p n 0) vars 0)
-      (ranking_of vars (take n p)) (all_rows (length vars) f) (zeros (length vars))) (front-cut (take n p) false (sym (before-is p n e) ∙ c)) in
-      let w : listed_behind f (take (length us) vs) (drop (length us) vs) kept start
-      ≡ tail 127 (vars_of (get_or p n 0) vars 0) (ranking_of vars (take n p)) (all_rows (length vars) f) (zeros (length vars)) =
-      ap (λ x. tail 127 x (drop (length us) vs) (rows (length start) f kept) start) (l ∙ u)
-      ∙ ap (λ x. tail 127 (vars_of (get_or p n 0) vars 0) x (rows (length start) f kept) start) r
-      ∙ ap (λ x. tail 127 (vars_of (get_or p n 0) vars 0) (ranking_of vars (take n p)) (rows (length start) f x) start) k
-      ∙ ap (λ x. tail 127 (vars_of (get_or p n 0) vars 0) (ranking_of vars (take n p)) (rows (length x) f (range_with_len 0 (length f))) x) s
-      ∙ ap (λ x. tail 127 (vars_of (get_or p n 0) vars 0) (ranking_of vars (take n p)) x (zeros (length vars))) rows-start in
-      let y : (segment_at vars f p, is_cut_at vars f p) ≡ site_walk 127 vars (all_rows (length vars) f) (take n p) (get_or p n 0) =
-      pairs (segment_at vars f p) (is_cut_at vars f p) (site_walk 127 vars (all_rows (length vars) f) (take n p) (get_or p n 0)) a.0 a.1 in
-      w ∙ sym z ∙ sym y
-
-  -- ---- what the program keeps
-  size-start : (start : List ℕ) → start ≡ zeros (length vars) → length start ≡ length vars
-  size-start start s = ap length s ∙ length-zeros (length vars)
-
-  module _ (p vs kept start sites : List ℕ) (t : Tallied) (v : vs ≡ ranking_of vars p) (k : kept ≡ range_with_len 0 (length f))
-      (s : start ≡ zeros (length vars)) (w : sites ≡ p) where
-    -- at the empty prefix, the cut ends the listing just where it is in the prefix's segment
-    pub cut-first : length sites ≡ 0 → (listed_at f vs kept start 0).1 ≡ is_cut_at vars f p
-    cut-first e = ap (λ z. z.1) (listed-first p vs kept start (ap length (sym w) ∙ e) v k s)
-
-    -- at the empty prefix, what is kept of the listing is what is kept of the prefix's segment
-    pub seen-first : length sites ≡ 0 → see_all (length start) f t (listed_at f vs kept start 0).0 ≡ see_all (length vars) f t (segment_at vars f p)
-    seen-first e = ap (λ z. see_all (length start) f t z.0) (listed-first p vs kept start (ap length (sym w) ∙ e) v k s)
-        ∙ ap (λ n. see_all n f t (segment_at vars f p)) (size-start start s)
-
-    module _ (us : List ℕ) (m : ℕ) (some : 0 < length sites) (u : us ≡ vars_of (get_or sites (length sites - 1) 0) vars 0)
-        (c : cut_before vars f p ≡ false) (size : m ≡ length us) where
+    module _ {us : List ℕ} (some : 0 < length sites) (u : us ≡ vars_of (get_or sites (length sites - 1) 0) vars 0) where
       one-more : length p ≡ suc (length sites - 1)
-      one-more = omega (arith, ap length w, some)
+      one-more = omega (arith, ap length places, some)
 
       of-last : us ≡ vars_of (get_or p (length sites - 1) 0) vars 0
-      of-last = u ∙ ap (λ z. vars_of (get_or z (length sites - 1) 0) vars 0) w
+      of-last = u ∙ ap (λ z. vars_of (get_or z (length sites - 1) 0) vars 0) places
 
-      there : listed_behind f (take m vs) (drop m vs) kept start ≡ (segment_at vars f p, is_cut_at vars f p)
-      there = ap (λ n. listed_behind f (take n vs) (drop n vs) kept start) size ∙ listed-last p vs us kept start (length sites - 1) one-more c v of-last k s
-
-      -- at any other prefix that no cut comes before, the cut ends the listing just where it is in the prefix's segment
-      pub cut-last : (listed_behind f (take m vs) (drop m vs) kept start).1 ≡ is_cut_at vars f p
-      cut-last = ap (λ z. z.1) there
-
-      -- at any other prefix that no cut comes before, what is kept of the listing is what is kept of the prefix's segment
-      pub seen-last : see_all (length start) f t (listed_behind f (take m vs) (drop m vs) kept start).0 ≡ see_all (length vars) f t (segment_at vars f p)
-      seen-last = ap (λ z. see_all (length start) f t z.0) there ∙ ap (λ n. see_all n f t (segment_at vars f p)) (size-start start s)
+      -- the variables of its last site go first
+      vars-first : vs ≡ us ++ ranking_of vars (take (length sites - 1) p)
+      vars-first = w.ranking ∙ ap (ranking_of vars) (last-split p (length sites - 1) one-more)
+          ∙ ranking-last vars (take (length sites - 1) p) (get_or p (length sites - 1) 0)
+          ∙ ap (λ z. z ++ ranking_of vars (take (length sites - 1) p)) (sym of-last)
 
       -- the last site of a prefix has no more variables than the prefix's ranking
-      pub last-within : m ≤ length vs
-      last-within = omega (arith, size, within-vars p vs us (length sites - 1) one-more v of-last)
+      pub last-within : length us ≤ length vs
+      last-within = omega (arith, ap length vars-first, length-append us (ranking_of vars (take (length sites - 1) p)))
+
+      -- at any other prefix that no cut comes before
+      pub last-is : cut_before (is_cut_at vars f) p ≡ false
+          → listed_behind f (take (length us) vs) (drop (length us) vs) kept exps ≡ (segment_at vars f p, is_cut_at vars f p)
+      unfolding listed_behind
+      last-is c =
+          let l : take (length us) vs ≡ us = ap (take (length us)) vars-first ∙ take-append_seam us (ranking_of vars (take (length sites - 1) p)) in
+          let r : drop (length us) vs ≡ ranking_of vars (take (length sites - 1) p) =
+          ap (drop (length us)) vars-first ∙ drop-append_seam us (ranking_of vars (take (length sites - 1) p)) in
+          let z = unless-false (front_walk 127 vars (all_rows (length vars) f) (take (length sites - 1) p))
+          (tail 127 (vars_of (get_or p (length sites - 1) 0) vars 0) (ranking_of vars (take (length sites - 1) p)) (all_rows (length vars) f)
+          (zeros (length vars))) (front-cut (take (length sites - 1) p) false (sym (before-is p (length sites - 1) one-more) ∙ c)) in
+          rw (l, r, of-last, w.all, w.none, rows-start) (sym z) ∙ sym (at-last p (length sites - 1) one-more)
 
   -- ---- the first step
   -- in the ranking of a prefix each variable is one of the predicate's, and none occurs twice
@@ -181,21 +142,46 @@ module _ (vars : List VarInfo) (f : Sparse) where
       subst (AreFresh (length vars)) (ap (drop (length (ranking_of vars (drop r.places r.order)))) split
       ∙ drop-append_seam (ranking_of vars (drop r.places r.order)) (ranking_of vars p)) behind
 
-  -- ---- what is kept by length
+-- a walk at a prefix starts as it must
+pub starts : (vars : List VarInfo) (f : Sparse) {k : ℕ} {p vs kept exps : List ℕ} → is_laid_out k vars ≡ true → IsPrefixOf k p → AreBelow (length vars) f
+    → AreRising f → 0 < length f → vs ≡ ranking_of vars p → kept ≡ range_with_len 0 (length f) → exps ≡ zeros (length vars) → IsStart vars f p vs kept exps
+starts vars f {k} {p} {vs} {kept} {exps} laid prefix below rising some v a z =
+    let r : AreFresh (length vars) vs = subst (AreFresh (length vars)) (sym v) (fresh-front vars f k p laid prefix) in
+    let few = (shape-keeps k vars laid).few_vars in
+    record {
+      ranking = v;
+      all = a;
+      none = z;
+      step = start-step f (length vars) vs kept exps below rising some r a z;
+      few = omega (arith, ap length z, length-zeros (length vars), few);
+      few_vars = omega (arith, fresh-few (length vars) vs r, few);
+    }
+
+-- the same in other words
+pub start-is : {vars : List VarInfo} {f : Sparse} {p vs kept exps ws places q : List ℕ} → ws ≡ vs → places ≡ kept → q ≡ exps
+    → IsStart vars f p vs kept exps → IsStart vars f p ws places q
+start-is v a z h = rw (v, a, z) h
+
+-- as many exponents as variables
+pub start-size : {vars : List VarInfo} {f : Sparse} {p vs kept exps : List ℕ} → IsStart vars f p vs kept exps → length exps ≡ length vars
+start-size {vars} w = ap length w.none ∙ length-zeros (length vars)
+
+-- ---- what is kept by length
+module _ (cut : List ℕ → Bool) where
   -- what is kept for the length before is whether the cut comes before the prefix
-  pub cut-of : (p : List ℕ) (cuts : List Bool) → AreCuts vars f (length p) p cuts → cut_in cuts (length p) ≡ cut_before vars f p
+  pub cut-of : (p : List ℕ) (cuts : List Bool) → AreCuts cut (length p) p cuts → cut_in cuts (length p) ≡ cut_before cut p
   cut-of [] cuts h = refl
   cut-of (x ∷ p) cuts h = h (length p) (omega arith)
 
   -- one length more
-  pub cuts-more : (p : List ℕ) (cuts : List Bool) (b : Bool) → length cuts ≡ 6 → length p ≤ 5 → AreCuts vars f (length p) p cuts
-      → b ≡ is_cut_at vars f p → AreCuts vars f (length p + 1) p (set cuts (length p) b)
+  pub cuts-more : (p : List ℕ) (cuts : List Bool) (b : Bool) → length cuts ≡ 6 → length p ≤ 5 → AreCuts cut (length p) p cuts
+      → b ≡ cut p → AreCuts cut (length p + 1) p (set cuts (length p) b)
   cuts-more p cuts b six few h e j l = go (cases_lt j (length p)) where
-    go : (j < length p) ⊎ (length p ≤ j) → get_or (set cuts (length p) b) j false ≡ is_cut_at vars f (take j p)
+    go : (j < length p) ⊎ (length p ≤ j) → get_or (set cuts (length p) b) j false ≡ cut (take j p)
     go (inl m) = get_or-set_other cuts (length p) j b false (λ q. omega (arith, q, m)) ∙ h j m
     go (inr m) =
         let q : j ≡ length p = omega (arith, l, m) in
-        rw q (get_or-set_same cuts (length p) b false (omega (arith, six, few)) ∙ e ∙ ap (is_cut_at vars f) (sym (take_all (length p) p (omega arith))))
+        rw q (get_or-set_same cuts (length p) b false (omega (arith, six, few)) ∙ e ∙ ap cut (sym (take_all (length p) p (omega arith))))
 
   -- at the prefix that follows
   take-less : (j m : ℕ) (xs : List ℕ) → j ≤ m → take j (take m xs) ≡ take j xs
@@ -204,23 +190,23 @@ module _ (vars : List VarInfo) (f : Sparse) where
   take-less (suc j) (suc m) [] h = refl
   take-less (suc j) (suc m) (x ∷ xs) h = ap (λ z. x ∷ z) (take-less j m xs (omega (arith, h)))
 
-  cuts-next : (p q : List ℕ) (cuts : List Bool) → Follows p q → AreCuts vars f (length p + 1) p cuts → AreCuts vars f (length q) q cuts
+  cuts-next : (p q : List ℕ) (cuts : List Bool) → Follows p q → AreCuts cut (length p + 1) p cuts → AreCuts cut (length q) q cuts
   cuts-next p q cuts w h j l =
       let m : ℕ = length q - 1 in
       let le : j ≤ length q - 1 = omega (arith, l) in
       let same : take j p ≡ take j q = sym (take-less j (length q - 1) p le) ∙ ap (take j) w.shared ∙ take-less j (length q - 1) q le in
-      h j (omega (arith, l, w.near)) ∙ ap (is_cut_at vars f) same
+      h j (omega (arith, l, w.near)) ∙ ap cut same
 
   -- where each prefix in a list follows the one before it, the cuts kept up to one of them are those that the next one needs
   pub cuts-go : (ps : List (List ℕ)) (i : ℕ) (p : List ℕ) (rest : List (List ℕ)) (cuts : List Bool)
       → ((i : ℕ) → suc i < length ps → Follows (get_or ps i []) (get_or ps (suc i) [])) → drop i ps ≡ p ∷ rest
-      → AreCuts vars f (length p + 1) p cuts → AreCutsFor vars f rest cuts
+      → AreCuts cut (length p + 1) p cuts → AreCutsFor cut rest cuts
   cuts-go [] zero p rest cuts all e h = cc
   cuts-go [] (suc i) p rest cuts all e h = cc
   cuts-go (q ∷ ps) (suc i) p rest cuts all e h = cuts-go ps i p rest cuts (λ j l. all (suc j) (omega (arith, l))) e h
-  cuts-go (q ∷ []) zero p rest cuts all e h = let z : [] ≡ rest = cc in subst (λ r. AreCutsFor vars f r cuts) z tt
+  cuts-go (q ∷ []) zero p rest cuts all e h = let z : [] ≡ rest = cc in subst (λ r. AreCutsFor cut r cuts) z tt
   cuts-go (q ∷ (u ∷ ps)) zero p rest cuts all e h =
       let z : u ∷ ps ≡ rest = cc in
       let y : q ≡ p = cc in
-      let a : AreCuts vars f (length q + 1) q cuts = rw y h in
-      subst (λ r. AreCutsFor vars f r cuts) z (cuts-next q u cuts (all 0 (omega arith)) a)
+      let a : AreCuts cut (length q + 1) q cuts = rw y h in
+      subst (λ r. AreCutsFor cut r cuts) z (cuts-next q u cuts (all 0 (omega arith)) a)

@@ -1,7 +1,6 @@
 -- Chains: one lemma on what they come to, and one for each way to run through a list.
-use Rattle.std.proofs.Common.{◌≡◌, ℕ, ◌<◌, List, [], ◌∷◌, ◌++◌, length, refl, ap, sym, ◌∙◌, subst, arith, Some, append_assoc}
+use Rattle.std.proofs.Common.{◌≡◌, ℕ, List, [], ◌∷◌, ◌++◌, length, refl, ap, sym, ◌∙◌, subst, arith, Some, append_assoc}
 use Rattle.std.proofs.lemmas.List.{append-nil}
-use Rattle.std.proofs.lemmas.Option.{none-some}
 use Rattle.ln_base.specs.Outside.{Shelf}
 use Rattle.ln_tree.specs.Table.{PredOf}
 use Rattle.ln_parse.proofs.Settling.OneAnswer.{one_table}
@@ -16,7 +15,7 @@ use Rattle.ln_frame.specs.Source.{IsRefusedAt, place_at}
 use Rattle.ln_frame.specs.Given.{Outcome, stops, missing, gives, most_file}
 use Rattle.ln_top.specs.Steps.{Then, stopped, lacks, goes, Gives, Each, Reads, there, long, absent, Compiles, accepted, refused, Finds, found, none, Suits}
 use Rattle.ln_top.specs.Steps.{suited, unsuited, Prepares, most_source}
-use Rattle.ln_frame.proofs.Outcomes.{value_or, IsGiven, IsStop, why_or, some_same}
+use Rattle.ln_frame.proofs.Outcomes.{some_same}
 
 -- a step comes to one thing
 abbrev pub One : {A : Type 0} → (Outcome A → Type 0) → Type 0
@@ -25,17 +24,20 @@ One {A} step = (o p : Outcome A) → step o → step p → o ≡ p
 -- A chain of steps that each come to one thing comes to one thing.
 pub one_then : {A B : Type 0} (first : Outcome A → Type 0) (next : A → Outcome B → Type 0) → One first
     → ((a : A) → One (next a)) → One (Then first next)
-one_then first next f n o p (stopped w s) (stopped v t) = ap stops (ap (why_or w) (f (stops w) (stops v) s t))
-one_then first next f n o p (stopped w s) (lacks t) = absurd (subst IsStop (f (stops w) missing s t) tt)
-one_then first next f n o p (stopped w s) (goes a t y) = absurd (subst IsStop (f (stops w) (gives a) s t) tt)
-one_then first next f n o p (lacks s) (stopped v t) = absurd (subst IsStop (f (stops v) missing t s) tt)
+one_then first next f n o p (stopped w s) (stopped v t) = cc (f (stops w) (stops v) s t)
+one_then first next f n o p (stopped w s) (lacks t) = cc (f (stops w) missing s t)
+one_then first next f n o p (stopped w s) (goes a t y) = cc (f (stops w) (gives a) s t)
+one_then first next f n o p (lacks s) (stopped v t) = cc (f (stops v) missing t s)
 one_then first next f n o p (lacks s) (lacks t) = refl
-one_then first next f n o p (lacks s) (goes a t y) = absurd (subst IsGiven (f (gives a) missing t s) tt)
-one_then first next f n o p (goes a s x) (stopped v t) = absurd (subst IsGiven (f (gives a) (stops v) s t) tt)
-one_then first next f n o p (goes a s x) (lacks t) = absurd (subst IsGiven (f (gives a) missing s t) tt)
-one_then first next f n o p (goes a s x) (goes b t y) = n b o p (subst (λ c. next c o) (ap (value_or a) (f (gives a) (gives b) s t)) x) y
+one_then first next f n o p (lacks s) (goes a t y) = cc (f (gives a) missing t s)
+one_then first next f n o p (goes a s x) (stopped v t) = cc (f (gives a) (stops v) s t)
+one_then first next f n o p (goes a s x) (lacks t) = cc (f (gives a) missing s t)
+one_then first next f n o p (goes a s x) (goes b t y) =
+    let same : a ≡ b = cc (f (gives a) (gives b) s t) in
+    n b o p (subst (λ c. next c o) same x) y
 
-one_gives : {A : Type 0} (a : A) → One (Gives a)
+-- the end of a chain is one thing
+pub one_gives : {A : Type 0} (a : A) → One (Gives a)
 one_gives a o p e f = e ∙ sym f
 
 one_each : {A B : Type 0} (step : A → Outcome B → Type 0) → ((a : A) → One (step a)) → (all : List A) → One (Each step all)
@@ -46,18 +48,14 @@ one_each step f (a ∷ rest) =
 
 -- the known bytes of a file are one
 one_reads : (shelf : Shelf) (limit : ℕ) (name : List ℕ) → One (Reads (Some shelf) limit name)
-one_reads shelf limit name o p (there b e l) (there c f m) = ap gives (some_same b c (sym e ∙ f))
-one_reads shelf limit name o p (there b e l) (long h) =
-    let same : b ≡ h.0 = some_same b h.0 (sym e ∙ h.1) in
-    absurd (omega (arith, l, subst (λ xs. limit < length xs) (sym same) h.2))
-one_reads shelf limit name o p (there b e l) (absent a) = absurd (none-some b (sym a ∙ e))
-one_reads shelf limit name o p (long h) (there c f m) =
-    let same : c ≡ h.0 = some_same c h.0 (sym f ∙ h.1) in
-    absurd (omega (arith, m, subst (λ xs. limit < length xs) (sym same) h.2))
+one_reads shelf limit name o p (there b e l) (there c f m) = let same : b ≡ c = cc in ap gives same
+one_reads shelf limit name o p (there b e l) (long (c, f, m)) = let same : b ≡ c = cc in absurd (omega (arith, ap length same))
+one_reads shelf limit name o p (there b e l) (absent a) = cc
+one_reads shelf limit name o p (long (b, e, l)) (there c f m) = let same : b ≡ c = cc in absurd (omega (arith, ap length same))
 one_reads shelf limit name o p (long h) (long k) = refl
-one_reads shelf limit name o p (long h) (absent a) = absurd (none-some h.0 (sym a ∙ h.1))
-one_reads shelf limit name o p (absent a) (there c f m) = absurd (none-some c (sym a ∙ f))
-one_reads shelf limit name o p (absent a) (long h) = absurd (none-some h.0 (sym a ∙ h.1))
+one_reads shelf limit name o p (long (b, e, l)) (absent a) = cc
+one_reads shelf limit name o p (absent a) (there c f m) = cc
+one_reads shelf limit name o p (absent a) (long (b, e, l)) = cc
 one_reads shelf limit name o p (absent a) (absent b) = refl
 
 -- a source is accepted with one table, or refused for one thing at one place
@@ -67,7 +65,7 @@ one_refusal bytes r q a b f g =
     let same : r ≡ q = refused_one bytes r q f.cause g.cause in
     let span : f.at ≡ g.at = some_same f.at g.at (sym f.span ∙ ap span_of same ∙ g.span) in
     let place : a ≡ b = f.start ∙ ap (place_at bytes) span ∙ sym g.start in
-    ap (λ x. Refused x a) same ∙ ap (Refused q) place
+    cc
 
 one_compiles : (bytes : List ℕ) → One (Compiles bytes)
 one_compiles bytes o p (accepted t a) (accepted u b) = ap gives (one_table bytes t u a.accepted.text b.accepted.text)
@@ -76,9 +74,9 @@ one_compiles bytes o p (refused r place h) (accepted t a) = absurd (accepted_alo
 one_compiles bytes o p (refused r place h) (refused q other k) = ap stops (one_refusal bytes r q place other h k)
 
 one_finds : (preds : List PredOf) (name : List ℕ) → One (Finds preds name)
-one_finds preds name o p (found a e) (found b f) = ap gives (some_same a b (sym e ∙ f))
-one_finds preds name o p (found a e) (none f) = absurd (none-some a (sym f ∙ e))
-one_finds preds name o p (none e) (found b f) = absurd (none-some b (sym e ∙ f))
+one_finds preds name o p (found a e) (found b f) = let same : a ≡ b = cc in ap gives same
+one_finds preds name o p (found a e) (none f) = cc
+one_finds preds name o p (none e) (found b f) = cc
 one_finds preds name o p (none e) (none f) = refl
 
 one_suits : (c : Command) (bytes : List ℕ) (preds : List PredOf) → One (Suits c bytes preds)

@@ -9,7 +9,7 @@ use Rattle.ln_top.specs.Plan.{Plan}
 use Rattle.ln_top.specs.Works.{AreOneValued, IsOneValued, WorkOwes}
 use Rattle.ln_top.specs.Answer.{PlanOwes, stopped, worked, Answer, usage, planned}
 use Rattle.ln_top.proofs.Steps.Chain.{one_prepares}
-use Rattle.ln_top.proofs.Steps.Grounded.{asked, grounded}
+use Rattle.ln_top.proofs.Steps.Grounded.{fine}
 use Rattle.ln_top.proofs.Steps.TopLaws.{some_plan, stops_gives, same_why, same_given, lawful}
 
 plan_one : (plan : Plan) (shelf : Shelf) (boxes : List State) → IsOneValued plan.command → (a b : Said)
@@ -18,7 +18,8 @@ plan_one plan shelf boxes i a b (stopped why p) (stopped v q) = ap said_of (same
 plan_one plan shelf boxes i a b (stopped why p) (worked g q y) = stops_gives (one_prepares plan shelf _ _ p q)
 plan_one plan shelf boxes i a b (worked g p x) (stopped v q) = stops_gives (one_prepares plan shelf _ _ q p)
 plan_one plan shelf boxes i a b (worked g p x) (worked h q y) =
-    (lawful plan.command).said i boxes h (grounded plan shelf h q) (asked plan (Some shelf) h q) a b
+    let k = fine plan (Some shelf) h q in
+    (lawful plan.command).said i boxes h k.grounded k.asked a b
     (subst (λ k. WorkOwes plan.command boxes k a) (same_given (one_prepares plan shelf _ _ p q)) x) y
 
 -- There is one output.

@@ -8,6 +8,7 @@ use Rattle.ln_base.specs.Outside.{Shelf, bytes_of, IsAbsent, Rose, refused}
 use Rattle.ln_tree.specs.declared.pred.Pred.{Pred}
 use Rattle.ln_tree.specs.Table.{PredOf, TableOf, pred_of}
 use Rattle.ln_compile.specs.Compiled.{number_of}
+use Rattle.ln_frame.specs.declared.stop.Why.{Why}
 use Rattle.ln_frame.specs.declared.stop.Why.TheVariants.{TooLong, NoPredicate}
 use Rattle.ln_frame.specs.declared.stop.Stop.{Stop}
 use Rattle.ln_frame.specs.declared.stop.Stop.TheVariants as stop
@@ -26,29 +27,28 @@ use Rattle.ln_top.proofs.Steps.Chain.{Behind, behind_at, behind_more, behind_all
 use Rattle.ln_frame.proofs.FindLaws.{found_at, none_at}
 use Rattle.ln_top.specs.Signature.{Asks, signature_of}
 
+-- what stops one step stops another that takes over its stops, a file that is missing and faults of reading
+halts_map : {A B : Type 0} {step : Outcome A → Type 0} {other : Outcome B → Type 0} {r q : Type 0} {s : Stop}
+    → ((why : Why) → step (stops why) → other (stops why)) → (step missing → other missing) → (r → q) → Halts step r s → Halts other q s
+halts_map f g k (tells why h) = tells why (f why h)
+halts_map f g k (unread (inl u)) = unread (inl (k u))
+halts_map f g k (unread (inr u)) = unread (inr (g u))
+halts_map f g k short = short
+
 -- what stops the first step stops the chain
 pub halts_first : {A B : Type 0} (first : Outcome A → Type 0) (next : A → Outcome B → Type 0) (r q : Type 0) (s : Stop)
     → Halts first r s → (r → q) → Halts (Then first next) q s
-halts_first first next r q s (tells why h) f = tells why (stopped why h)
-halts_first first next r q s (unread (inl u)) f = unread (inl (f u))
-halts_first first next r q s (unread (inr u)) f = unread (inr (lacks u))
-halts_first first next r q s short f = short
+halts_first first next r q s h f = halts_map (λ why x. stopped why x) (λ x. lacks x) f h
 
 -- where the first step has a value, what stops the next one stops the chain
-pub halts_next : {A B : Type 0} (first : Outcome A → Type 0) (next : A → Outcome B → Type 0) (a : A) (r q : Type 0) (s : Stop)
-    → first (gives a) → Halts (next a) r s → (r → q) → Halts (Then first next) q s
-halts_next first next a r q s g (tells why h) f = tells why (goes a g h)
-halts_next first next a r q s g (unread (inl u)) f = unread (inl (f u))
-halts_next first next a r q s g (unread (inr u)) f = unread (inr (goes a g u))
-halts_next first next a r q s g short f = short
+pub halts_next : {A B : Type 0} {first : Outcome A → Type 0} {next : A → Outcome B → Type 0} {r : Type 0} {s : Stop} (a : A)
+    → first (gives a) → Halts (next a) r s → Halts (Then first next) r s
+halts_next a g h = halts_map (λ why x. goes a g x) (λ x. goes a g x) (λ x. x) h
 
 -- what stops the step of the next member stops the steps of the whole list
 pub halts_behind : {A B : Type 0} (step : A → Outcome B → Type 0) (all rest : List A) (done : List B) (a : A) (r : Type 0) (s : Stop)
     → Behind step all (a ∷ rest) done → Halts (step a) r s → Halts (Each step all) r s
-halts_behind step all rest done a r s b (tells why h) = tells why (b (stops why) (stopped why h))
-halts_behind step all rest done a r s b (unread (inl u)) = unread (inl u)
-halts_behind step all rest done a r s b (unread (inr u)) = unread (inr (b missing (lacks u)))
-halts_behind step all rest done a r s b short = short
+halts_behind step all rest done a r s b h = halts_map (λ why x. b (stops why) (stopped why x)) (λ x. b missing (lacks x)) (λ x. x) h
 
 -- where room for one more is refused, the steps stop out of memory
 pub refused_halts : {A T : Type 0} (step : Outcome A → Type 0) (reads : Type 0) (r : Result T Stop) → IsErrAnd r (λ e. e ≡ stop.Memory refused)
@@ -58,10 +58,7 @@ refused_halts step reads (Err e) h = subst (Halts step reads) (sym h) short
 
 -- the same, where a fault of reading in this step is one in all of them
 pub halts_wider : {A : Type 0} (step : Outcome A → Type 0) (r q : Type 0) (s : Stop) → Halts step r s → (r → q) → Halts step q s
-halts_wider step r q s (tells why h) f = tells why h
-halts_wider step r q s (unread (inl u)) f = unread (inl (f u))
-halts_wider step r q s (unread (inr u)) f = unread (inr u)
-halts_wider step r q s short f = short
+halts_wider step r q s h f = halts_map (λ why x. x) (λ x. x) f h
 
 -- one more number
 pub numbered_more : (table : List PredOf) (is : List ℕ) (ps : List PredOf) (more : List ℕ) (i : ℕ) (p : PredOf)
@@ -166,14 +163,13 @@ file_stops plan told r s h = halts_first _ _ r r s h (λ x. x)
 -- what stops the compiler stops the plan
 pub compiler_stops : (plan : Plan) (told : Option Shelf) (bytes : List ℕ) (r : Type 0) (s : Stop)
     → Reads told most_source plan.source (gives bytes) → Halts (Compiles bytes) ⊥ s → Halts (Prepares plan told) r s
-compiler_stops plan told bytes r s a h = halts_next _ _ bytes r r s a (halts_first _ _ ⊥ r s h (λ x. absurd x)) (λ x. x)
+compiler_stops plan told bytes r s a h = halts_next bytes a (halts_first _ _ ⊥ r s h (λ x. absurd x))
 
 -- what stops the search for the names stops the plan
 pub names_stop : (plan : Plan) (told : Option Shelf) (bytes : List ℕ) (table : TableOf) (r : Type 0) (s : Stop)
     → Reads told most_source plan.source (gives bytes) → Compiles bytes (gives table)
     → Halts (Each (Finds table.preds) plan.names) ⊥ s → Halts (Prepares plan told) r s
-names_stop plan told bytes table r s a c h =
-    halts_next _ _ bytes r r s a (halts_next _ _ table r r s c (halts_first _ _ ⊥ r s h (λ x. absurd x)) (λ x. x)) (λ x. x)
+names_stop plan told bytes table r s a c h = halts_next bytes a (halts_next table c (halts_first _ _ ⊥ r s h (λ x. absurd x)))
 
 -- predicates that don't suit a command stop it with its objection
 refuses : (c : Command) (bytes : List ℕ) (preds : List PredOf) (s : Stop) → Refuses (signature_of c).suits bytes preds s
@@ -188,8 +184,8 @@ pub suits_stop : (plan : Plan) (told : Option Shelf) (bytes : List ℕ) (table :
     → Each (Finds table.preds) plan.names (gives preds) → Refuses (signature_of plan.command).suits bytes preds s
     → Halts (Prepares plan told) r s
 suits_stop plan told bytes table preds r s a c n h =
-    halts_next _ _ bytes r r s a (halts_next _ _ table r r s c (halts_next _ _ preds r r s n
-    (halts_first _ _ ⊥ r s (refuses plan.command bytes preds s h) (λ x. absurd x)) (λ x. x)) (λ x. x)) (λ x. x)
+    halts_next bytes a (halts_next table c (halts_next preds n
+    (halts_first _ _ ⊥ r s (refuses plan.command bytes preds s h) (λ x. absurd x))))
 
 -- what stops the reading of the further files stops the plan
 pub files_stop : (plan : Plan) (told : Option Shelf) (bytes : List ℕ) (table : TableOf) (preds : List PredOf) (r : Type 0)
@@ -197,8 +193,7 @@ pub files_stop : (plan : Plan) (told : Option Shelf) (bytes : List ℕ) (table :
     → Each (Finds table.preds) plan.names (gives preds) → Asks plan.command preds
     → Halts (Each (Reads told most_file) plan.files) r s → Halts (Prepares plan told) r s
 files_stop plan told bytes table preds r s a c n y h =
-    halts_next _ _ bytes r r s a (halts_next _ _ table r r s c (halts_next _ _ preds r r s n (halts_next _ _ tt r r s (suited y)
-    (halts_first _ _ r r s h (λ x. x)) (λ x. x)) (λ x. x)) (λ x. x)) (λ x. x)
+    halts_next bytes a (halts_next table c (halts_next preds n (halts_next tt (suited y) (halts_first _ _ r r s h (λ x. x)))))
 
 -- all is ready
 pub is_ready : (plan : Plan) (told : Option Shelf) (bytes : List ℕ) (r : Ready) → Reads told most_source plan.source (gives bytes)

@@ -45,8 +45,7 @@ taken rank vars e row Undecided v h o = by_stage rank vars e row 1 v h o
 value_decides : (rank : Rank) (s : Shape) (p : PredOf) (row : Row) (v : Verdict) → p.vars ≡ s.vars → p.sites ≡ s.sites
     → InRange p.sites p.vars row → plain_value p row ≢ pos 0 → IsDueIn rank p row v → IsPlain (plain_value p row) v
 value_decides rank s p row v vars sites range d h =
-    let r0 : InRange s.sites p.vars row = subst (λ (k : ℕ). InRange k p.vars row) sites range in
-    let r : InRange s.sites s.vars row = subst (λ (w : List VarInfo). InRange s.sites w row) vars r0 in
+    let r = rw (sites, vars) at range in
     plain-decides rank s (root_of p) row h.filtering v r d (subst (λ (w : List VarInfo). Due rank h.filtering w (root_of p) row v) vars h.due)
 
 -- the verdict comes from the filter or from block 0, by what the filter does

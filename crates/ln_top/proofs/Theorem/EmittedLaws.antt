@@ -1,15 +1,11 @@
 -- The calls of the C that was written mean the perturbed signs, under the names of the source's predicates.
-use Rattle.std.proofs.Common.{◌≡◌, ℕ, List, [], ◌∷◌, ◌++◌, map, Option, Some, None, ap, refl, sym, ◌∙◌, subst}
-use Rattle.std.specs.Prelude.{IfSome}
-use Rattle.ln_base.specs.Outside.{Shelf, Shown}
+use Rattle.std.proofs.Common.{◌≡◌, ℕ, List, [], ◌∷◌, map, Option, ap, refl, ◌∙◌, subst}
+use Rattle.ln_base.specs.Outside.{Shown}
 use Rattle.ln_algebra.specs.Orders.{BySmallest}
-use Rattle.ln_lex.specs.declared.token.Token.{Token}
-use Rattle.ln_syntax.specs.Raw.{Item, SiteItem, ParamItem, PredItem}
 use Rattle.ln_watch.specs.Panel.{State}
 use Rattle.ln_tree.specs.declared.pred.Pred.{Pred}
 use Rattle.ln_tree.specs.Row.{InRange, Row}
 use Rattle.ln_tree.specs.Table.{PredOf, TableOf, pred_of}
-use Rattle.ln_parse.specs.Says.{PredsSay}
 use Rattle.ln_code.specs.declared.verdict.Verdict.{Verdict}
 use Rattle.ln_code.specs.declared.verdict.By.{By}
 use Rattle.ln_code.specs.declared.verdict.By.TheVariants.{Filter}
@@ -20,42 +16,23 @@ use Rattle.ln_compile.specs.Filtered.{Does}
 use Rattle.ln_csyn.specs.Tree.{Fun}
 use Rattle.ln_frame.specs.declared.status.Status.{Status}
 use Rattle.ln_frame.specs.Said.{Said, put_both}
-use Rattle.ln_top.specs.Plan.{Plan}
-use Rattle.ln_top.specs.Steps as step
-use Rattle.ln_frame.specs.Given.{gives, Given}
-use Rattle.ln_top.specs.Steps.{Prepares}
-use Rattle.ln_top.specs.Answer.{Answer}
-use Rattle.ln_top.specs.Causes.{Answered}
-use Rattle.ln_texts.specs.Emit as e
+use Rattle.ln_frame.specs.Given.{Given}
+use Rattle.ln_top.specs.declared.words.Command.TheVariants.{Emit}
 use Rattle.ln_texts.specs.Emit.{AllAreDue, CallIsDue, EmitSaid}
-use Rattle.ln_top.specs.Emitted.{CallsPerturbedSign, CallPerturbedSigns, PutC, CallsArePerturbed}
+use Rattle.ln_texts.specs.Text.{prints}
+use Rattle.ln_top.specs.Emitted.{CallsPerturbedSign, CallPerturbedSigns, PutC}
 use Rattle.ln_top.specs.ByValue.{IsByValue, IsVerdictByValue, Takes}
 use Rattle.ln_top.specs.Perturbed.{FilterDecides}
-use Rattle.ln_texts.proofs.EmitLaws.{AreNamed}
-use Rattle.ln_frame.proofs.Outcomes.{value_or}
+use Rattle.ln_texts.proofs.EmitLaws.{AreNamed, names_there}
 use Rattle.ln_top.proofs.Theorem.ByValueLaws.{by_value}
 use Rattle.ln_top.proofs.Theorem.HeadlineLaws.{never_zero}
-use Rattle.ln_top.proofs.Steps.TopLaws.{work_of_words}
+use Rattle.ln_top.proofs.Steps.TopLaws.{Worked}
 use Rattle.ln_frame.proofs.Grounded.{IsGrounded}
-use Rattle.ln_top.proofs.Steps.Grounded.{accepted_of, grounded}
-use Rattle.ln_top.specs.Works.{WorkOwes}
+use Rattle.ln_top.proofs.Steps.Grounded.{IsFine}
 
-said_named : (bytes : List ℕ) (ts : List Token) (before : List Item) (t : TableOf) (is : List Item) (ps : List PredOf)
-    → PredsSay bytes ts before t is ps → AreNamed ps
-said_named bytes ts before t [] [] h = tt
-said_named bytes ts before t [] (p ∷ ps) h = absurd h
-said_named bytes ts before t (SiteItem n cs ∷ is) ps h = said_named bytes ts (before ++ (SiteItem n cs ∷ [])) t is ps h
-said_named bytes ts before t (ParamItem n r ∷ is) ps h = said_named bytes ts (before ++ (ParamItem n r ∷ [])) t is ps h
-said_named bytes ts before t (PredItem n args ls root ∷ is) [] h = absurd h
-said_named bytes ts before t (PredItem n args ls root ∷ is) (p ∷ ps) h =
-    (h.0.shape_is ∙ sym h.0.name_is, said_named bytes ts (before ++ (PredItem n args ls root ∷ [])) t is ps h.1)
-
--- so it is of the result of the steps
-pub names_given : (plan : Plan) (shelf : Shelf) (g : Given) → Prepares plan (Some shelf) (gives g) → AreNamed g.table.preds
-names_given plan shelf g (step.goes bytes r (step.goes table c (step.goes preds n (step.goes _ y (step.goes texts t h))))) =
-    let text = (accepted_of bytes table c).accepted.text in
-    subst (λ (k : Given). AreNamed k.table.preds) (sym (ap (value_or g) h))
-    (said_named bytes text.tokens [] table text.items table.preds text.says.preds_are)
+-- the shapes of what is given have the names of its predicates
+pub names_given : (g : Given) → IsGrounded g → AreNamed g.table.preds
+names_given g i = subst (λ (t : TableOf). AreNamed t.preds) i.is (names_there i.table)
 
 -- where the filter decides, the verdict that a row requires is the filter's
 pub by_filter : (p : PredOf) (row : Row) (f : Filtering) (v : Verdict) → Does p row f → Due BySmallest f p.vars (root_of p) row v
@@ -106,23 +83,18 @@ all_signed file (p ∷ ps) s d = (λ row range. call_signed file p row s.0 range
 -- what is required for a source's predicates
 put_c : (g : Given) (a : Said) (was now : Option Shown) → IsGrounded g → EmitSaid g a
     → now ≡ put_both a.out a.err was → PutC g.table.preds was now
-put_c g a was now i (e.emitted text c) q =
+put_c g a was now i (prints text c) q =
     let preds : map pred_of i.table.preds ≡ g.table.preds = ap (λ (t : TableOf). t.preds) i.is in
     record {
       bytes = text;
       file = c.file;
       text = c.text;
       functions = record { programs = c.programs; names = c.names; heads = c.heads };
-      signs =
-          subst (CallPerturbedSigns c.file) preds (all_signed c.file i.table.preds (subst AreSound (sym preds) i.sound)
-          (subst (AllAreDue c.file) (sym preds) c.due));
+      signs = rw (← preds) (all_signed c.file i.table.preds (rw preds i.sound) (rw preds c.due));
       shown = q;
     }
 
--- what is required has the perturbed signs
-pub emitted : (words : List (List ℕ)) (told : Option Shelf) (boxes : List State) (result : Status) (was now : Option Shown)
-    → Answered (Answer words told boxes) result was now → IfSome told (λ shelf. CallsArePerturbed words shelf was now)
-emitted words None boxes result was now h = tt
-emitted words (Some shelf) boxes result was now h = λ plan g f r x.
-    let owed : EmitSaid g h.said = subst (λ c. WorkOwes c boxes g h.said) r (work_of_words words shelf boxes plan g h.said f x h.owed) in
-    put_c g h.said was now (grounded plan shelf g x) owed h.shown
+-- what `emit` says has the perturbed signs
+pub emitted : {boxes : List State} {result : Status} {was now : Option Shown} (g : Given) → IsFine Emit g
+    → Worked Emit boxes g result was now → PutC g.table.preds was now
+emitted g i w = put_c g w.said _ _ i.grounded w.owed w.shown

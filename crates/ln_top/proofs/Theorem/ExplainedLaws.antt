@@ -1,17 +1,15 @@
 -- The trace that was written explains the records, and a judge and `audit` agree to it.
-use Rattle.std.proofs.Common.{◌≡◌, ◌⊎◌, inl, inr, List, [], ◌∷◌, ◌++◌, ℕ, ◌+◌, ◌^◌, ◌<◌, ◌≤◌, length, Option, Some, None}
+use Rattle.std.proofs.Common.{◌≡◌, inl, inr, List, [], ◌∷◌, ◌++◌, ℕ, ◌+◌, ◌^◌, ◌<◌, ◌≤◌, length, Option}
 use Rattle.std.proofs.Common.{refl, ap, sym, ◌∙◌, subst, append_assoc, arith}
 use Rattle.std.proofs.lemmas.Bool.{cases_lt}
 use Rattle.std.proofs.Math.IntN.{pos}
-use Rattle.std.specs.Prelude.{IfSome}
-use Rattle.ln_base.specs.Outside.{Shelf, Shown}
+use Rattle.ln_base.specs.Outside.{Shown}
 use Rattle.ln_algebra.proofs.Expanded.Expansion.{length-zeros}
 use Rattle.ln_algebra.proofs.Expanded.Normal.{zero_cases}
 use Rattle.ln_algebra.proofs.Vectors.Zeros.{covers-zeros}
 use Rattle.ln_algebra.specs.Coefficient.{normal_coefficient}
 use Rattle.ln_algebra.specs.Orders.{BySmallest}
 use Rattle.ln_algebra.specs.Stage.{IsStage}
-use Rattle.ln_algebra.specs.Tree.{InputsBelow}
 use Rattle.ln_algebra.specs.Vector.{zeros}
 use Rattle.ln_algebra.specs.Weights.{weighted_sum}
 use Rattle.ln_algebra.proofs.Walking.Stages.{zeros-get}
@@ -29,8 +27,7 @@ use Rattle.ln_tree.specs.Table.{PredOf, pred_of}
 use Rattle.ln_tree.proofs.KeptLemmas.{few_vars}
 use Rattle.ln_rows.specs.Left.{Records}
 use Rattle.ln_trace.specs.declared.line.TraceLine.{TraceLine}
-use Rattle.ln_trace.specs.Judge.{IsAgreed}
-use Rattle.ln_trace.specs.Signs.{AreExplained, HaveStages, RowsDiffer}
+use Rattle.ln_trace.specs.Signs.{AreExplained, HaveStages}
 use Rattle.ln_trace.proofs.Agreeing.{agreed-right, explained-agreed}
 use Rattle.ln_trace.proofs.Explaining.{explained-trace}
 use Rattle.ln_trace.proofs.SmallValues.{explained-small}
@@ -39,26 +36,23 @@ use Rattle.ln_trace.specs.FormLaw.{HasSmallSum, HasSmallValue}
 use Rattle.ln_trace.specs.Text.{first_line, text_of_line, text_of_lines}
 use Rattle.ln_watch.specs.Panel.{State}
 use Rattle.ln_frame.specs.declared.status.Status.{Status}
-use Rattle.ln_top.specs.Answer.{Answer}
+use Rattle.ln_top.specs.declared.words.Command.TheVariants as command
 use Rattle.ln_signs.specs.Explain.{ExplainSaid, ExplainLine}
 use Rattle.ln_frame.specs.Subject.{subject_of}
-use Rattle.ln_top.specs.Explained.{PutTrace, TracesExplain}
+use Rattle.ln_top.specs.Explained.{PutTrace}
 use Rattle.ln_judges.specs.Audit as audit
-use Rattle.ln_top.specs.Causes.{Answered}
 use Rattle.ln_frame.specs.Lines as l
 use Rattle.ln_frame.specs.Lines.{Lines}
 use Rattle.ln_signs.specs.Run.{HasRecords}
 use Rattle.ln_frame.specs.Said.{Said, put_both}
 use Rattle.ln_frame.specs.Given.{Given}
-use Rattle.ln_top.specs.Works.{WorkOwes}
 use Rattle.ln_signs.proofs.ExplainLaws.{rows_differ}
 use Rattle.ln_signs.proofs.FewRecords.{few_in}
 use Rattle.ln_frame.proofs.Grounded.{IsGrounded, in_memory}
-use Rattle.ln_top.proofs.Steps.Grounded.{grounded}
-use Rattle.ln_top.proofs.Steps.TopLaws.{work_of_words}
+use Rattle.ln_top.proofs.Steps.Grounded.{IsFine}
+use Rattle.ln_top.proofs.Steps.TopLaws.{Worked}
 use Rattle.ln_top.proofs.Theorem.HeadlineLaws.{head_sound}
 use Rattle.ln_frame.proofs.Lightness.{light_of}
-use Rattle.ln_top.proofs.Theorem.Standing.{fine}
 use Rattle.ln_frame.proofs.ReadyLaws.{one_short}
 use Rattle.ln_frame.specs.Ready.{AreShort}
 use Rattle.ln_signs.specs.Rows.{RowStep}
@@ -84,21 +78,25 @@ all_told p names w z (fields ∷ rest) out err (l.more {out = o2} {err = e2} _ o
     let u = all_told p names m z rest o2 e2 k in
     let seen : m.seen ≡ w.seen + 1 = ap (λ (x : Watching). x.seen) t.left in
     record {
-      lines = t.is.lines ++ u.lines;
+      lines = t.is.said ++ u.lines;
       are = (
-        t.is.lines,
+        t.is.said,
         u.lines,
-        t.is.explains,
+        t.is.says,
         subst (λ (n : ℕ). AreExplained (subject_of p) (n + 1) rest u.lines) seen u.are,
         refl,
       );
-      text = ap (λ x. x ++ o2) t.is.is ∙ ap (λ x. text_of_lines t.is.lines ++ x) u.text ∙ sym (texts_join t.is.lines u.lines);
+      text = ap (λ x. x ++ o2) t.is.is ∙ ap (λ x. text_of_lines t.is.said ++ x) u.text ∙ sym (texts_join t.is.said u.lines);
     }
 
 -- ---- a predicate of an accepted source
 -- a row has some stage
 pub have_stages : (q : Pred) → IsSound (pred_of q) → HaveStages (subject_of (pred_of q))
-have_stages q sound row list h e = sound.nonzero (λ m l k. none m l (zero_cases (normal_coefficient (root_of (pred_of q)) m)))
+have_stages q sound row list h e =
+    sound.nonzero (λ m l k. elim (zero_cases (normal_coefficient (root_of (pred_of q)) m)) [
+      | inl z ↦ z
+      | inr z ↦ absurd (rw e at (h.all (zeros (length q.shape.vars)) (stage m l z)))
+    ])
   where
     stage : (m : List ℕ) → length m ≡ length q.shape.vars → (normal_coefficient (root_of (pred_of q)) m ≡ pos 0 → ⊥)
         → IsStage (length q.shape.vars) (row_sites q.shape.vars row.index) (root_of (pred_of q)) (zeros (length q.shape.vars))
@@ -108,21 +106,13 @@ have_stages q sound row list h e = sound.nonzero (λ m l k. none m l (zero_cases
       before_cut = λ b o c f. none-before BySmallest (length q.shape.vars) (row_sites q.shape.vars row.index) b f;
     }
 
-    none : (m : List ℕ) → length m ≡ length q.shape.vars
-        → (normal_coefficient (root_of (pred_of q)) m ≡ pos 0) ⊎ (normal_coefficient (root_of (pred_of q)) m ≡ pos 0 → ⊥)
-        → normal_coefficient (root_of (pred_of q)) m ≡ pos 0
-    none m l (inl z) = z
-    none m l (inr z) = absurd (rw e at (h.all (zeros (length q.shape.vars)) (stage m l z)))
-
 -- where it isn't too large as a whole, the weighted sum of its normal polynomial is within the limit
 whole-small : (p : PredOf) → IsSound p → (f : Sparse) → IsNormal (length p.vars) (root_of p) f
     → weighted_sum (weights p.vars) (terms_of (length p.vars) f) ≤ most
-whole-small p sound f n = by_case (cases_lt most (weighted_sum (weights p.vars) (terms_of (length p.vars) f)))
-  where
-    by_case : (most < weighted_sum (weights p.vars) (terms_of (length p.vars) f)) ⊎ (weighted_sum (weights p.vars) (terms_of (length p.vars) f) ≤ most)
-        → weighted_sum (weights p.vars) (terms_of (length p.vars) f) ≤ most
-    by_case (inl l) = absurd (sound.whole (record { poly = f; normal = n; heavy = l }))
-    by_case (inr l) = l
+whole-small p sound f n = elim (cases_lt most (weighted_sum (weights p.vars) (terms_of (length p.vars) f))) [
+  | inl l ↦ absurd (sound.whole (record { poly = f; normal = n; heavy = l }))
+  | inr l ↦ l
+]
 
 -- so no coefficient on a row is too large
 small_sum : (q : Pred) → IsSound (pred_of q) → HasSmallSum (subject_of (pred_of q))
@@ -139,25 +129,19 @@ trace_text q sound records lines few e =
     explained-trace (subject_of (pred_of q)) records lines (have_stages q sound) (few_vars q.shape.sites q.shape.vars q.shape.kept) few e small
 
 -- what is written for records
-trace_of : (q : Pred) (p : PredOf) (records : Records) (out : List ℕ) (was now : Option Shown) → pred_of q ≡ p → IsSound p
-    → length records < 2 ^ 32 → Told p 0 records out → now ≡ put_both (first_line ++ out) [] was → PutTrace p records was now
-trace_of q p records out was now i s few t e =
-    let sound : IsSound (pred_of q) = subst IsSound (sym i) s in
-    let differ : RowsDiffer (subject_of p) = subst (λ (r : PredOf). RowsDiffer (subject_of r)) i (rows_differ q) in
-    let some : HaveStages (subject_of p) = subst (λ (r : PredOf). HaveStages (subject_of r)) i (have_stages q sound) in
-    let below : InputsBelow (length p.vars) (root_of p) =
-    subst (λ (r : PredOf). InputsBelow (length r.vars) (root_of r)) i (light_of q sound).inputs in
-    let agreed : IsAgreed (subject_of p) records t.lines = explained-agreed (subject_of p) differ some records t.lines t.are in
-    let text : TraceText (first_line ++ text_of_lines t.lines) t.lines =
-    trace_text q sound records t.lines few (subst (λ (r : PredOf). AreExplained (subject_of r) 1 records t.lines) (sym i) t.are) in
+trace_of : (q : Pred) (records : Records) (out : List ℕ) (was now : Option Shown) → IsSound (pred_of q) → length records < 2 ^ 32
+    → Told (pred_of q) 0 records out → now ≡ put_both (first_line ++ out) [] was → PutTrace (pred_of q) records was now
+trace_of q records out was now sound few t e =
+    let agreed = explained-agreed (subject_of (pred_of q)) (rows_differ q) (have_stages q sound) records t.lines t.are in
+    let text = trace_text q sound records t.lines few t.are in
     record {
       lines = t.lines;
       explained = t.are;
       text = text;
       agreed = agreed;
-      right = agreed-right (subject_of p) records t.lines below differ agreed;
+      right = agreed-right (subject_of (pred_of q)) records t.lines (light_of q sound).inputs (rows_differ q) agreed;
       audited =
-          λ h names k. audit.agreed p names records (first_line ++ text_of_lines t.lines) k
+          λ h names k. audit.agreed (pred_of q) names records (first_line ++ text_of_lines t.lines) k
           (record { lines = t.lines; text = text; agreed = agreed });
       shown = e ∙ ap (λ (z : List ℕ). put_both (first_line ++ z) [] was) t.text;
     }
@@ -176,15 +160,14 @@ put_trace g p names records a was now i short o k e =
     let q = in_memory g p k.others i k.pred in
     let r = of_rows first_line ExplainLine [] g o k in
     let silent = lines_err (ExplainLine p names) records r.out r.err (watching 0 []) r.left refl r.lines in
-    trace_of q.0 p records r.out was now q.1 (head_sound g p k.others i k.pred) (few_records_in g p names records short k)
-    (all_told p names (watching 0 []) r.left records r.out r.err r.lines)
-    (e ∙ ap (λ (s : Said). put_both s.out s.err was) r.is ∙ ap (λ (t : List ℕ). put_both (first_line ++ r.out) t was) silent)
+    let told = all_told p names (watching 0 []) r.left records r.out r.err r.lines in
+    subst (λ (x : PredOf). PutTrace x records was now) q.1 (trace_of q.0 records r.out was now
+    (subst IsSound (sym q.1) (head_sound g p k.others i k.pred)) (few_records_in g p names records short k)
+    (subst (λ (x : PredOf). Told x 0 records r.out) (sym q.1) told)
+    (e ∙ ap (λ (s : Said). put_both s.out s.err was) r.is ∙ ap (λ (t : List ℕ). put_both (first_line ++ r.out) t was) silent))
 
--- what is required explains the records
-pub explained : (words : List (List ℕ)) (told : Option Shelf) (boxes : List State) (result : Status) (was now : Option Shown)
-    → Answered (Answer words told boxes) result was now → IfSome told (λ shelf. TracesExplain words shelf was now)
-explained words None boxes result was now h = tt
-explained words (Some shelf) boxes result was now h = λ plan g f r x p names records k.
-    let owed : ExplainSaid g h.said = subst (λ c. WorkOwes c boxes g h.said) r
-    (work_of_words words shelf boxes plan g h.said f x h.owed) in
-    put_trace g p names records h.said was now (grounded plan shelf g x) (fine plan (Some shelf) g x).short owed k h.shown
+-- what `explain` says explains the records
+pub explained : {boxes : List State} {result : Status} {was now : Option Shown} (g : Given) → IsFine command.Explain g
+    → Worked command.Explain boxes g result was now → (p : PredOf) (names : List (List ℕ)) (records : Records)
+    → HasRecords g p names (names ∷ records) → PutTrace p records was now
+explained g i w p names records k = put_trace g p names records w.said _ _ i.grounded i.short w.owed k w.shown

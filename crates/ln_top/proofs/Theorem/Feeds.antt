@@ -3,6 +3,7 @@ use Rattle.std.proofs.Common.{◌≡◌, ◌≢◌, ℕ, zero, suc, ◌+◌, ◌
 use Rattle.std.proofs.Common.{cond, Bool, true, false, true≢false, List, [], ◌∷◌, ◌++◌, codes, map, Option, Some, None}
 use Rattle.std.proofs.Common.{Result, Ok, Err, refl, ap, sym, ◌∙◌, subst, arith, decimal}
 use Rattle.std.specs.Prelude.{slice_get, slice_index_or}
+use Rattle.std.proofs.lemmas.Bool.{and_parts}
 use Rattle.std.specs.Fmt.{digits, digits_onto, digit_glyph}
 use Rattle.ln_base.specs.Words.{is_word, is_keyword, is_letter, is_name_byte, every}
 use Rattle.ln_base.specs.declared.sign.Sign.{Sign}
@@ -29,7 +30,6 @@ use Rattle.ln_frame.specs.Columns.{columns_of}
 use Rattle.ln_signs.specs.Line.{sign_text, decider_text, stop_text, said_text}
 use Rattle.ln_top.specs.Headline.{NoFeed}
 use Rattle.ln_frame.proofs.Likeness.{columns_like}
-use Rattle.ln_signs.proofs.RunLaws.{and_left, and_right}
 
 -- one text after another
 pub behind : (xs ys : List ℕ) → NoFeed xs → NoFeed ys → NoFeed (xs ++ ys)
@@ -60,14 +60,19 @@ digits_are n = refl
 decimal_feed : (n : ℕ) → NoFeed (decimal n)
 decimal_feed n = subst NoFeed (digits_are n) (digits_feed 64 n [] tt)
 
--- bytes above a line feed
+-- one byte isn't a line feed
 pub other : (b : ℕ) → nat_lt 10 b ≡ true → b ≢ 10
 other b e f = true≢false (sym e ∙ ap (nat_lt 10) f)
 
+-- bytes that pass a test, which a line feed doesn't
+every_feed : (p : ℕ → Bool) → p 10 ≡ false → (bs : List ℕ) → every p bs ≡ true → NoFeed bs
+every_feed p f [] e = tt
+every_feed p f (b ∷ bs) e =
+    let k = and_parts (p b) (every p bs) e in
+    (λ i. true≢false (sym k.0 ∙ ap p i ∙ f), every_feed p f bs k.1)
+
 above : (bs : List ℕ) → every (nat_lt 10) bs ≡ true → NoFeed bs
-above [] e = tt
-above (b ∷ bs) e =
-    (other b (and_left (nat_lt 10 b) (every (nat_lt 10) bs) e), above bs (and_right (nat_lt 10 b) (every (nat_lt 10) bs) e))
+above bs e = every_feed (nat_lt 10) refl bs e
 
 -- the text of a sign has no line feed
 pub sign_feed : (s : Sign) → NoFeed (sign_text s)
@@ -82,28 +87,14 @@ decider_feed (Stage place) = decimal_feed place
 decider_feed Nothing = above (codes "-") refl
 
 -- names
-letter : (b : ℕ) → is_letter b ≡ true → b ≢ 10
-letter b h e = true≢false (sym h ∙ ap is_letter e)
-
-name_byte : (b : ℕ) → is_name_byte b ≡ true → b ≢ 10
-name_byte b h e = true≢false (sym h ∙ ap is_name_byte e)
-
-name_bytes_feed : (bs : List ℕ) → every is_name_byte bs ≡ true → NoFeed bs
-name_bytes_feed [] e = tt
-name_bytes_feed (b ∷ bs) e = (
-  name_byte b (and_left (is_name_byte b) (every is_name_byte bs) e),
-  name_bytes_feed bs (and_right (is_name_byte b) (every is_name_byte bs) e),
-)
-
 word_feed : (bs : List ℕ) → is_word bs ≡ true → NoFeed bs
 word_feed [] e = tt
-word_feed (b ∷ bs) e = (
-  letter b (and_left (is_letter b) (every is_name_byte bs) e),
-  name_bytes_feed bs (and_right (is_letter b) (every is_name_byte bs) e),
-)
+word_feed (b ∷ bs) e =
+    let k = and_parts (is_letter b) (every is_name_byte bs) e in
+    (λ i. true≢false (sym k.0 ∙ ap is_letter i), every_feed is_name_byte refl bs k.1)
 
 name_feed : (n : Name) → NoFeed (name_bytes n)
-name_feed n = word_feed (name_bytes n) (and_left (is_word (name_bytes n)) (not (is_keyword (name_bytes n))) n.named)
+name_feed n = word_feed (name_bytes n) (and_parts (is_word (name_bytes n)) (not (is_keyword (name_bytes n))) n.named).0
 
 -- each text has none
 abbrev pub HaveNoFeed : List (List ℕ) → Type 0

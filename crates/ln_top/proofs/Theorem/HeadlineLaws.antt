@@ -1,11 +1,9 @@
 -- The lines that were written are the perturbed signs of their rows with what decides them, and each is one line.
-use Rattle.std.proofs.Common.{◌≡◌, ◌≢◌, ◌⊎◌, inl, inr, ℕ, Bool, true, false, cond, List, []}
-use Rattle.std.proofs.Common.{◌∷◌, ◌++◌, find, length, Option, Some, None, Result, Ok, refl, ap, sym}
-use Rattle.std.proofs.Common.{◌∙◌, subst, bytes_eq}
-use Rattle.std.specs.Prelude.{All, IfSome}
+use Rattle.std.proofs.Common.{◌≡◌, ◌≢◌, ◌⊎◌, inl, inr, ℕ, List, [], ◌∷◌, ◌++◌, length, Option, None, Result, Ok, refl, ap}
+use Rattle.std.proofs.Common.{◌∙◌, subst, sym}
+use Rattle.std.specs.Prelude.{All}
 use Rattle.std.proofs.Math.IntN.{pos}
-use Rattle.std.proofs.lemmas.Option.{none-some}
-use Rattle.ln_base.specs.Outside.{Shelf, Shown}
+use Rattle.ln_base.specs.Outside.{Shown}
 use Rattle.ln_base.specs.declared.sign.Sign.{Sign}
 use Rattle.ln_base.specs.declared.sign.Sign.TheVariants.{Zero}
 use Rattle.ln_algebra.proofs.Ordering.Admissible.{both-admissible}
@@ -15,24 +13,22 @@ use Rattle.ln_algebra.specs.Coefficient.{normal_coefficient}
 use Rattle.ln_algebra.specs.Earlier.{Sites}
 use Rattle.ln_signs.specs.Run.{HasRecords}
 use Rattle.ln_signs.specs.Watching.{Watching, watching, last_of}
-use Rattle.ln_top.specs.Answer.{Answer}
-use Rattle.ln_top.specs.Causes.{Answered}
-use Rattle.ln_top.specs.Headline.{GradedSignsArePerturbed, HasPerturbedSign, HavePerturbedSigns, none, more, PutSigns, SignsArePerturbed}
+use Rattle.ln_top.specs.declared.words.Command.TheVariants.{Graded, Run}
+use Rattle.ln_top.specs.Headline.{HasPerturbedSign, HavePerturbedSigns, none, more, PutSigns}
 use Rattle.ln_top.specs.Perturbed.{IsSignOn}
 use Rattle.ln_top.proofs.Theorem.Feeds.{HaveNoFeed, said_no_feed, columns_no_feed}
-use Rattle.ln_top.proofs.Steps.TopLaws.{work_of_words}
-use Rattle.ln_frame.proofs.Grounded.{AreFound, IsGrounded, in_memory}
-use Rattle.ln_top.proofs.Steps.Grounded.{grounded}
+use Rattle.ln_top.proofs.Steps.TopLaws.{Worked}
+use Rattle.ln_frame.proofs.Grounded.{IsGrounded, each_found, in_memory}
+use Rattle.ln_top.proofs.Steps.Grounded.{IsFine}
+use Rattle.ln_parse.specs.ReadsBack.{Every}
 use Rattle.ln_top.proofs.Theorem.ByValueLaws.{by_value}
 use Rattle.ln_frame.proofs.Lightness.{light_of}
-use Rattle.ln_top.specs.Works.{WorkOwes}
 use Rattle.ln_signs.proofs.OneLine.{same_row, not_both}
 use Rattle.ln_signs.specs.Rows.{RowStep}
 use Rattle.ln_signs.specs.Signs.{RunLine, RunSaid}
 use Rattle.ln_signs.proofs.RowsLaws.{lines_err, of_rows}
-use Rattle.ln_algebra.specs.Sign as algebra
 use Rattle.ln_algebra.specs.Sign.{perturbed}
-use Rattle.ln_algebra.specs.Tree.{InputsBelow, Tree}
+use Rattle.ln_algebra.specs.Tree.{Tree}
 use Rattle.ln_tree.specs.declared.pred.Pred.{Pred}
 use Rattle.ln_tree.specs.Row.{InRange, Row}
 use Rattle.ln_tree.specs.Table.{PredOf, pred_of}
@@ -53,7 +49,7 @@ use Rattle.ln_order.proofs.Signs.RowSigns.{rows-differ}
 use Rattle.ln_due.proofs.Verdicts.UniqueLemmas.{due-sign, all-sites, sign-nonzero}
 use Rattle.ln_frame.specs.declared.status.Status.{Status}
 use Rattle.ln_frame.specs.Said.{Said, line, put_both}
-use Rattle.ln_frame.specs.Given.{Given, named}
+use Rattle.ln_frame.specs.Given.{Given}
 use Rattle.ln_signs.specs.Line.{said_text, Says, due, refused_}
 use Rattle.ln_frame.specs.Lines as l
 use Rattle.ln_frame.specs.Lines.{Lines}
@@ -71,9 +67,6 @@ module _ (rank : Rank) (p : Pred) (row : Row) where
       → (s : Sign) → RowSign rank p.shape.vars root row (sign_number s) → s ≢ Zero
   never_zero_in range sound all s d q = by_sign d
     where
-      inputs : InputsBelow (length p.shape.vars) root
-      inputs = (light_of p sound).inputs
-
       none_first : ((b : List ℕ) → RowFirst rank p.shape.vars root row b → ⊥) → (m : List ℕ)
           → length m ≡ length p.shape.vars
           → (normal_coefficient root m ≡ pos 0) ⊎ (normal_coefficient root m ≡ pos 0 → ⊥)
@@ -81,7 +74,7 @@ module _ (rank : Rank) (p : Pred) (row : Row) where
       none_first lacks m l (inl z) = z
       none_first lacks m l (inr z) =
           let order = both-admissible rank (length p.shape.vars) sites (rows-differ p.shape row range) in
-          let first = all-first-in (length p.shape.vars) sites (Before rank sites) order (values row.values) root inputs
+          let first = all-first-in (length p.shape.vars) sites (Before rank sites) order (values row.values) root (light_of p sound).inputs
           (λ u k. all-sites p.shape.vars u all k) m (record { size = l; nonzero = z }) in
           absurd (lacks first.0 first.1)
 
@@ -127,20 +120,15 @@ module _ (rank : Rank) (p : Pred) (sound : IsSound (pred_of p)) (names : List (L
       more o o2 (record { body = said_text names t.is.said; is = t.is.is; none = said_no_feed names t.is.said n })
       (λ row f. line_sign fields o t.is.says t.is.is row f) (lines_signs n rest o2 e2 m z k)
 
--- no predicate of an accepted source is 0
-sound_if : (test : PredOf → Bool) (p x : PredOf) (ps : List PredOf) (v : Bool) → test x ≡ v → IsSound x
-    → (find test ps ≡ Some p → IsSound p) → cond v (Some x) (find test ps) ≡ Some p → IsSound p
-sound_if test p x ps true e s h f = let same : x ≡ p = cc in subst IsSound same s
-sound_if test p x ps false e s h f = h f
-
-found_sound : (name : List ℕ) (ps : List PredOf) (p : PredOf) → AreSound ps → named name ps ≡ Some p → IsSound p
-found_sound name [] p s f = absurd (none-some p f)
-found_sound name (x ∷ ps) p s f =
-    sound_if (λ q. bytes_eq q.name name) p x ps (bytes_eq x.name name) refl s.0 (found_sound name ps p s.1) f
+-- no predicate of an accepted source has a fault
+sound_each : (ps : List PredOf) → AreSound ps → Every IsSound ps
+sound_each [] s = tt
+sound_each (p ∷ ps) s = (s.0, sound_each ps s.1)
 
 -- the first of the given predicates has no fault
 pub head_sound : (g : Given) (p : PredOf) (others : List PredOf) → IsGrounded g → g.preds ≡ p ∷ others → IsSound p
-head_sound g p others h e = let found = subst (AreFound g.table.preds) e h.found in found_sound found.0.0 g.table.preds p h.sound found.0.1
+head_sound g p others h e =
+    (subst (Every IsSound) e (each_found IsSound g.table.preds g.preds (sound_each g.table.preds h.sound) h.found)).0
 
 -- what is required for records after the right header
 run_signs : (rank : Rank) (boxes : List State) (g : Given) (p : PredOf) (names : List (List ℕ)) (records : Records) (a : Said)
@@ -162,20 +150,14 @@ run_signs rank boxes g p names records a was now i o k e =
       shown = e ∙ ap (λ (s : Said). put_both s.out s.err was) r.is;
     }
 
--- what is required has the perturbed signs
-pub headline : (words : List (List ℕ)) (told : Option Shelf) (boxes : List State) (result : Status) (was now : Option Shown)
-    → Answered (Answer words told boxes) result was now → IfSome told (λ shelf. SignsArePerturbed words shelf boxes was now)
-headline words None boxes result was now h = tt
-headline words (Some shelf) boxes result was now h = λ plan g f r x p names records k.
-    let owed : RunSaid BySmallest boxes g h.said = subst (λ c. WorkOwes c boxes g h.said) r
-    (work_of_words words shelf boxes plan g h.said f x h.owed) in
-    run_signs BySmallest boxes g p names records h.said was now (grounded plan shelf g x) owed k h.shown
+-- what `run` says has the perturbed signs
+pub headline : {boxes : List State} {result : Status} {was now : Option Shown} (g : Given) → IsFine Run g
+    → Worked Run boxes g result was now → (p : PredOf) (names : List (List ℕ)) (records : Records)
+    → HasRecords g p names (names ∷ records) → PutSigns BySmallest p records boxes was now
+headline g i w p names records k = run_signs BySmallest _ g p names records w.said _ _ i.grounded w.owed k w.shown
 
--- and so it has by total degree first
-pub graded_headline : (words : List (List ℕ)) (told : Option Shelf) (boxes : List State) (result : Status) (was now : Option Shown)
-    → Answered (Answer words told boxes) result was now → IfSome told (λ shelf. GradedSignsArePerturbed words shelf was now)
-graded_headline words None boxes result was now h = tt
-graded_headline words (Some shelf) boxes result was now h = λ plan g f r x p names records k.
-    let owed : RunSaid ByDegree [] g h.said = subst (λ c. WorkOwes c boxes g h.said) r
-    (work_of_words words shelf boxes plan g h.said f x h.owed) in
-    run_signs ByDegree [] g p names records h.said was now (grounded plan shelf g x) owed k h.shown
+-- and what `graded` says by total degree first
+pub graded_headline : {boxes : List State} {result : Status} {was now : Option Shown} (g : Given) → IsFine Graded g
+    → Worked Graded boxes g result was now → (p : PredOf) (names : List (List ℕ)) (records : Records)
+    → HasRecords g p names (names ∷ records) → PutSigns ByDegree p records [] was now
+graded_headline g i w p names records k = run_signs ByDegree [] g p names records w.said _ _ i.grounded w.owed k w.shown

@@ -1,7 +1,7 @@
 -- The listing that was written has the perturbed signs, and is valid.
-use Rattle.std.proofs.Common.{◌≡◌, ℕ, List, [], ◌∷◌, length, map, Option, Some, None, ap, refl, sym, ◌∙◌, subst}
-use Rattle.std.specs.Prelude.{IfSome, codes}
-use Rattle.ln_base.specs.Outside.{Shelf, Shown}
+use Rattle.std.proofs.Common.{◌≡◌, ℕ, List, [], ◌∷◌, length, map, Option, ap, refl, sym, ◌∙◌, subst}
+use Rattle.std.specs.Prelude.{codes}
+use Rattle.ln_base.specs.Outside.{Shown}
 use Rattle.ln_algebra.specs.Orders.{BySmallest}
 use Rattle.ln_watch.specs.Panel.{State}
 use Rattle.ln_tree.specs.declared.pred.Pred.{Pred}
@@ -22,20 +22,18 @@ use Rattle.ln_frame.specs.declared.status.Status.{Status}
 use Rattle.ln_frame.specs.declared.status.End.TheVariants.{Done}
 use Rattle.ln_frame.specs.Said.{Said, line, put_both, whole}
 use Rattle.ln_frame.specs.Given.{Given}
-use Rattle.ln_top.specs.Answer.{Answer}
-use Rattle.ln_top.specs.Causes.{Answered}
-use Rattle.ln_texts.specs.Listing as l
+use Rattle.ln_top.specs.declared.words.Command.TheVariants as command
+use Rattle.ln_texts.specs.Text.{prints}
 use Rattle.ln_texts.specs.Listing.{AnswersDue, IsListingOf, ListSaid, PartIsDue, PartsAreDue}
-use Rattle.ln_top.specs.Listed.{GivesFilteredSign, ListingGivesSigns, PartGives, PartsGive, PutListing}
+use Rattle.ln_top.specs.Listed.{GivesFilteredSign, PartGives, PartsGive, PutListing}
 use Rattle.ln_judges.specs.Verify as v
 use Rattle.ln_texts.proofs.EmitLaws.{AreNamed}
 use Rattle.ln_top.proofs.Theorem.ByValueLaws.{by_value}
 use Rattle.ln_top.proofs.Theorem.EmittedLaws.{by_filter, names_given}
 use Rattle.ln_top.proofs.Theorem.HeadlineLaws.{never_zero}
-use Rattle.ln_top.proofs.Steps.TopLaws.{work_of_words}
+use Rattle.ln_top.proofs.Steps.TopLaws.{Worked}
 use Rattle.ln_frame.proofs.Grounded.{IsGrounded}
-use Rattle.ln_top.proofs.Steps.Grounded.{grounded}
-use Rattle.ln_top.specs.Works.{WorkOwes}
+use Rattle.ln_top.proofs.Steps.Grounded.{IsFine}
 
 -- the machine of a part on a row returns the perturbed sign
 row_signed : (p : Pred) (part : Part) (row : Row) → IsSound (pred_of p) → InRange p.shape.sites p.shape.vars row
@@ -87,7 +85,7 @@ verified g text c h e f =
 -- what is required for a source's predicates
 put_listing : (g : Given) (a : Said) (was now : Option Shown) → IsGrounded g → AreNamed g.table.preds → ListSaid g a
     → now ≡ put_both a.out a.err was → PutListing g was now
-put_listing g a was now i n (l.listed text c) q =
+put_listing g a was now i n (prints text c) q =
     let preds : map pred_of i.table.preds ≡ g.table.preds = ap (λ (t : TableOf). t.preds) i.is in
     record {
       bytes = text;
@@ -95,16 +93,12 @@ put_listing g a was now i n (l.listed text c) q =
       text = c.text;
       valid = c.valid;
       signs = subst (λ (ps : List PredOf). PartsGive GivesFilteredSign ps c.valid.valid.parts) preds
-          (all_signed i.table.preds c.valid.valid.parts (subst AreSound (sym preds) i.sound) (subst AreNamed (sym preds) n)
-          (subst (λ (ps : List PredOf). PartsAreDue ps c.valid.valid.parts) (sym preds) c.due));
+          (all_signed i.table.preds c.valid.valid.parts (rw preds i.sound) (rw preds n) (rw preds c.due));
       verified = verified g text c;
       shown = q;
     }
 
--- what is required has the perturbed signs
-pub listed : (words : List (List ℕ)) (told : Option Shelf) (boxes : List State) (result : Status) (was now : Option Shown)
-    → Answered (Answer words told boxes) result was now → IfSome told (λ shelf. ListingGivesSigns words shelf was now)
-listed words None boxes result was now h = tt
-listed words (Some shelf) boxes result was now h = λ plan g f r x.
-    let owed : ListSaid g h.said = subst (λ c. WorkOwes c boxes g h.said) r (work_of_words words shelf boxes plan g h.said f x h.owed) in
-    put_listing g h.said was now (grounded plan shelf g x) (names_given plan shelf g x) owed h.shown
+-- what `list` says has the perturbed signs
+pub listed : {boxes : List State} {result : Status} {was now : Option Shown} (g : Given) → IsFine command.List g
+    → Worked command.List boxes g result was now → PutListing g was now
+listed g i w = put_listing g w.said _ _ i.grounded (names_given g i.grounded) w.owed w.shown

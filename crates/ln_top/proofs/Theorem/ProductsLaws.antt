@@ -1,10 +1,10 @@
 -- The lines of products that were written begin with the perturbed signs of the products, and each is one line.
-use Rattle.std.proofs.Common.{◌≡◌, ◌≢◌, inl, inr, ℕ, zero, suc, true, List, [], ◌∷◌, map, length, Option, Some, None}
+use Rattle.std.proofs.Common.{◌≡◌, ◌≢◌, inl, inr, ℕ, zero, suc, true, List, [], ◌∷◌, map, length, Option, Some}
 use Rattle.std.proofs.Common.{Result, Ok, Err, refl, ap, sym, ◌∙◌, subst}
-use Rattle.std.specs.Prelude.{IfSome, slice_get}
+use Rattle.std.specs.Prelude.{slice_get}
 use Rattle.std.proofs.Math.IntN.{ℤ}
 use Rattle.std.proofs.lemmas.Option.{none-some}
-use Rattle.ln_base.specs.Outside.{Shelf, Shown}
+use Rattle.ln_base.specs.Outside.{Shown}
 use Rattle.ln_base.specs.declared.sign.Sign.{Sign}
 use Rattle.ln_base.specs.declared.sign.Sign.TheVariants.{Zero}
 use Rattle.ln_algebra.specs.Orders.{BySmallest}
@@ -37,22 +37,19 @@ use Rattle.ln_frame.specs.declared.status.Status.{Status}
 use Rattle.ln_frame.specs.Said.{Said, line, put_both}
 use Rattle.ln_frame.specs.Given.{Given}
 use Rattle.ln_signs.specs.Alike.{are_alike}
-use Rattle.ln_signs.specs.Line.{decider_text, sign_text}
-use Rattle.ln_signs.specs.Product.{AreDue, IsMultiplied, Multiplied, ProductSaid, SaysProduct, due, refused_, ProductLine}
+use Rattle.ln_signs.specs.Line.{decider_text, due, refused_, sign_text}
+use Rattle.ln_signs.specs.Product.{AreDue, IsMultiplied, Multiplied, ProductSaid, SaysProduct, ProductLine}
 use Rattle.ln_signs.specs.Product.{deciders_after, product_text}
-use Rattle.ln_top.specs.Products.{HasProductSign, HasSummedFirsts, HaveProductSigns, OneIsZeroOn, ProductsArePerturbed, PutProducts}
+use Rattle.ln_top.specs.Products.{HasProductSign, HasSummedFirsts, HaveProductSigns, OneIsZeroOn, PutProducts}
 use Rattle.ln_top.specs.Products.{none, more, product_of}
 use Rattle.ln_signs.specs.Run.{HasRecords}
-use Rattle.ln_top.specs.Answer.{Answer}
-use Rattle.ln_top.specs.Causes.{Answered}
+use Rattle.ln_top.specs.declared.words.Command.TheVariants.{Product}
 use Rattle.ln_signs.proofs.FactorsLaws.{IsOver}
 use Rattle.ln_signs.proofs.ProductLaws.{all_over}
 use Rattle.ln_top.proofs.Theorem.Feeds.{HaveNoFeed, behind, columns_no_feed, decider_feed, other, sign_feed, stop_feed}
-use Rattle.ln_top.proofs.Steps.TopLaws.{work_of_words}
+use Rattle.ln_top.proofs.Steps.TopLaws.{Worked}
 use Rattle.ln_frame.proofs.Grounded.{IsGrounded, in_memory}
-use Rattle.ln_top.proofs.Steps.Grounded.{asked, grounded}
-use Rattle.ln_top.specs.Signature.{Asks}
-use Rattle.ln_top.specs.Works.{WorkOwes}
+use Rattle.ln_top.proofs.Steps.Grounded.{IsFine}
 use Rattle.ln_signs.proofs.OneLine.{same_row, not_both}
 use Rattle.ln_signs.specs.Rows.{RowStep}
 use Rattle.ln_signs.specs.Watching.{Watching, watching}
@@ -155,26 +152,24 @@ module _ (q : Pred) (others : List PredOf) (over : Every (IsOver q.shape.sites q
           sign-number-same m.sign Zero (k ∙ (zero-where-one-is (numbers_of m.verdicts)).1 one)
 
       firsts : m.sign ≢ Zero → HasSummedFirsts (pred_of q) others row
-      firsts n = by_sign sign
-        where
-          by_sign : RowSign BySmallest q.shape.vars (product_of (pred_of q) others) row (sign_number m.sign)
-              → HasSummedFirsts (pred_of q) others row
-          by_sign (inl f) =
-              let r = firsts-are-sums BySmallest q.shape row (root_of (pred_of q)) (map root_of others) f.0 range f.1 in
-              record {
-                firsts = r.0;
-                are = r.1;
-                sum = subst (λ (a : List ℕ). IsFirst (length q.shape.vars) (row_sites q.shape.vars row.index) (values row.values)
-                    (product_of (pred_of q) others) a) r.2 f.1;
-              }
-          by_sign (inr f) = absurd (n (sign-number-same m.sign Zero f.1))
+      firsts n = elim sign [
+        | inl f ↦
+            let r = firsts-are-sums BySmallest q.shape row (root_of (pred_of q)) (map root_of others) f.0 range f.1 in
+            record {
+              firsts = r.0;
+              are = r.1;
+              sum = subst (λ (a : List ℕ). IsFirst (length q.shape.vars) (row_sites q.shape.vars row.index) (values row.values)
+                  (product_of (pred_of q) others) a) r.2 f.1;
+            }
+        | inr f ↦ absurd (n (sign-number-same m.sign Zero f.1))
+      ]
 
   line_sign : (fields : List (List ℕ)) (text : List ℕ) {said : Result Multiplied RowStop}
       → SaysProduct (pred_of q) (pred_of q ∷ others) fields said → text ≡ line (product_text names said) → (row : Row)
       → read_row q.shape.sites q.shape.vars fields ≡ Ok row → HasProductSign (pred_of q) others row text
-  line_sign fields text (due r m e d k) t row f =
+  line_sign fields text (due r m e d) t row f =
       let same : r ≡ row = same_row r row (read_row q.shape.sites q.shape.vars fields) e f in
-      subst (λ (z : Row). HasProductSign (pred_of q) others z text) same (due_sign r m text fields e d k t)
+      subst (λ (z : Row). HasProductSign (pred_of q) others z text) same (due_sign r m text fields e d.0 d.1 t)
   line_sign fields text (refused_ s e) t row f = absurd (not_both row s (read_row q.shape.sites q.shape.vars fields) f e)
 
   lines_signs : HaveNoFeed names → (records : Records) (out err : List ℕ) (w z : Watching)
@@ -207,12 +202,9 @@ product_signs g p others names records a was now i v o f k e =
           (lines_err (ProductLine g.preds p names) records r.out r.err (watching 0 []) r.left refl r.lines);
     }
 
--- what is required has the signs of the products
-pub products : (words : List (List ℕ)) (told : Option Shelf) (boxes : List State) (result : Status) (was now : Option Shown)
-    → Answered (Answer words told boxes) result was now → IfSome told (λ shelf. ProductsArePerturbed words shelf was now)
-products words None boxes result was now h = tt
-products words (Some shelf) boxes result was now h = λ plan g f r x p others names records e k.
-    let owed : ProductSaid g h.said = subst (λ c. WorkOwes c boxes g h.said) r
-    (work_of_words words shelf boxes plan g h.said f x h.owed) in
-    let alike : are_alike g.preds ≡ true = subst (λ c. Asks c g.preds) r (asked plan (Some shelf) g x) in
-    product_signs g p others names records h.said was now (grounded plan shelf g x) alike owed e k h.shown
+-- what `product` says has the signs of the products
+pub products : {boxes : List State} {result : Status} {was now : Option Shown} (g : Given) → IsFine Product g
+    → Worked Product boxes g result was now → (p : PredOf) (others : List PredOf) (names : List (List ℕ)) (records : Records)
+    → g.preds ≡ p ∷ others → HasRecords g p names (names ∷ records) → PutProducts p others records was now
+products g i w p others names records e k =
+    product_signs g p others names records w.said _ _ i.grounded i.asked w.owed e k w.shown

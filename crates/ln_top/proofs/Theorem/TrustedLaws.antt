@@ -1,8 +1,8 @@
 -- Proves what `valid` means: on each row in range the machine of a valid listing returns the perturbed sign of the predicate.
-use Rattle.std.proofs.Common.{◌≡◌, ℕ, suc, List, [], ◌∷◌, length, map, Option, Some, None, ap, arith, refl, sym, ◌∙◌, subst}
-use Rattle.std.specs.Prelude.{IfSome, slice_get}
+use Rattle.std.proofs.Common.{◌≡◌, ℕ, suc, List, [], ◌∷◌, length, map, Option, Some, ap, arith, refl, sym, ◌∙◌, subst}
+use Rattle.std.specs.Prelude.{slice_get}
 use Rattle.std.proofs.lemmas.Option.{same_Some}
-use Rattle.ln_base.specs.Outside.{Shelf, Shown, refused}
+use Rattle.ln_base.specs.Outside.{Shown}
 use Rattle.ln_watch.specs.Panel.{State}
 use Rattle.ln_tree.specs.declared.pred.Pred.{Pred}
 use Rattle.ln_tree.specs.Row.{InRange, Row}
@@ -15,21 +15,19 @@ use Rattle.ln_verify.specs.Verified.{AreSubjectsOf, IsValidFor}
 use Rattle.ln_verify.proofs.Validity.Tells.{signs-told}
 use Rattle.ln_frame.specs.declared.status.Status.{Status}
 use Rattle.ln_frame.specs.declared.status.Status.TheVariants.{Done}
-use Rattle.ln_frame.specs.declared.status.Status.TheVariants as status
 use Rattle.ln_frame.specs.Given.{Given}
-use Rattle.ln_top.specs.Answer.{Answer}
-use Rattle.ln_top.specs.Causes.{Answered, IsSettled}
+use Rattle.ln_top.specs.declared.words.Command.TheVariants.{Verify}
+use Rattle.ln_top.specs.Causes.{IsSettled}
 use Rattle.ln_frame.specs.Said.{Said, end_status}
 use Rattle.ln_judges.specs.Verify.{HasValid, VerifySaid, valid, invalid}
-use Rattle.ln_top.specs.Works.{WorkOwes}
 use Rattle.ln_top.specs.Listed.{GivesPerturbedSign, PartsGiveSigns}
-use Rattle.ln_top.specs.Trusted.{TellsSigns, ValidTellsSigns}
+use Rattle.ln_top.specs.Trusted.{TellsSigns}
 use Rattle.ln_texts.proofs.EmitLaws.{AreNamed}
 use Rattle.ln_top.proofs.Theorem.EmittedLaws.{names_given}
 use Rattle.ln_top.proofs.Theorem.HeadlineLaws.{never_zero}
 use Rattle.ln_frame.proofs.Grounded.{IsGrounded}
-use Rattle.ln_top.proofs.Steps.Grounded.{grounded}
-use Rattle.ln_top.proofs.Steps.TopLaws.{work_of_words}
+use Rattle.ln_top.proofs.Steps.Grounded.{IsFine}
+use Rattle.ln_top.proofs.Steps.TopLaws.{Worked, settled_done}
 
 -- ---- the parts of a valid listing
 -- the machine of a part on a row returns the perturbed sign
@@ -91,34 +89,14 @@ told_signs g i n h = record {
   signs = all_told i.table.preds g.table.preds (ap (λ (t : TableOf). t.preds) i.is) i.sound n h.listing h.valid;
 }
 
--- done is settled
-pub settled_done : (result : Status) → result ≡ Done → IsSettled result
-settled_done result h = record {
-  read = λ e. no_read (sym h ∙ e);
-  write = λ e. no_write (sym h ∙ e);
-  memory = λ e. no_memory (sym h ∙ e);
-}
-  where
-    no_read : Done ≡ status.Read → ⊥
-    no_read e = cc
-
-    no_write : Done ≡ status.Write → ⊥
-    no_write e = cc
-
-    no_memory : Done ≡ status.Memory refused → ⊥
-    no_memory e = cc
-
 -- where it ends well, the listing is valid
 valid_there : (g : Given) (a : Said) → VerifySaid g a → end_status a.end ≡ Done → HasValid g
 valid_there g a (valid h) e = h
 valid_there g a (invalid n h) e = cc
 
 -- so `valid` means the signs
-pub trusted : (words : List (List ℕ)) (told : Option Shelf) (boxes : List State) (result : Status) (was now : Option Shown)
-    → (IsSettled result → Answered (Answer words told boxes) result was now)
-    → IfSome told (λ shelf. ValidTellsSigns words shelf result)
-trusted words None boxes result was now h = tt
-trusted words (Some shelf) boxes result was now h = λ plan g f r x e.
-    let a : Answered (Answer words (Some shelf) boxes) result was now = h (settled_done result e) in
-    let owed : VerifySaid g a.said = subst (λ c. WorkOwes c boxes g a.said) r (work_of_words words shelf boxes plan g a.said f x a.owed) in
-    told_signs g (grounded plan shelf g x) (names_given plan shelf g x) (valid_there g a.said owed (sym a.status ∙ e))
+pub trusted : {boxes : List State} {result : Status} {was now : Option Shown} (g : Given) → IsFine Verify g
+    → (IsSettled result → Worked Verify boxes g result was now) → result ≡ Done → TellsSigns g
+trusted g i w e =
+    let a = w (settled_done _ e) in
+    told_signs g i.grounded (names_given g i.grounded) (valid_there g a.said a.owed (sym a.status ∙ e))

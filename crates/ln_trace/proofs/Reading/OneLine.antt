@@ -83,14 +83,9 @@ number m n p q e = decimal_injective m n (omega arith) (omega arith) e
 
 same_sign : (t u : Sign) → sign_word t ≡ sign_word u → t ≡ u
 same_sign Minus Minus e = refl
-same_sign Minus Zero e = absurd (differ 45 48 [] [] (λ q. omega arith) e)
-same_sign Minus Plus e = absurd (differ 45 43 [] [] (λ q. omega arith) e)
-same_sign Zero Minus e = absurd (differ 48 45 [] [] (λ q. omega arith) e)
 same_sign Zero Zero e = refl
-same_sign Zero Plus e = absurd (differ 48 43 [] [] (λ q. omega arith) e)
-same_sign Plus Minus e = absurd (differ 43 45 [] [] (λ q. omega arith) e)
-same_sign Plus Zero e = absurd (differ 43 48 [] [] (λ q. omega arith) e)
 same_sign Plus Plus e = refl
+same_sign t u e = let b = head e in absurd (omega (arith, b))
 
 same_words : (x y : TraceLine) → kind_of x ≡ kind_of y → IsLine x → IsLine y → words_of x ≡ words_of y → x ≡ y
 same_words (line.Refused m) (line.Refused n) k p q e = ap line.Refused (number m n p.1 q.1 (head (rest e)))

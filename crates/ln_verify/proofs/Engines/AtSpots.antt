@@ -1,10 +1,9 @@
 -- Lines within the part of a predicate: from what a stack does to what the whole state stands for.
-use Rattle.std.proofs.Common.{◌≡◌, ℕ, ◌<◌, ◌+◌, Bool, true, false, List, [], ◌∷◌, ◌++◌, length, refl, sym, ap, arith, subst, ◌∙◌}
-use Rattle.std.proofs.lemmas.List.{length-map, map-append}
+use Rattle.std.proofs.Common.{◌≡◌, ℕ, ◌+◌, Bool, true, false, List, [], ◌∷◌, ◌++◌, length, refl, sym, ap, arith, subst, ◌∙◌}
+use Rattle.std.proofs.lemmas.List.{length-append, length-map, map-append}
+use Rattle.std.proofs.lemmas.List.Elements.{All-nil, All-push, All-same}
 use Rattle.std.specs.Prelude.{Option, Some, None}
-use Rattle.std.proofs.lemmas.Option.{slice_get_within}
-use Rattle.ln_order.specs.Orders.{orders_of}
-use Rattle.std.proofs.Common.{zero, suc}
+use Rattle.std.proofs.lemmas.Option.{none-some, same_Some}
 use Rattle.ln_tree.specs.Exps.{IsAbove, IsRising, Pairs}
 use Rattle.ln_code.specs.Engine.{State}
 use Rattle.ln_code.specs.FilterRules.{FilterKnown}
@@ -22,9 +21,6 @@ use Rattle.ln_cert.specs.declared.part.Part.TheVariants.{Filter, FilterOp, Decid
 use Rattle.ln_verify.specs.declared.progress.At.TheVariants.{AtName, AtFilter, AtGap, AtBlock, AtOrder}
 use Rattle.ln_verify.specs.declared.progress.Progress.{Progress}
 use Rattle.ln_verify.specs.Here.{AreAbove, BlockEnds, Leads, FilterDecides, before_of}
-use Rattle.ln_verify.specs.Versions.{version_of}
-use Rattle.ln_verify.specs.declared.form.Form.{Form}
-use Rattle.ln_verify.specs.declared.form.Form.TheVariants.{One, Two}
 use Rattle.ln_verify.specs.Works.{BlockStep, BlockStack, FilterStack, IsBlockStack, IsFilterStack, FilterStep}
 
 -- the state of the judge with another stack of a filter
@@ -39,111 +35,74 @@ module _ (v : Version) (p : Subject) (d : Progress) where
   -- in a filter, the line of an operation does to the state of the judge what the operation does to the filter's stack
   pub filter_stack-led : (t : FilterStack) (op : Op) (a : Triple) (ok : Bool) → d.at ≡ AtFilter → FilterStep v p.vars d.filter_stack op a ok t
       → Leads v p d (FilterOp op a) ok (with_filter_stack d t)
-  filter_stack-led t op a ok e h Named i = cc
   filter_stack-led t op a true e h (InFilter lines s) i =
       let r = h s i.1 in
       (refl, (InFilter (lines ++ record { op = op; bound = a } ∷ []) r.0, (r.0, r.1, refl), (e, r.2)))
   filter_stack-led t op a false e h (InFilter lines s) i = let r = h s i.1 in (refl, λ q k. r k.0 k.1)
-  filter_stack-led t op a ok e h (Between f bs) i = cc
-  filter_stack-led t op a ok e h (InBlock f bs x lines s) i = cc
-  filter_stack-led t op a ok e h (Ordering w) i = cc
+  filter_stack-led t op a ok e h s i = cc
 
   -- in a block of version 1, a line with a bound does to the state of the judge what its operation does to the block's stack
   pub bound-led : (t : BlockStack) (op : Op) (b : ℕ) (ok : Bool) → v.number ≡ 1 → d.at ≡ AtBlock → BlockStep v p.vars d.block_stack op (balanced b) ok t
       → Leads v p d (BlockOp op b) ok (with_block_stack d t)
-  bound-led t op b ok o e h Named i = cc
-  bound-led t op b ok o e h (InFilter lines s) i = cc
-  bound-led t op b ok o e h (Between f bs) i = cc
   bound-led t op b true o e h (InBlock f bs x lines s) i =
       let r = h s i.3 in
       (refl, (InBlock f bs x (lines ++ record { op = op; bound = balanced b } ∷ []) r.0, (o, (r.0, r.1, refl)), (e, i.1, i.2, r.2)))
   bound-led t op b false o e h (InBlock f bs x lines s) i = let r = h s i.3 in (refl, λ q k. r k.1.0 k.1.1)
-  bound-led t op b ok o e h (Ordering w) i = cc
+  bound-led t op b ok o e h s i = cc
 
   -- in a block of version 2, a line with two ends of a range does to the state of the judge what its operation does to the block's stack
   pub range-led : (t : BlockStack) (op : Op) (b : Range) (ok : Bool) → v.number ≡ 2 → d.at ≡ AtBlock → BlockStep v p.vars d.block_stack op b ok t
       → Leads v p d (RangeOp op b.low b.high) ok (with_block_stack d t)
-  range-led t op b ok o e h Named i = cc
-  range-led t op b ok o e h (InFilter lines s) i = cc
-  range-led t op b ok o e h (Between f bs) i = cc
   range-led t op b true o e h (InBlock f bs x lines s) i =
       let r = h s i.3 in
       (refl, (InBlock f bs x (lines ++ record { op = op; bound = b } ∷ []) r.0, (o, (r.0, r.1, refl)), (e, i.1, i.2, r.2)))
   range-led t op b false o e h (InBlock f bs x lines s) i = let r = h s i.3 in (refl, λ q k. r k.1.0 k.1.1)
-  range-led t op b ok o e h (Ordering w) i = cc
+  range-led t op b ok o e h s i = cc
 
 -- the state of the judge at another place, with other exponents
 abbrev pub moved : Progress → At → List Pairs → Progress
 moved d x es = record { at = x; parts = d.parts; exps = es; block_stack = d.block_stack; filter_stack = d.filter_stack; lists = d.lists }
 
-above-none : (n : ℕ) (es : List Pairs) → es ≡ [] → AreAbove n es
-above-none n [] e = λ i d l. absurd (omega (arith, l))
-above-none n (x ∷ es) e = cc
-
-above-more : (n : ℕ) (es : List Pairs) (a : Pairs) → AreAbove n es → IsAbove a n → AreAbove n (es ++ a ∷ [])
-above-more n [] a h k zero d l = k
-above-more n [] a h k (suc i) d l = absurd (omega (arith, l))
-above-more n (x ∷ es) a h k zero d l = h zero d (omega arith)
-above-more n (x ∷ es) a h k (suc i) d l = above-more n es a (λ j z m. h (suc j) z (omega (arith, m))) k i d (omega (arith, l))
-
 exps-more : (bs : List Piece) (b : Piece) → exps_of (bs ++ b ∷ []) ≡ exps_of bs ++ b.exps ∷ []
 exps-more bs b = map-append (λ (x : Piece). x.exps) bs (b ∷ [])
-
-length-more : {A : Type 0} (xs : List A) (x : A) → length (xs ++ x ∷ []) ≡ length xs + 1
-length-more [] x = refl
-length-more (y ∷ xs) x = omega (arith, length-more xs x)
 
 module _ (v : Version) (p : Subject) (d : Progress) where
   -- after the name of a predicate, `nofilter` leads to the place before the first block
   pub named-gap : (es : List Pairs) → d.at ≡ AtName → es ≡ [] → Leads v p d NoFilter true (moved d AtGap es)
-  named-gap es e h Named i = (refl, (Between None [], refl, (refl, h, above-none (length p.vars) es h)))
-  named-gap es e h (InFilter lines s) i = cc
-  named-gap es e h (Between f bs) i = cc
-  named-gap es e h (InBlock f bs x lines s) i = cc
-  named-gap es e h (Ordering w) i = cc
+  named-gap es e h Named i =
+      (refl, (Between None [], refl, (refl, h, All-same (λ e. IsAbove e (length p.vars)) es [] h (All-nil (λ e. IsAbove e (length p.vars))))))
+  named-gap es e h s i = cc
 
   -- after the name of a predicate, `filter` leads into a filter, with nothing on the stack and no local set
   pub named-filter : (t : FilterStack) → d.at ≡ AtName → ((n : ℕ) → IsFilterStack n t fresh)
       → Leads v p d Filter true (record { at = AtFilter; parts = d.parts; exps = d.exps; block_stack = d.block_stack; filter_stack = t; lists = d.lists })
   named-filter t e h Named i = (refl, (InFilter [] fresh, refl, (refl, h (length p.vars))))
-  named-filter t e h (InFilter lines s) i = cc
-  named-filter t e h (Between f bs) i = cc
-  named-filter t e h (InBlock f bs x lines s) i = cc
-  named-filter t e h (Ordering w) i = cc
+  named-filter t e h s i = cc
 
   -- in a filter with what `decide` asks for on the stack, `decide` leads to the place before the first block
   pub decided : (es : List Pairs) → d.at ≡ AtFilter → es ≡ []
       → ((s : State FilterKnown (ℕ → Option FilterKnown)) → IsFilterStack (length p.vars) d.filter_stack s → FilterDecides p s)
       → Leads v p d Decide true (moved d AtGap es)
-  decided es e h k Named i = cc
   decided es e h k (InFilter lines s) i =
       let r = k s i.1 in (
         refl,
         (
           Between (Some lines) [],
           record { left = r.left; one = r.one; whole = r.whole; narrow = r.narrow; to = refl },
-          (refl, h, above-none (length p.vars) es h),
+          (refl, h, All-same (λ e. IsAbove e (length p.vars)) es [] h (All-nil (λ e. IsAbove e (length p.vars)))),
         ),
       )
-  decided es e h k (Between f bs) i = cc
-  decided es e h k (InBlock f bs x lines s) i = cc
-  decided es e h k (Ordering w) i = cc
+  decided es e h k s i = cc
 
   -- where the block's stack doesn't have what `end` asks for, `end` leads nowhere
   pub end-not : ((es : List Pairs) (a : Pairs) (s : State Known (ℕ → Option Known)) → d.exps ≡ es ++ a ∷ []
       → AreAbove (length p.vars) d.exps → IsBlockStack (length p.vars) d.block_stack s → BlockEnds p a s → ⊥) → Leads v p d End false d
-  end-not k Named i = (refl, λ t r. r)
-  end-not k (InFilter lines s) i = (refl, λ t r. r)
-  end-not k (Between f bs) i = (refl, λ t r. r)
   end-not k (InBlock f bs x lines s) i = (refl, λ t r. k (exps_of bs) x s i.1 i.2 i.3 (record { left = r.left; one = r.one; derivative = r.derivative }))
-  end-not k (Ordering w) i = (refl, λ t r. r)
+  end-not k s i = (refl, λ t r. r)
 
   -- in a block with what `end` asks for on the stack, `end` leads to the place after the block
   pub ended : d.at ≡ AtBlock → ((es : List Pairs) (a : Pairs) (s : State Known (ℕ → Option Known)) → d.exps ≡ es ++ a ∷ []
       → AreAbove (length p.vars) d.exps → IsBlockStack (length p.vars) d.block_stack s → BlockEnds p a s) → Leads v p d End true (moved d AtGap d.exps)
-  ended e k Named i = cc
-  ended e k (InFilter lines s) i = cc
-  ended e k (Between f bs) i = cc
   ended e k (InBlock f bs x lines s) i =
       let r = k (exps_of bs) x s i.1 i.2 i.3 in (
         refl,
@@ -153,14 +112,12 @@ module _ (v : Version) (p : Subject) (d : Progress) where
           (refl, i.1 ∙ sym (exps-more bs (record { exps = x; lines = lines })), i.2),
         ),
       )
-  ended e k (Ordering w) i = cc
+  ended e k s i = cc
 
   -- between blocks, a `block` line with the next number and rising exponents of coordinates of sites leads into a block
   pub opened : (k : ℕ) (a : Pairs) (es : List Pairs) (b : BlockStack) → d.at ≡ AtGap → k ≡ length d.exps → AreOfSites p.vars a → IsRising a →
       es ≡ d.exps ++ a ∷ [] → ((n : ℕ) → IsBlockStack n b fresh) →
       Leads v p d (Block k a) true (record { at = AtBlock; parts = d.parts; exps = es; block_stack = b; filter_stack = d.filter_stack; lists = d.lists })
-  opened k a es b e l o r h z Named i = cc
-  opened k a es b e l o r h z (InFilter lines s) i = cc
   opened k a es b e l o r h z (Between f bs) i =
       let n : k ≡ length bs = l ∙ ap length i.1 ∙ length-map bs (λ (x : Piece). x.exps) in (
         refl,
@@ -170,24 +127,17 @@ module _ (v : Version) (p : Subject) (d : Progress) where
           (
             refl,
             h ∙ ap (λ xs. xs ++ a ∷ []) i.1,
-            subst (AreAbove (length p.vars)) (sym h) (above-more (length p.vars) d.exps a i.2 (sites-above p.vars a o)),
+            subst (AreAbove (length p.vars)) (sym h) (All-push (λ e. IsAbove e (length p.vars)) d.exps a i.2 (sites-above p.vars a o)),
             z (length p.vars),
           ),
         ),
       )
-  opened k a es b e l o r h z (InBlock f bs x lines s) i = cc
-  opened k a es b e l o r h z (Ordering w) i = cc
+  opened k a es b e l o r h z s i = cc
 
   -- where something that the head of a block needs doesn't hold
   pub block-refused : (k : ℕ) (a : Pairs) → (d.at ≡ AtGap → k ≡ length d.exps → AreOfSites p.vars a → IsRising a → ⊥) → Leads v p d (Block k a) false d
-  block-refused k a h Named i = (refl, λ t r. r)
-  block-refused k a h (InFilter lines s) i = (refl, λ t r. r)
   block-refused k a h (Between f bs) i = (refl, λ t r. h i.0 (r.number ∙ sym (ap length i.1 ∙ length-map bs (λ (x : Piece). x.exps))) r.of_sites r.rising)
-  block-refused k a h (InBlock f bs x lines s) i = (refl, λ t r. r)
-  block-refused k a h (Ordering w) i = (refl, λ t r. r)
-
-  some-is : (m n : ℕ) → Some m ≡ Some n → m ≡ n
-  some-is m n e = cc
+  block-refused k a h s i = (refl, λ t r. r)
 
   -- where an `order` line is allowed and has the list of the next order, it leads on, to one list more
   pub ordered : (n : ℕ) (places list : List ℕ) → before_of d.at d.lists ≡ Some n → (AreAbove (length p.vars) d.exps → IsNextList p d.exps n places list) →
@@ -200,25 +150,13 @@ module _ (v : Version) (p : Subject) (d : Progress) where
             d.filter_stack;
         lists = n + 1;
       })
-  ordered n places list e k Named i = absurd (none n (sym (ap (λ x. before_of x d.lists) i) ∙ e))
-    where
-      none : (m : ℕ) → None ≡ Some m → ⊥
-      none m q = cc
-  ordered n places list e k (InFilter lines s) i = absurd (none n (sym (ap (λ x. before_of x d.lists) i.0) ∙ e))
-    where
-      none : (m : ℕ) → None ≡ Some m → ⊥
-      none m q = cc
   ordered n places list e k (Between f bs) i =
-      let z : 0 ≡ n = some-is 0 n (sym (ap (λ x. before_of x d.lists) i.0) ∙ e) in
+      let z : 0 ≡ n = same_Some 0 n (sym (ap (λ x. before_of x d.lists) i.0) ∙ e) in
       let next : IsNextList p (exps_of bs) 0 places list =
       subst (λ (m : ℕ). IsNextList p (exps_of bs) m places list) (sym z) (subst (λ (es : List Pairs). IsNextList p es n places list) i.1 (k i.2)) in
       (refl, (Ordering (record { filter = f; blocks = bs; lists = list ∷ [] }), record { next = next; to = refl }, (refl, i.1, i.2, omega (arith, z))))
-  ordered n places list e k (InBlock f bs x lines s) i = absurd (none n (sym (ap (λ x. before_of x d.lists) i.0) ∙ e))
-    where
-      none : (m : ℕ) → None ≡ Some m → ⊥
-      none m q = cc
   ordered n places list e k (Ordering w) i =
-      let z : d.lists ≡ n = some-is d.lists n (sym (ap (λ x. before_of x d.lists) i.0) ∙ e) in
+      let z : d.lists ≡ n = same_Some d.lists n (sym (ap (λ x. before_of x d.lists) i.0) ∙ e) in
       let y : n ≡ length w.lists = sym z ∙ i.3 in
       let next : IsNextList p (exps_of w.blocks) (length w.lists) places list =
       subst (λ (m : ℕ). IsNextList p (exps_of w.blocks) m places list) y (subst (λ (es : List Pairs). IsNextList p es n places list) i.1 (k i.2)) in (
@@ -226,49 +164,31 @@ module _ (v : Version) (p : Subject) (d : Progress) where
         (
           Ordering (record { filter = w.filter; blocks = w.blocks; lists = w.lists ++ list ∷ [] }),
           record { next = next; to = refl },
-          (refl, i.1, i.2, ap (λ m. m + 1) y ∙ sym (length-more w.lists list)),
+          (refl, i.1, i.2, ap (λ m. m + 1) y ∙ sym (length-append w.lists (list ∷ []))),
         ),
       )
+  ordered n places list e k s i = absurd (cc)
 
 module _ (v : Version) (p : Subject) (d : Progress) (places list : List ℕ) where
-  none-is : (m : ℕ) → None ≡ Some m → ⊥
-  none-is m q = cc
-
   -- no `order` line may stand there
   pub order-nowhere : before_of d.at d.lists ≡ None → Leads v p d (Order places list) false d
-  order-nowhere e Named i = (refl, λ t r. r)
-  order-nowhere e (InFilter lines s) i = (refl, λ t r. r)
-  order-nowhere e (Between f bs) i = absurd (none-is 0 (sym e ∙ ap (λ x. before_of x d.lists) i.0))
-  order-nowhere e (InBlock f bs x lines s) i = (refl, λ t r. r)
-  order-nowhere e (Ordering w) i = absurd (none-is d.lists (sym e ∙ ap (λ x. before_of x d.lists) i.0))
+  order-nowhere e (Between f bs) i = absurd (none-some 0 (sym e ∙ ap (λ x. before_of x d.lists) i.0))
+  order-nowhere e (Ordering w) i = absurd (none-some d.lists (sym e ∙ ap (λ x. before_of x d.lists) i.0))
+  order-nowhere e s i = (refl, λ t r. r)
 
   -- it isn't the next one
   pub order-not : (n : ℕ) → before_of d.at d.lists ≡ Some n → (AreAbove (length p.vars) d.exps → IsNextList p d.exps n places list → ⊥)
       → Leads v p d (Order places list) false d
-  order-not n e k Named i = (refl, λ t r. r)
-  order-not n e k (InFilter lines s) i = (refl, λ t r. r)
   order-not n e k (Between f bs) i =
-      let z : 0 ≡ n = some-is v p d 0 n (sym (ap (λ x. before_of x d.lists) i.0) ∙ e) in (
+      let z : 0 ≡ n = same_Some 0 n (sym (ap (λ x. before_of x d.lists) i.0) ∙ e) in (
         refl,
         λ t r. k i.2 (subst (λ (es : List Pairs). IsNextList p es n places list) (sym i.1)
             (subst (λ (m : ℕ). IsNextList p (exps_of bs) m places list) z r.next)),
       )
-  order-not n e k (InBlock f bs x lines s) i = (refl, λ t r. r)
   order-not n e k (Ordering w) i =
-      let z : d.lists ≡ n = some-is v p d d.lists n (sym (ap (λ x. before_of x d.lists) i.0) ∙ e) in (
+      let z : d.lists ≡ n = same_Some d.lists n (sym (ap (λ x. before_of x d.lists) i.0) ∙ e) in (
         refl,
         λ t r. k i.2 (subst (λ (es : List Pairs). IsNextList p es n places list) (sym i.1)
             (subst (λ (m : ℕ). IsNextList p (exps_of w.blocks) m places list) (sym i.3 ∙ z) r.next)),
       )
-
--- where a list is the next one after n lists, there is an order with the number n
-pub next-within : (p : Subject) (es : List Pairs) (n : ℕ) (places list : List ℕ) → IsNextList p es n places list → n < length (orders_of p.sites)
-next-within p es n places list h = slice_get_within (orders_of p.sites) n places h.order
-
--- the form `One` stands for version 1
-pub one-number : (f : Form) → f ≡ One → (version_of f).number ≡ 1
-one-number f e = ap (λ x. (version_of x).number) e
-
--- and the form `Two` for version 2
-pub two-number : (f : Form) → f ≡ Two → (version_of f).number ≡ 2
-two-number f e = ap (λ x. (version_of x).number) e
+  order-not n e k s i = (refl, λ t r. r)

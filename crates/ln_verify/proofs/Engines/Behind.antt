@@ -2,7 +2,7 @@
 use Rattle.std.proofs.Common.{◌≡◌, List, [], ◌∷◌, refl, ◌∙◌, ap}
 use Rattle.std.specs.Prelude.{Option, Some, None}
 use Rattle.ln_code.specs.declared.op.Op.{Op}
-use Rattle.ln_code.specs.declared.op.Op.TheVariants.{Push, Input, Get, Set, Add, Sub, Mul, Neg, Cut}
+use Rattle.ln_code.specs.declared.op.Op.TheVariants.{Set, Add, Sub, Mul, Neg, Cut}
 use Rattle.ln_code.specs.Engine.{Engine, Line, State, answer, next, only, run, step}
 use Rattle.ln_code.proofs.Engines.Follow.{relined}
 
@@ -21,24 +21,13 @@ behind_bounds g e = record {
 }
 
 step-behind : {A B V L : Type 0} (g : A → B) (e : Engine B V L) (op : Op) (a : A) (l : L) (s : List V) → step (behind_bounds g e) op a l s ≡ step e op (g a) l s
-step-behind g e (Push c) a l s = refl
-step-behind g e (Input v) a l s = refl
-step-behind g e (Get j) a l s = refl
-step-behind g e (Set j) a l [] = refl
 step-behind g e (Set j) a l (x ∷ s) = refl
-step-behind g e (Add w) a l [] = refl
-step-behind g e (Add w) a l (x ∷ []) = refl
 step-behind g e (Add w) a l (x ∷ (y ∷ s)) = refl
-step-behind g e (Sub w) a l [] = refl
-step-behind g e (Sub w) a l (x ∷ []) = refl
 step-behind g e (Sub w) a l (x ∷ (y ∷ s)) = refl
-step-behind g e (Mul w) a l [] = refl
-step-behind g e (Mul w) a l (x ∷ []) = refl
 step-behind g e (Mul w) a l (x ∷ (y ∷ s)) = refl
-step-behind g e (Neg w) a l [] = refl
 step-behind g e (Neg w) a l (x ∷ s) = refl
-step-behind g e (Cut n) a l [] = refl
 step-behind g e (Cut n) a l (x ∷ s) = refl
+step-behind g e op a l s = refl
 
 next-same : {A B : Type 0} (o : Option A) (f g : A → Option B) → ((a : A) → f a ≡ g a) → next o f ≡ next o g
 next-same None f g h = refl

@@ -1,6 +1,6 @@
 -- Version 1: on ranges from -b to b the rules say what those on bounds b say. The running size is within the bound, so it needs no rule of its own.
-use Rattle.std.proofs.Common.{◌≡◌, ℕ, ℤ, ◌*◌, ◌≤◌, Bool, true, false, List, [], ◌∷◌, refl, sym, ◌∙◌, ap, arith, pos, neg_ℤ, ◌*ℤ◌, unsigned_abs, ◌&&◌, subst}
-use Rattle.std.specs.Prelude.{Option, Some, None, if◌then◌else◌, ◌==◌, nat_le, slice_get, ◌≤ℤ◌}
+use Rattle.std.proofs.Common.{◌≡◌, ℕ, ℤ, ◌*◌, ◌≤◌, true, List, [], ◌∷◌, refl, sym, ◌∙◌, ap, arith, pos, neg_ℤ, ◌*ℤ◌, unsigned_abs, ◌&&◌, subst}
+use Rattle.std.specs.Prelude.{Some, None, if◌then◌else◌, nat_le, slice_get, ◌≤ℤ◌}
 use Rattle.std.specs.Int.{int_max, int_min}
 use Rattle.std.proofs.lemmas.Int.{ints, int_max_is, int_min_is}
 use Rattle.std.proofs.lemmas.Bool.{and_parts, leb-true, le-leb}
@@ -18,7 +18,7 @@ use Rattle.ln_bound.specs.Value.{size_of}
 use Rattle.ln_bound.specs.Widths.{least, limit, no_wider, wider}
 use Rattle.ln_bound.proofs.Soundness.WidthLaws.{limit_most}
 use Rattle.ln_code.specs.Engine.{Line, answer, next}
-use Rattle.ln_code.specs.Numbers.{no_locals, with_local}
+use Rattle.ln_code.specs.Numbers.{no_locals}
 use Rattle.ln_code.specs.Rules.{Known, known}
 use Rattle.ln_code.proofs.Engines.Follow.{Follows, Reaches, relined, when_some}
 use Rattle.ln_code.proofs.Following.Known.{if_some, next_some}
@@ -27,14 +27,11 @@ use Rattle.ln_verify.specs.BlockRules.{balanced, block_rules, version_1}
 use Rattle.ln_verify.specs.Bounds.{Bounded, IsOnBounds, IsSame, bound_rules, bounded, on_ranges}
 use Rattle.ln_verify.proofs.Engines.Behind.{answer-behind, behind_bounds}
 use Rattle.ln_verify.proofs.Values.Ranges.{balanced-within, both, known-is, known-says, least-balanced}
-use Rattle.ln_verify.proofs.Engines.Versions.{sizes-mono}
+use Rattle.ln_verify.proofs.Engines.Versions.{HaveReached, put-reached, sizes-mono}
 
 -- ---- from ranges to bounds
--- a value's range is that of its bound, and its width and its expression are the same by both rules
-pub record Same (x : Known) (k : Bounded) : Type 0 where
-  pub range : x.range ≡ balanced k.bound
-  pub width : x.width ≡ k.width
-  pub tree : x.tree ≡ k.tree
+abbrev Same : Known → Bounded → Type 0
+Same x k = IsSame k x
 
 -- the bound covers what the range covers
 passes : (a b : ℕ) (enough : Range) (w : Width) (size : ℕ) (t : Tree) (x : Known) → (enough.high ≤ℤ pos b → neg_ℤ (pos b) ≤ℤ enough.low → a ≤ b)
@@ -108,18 +105,7 @@ minus-passes w b x k z s q =
     let p = passes k.bound b (opposite (balanced k.bound)) w x.size (tree.Neg x.tree) z (λ i l. omega (arith, ints, i, l)) a in
     rw (h, ← s.tree) p
 
-abbrev Locals : (ℕ → Option Known) → (ℕ → Option Bounded) → Type 0
-Locals l m = (j : ℕ) (x : Known) → l j ≡ Some x → Reaches Same x (m j)
-
-put-passes : (l : ℕ → Option Known) (m : ℕ → Option Bounded) (j : ℕ) (x : Known) (k : Bounded) → Locals l m → Same x k
-    → Locals (with_local l j x) (with_local m j k)
-put-passes l m j x k h f i y = by_case (i == j)
-  where
-    by_case : (b : Bool) → (if b then Some x else l i) ≡ Some y → Reaches Same y (if b then Some k else m i)
-    by_case true q = let r : x ≡ y = cc in rw (← r) f
-    by_case false q = h i y q
-
-bounds-follow : (vars : List VarInfo) → Follows (behind_bounds balanced (block_rules version_1 vars)) (bound_rules vars) (λ (b : ℕ). b) Same Locals
+bounds-follow : (vars : List VarInfo) → Follows (behind_bounds balanced (block_rules version_1 vars)) (bound_rules vars) (λ (b : ℕ). b) Same (HaveReached Same)
 bounds-follow vars = record {
   push = push-passes;
   input = input-passes vars;
@@ -128,7 +114,7 @@ bounds-follow vars = record {
   minus = λ w b x k z s q. minus-passes w b x k z s q;
   cut = λ n b x k z s q. cc;
   got = λ l m j x h q. h j x q;
-  put = put-passes;
+  put = put-reached Same;
   room = λ n q. q;
 }
 
@@ -184,50 +170,25 @@ again-taken k x b m s q =
     rw (s.range, s.width, s.tree, e) p
 
 -- the four products of ends
-four-low : (m n : ℕ) (b : ℕ) → m * n ≤ b → neg_ℤ (pos b) ≤ℤ (range_of Times (balanced m) (balanced n)).low
-four-low m n b h =
+four-ends : (m n : ℕ) (b : ℕ) → m * n ≤ b → Covers (balanced b) (range_of Times (balanced m) (balanced n))
+four-ends m n b h =
     let p : pos m *ℤ pos n ≡ pos (m * n) = refl in
     let q : pos m *ℤ neg_ℤ (pos n) ≡ neg_ℤ (pos m *ℤ pos n) = mul_neg (pos m) (pos n) in
     let r : neg_ℤ (pos m) *ℤ pos n ≡ neg_ℤ (pos m *ℤ pos n) =
     mul_comm (neg_ℤ (pos m)) (pos n) ∙ mul_neg (pos n) (pos m) ∙ ap neg_ℤ (mul_comm (pos n) (pos m)) in
     let s : neg_ℤ (pos m) *ℤ neg_ℤ (pos n) ≡ neg_ℤ (neg_ℤ (pos m) *ℤ pos n) = mul_neg (neg_ℤ (pos m)) (pos n) in
-    omega (
-      arith,
-      ints,
-      h,
-      p,
-      q,
-      r,
-      s,
-      int_min_is (neg_ℤ (pos m) *ℤ neg_ℤ (pos n)) (neg_ℤ (pos m) *ℤ pos n),
-      int_min_is (pos m *ℤ neg_ℤ (pos n)) (pos m *ℤ pos n),
-      int_min_is (int_min (neg_ℤ (pos m) *ℤ neg_ℤ (pos n)) (neg_ℤ (pos m) *ℤ pos n)) (int_min (pos m *ℤ neg_ℤ (pos n)) (pos m *ℤ pos n)),
-    )
-
-four-high : (m n : ℕ) (b : ℕ) → m * n ≤ b → (range_of Times (balanced m) (balanced n)).high ≤ℤ pos b
-four-high m n b h =
-    let p : pos m *ℤ pos n ≡ pos (m * n) = refl in
-    let q : pos m *ℤ neg_ℤ (pos n) ≡ neg_ℤ (pos m *ℤ pos n) = mul_neg (pos m) (pos n) in
-    let r : neg_ℤ (pos m) *ℤ pos n ≡ neg_ℤ (pos m *ℤ pos n) =
-    mul_comm (neg_ℤ (pos m)) (pos n) ∙ mul_neg (pos n) (pos m) ∙ ap neg_ℤ (mul_comm (pos n) (pos m)) in
-    let s : neg_ℤ (pos m) *ℤ neg_ℤ (pos n) ≡ neg_ℤ (neg_ℤ (pos m) *ℤ pos n) = mul_neg (neg_ℤ (pos m)) (pos n) in
-    omega (
-      arith,
-      ints,
-      h,
-      p,
-      q,
-      r,
-      s,
-      int_max_is (neg_ℤ (pos m) *ℤ neg_ℤ (pos n)) (neg_ℤ (pos m) *ℤ pos n),
-      int_max_is (pos m *ℤ neg_ℤ (pos n)) (pos m *ℤ pos n),
-      int_max_is (int_max (neg_ℤ (pos m) *ℤ neg_ℤ (pos n)) (neg_ℤ (pos m) *ℤ pos n)) (int_max (pos m *ℤ neg_ℤ (pos n)) (pos m *ℤ pos n)),
+    let w : ℤ = neg_ℤ (pos m) *ℤ neg_ℤ (pos n) in
+    let x : ℤ = neg_ℤ (pos m) *ℤ pos n in
+    let y : ℤ = pos m *ℤ neg_ℤ (pos n) in
+    let z : ℤ = pos m *ℤ pos n in (
+      omega (arith, ints, h, p, q, r, s, int_min_is w x, int_min_is y z, int_min_is (int_min w x) (int_min y z)),
+      omega (arith, ints, h, p, q, r, s, int_max_is w x, int_max_is y z, int_max_is (int_max w x) (int_max y z)),
     )
 
 two-covers : (t : Two) (m n b : ℕ) → bound_of t m n ≤ b → Covers (balanced b) (range_of t (balanced m) (balanced n))
 two-covers Plus m n b h = (omega (arith, ints, h), omega (arith, ints, h))
 two-covers Minus m n b h = (omega (arith, ints, h), omega (arith, ints, h))
-two-covers Times m n b h = (four-low m n b h, four-high m n b h)
+two-covers Times m n b h = four-ends m n b h
 
 two-taken : (t : Two) (w : Width) (b : ℕ) (k m : Bounded) (x y : Known) (z : Bounded) → Within k x → Within m y →
     (if no_wider k.width w && no_wider m.width w then bounded (bound_of t k.bound m.bound) b w (two_of t k.tree m.tree) else None) ≡ Some z →
@@ -254,18 +215,8 @@ minus-taken w b k x z s q =
     let a = subst (λ (e : Range). Reaches Within z (known (opposite e) (balanced b) w x.size (tree.Neg k.tree))) (sym s.range) p in
     rw (h, s.tree) a
 
-abbrev Taken : (ℕ → Option Bounded) → (ℕ → Option Known) → Type 0
-Taken l m = (j : ℕ) (k : Bounded) → l j ≡ Some k → Reaches Within k (m j)
-
-put-taken : (l : ℕ → Option Bounded) (m : ℕ → Option Known) (j : ℕ) (k : Bounded) (x : Known) → Taken l m → Within k x
-    → Taken (with_local l j k) (with_local m j x)
-put-taken l m j k x h f i y = by_case (i == j)
-  where
-    by_case : (b : Bool) → (if b then Some k else l i) ≡ Some y → Reaches Within y (if b then Some x else m i)
-    by_case true q = let r : k ≡ y = cc in rw (← r) f
-    by_case false q = h i y q
-
-ranges-follow : (vars : List VarInfo) → Follows (bound_rules vars) (behind_bounds balanced (block_rules version_1 vars)) (λ (b : ℕ). b) Within Taken
+ranges-follow : (vars : List VarInfo)
+    → Follows (bound_rules vars) (behind_bounds balanced (block_rules version_1 vars)) (λ (b : ℕ). b) Within (HaveReached Within)
 ranges-follow vars = record {
   push = push-taken;
   input = input-taken vars;
@@ -274,7 +225,7 @@ ranges-follow vars = record {
   minus = λ w b k x z s q. minus-taken w b k x z s q;
   cut = λ n b k x z s q. cc;
   got = λ l m j k h q. h j k q;
-  put = put-taken;
+  put = put-reached Within;
   room = λ n q. q;
 }
 
@@ -293,7 +244,7 @@ is-on-bounds vars lines = record { there = there; back = back }
     there : (k : Bounded) → answer (bound_rules vars) no_locals lines ≡ Some k
         → (x : Known) × (answer (block_rules version_1 vars) no_locals (on_ranges lines) ≡ Some x) × IsSame k x
     there k q =
-        let a = answer_follows (bound_rules vars) (behind_bounds balanced (block_rules version_1 vars)) (λ (b : ℕ). b) Within Taken
+        let a = answer_follows (bound_rules vars) (behind_bounds balanced (block_rules version_1 vars)) (λ (b : ℕ). b) Within (HaveReached Within)
         (ranges-follow vars) no_locals no_locals lines k (λ j y r. cc) q in
         let r = reached_some Within k _ (rw same_lines at a) in
         (r.0, sym behind ∙ r.1, record { range = r.2.range; width = r.2.width; tree = r.2.tree })
@@ -301,7 +252,7 @@ is-on-bounds vars lines = record { there = there; back = back }
     back : (x : Known) → answer (block_rules version_1 vars) no_locals (on_ranges lines) ≡ Some x
         → (k : Bounded) × (answer (bound_rules vars) no_locals lines ≡ Some k) × IsSame k x
     back x q =
-        let a = answer_follows (behind_bounds balanced (block_rules version_1 vars)) (bound_rules vars) (λ (b : ℕ). b) Same Locals
+        let a = answer_follows (behind_bounds balanced (block_rules version_1 vars)) (bound_rules vars) (λ (b : ℕ). b) Same (HaveReached Same)
         (bounds-follow vars) no_locals no_locals lines x (λ j y r. cc) (behind ∙ q) in
         let r = reached_some Same x _ (rw same_lines at a) in
-        (r.0, r.1, record { range = r.2.range; width = r.2.width; tree = r.2.tree })
+        (r.0, r.1, r.2)

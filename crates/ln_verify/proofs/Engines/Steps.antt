@@ -1,16 +1,17 @@
 -- One operation: from what stack and locals in code do to what every state that they are for does, in a block and in a filter alike.
 use Rattle.std.proofs.Common.{◌≡◌, ℕ, ◌<◌, ◌≤◌, suc, Bool, true, false, List, [], ◌∷◌, ◌++◌, length, reverse, get_or, refl, sym, ap, arith, subst, ◌∙◌}
-use Rattle.std.specs.Prelude.{◌==◌, ◌≢◌, nat_le, Option, Some, None, slice_set}
+use Rattle.std.specs.Prelude.{◌==◌, nat_le, Option, Some, None, slice_set}
 use Rattle.std.proofs.lemmas.Bool.{eqb-true, leb-true, le-leb}
 use Rattle.std.proofs.lemmas.Bool.Decides.{nat_tests}
 use Rattle.std.proofs.lemmas.Grind.{get_or-set_at}
 use Rattle.std.proofs.lemmas.List.{get_or-set_other, length-reverse, length-set, reverse-append}
+use Rattle.std.proofs.lemmas.Option.{same_Some}
 use Rattle.ln_algebra.specs.Tree.{Tree}
 use Rattle.ln_bound.specs.declared.fitted.Two.{Two}
 use Rattle.ln_bound.specs.declared.fitted.Two.TheVariants.{Plus, Minus, Times}
 use Rattle.ln_bound.specs.declared.fitted.Width.{Width}
 use Rattle.ln_code.specs.declared.op.Op.{Op}
-use Rattle.ln_code.specs.declared.op.Op.TheVariants.{Add, Cut, Get, Mul, Neg, Set, Sub}
+use Rattle.ln_code.specs.declared.op.Op.TheVariants.{Add, Get, Mul, Set, Sub}
 use Rattle.ln_code.specs.Engine.{Engine, State, next, pushed, step, op_of}
 use Rattle.ln_code.specs.Kept.{stores}
 use Rattle.ln_code.specs.Numbers.{with_local}
@@ -23,9 +24,8 @@ module _ {X K : Type 0} (R : X → K → Type 0) where
   -- a stack in code has as many values as the stack that it is for
   pub for-length : (xs : List X) (ks : List K) → AreFor R xs ks → length xs ≡ length ks
   for-length [] [] h = refl
-  for-length [] (k ∷ ks) h = absurd h
-  for-length (x ∷ xs) [] h = absurd h
   for-length (x ∷ xs) (k ∷ ks) h = ap suc (for-length xs ks h.1)
+  for-length xs ks h = absurd h
 
   -- what a value on top of the stack is for
   pub record OnTop (ys : List X) (x : X) (ks : List K) : Type 0 where
@@ -47,14 +47,7 @@ module _ {X K : Type 0} (R : X → K → Type 0) where
   pub local-there : (o : Option X) (x : X) (r : Option K) → o ≡ Some x → IsLocal R o r → (k : K) × (r ≡ Some k) × R x k
   local-there None x r e h = cc
   local-there (Some y) x None e h = absurd h
-  local-there (Some y) x (Some k) e h = (k, refl, subst (λ (z : X). R z k) (some-value y x e) h)
-    where
-      some-value : (y x : X) → Some y ≡ Some x → y ≡ x
-      some-value y x e = cc
-
-  -- numbers whose test of equality is false differ
-  differ : (i j : ℕ) → (i == j) ≡ false → i ≢ j
-  differ i j e h = grind (arith, nat_tests)
+  local-there (Some y) x (Some k) e h = (k, refl, subst (λ (z : X). R z k) (same_Some y x e) h)
 
   -- where a value is put into a local in code, and what it is for into that of the state, each local is still for what is known of it
   pub local-set : (ls : List (Option X)) (l : ℕ → Option K) (j i : ℕ) (x : X) (k : K) (q : Bool) → (i == j) ≡ q → j < length ls → R x k
@@ -63,7 +56,7 @@ module _ {X K : Type 0} (R : X → K → Type 0) where
       let s : get_or (slice_set ls j (Some x)) i None ≡ Some x = get_or-set_at ls j i (Some x) None (eqb-true i j e) b in
       subst (λ (o : Option X). IsLocal R o (with_local l j k i)) (sym s) (rw e f)
   local-set ls l j i x k false e b f h =
-      let s : get_or (slice_set ls j (Some x)) i None ≡ get_or ls i None = get_or-set_other ls j i (Some x) None (differ i j e) in
+      let s : get_or (slice_set ls j (Some x)) i None ≡ get_or ls i None = get_or-set_other ls j i (Some x) None (λ h. grind (arith, nat_tests)) in
       subst (λ (o : Option X). IsLocal R o (with_local l j k i)) (sym s) (rw e h)
 
 module _ {B X K : Type 0} (R : X → K → Type 0) (tree : K → Tree) (n : ℕ) (e : Engine B K (ℕ → Option K)) (room : (m : ℕ) → e.room m ≡ nat_le m 2048) where
@@ -97,10 +90,9 @@ module _ {B X K : Type 0} (R : X → K → Type 0) (tree : K → Tree) (n : ℕ)
     -- what is made is pushed
     pub pushed-came : (o : Option X) (r : Option K) (xs : List X) (ok : Bool) → step e op b s.locals s.stack ≡ Goes s.locals ks r
         → IsMade R tree n o r → PushedOnto o mid ok xs → Came R tree n e s op b ok xs ls
-    pushed-came None None xs true g m h = absurd h
     pushed-came None None xs false g m h = λ u q. let z : None ≡ Some u = sym g ∙ q.0 in cc
-    pushed-came None (Some k) xs true g m h = absurd h
     pushed-came None (Some k) xs false g m h = λ u q. nothing s.locals ks k u m (sym g ∙ q.0) (subst (λ (z : Bool). PushedSmall tree n z u.stack) t q.1)
+    pushed-came None r xs true g m h = absurd h
     pushed-came (Some x) None xs ok g m h = absurd m
     pushed-came (Some x) (Some k) xs true g m h = (
       record { stack = k ∷ ks; locals = s.locals },
@@ -114,14 +106,6 @@ module _ {B X K : Type 0} (R : X → K → Type 0) (tree : K → Tree) (n : ℕ)
     pushed-came (Some x) (Some k) xs false g m h = λ u q. full s.locals mid ks k u h f (sym g ∙ q.0)
 
   -- ---- the steps of operations on a known stack
-  -- a negation takes the top value off the stack and pushes its result
-  pub one-step : (w : Width) (b : B) (l : ℕ → Option K) (xs rest : List K) (k : K) → xs ≡ k ∷ rest → step e (Neg w) b l xs ≡ Goes l rest (e.minus w b k)
-  one-step w b l xs rest k q = ap (λ (z : List K). step e (Neg w) b l z) q
-
-  -- a cut takes the top value off the stack and pushes its result
-  pub cut-step : (d : ℕ) (b : B) (l : ℕ → Option K) (xs rest : List K) (k : K) → xs ≡ k ∷ rest → step e (Cut d) b l xs ≡ Goes l rest (e.cut d b k)
-  cut-step d b l xs rest k q = ap (λ (z : List K). step e (Cut d) b l z) q
-
   -- a sum, a difference or a product takes the two top values off the stack and pushes its result
   pub two-step : (t : Two) (w : Width) (b : B) (l : ℕ → Option K) (xs rest more : List K) (k j : K) → xs ≡ k ∷ rest → rest ≡ j ∷ more
       → step e (op_of t w) b l xs ≡ Goes l more (e.two t w b j k)

@@ -29,6 +29,20 @@ use Rattle.ln_verify.specs.BlockRules.{balanced, block_rules, triple_rules, vers
 use Rattle.ln_verify.specs.Law.{IsNoLarger, IsNoLargerCut, Version1Follows}
 use Rattle.ln_verify.proofs.Values.Ranges.{known-is, known-says}
 
+-- ---- locals
+-- each local that is set in the one has a value in the other that stands for it
+abbrev pub HaveReached : {A B : Type 0} → (A → B → Type 0) → (ℕ → Option A) → (ℕ → Option B) → Type 0
+HaveReached {A} R l m = (j : ℕ) (x : A) → l j ≡ Some x → Reaches R x (m j)
+
+-- and so it is with one more
+pub put-reached : {A B : Type 0} (R : A → B → Type 0) (l : ℕ → Option A) (m : ℕ → Option B) (j : ℕ) (x : A) (k : B) → HaveReached R l m → R x k
+    → HaveReached R (with_local l j x) (with_local m j k)
+put-reached {A} {B} R l m j x k h f i y = by_case (i == j)
+  where
+    by_case : (b : Bool) → (if b then Some x else l i) ≡ Some y → Reaches R y (if b then Some k else m i)
+    by_case true q = let r : x ≡ y = cc in rw (← r) f
+    by_case false q = h i y q
+
 -- ---- blocks
 -- a range that covers more covers less, and a smaller size fits too
 covers-less : (more less p : Range) (w : Width) (m n : ℕ) (t : Tree) (x : Known) → (Covers p more → Covers p less) → n ≤ m
@@ -89,17 +103,7 @@ again-less x k p z s q =
     let a = same-less x.range p (wider x.width (least (magnitude p))) x.size k.size x.tree z s.size q in
     rw (← s.tree, ← s.range, ← s.width) a
 
-abbrev Less : (ℕ → Option Known) → (ℕ → Option Known) → Type 0
-Less l m = (j : ℕ) (x : Known) → l j ≡ Some x → Reaches IsNoLarger x (m j)
-
-put-less : (l m : ℕ → Option Known) (j : ℕ) (x k : Known) → Less l m → IsNoLarger x k → Less (with_local l j x) (with_local m j k)
-put-less l m j x k h f i y = by_case (i == j)
-  where
-    by_case : (b : Bool) → (if b then Some x else l i) ≡ Some y → Reaches IsNoLarger y (if b then Some k else m i)
-    by_case true q = let r : x ≡ y = cc in rw (← r) f
-    by_case false q = h i y q
-
-blocks-follow : (vars : List VarInfo) → Follows (block_rules version_1 vars) (block_rules version_2 vars) (λ (p : Range). p) IsNoLarger Less
+blocks-follow : (vars : List VarInfo) → Follows (block_rules version_1 vars) (block_rules version_2 vars) (λ (p : Range). p) IsNoLarger (HaveReached IsNoLarger)
 blocks-follow vars = record {
   push = λ c p x q. same-less (point c) p (least (magnitude p)) (unsigned_abs c) (unsigned_abs c) (tree.Num c) x (omega arith) q;
   input = λ v p x q. input-less vars v p x q;
@@ -108,7 +112,7 @@ blocks-follow vars = record {
   minus = λ w p x k z s q. minus-less w p x k z s q;
   cut = λ n p x k z s q. cc;
   got = λ l m j x h q. h j x q;
-  put = put-less;
+  put = put-reached IsNoLarger;
   room = λ n q. q;
 }
 
@@ -131,20 +135,22 @@ cut-input vars v a x q =
     let e = r.1 in
     rw e (cut-less 0 (size_of r.0) 0 (size_of r.0) 1 (tree.Input v) a x (own-size r.0) r.2)
 
+cut-sum : (t : Two) (a : Triple) (x y k m z : FilterKnown) → IsNoLargerCut x k → IsNoLargerCut y m →
+    (if x.triple.k == y.triple.k
+    then filter_known x.triple.k (x.triple.h + y.triple.h) (x.triple.e + y.triple.e) (bound_of t x.size y.size) (two_of t x.tree y.tree) a else None) ≡ Some z →
+    Reaches IsNoLargerCut z (if k.triple.k == m.triple.k
+    then filter_known k.triple.k (k.triple.h + m.triple.h) (k.triple.e + m.triple.e) (bound_of t k.size m.size) (two_of t k.tree m.tree) a else None)
+cut-sum t a x y k m z s u q =
+    let r = if_some _ _ _ q in
+    let h : (k.triple.k == m.triple.k) ≡ true = rw (← s.triple, ← u.triple) r.0 in
+    let c = cut-less x.triple.k (x.triple.h + y.triple.h) (x.triple.e + y.triple.e) (bound_of t x.size y.size) (bound_of t k.size m.size)
+    (two_of t x.tree y.tree) a z (sizes-mono t k.size m.size x.size y.size s.size u.size) r.1 in
+    rw (h, ← s.triple, ← u.triple, ← s.tree, ← u.tree) c
+
 cut-known : (t : Two) (a : Triple) (x y k m z : FilterKnown) → IsNoLargerCut x k → IsNoLargerCut y m → two_known t a x y ≡ Some z
     → Reaches IsNoLargerCut z (two_known t a k m)
-cut-known Plus a x y k m z s u q =
-    let r = if_some _ _ _ q in
-    let h : (k.triple.k == m.triple.k) ≡ true = rw (← s.triple, ← u.triple) r.0 in
-    let c = cut-less x.triple.k (x.triple.h + y.triple.h) (x.triple.e + y.triple.e) (x.size + y.size) (k.size + m.size)
-    (two_of Plus x.tree y.tree) a z (sizes-mono Plus k.size m.size x.size y.size s.size u.size) r.1 in
-    rw (h, ← s.triple, ← u.triple, ← s.tree, ← u.tree) c
-cut-known Minus a x y k m z s u q =
-    let r = if_some _ _ _ q in
-    let h : (k.triple.k == m.triple.k) ≡ true = rw (← s.triple, ← u.triple) r.0 in
-    let c = cut-less x.triple.k (x.triple.h + y.triple.h) (x.triple.e + y.triple.e) (x.size + y.size) (k.size + m.size)
-    (two_of Minus x.tree y.tree) a z (sizes-mono Minus k.size m.size x.size y.size s.size u.size) r.1 in
-    rw (h, ← s.triple, ← u.triple, ← s.tree, ← u.tree) c
+cut-known Plus a x y k m z s u q = cut-sum Plus a x y k m z s u q
+cut-known Minus a x y k m z s u q = cut-sum Minus a x y k m z s u q
 cut-known Times a x y k m z s u q =
     let c = cut-less (x.triple.k + y.triple.k) (x.triple.h * y.triple.h) (x.triple.h * y.triple.e + y.triple.h * x.triple.e + x.triple.e * y.triple.e)
     (x.size * y.size) (k.size * m.size) (two_of Times x.tree y.tree) a z (sizes-mono Times k.size m.size x.size y.size s.size u.size) q in
@@ -176,17 +182,8 @@ cut-cut n a x k z s q =
     let c = cut-less (x.triple.k + n) (x.triple.h / 2 ^ n) (error_after n x.triple.e) x.size k.size x.tree a z s.size q in
     rw (← s.triple, ← s.tree) c
 
-abbrev LessCuts : (ℕ → Option FilterKnown) → (ℕ → Option FilterKnown) → Type 0
-LessCuts l m = (j : ℕ) (x : FilterKnown) → l j ≡ Some x → Reaches IsNoLargerCut x (m j)
-
-put-cut : (l m : ℕ → Option FilterKnown) (j : ℕ) (x k : FilterKnown) → LessCuts l m → IsNoLargerCut x k → LessCuts (with_local l j x) (with_local m j k)
-put-cut l m j x k h f i y = by_case (i == j)
-  where
-    by_case : (b : Bool) → (if b then Some x else l i) ≡ Some y → Reaches IsNoLargerCut y (if b then Some k else m i)
-    by_case true q = let r : x ≡ y = cc in rw (← r) f
-    by_case false q = h i y q
-
-filters-follow : (vars : List VarInfo) → Follows (triple_rules version_1 vars) (triple_rules version_2 vars) (λ (a : Triple). a) IsNoLargerCut LessCuts
+filters-follow : (vars : List VarInfo)
+    → Follows (triple_rules version_1 vars) (triple_rules version_2 vars) (λ (a : Triple). a) IsNoLargerCut (HaveReached IsNoLargerCut)
 filters-follow vars = record {
   push = λ c a x q. cut-less a.k (unsigned_abs c / 2 ^ a.k) (push_error a.k) (unsigned_abs c) (unsigned_abs c) (tree.Num c) a x (omega arith) q;
   input = λ v a x q. cut-input vars v a x q;
@@ -195,7 +192,7 @@ filters-follow vars = record {
   minus = λ w a x k z s q. cut-minus w a x k z s q;
   cut = λ n a x k z s q. cut-cut n a x k z s q;
   got = λ l m j x h q. h j x q;
-  put = put-cut;
+  put = put-reached IsNoLargerCut;
   room = λ n q. q;
 }
 
@@ -207,13 +204,13 @@ version-1-follows = record { block = block; filter = filter }
     block : (vars : List VarInfo) (lines : List (Line Range)) (x : Known) → answer (block_rules version_1 vars) no_locals lines ≡ Some x
         → (y : Known) × (answer (block_rules version_2 vars) no_locals lines ≡ Some y) × IsNoLarger x y
     block vars lines x q =
-        let a = answer_follows (block_rules version_1 vars) (block_rules version_2 vars) (λ (p : Range). p) IsNoLarger Less
+        let a = answer_follows (block_rules version_1 vars) (block_rules version_2 vars) (λ (p : Range). p) IsNoLarger (HaveReached IsNoLarger)
         (blocks-follow vars) no_locals no_locals lines x (λ j y r. cc) q in
         reached_some IsNoLarger x _ (rw same_lines at a)
 
     filter : (vars : List VarInfo) (lines : List (Line Triple)) (x : FilterKnown) → answer (triple_rules version_1 vars) no_locals lines ≡ Some x
         → (y : FilterKnown) × (answer (triple_rules version_2 vars) no_locals lines ≡ Some y) × IsNoLargerCut x y
     filter vars lines x q =
-        let a = answer_follows (triple_rules version_1 vars) (triple_rules version_2 vars) (λ (p : Triple). p) IsNoLargerCut LessCuts
+        let a = answer_follows (triple_rules version_1 vars) (triple_rules version_2 vars) (λ (p : Triple). p) IsNoLargerCut (HaveReached IsNoLargerCut)
         (filters-follow vars) no_locals no_locals lines x (λ j y r. cc) q in
         reached_some IsNoLargerCut x _ (rw same_lines at a)

@@ -1,6 +1,6 @@
 -- The lines of a listing with their numbers.
-use Rattle.std.proofs.Common.{◌≡◌, ℕ, ◌<◌, ◌+◌, ◌≤◌, zero, suc, true, false, List, [], ◌∷◌, length, map, take, get_or, refl, sym, ◌∙◌, ap, arith, subst}
-use Rattle.std.proofs.lemmas.List.{length-append, length-map}
+use Rattle.std.proofs.Common.{◌≡◌, ℕ, ◌<◌, ◌+◌, ◌≤◌, zero, suc, true, false, List, [], ◌∷◌, length, map, take, get_or, sym, ◌∙◌, ap, arith}
+use Rattle.std.proofs.lemmas.List.{get_or-map, length-append, length-map}
 use Rattle.ln_cert.specs.declared.part.Entry.{Entry}
 use Rattle.ln_cert.specs.declared.part.Part.{Part}
 use Rattle.ln_base.specs.Lines.{joined, parted}
@@ -14,11 +14,6 @@ use Rattle.ln_verify.specs.declared.progress.Progress.{Progress}
 use Rattle.ln_verify.specs.declared.progress.At.TheVariants.{Away}
 use Rattle.ln_verify.proofs.Judging.Places.{Come, come-more, come-stops, come-whole, come-lacks}
 
-part-at : (es : List Entry) (i : ℕ) (d : Entry) → get_or (parts_of es) i d.part ≡ (get_or es i d).part
-part-at [] i d = refl
-part-at (e ∷ es) zero d = refl
-part-at (e ∷ es) (suc i) d = part-at es i d
-
 number-at : (n : ℕ) (es : List Entry) (i : ℕ) (d : Entry) → AreNumbered n es → i < length es → (get_or es i d).line ≡ n + i
 number-at n [] i d h l = absurd (omega (arith, l))
 number-at n (e ∷ es) zero d h l = omega (arith, h.0)
@@ -29,29 +24,25 @@ parts-many es = length-map es (λ (e : Entry). e.part)
 
 -- ---- the loop
 module _ (v : Version) (ps : List Subject) (d : Progress) (es : List Entry) (i : ℕ) where
+  its-part : (e : Entry) → i < length es → e ≡ get_or es i e → e.part ≡ get_or (parts_of es) i e.part
+  its-part e l q = ap (λ (x : Entry). x.part) q ∙ sym (get_or-map (λ (x : Entry). x.part) es i e e.part l)
+
   -- the line at hand leads on
   pub entry-more : (e : Entry) (new : Progress) → i < length es → e ≡ get_or es i e → Come v ps (take i (parts_of es)) d
       → ((here : Place) → IsHere ps d here → PlaceStep v ps here e.part true new) → Come v ps (take (i + 1) (parts_of es)) new
-  entry-more e new l q c h =
-      let p : e.part ≡ get_or (parts_of es) i e.part = ap (λ (x : Entry). x.part) q ∙ sym (part-at es i e) in
-      come-more v ps d (parts_of es) i e.part new (omega (arith, l, parts-many es)) c
-      (subst (λ (x : Part). (here : Place) → IsHere ps d here → PlaceStep v ps here x true new) p h)
+  entry-more e new l q c h = come-more v ps d (parts_of es) i e.part new (omega (arith, l, parts-many es)) (its-part e l q) c h
 
   -- or it fails: it is the first that does, by its own number
   pub entry-stops : (e : Entry) (new : Progress) → i < length es → e ≡ get_or es i e → AreNumbered 2 es → Come v ps (take i (parts_of es)) d
       → ((here : Place) → IsHere ps d here → PlaceStep v ps here e.part false new) → IsFirstFault v ps (parts_of es) e.line
   entry-stops e new l q k c h =
-      let p : e.part ≡ get_or (parts_of es) i e.part = ap (λ (x : Entry). x.part) q ∙ sym (part-at es i e) in
       let n : e.line ≡ i + 2 = omega (arith, ap (λ (x : Entry). x.line) q, number-at 2 es i e k l) in
-      subst (IsFirstFault v ps (parts_of es)) (sym n) (come-stops v ps d (parts_of es) i e.part new (omega (arith, l, parts-many es)) c
-      (subst (λ (x : Part). (here : Place) → IsHere ps d here → PlaceStep v ps here x false new) p h))
+      come-stops v ps d (parts_of es) i e.line e.part new (omega (arith, l, parts-many es)) (its-part e l q) n c h
 
   -- the end of the file, within a part or where a predicate lacks its part
   pub entries-lack : (n : ℕ) → i ≡ length es → n ≡ length es + 2 → Come v ps (take i (parts_of es)) d
       → ((d.at ≡ Away) × (d.parts ≡ length ps) → ⊥) → IsFirstFault v ps (parts_of es) n
-  entries-lack n e q c a =
-      let m : length (parts_of es) + 2 ≡ n = omega (arith, q, parts-many es) in
-      subst (IsFirstFault v ps (parts_of es)) m (come-lacks v ps d (parts_of es) i (omega (arith, e, parts-many es)) c a)
+  entries-lack n e q c a = come-lacks v ps d (parts_of es) i n (omega (arith, e, parts-many es)) (omega (arith, q, parts-many es)) c a
 
   -- at the end of the file, outside of parts and after those of all predicates, the listing is valid
   pub entries-whole : i ≡ length es → Come v ps (take i (parts_of es)) d → d.at ≡ Away → d.parts ≡ length ps → IsValid v ps (parts_of es)

@@ -1,13 +1,14 @@
 -- The stage list of an order, against the blocks that a line names.
 use Rattle.std.proofs.Common.{◌≡◌, ◌↔◌, ℕ, ◌+◌, ◌<◌, ◌≤◌, zero, suc, Bool, true, false, List, [], ◌∷◌, ◌++◌, length, map, get_or, drop}
-use Rattle.std.proofs.Common.{refl, sym, ◌∙◌, ap, arith, subst}
+use Rattle.std.proofs.Common.{refl, sym, ◌∙◌, ap, append-nil, append_assoc, arith, subst}
 use Rattle.std.specs.List.{range_with_len}
 use Rattle.std.specs.Prelude.{All, Some, nat_lt, slice_get, slice_index_or}
 use Rattle.std.proofs.lemmas.Bool.Decides.{nat_tests}
 use Rattle.std.specs.Option.{option_map}
-use Rattle.std.proofs.lemmas.List.{length-map}
-use Rattle.std.proofs.lemmas.List.Elements.{All-head, All-tail}
+use Rattle.std.proofs.lemmas.List.{drop_all, length-map}
+use Rattle.std.proofs.lemmas.List.Elements.{All-cons, All-head, All-nil, All-tail}
 use Rattle.std.proofs.lemmas.Option.{get_or_from_slice_get, slice_get-get_or, slice_get-map, slice_get_within}
+use Rattle.ln_base.proofs.Texts.Lists.{head, rest}
 use Rattle.ln_algebra.specs.Earlier.{IndicesDiffer}
 use Rattle.ln_tree.specs.Exps.{IsAbove, IsRising, Pairs, same_pairs, same_pairs-is, vector}
 use Rattle.ln_tree.specs.Variables.{is_laid_out}
@@ -41,10 +42,7 @@ has-vector n exps k here a b all above r r' l e t =
 
 -- past the last block there is none that has the vector
 pub no-block : (n : ℕ) (exps : List Pairs) (k : ℕ) (a : Pairs) → length exps ≤ k → (false ≡ true) ↔ HasVector n exps k a
-no-block n exps k a h = (λ e. absurd (false-true e), λ v. absurd (omega (arith, h, v.0)))
-  where
-    false-true : false ≡ true → ⊥
-    false-true e = cc
+no-block n exps k a h = (λ e. cc, λ v. absurd (omega (arith, h, v.0)))
 
 -- ---- block by block
 module _ (n : ℕ) (exps stages : List Pairs) where
@@ -57,17 +55,15 @@ module _ (n : ℕ) (exps stages : List Pairs) where
   SameAt ks js i = HasVector n exps (get_or ks i 0) (get_or stages (get_or js i 0) [])
 
   turn : (ks js : List ℕ) (i : ℕ) → i < length ks → i < length js → SameFrom ks js i ↔ SameAt ks js i × SameFrom ks js (suc i)
-  turn [] js i h g = absurd (omega arith)
-  turn (k ∷ ks) [] i h g = absurd (omega arith)
   turn (k ∷ ks) (j ∷ js) zero h g = (λ x. x, λ x. x)
   turn (k ∷ ks) (j ∷ js) (suc i) h g = turn ks js i (omega arith) (omega arith)
+  turn ks js i h g = absurd (omega arith)
 
   -- lists of two lengths aren't the same
   pub same-length : (ks js : List ℕ) → SameStages n exps stages ks js → length ks ≡ length js
   same-length [] [] h = refl
-  same-length [] (j ∷ js) h = absurd h
-  same-length (k ∷ ks) [] h = absurd h
   same-length (k ∷ ks) (j ∷ js) h = ap suc (same-length ks js h.1)
+  same-length ks js h = absurd h
 
   -- whether the rest is the same decides
   abbrev pub Decides : List ℕ → List ℕ → ℕ → Type 0
@@ -85,53 +81,32 @@ module _ (n : ℕ) (exps stages : List Pairs) where
       let w : suc i ≡ i + 1 = omega arith in
       subst (Decides ks js) w (λ s. d.0 (t.1 (y, s)), λ s. (t.0 (d.1 s)).1)
 
-  past-end : (ks js : List ℕ) (i : ℕ) → length ks ≤ i → length ks ≡ length js → SameFrom ks js i
-  past-end [] [] zero h e = tt
-  past-end [] [] (suc i) h e = tt
-  past-end [] (j ∷ js) i h e = absurd (omega arith)
-  past-end (k ∷ ks) [] i h e = absurd (omega arith)
-  past-end (k ∷ ks) (j ∷ js) zero h e = absurd (omega arith)
-  past-end (k ∷ ks) (j ∷ js) (suc i) h e = past-end ks js i (omega arith) (omega arith)
-
   -- where the rest decides and nothing remains, the lists are the same
   pub decides-end : (ks js : List ℕ) (i : ℕ) → length ks ≤ i → length ks ≡ length js → Decides ks js i → SameStages n exps stages ks js
-  decides-end ks js i h e d = d.0 (past-end ks js i h e)
+  decides-end ks js i h e d =
+      let a = drop_all i ks h in
+      let b = drop_all i js (omega (arith, h, e)) in
+      d.0 (rw (a, b) tt)
 
   -- ---- the same, as lists of vectors
   -- where blocks and stages are the same one by one, each number of a block is below the count of blocks
   pub same-within : (ks js : List ℕ) → SameStages n exps stages ks js → All (λ k. k < length exps) ks
-  same-within [] js h = λ i d l. absurd (omega arith)
+  same-within [] js h = All-nil (λ k. k < length exps)
   same-within (k ∷ ks) [] h = absurd h
-  same-within (k ∷ ks) (j ∷ js) h = both k ks h.0.0 (same-within ks js h.1)
-    where
-      both : (k : ℕ) (ks : List ℕ) → k < length exps → All (λ i. i < length exps) ks → All (λ i. i < length exps) (k ∷ ks)
-      both k ks h r zero d l = h
-      both k ks h r (suc i) d l = r i d (omega arith)
+  same-within (k ∷ ks) (j ∷ js) h = All-cons (λ k. k < length exps) k ks h.0.0 (same-within ks js h.1)
 
   -- where blocks and stages are the same one by one, so are their lists of vectors
   pub same-vectors : (ks js : List ℕ) → SameStages n exps stages ks js → named n exps ks ≡ named n stages js
   same-vectors [] [] h = refl
-  same-vectors [] (j ∷ js) h = absurd h
-  same-vectors (k ∷ ks) [] h = absurd h
   same-vectors (k ∷ ks) (j ∷ js) h = let a = h.0.1 in let r = same-vectors ks js h.1 in λ i. a i ∷ r i
+  same-vectors ks js h = absurd h
 
   -- where the numbers are those of blocks and the lists of vectors are the same, so are blocks and stages one by one
   pub vectors-same : (ks js : List ℕ) → All (λ k. k < length exps) ks → named n exps ks ≡ named n stages js → SameStages n exps stages ks js
   vectors-same [] [] w e = tt
-  vectors-same [] (j ∷ js) w e = absurd (ends (vector n (get_or stages j [])) (named n stages js) e)
-    where
-      ends : (a : List ℕ) (as' : List (List ℕ)) → [] ≡ a ∷ as' → ⊥
-      ends a as' e = cc
-  vectors-same (k ∷ ks) [] w e = absurd (ends (vector n (get_or exps k [])) (named n exps ks) e)
-    where
-      ends : (a : List ℕ) (as' : List (List ℕ)) → a ∷ as' ≡ [] → ⊥
-      ends a as' e = cc
   vectors-same (k ∷ ks) (j ∷ js) w e =
-      let p = parts (vector n (get_or exps k [])) (vector n (get_or stages j [])) (named n exps ks) (named n stages js) e in
-      ((All-head (λ i. i < length exps) k ks w, p.0), vectors-same ks js (All-tail (λ i. i < length exps) k ks w) p.1)
-    where
-      parts : (a b : List ℕ) (as' bs : List (List ℕ)) → a ∷ as' ≡ b ∷ bs → (a ≡ b) × (as' ≡ bs)
-      parts a b as' bs e = (cc, cc)
+      ((All-head (λ i. i < length exps) k ks w, head e), vectors-same ks js (All-tail (λ i. i < length exps) k ks w) (rest e))
+  vectors-same ks js w e = absurd (cc)
 
 -- ---- the rule
 -- an order of the program's, among all
@@ -212,20 +187,12 @@ module _ (p : Subject) (st : Staged) (laid : is_laid_out p.sites p.vars ≡ true
 pub joined-more : (g : ℕ → List ℕ) (a k : ℕ) → joined (map g (range_with_len a (k + 1))) ≡ joined (map g (range_with_len a k)) ++ g (a + k)
 joined-more g a k = let e : k + 1 ≡ suc k = omega arith in ap (λ m. joined (map g (range_with_len a m))) e ∙ more a k
   where
-    append-nil : (xs : List ℕ) → xs ++ [] ≡ xs
-    append-nil [] = refl
-    append-nil (x ∷ xs) = ap (λ z. x ∷ z) (append-nil xs)
-
-    append-assoc : (xs ys zs : List ℕ) → (xs ++ ys) ++ zs ≡ xs ++ (ys ++ zs)
-    append-assoc [] ys zs = refl
-    append-assoc (x ∷ xs) ys zs = ap (λ z. x ∷ z) (append-assoc xs ys zs)
-
     more : (a k : ℕ) → joined (map g (range_with_len a (suc k))) ≡ joined (map g (range_with_len a k)) ++ g (a + k)
     more a zero = let z : a + 0 ≡ a = omega arith in append-nil (g a) ∙ ap g (sym z)
     more a (suc k) =
         let z : (a + 1) + k ≡ a + suc k = omega arith in
         ap (λ xs. g a ++ xs) (more (a + 1) k ∙ ap (λ m. joined (map g (range_with_len (a + 1) k)) ++ g m) z)
-        ∙ sym (append-assoc (g a) (joined (map g (range_with_len (a + 1) k))) (g (a + suc k)))
+        ∙ sym (append_assoc (g a) (joined (map g (range_with_len (a + 1) k))) (g (a + suc k)))
 
 -- the step of the loop in `stage_list`: one segment more
 pub list-more : (g : ℕ → List ℕ) (j : ℕ) (out new segment : List ℕ) → out ≡ joined (map g (range_with_len 0 j)) → new ≡ out ++ segment

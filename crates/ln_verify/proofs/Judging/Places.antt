@@ -1,26 +1,22 @@
 -- Lines at their places, and the loop.
-use Rattle.std.proofs.Common.{◌≡◌, ℕ, ◌<◌, ◌≤◌, ◌+◌, Bool, true, false, List, [], ◌∷◌, ◌++◌, length, take, get_or, refl, sym, ap, arith, subst, ◌∙◌}
-use Rattle.ln_verify.proofs.Judging.Walk.{walk-ends, walk-lacks, walk-more, walk-stops}
-use Rattle.std.proofs.lemmas.Option.{get_or_from_slice_get, slice_get-map, slice_get_within}
+use Rattle.std.proofs.Common.{◌≡◌, ℕ, ◌<◌, ◌+◌, zero, suc, Bool, true, false, List, [], ◌∷◌, ◌++◌, length, take, get_or, refl, sym, ap, arith, subst, ◌∙◌}
+use Rattle.std.proofs.Common.{drop-cons, length-append}
+use Rattle.std.proofs.lemmas.Option.{get_or_from_slice_get, none-some, same_Some, slice_get-map, slice_get_within}
 use Rattle.std.specs.Option.{option_map}
 use Rattle.std.specs.Prelude.{All, None, Some, slice_get}
-use Rattle.std.proofs.lemmas.List.{length-map}
+use Rattle.std.proofs.lemmas.List.{drop_all, length-map, take_all}
 use Rattle.ln_tree.specs.Names.{name_bytes}
 use Rattle.ln_order.specs.Orders.{orders_of}
 use Rattle.ln_order.specs.Places.{order_places}
 use Rattle.ln_verify.specs.BlockRules.{Version}
 use Rattle.ln_verify.specs.Judge.{FailsAt, Go, IsFirstFault, IsValid}
-use Rattle.ln_verify.specs.Line.{Between, InBlock, InFilter, LineRule, Named, Ordering, Outside, PartRule, Place, Spot, Subject, Within, Written}
+use Rattle.ln_verify.specs.Line.{LineRule, Named, Ordering, Outside, PartRule, Place, Rule, Spot, Subject, Within, Written}
 use Rattle.ln_cert.specs.declared.part.Part.{Part}
-use Rattle.ln_cert.specs.declared.part.Part.TheVariants.{Predicate, NoFilter, Filter, FilterOp, Decide, Block, BlockOp, RangeOp, End, Order, Done}
-use Rattle.ln_verify.specs.declared.progress.At.{At}
-use Rattle.ln_verify.specs.declared.progress.At.TheVariants.{Away, AtName, AtFilter, AtGap, AtBlock, AtOrder}
+use Rattle.ln_cert.specs.declared.part.Part.TheVariants.{Predicate, Done}
+use Rattle.ln_verify.specs.declared.progress.At.TheVariants.{Away, AtName, AtOrder}
 use Rattle.ln_verify.specs.declared.case.Case.{Case}
 use Rattle.ln_verify.specs.declared.progress.Progress.{Progress}
 use Rattle.ln_verify.specs.Here.{Finished, PlaceStep, IsHere, IsSpot, IsCase, Leads, Over, subject_of, subjects_of}
-
-some-same : (x y : Subject) → Some x ≡ Some y → x ≡ y
-some-same x y e = cc
 
 -- the subject with the number of a case is that of the case
 pub subject-at : (cs : List Case) (i : ℕ) (c : Case) → slice_get cs i ≡ Some c → slice_get (subjects_of cs) i ≡ Some (subject_of c)
@@ -33,10 +29,7 @@ case-staged cs i c h e = subst IsCase (get_or_from_slice_get cs i c c e) (h i c 
 -- a state of the judge that stands nowhere is at no spot
 pub away-none : (n : ℕ) (d : Progress) (s : Spot) → d.at ≡ Away → IsSpot n d s → ⊥
 away-none n d Named e i = cc
-away-none n d (InFilter lines s) e i = cc
-away-none n d (Between f bs) e i = cc
-away-none n d (InBlock f bs x lines s) e i = cc
-away-none n d (Ordering w) e i = cc
+away-none n d s e i = cc
 
 -- outside of parts, a line with the name of the next predicate leads into its part
 pub named-one : (v : Version) (cs : List Case) (d : Progress) (c : Case) (name : List ℕ) (here : Place) → d.at ≡ Away →
@@ -56,9 +49,6 @@ named-one v cs d c name (Outside parts) a g e i =
     (Within parts Named, record { subject = subject_of c; there = there; named = e; to = refl }, (i.1, subject_of c, there, refl))
 named-one v cs d c name (Within parts s) a g e i = absurd (away-none (length i.1.vars) d s a i.3)
 
-none-some : (x : Subject) → None ≡ Some x → ⊥
-none-some x e = cc
-
 subject-none : (cs : List Case) (i : ℕ) → slice_get cs i ≡ None → slice_get (subjects_of cs) i ≡ None
 subject-none cs i e = slice_get-map subject_of cs i ∙ ap (option_map subject_of) e
 
@@ -77,7 +67,7 @@ pub named-other : (v : Version) (cs : List Case) (d new : Progress) (c : Case) (
 named-other v cs d new c name (Outside parts) a g n i =
     let there : slice_get (subjects_of cs) (length parts) ≡ Some (subject_of c) =
     subst (λ k. slice_get (subjects_of cs) k ≡ Some (subject_of c)) i.1 (subject-at cs d.parts c g) in
-    λ q r. n (ap (λ (x : Subject). x.name) (some-same (subject_of c) r.subject (sym there ∙ r.there)) ∙ r.named)
+    λ q r. n (ap (λ (x : Subject). x.name) (same_Some (subject_of c) r.subject (sym there ∙ r.there)) ∙ r.named)
 named-other v cs d new c name (Within parts s) a g n i = absurd (away-none (length i.1.vars) d s a i.3)
 
 -- ---- `done`
@@ -87,81 +77,33 @@ case-orders c k = sym (length-map c.orders order_places) ∙ ap length k.ordered
 
 -- where no list of an order has been read, `done` leads nowhere
 pub done-elsewhere : (p : Subject) (d : Progress) → (d.at ≡ AtOrder → ⊥) → Finished p d false d
-done-elsewhere p d h parts Named e i = tt
-done-elsewhere p d h parts (InFilter lines s) e i = tt
-done-elsewhere p d h parts (Between f bs) e i = tt
-done-elsewhere p d h parts (InBlock f bs x lines s) e i = tt
 done-elsewhere p d h parts (Ordering w) e i = λ q. h i.0
+done-elsewhere p d h parts s e i = tt
 
 -- nor does it where an order lacks its list
 pub done-lacks : (p : Subject) (d : Progress) → (d.lists ≡ length (orders_of p.sites) → ⊥) → Finished p d false d
-done-lacks p d h parts Named e i = tt
-done-lacks p d h parts (InFilter lines s) e i = tt
-done-lacks p d h parts (Between f bs) e i = tt
-done-lacks p d h parts (InBlock f bs x lines s) e i = tt
 done-lacks p d h parts (Ordering w) e i = λ q. h (i.3 ∙ q)
-
-apart-at : (x : At) → x ≡ AtName → x ≡ AtOrder → ⊥
-apart-at x e f = cc
-
-apart-filter : (x : At) → x ≡ AtFilter → x ≡ AtOrder → ⊥
-apart-filter x e f = cc
-
-apart-gap : (x : At) → x ≡ AtGap → x ≡ AtOrder → ⊥
-apart-gap x e f = cc
-
-apart-block : (x : At) → x ≡ AtBlock → x ≡ AtOrder → ⊥
-apart-block x e f = cc
+done-lacks p d h parts s e i = tt
 
 -- after the lists of all orders, `done` ends the part
 pub done-over : (p : Subject) (d : Progress) (n : ℕ) → d.at ≡ AtOrder → d.lists ≡ length (orders_of p.sites) → n ≡ d.parts + 1 →
     Finished p d true (record { at = Away; parts = n; exps = d.exps; block_stack = d.block_stack; filter_stack = d.filter_stack; lists = d.lists })
-done-over p d n a h q parts Named e i = absurd (apart-at d.at i a)
-done-over p d n a h q parts (InFilter lines s) e i = absurd (apart-filter d.at i.0 a)
-done-over p d n a h q parts (Between f bs) e i = absurd (apart-gap d.at i.0 a)
-done-over p d n a h q parts (InBlock f bs x lines s) e i = absurd (apart-block d.at i.0 a)
 done-over p d n a h q parts (Ordering w) e i = (sym i.3 ∙ h, refl, omega (arith, q, e))
+done-over p d n a h q parts s e i = absurd (cc)
 
 -- ---- within a part
 -- the predicate at hand is that of the number of parts
 at-hand : (ps : List Subject) (i j : ℕ) (p q : Subject) → i ≡ j → slice_get ps i ≡ Some p → slice_get ps j ≡ Some q → p ≡ q
-at-hand ps i j p q e f g = some-same p q (sym f ∙ ap (λ k. slice_get ps k) e ∙ g)
+at-hand ps i j p q e f g = same_Some p q (sym f ∙ ap (λ k. slice_get ps k) e ∙ g)
 
-part-yes : (v : Version) (p : Subject) (parts : List Written) (s t : Spot) (line : Part) → (line ≡ Done → ⊥) → LineRule v p s line t
-    → PartRule v p parts s line (Within parts t)
-part-yes v p parts Named t line n r = (t, r, refl)
-part-yes v p parts (InFilter lines s) t line n r = (t, r, refl)
-part-yes v p parts (Between f bs) t line n r = (t, r, refl)
-part-yes v p parts (InBlock f bs x lines s) t line n r = (t, r, refl)
-part-yes v p parts (Ordering w) t (Order places list) n r = (t, r, refl)
-part-yes v p parts (Ordering w) t (Predicate name) n r = absurd r
-part-yes v p parts (Ordering w) t NoFilter n r = absurd r
-part-yes v p parts (Ordering w) t Filter n r = absurd r
-part-yes v p parts (Ordering w) t (FilterOp op a) n r = absurd r
-part-yes v p parts (Ordering w) t Decide n r = absurd r
-part-yes v p parts (Ordering w) t (Block k a) n r = absurd r
-part-yes v p parts (Ordering w) t (BlockOp op b) n r = absurd r
-part-yes v p parts (Ordering w) t (RangeOp op l u) n r = absurd r
-part-yes v p parts (Ordering w) t End n r = absurd r
-part-yes v p parts (Ordering w) t Done n r = absurd r
+part-yes : (v : Version) (p : Subject) (parts : List Written) (s t : Spot) (line : Part) → LineRule v p s line t → PartRule v p parts s line (Within parts t)
+part-yes v p parts (Ordering w) t Done r = absurd r
+part-yes v p parts s t line r = (t, r, refl)
 
 part-no : (v : Version) (p : Subject) (parts : List Written) (s : Spot) (line : Part) (q : Place) → (line ≡ Done → ⊥)
     → ((t : Spot) → LineRule v p s line t → ⊥) → PartRule v p parts s line q → ⊥
-part-no v p parts Named line q n h r = h r.0 r.1
-part-no v p parts (InFilter lines s) line q n h r = h r.0 r.1
-part-no v p parts (Between f bs) line q n h r = h r.0 r.1
-part-no v p parts (InBlock f bs x lines s) line q n h r = h r.0 r.1
-part-no v p parts (Ordering w) (Order places list) q n h r = h r.0 r.1
-part-no v p parts (Ordering w) (Predicate name) q n h r = h r.0 r.1
-part-no v p parts (Ordering w) NoFilter q n h r = h r.0 r.1
-part-no v p parts (Ordering w) Filter q n h r = h r.0 r.1
-part-no v p parts (Ordering w) (FilterOp op a) q n h r = h r.0 r.1
-part-no v p parts (Ordering w) Decide q n h r = h r.0 r.1
-part-no v p parts (Ordering w) (Block k a) q n h r = h r.0 r.1
-part-no v p parts (Ordering w) (BlockOp op b) q n h r = h r.0 r.1
-part-no v p parts (Ordering w) (RangeOp op l u) q n h r = h r.0 r.1
-part-no v p parts (Ordering w) End q n h r = h r.0 r.1
 part-no v p parts (Ordering w) Done q n h r = absurd (n refl)
+part-no v p parts s line q n h r = h r.0 r.1
 
 -- a line other than `done` leads the listing where it leads the part of the predicate at hand
 pub within-part : (v : Version) (cs : List Case) (old new : Progress) (c : Case) (line : Part) (ok : Bool) (here : Place) → (old.at ≡ Away → ⊥) →
@@ -172,32 +114,23 @@ within-part v cs old new c line true (Within parts s) a g n h i =
     let ps : List Subject = subjects_of cs in
     let e : subject_of c ≡ i.1 = at-hand ps old.parts (length parts) (subject_of c) i.1 i.0 (subject-at cs old.parts c g) i.2 in
     let r = subst (λ (p : Subject). Leads v p old line true new) e h s i.3 in
-    (Within parts r.1.0, (i.1, i.2, part-yes v i.1 parts s r.1.0 line n r.1.1), (r.0 ∙ i.0, i.1, i.2, r.1.2))
+    (Within parts r.1.0, (i.1, i.2, part-yes v i.1 parts s r.1.0 line r.1.1), (r.0 ∙ i.0, i.1, i.2, r.1.2))
 within-part v cs old new c line false (Within parts s) a g n h i =
     let ps : List Subject = subjects_of cs in
     let e : subject_of c ≡ i.1 = at-hand ps old.parts (length parts) (subject_of c) i.1 i.0 (subject-at cs old.parts c g) i.2 in
     let r = subst (λ (p : Subject). Leads v p old line false new) e h s i.3 in
-    (λ q k. part-no v i.1 parts s line q n r.1 (subst (λ (p : Subject). PartRule v p parts s line q) (some-same k.0 i.1 (sym k.1 ∙ i.2)) k.2))
-
-length-more : (xs : List Written) (x : Written) → length (xs ++ x ∷ []) ≡ length xs + 1
-length-more [] x = refl
-length-more (y ∷ xs) x = omega (arith, length-more xs x)
+    (λ q k. part-no v i.1 parts s line q n r.1 (subst (λ (p : Subject). PartRule v p parts s line q) (same_Some k.0 i.1 (sym k.1 ∙ i.2)) k.2))
 
 done-yes : (v : Version) (ps : List Subject) (p : Subject) (new : Progress) (parts : List Written) (s : Spot)
     → slice_get ps (length parts) ≡ Some p → Over p parts s true new → PlaceStep v ps (Within parts s) Done true new
-done-yes v ps p new parts Named g o = absurd o
-done-yes v ps p new parts (InFilter lines s) g o = absurd o
-done-yes v ps p new parts (Between f bs) g o = absurd o
-done-yes v ps p new parts (InBlock f bs x lines s) g o = absurd o
-done-yes v ps p new parts (Ordering w) g o = (Outside (parts ++ w ∷ []), (p, g, record { all = o.0; to = refl }), (o.1, o.2 ∙ sym (length-more parts w)))
+done-yes v ps p new parts (Ordering w) g o =
+    (Outside (parts ++ w ∷ []), (p, g, record { all = o.0; to = refl }), (o.1, o.2 ∙ sym (length-append parts (w ∷ []))))
+done-yes v ps p new parts s g o = absurd o
 
 done-no : (v : Version) (p : Subject) (new : Progress) (parts : List Written) (s : Spot) (q : Place) → Over p parts s false new
     → PartRule v p parts s Done q → ⊥
-done-no v p new parts Named q o r = r.1
-done-no v p new parts (InFilter lines s) q o r = r.1
-done-no v p new parts (Between f bs) q o r = r.1
-done-no v p new parts (InBlock f bs x lines s) q o r = r.1
 done-no v p new parts (Ordering w) q o r = o r.all
+done-no v p new parts s q o r = r.1
 
 -- and so does `done`
 pub done-part : (v : Version) (cs : List Case) (old new : Progress) (c : Case) (ok : Bool) (here : Place) → (old.at ≡ Away → ⊥)
@@ -211,12 +144,19 @@ done-part v cs old new c false (Within parts s) a g h i =
     let ps : List Subject = subjects_of cs in
     let e : subject_of c ≡ i.1 = at-hand ps old.parts (length parts) (subject_of c) i.1 i.0 (subject-at cs old.parts c g) i.2 in
     (λ q k. done-no v i.1 new parts s q (subst (λ (p : Subject). Finished p old false new) e h parts s i.0 i.3)
-    (subst (λ (p : Subject). PartRule v p parts s Done q) (some-same k.0 i.1 (sym k.1 ∙ i.2)) k.2))
+    (subst (λ (p : Subject). PartRule v p parts s Done q) (same_Some k.0 i.1 (sym k.1 ∙ i.2)) k.2))
 
 -- ---- the loop
 -- what the loop keeps: the lines so far lead to a place that the state of the judge stands for
 abbrev pub Come : Version → List Subject → List Part → Progress → Type 0
 Come v ps lines d = (here : Place) × Go v ps (Outside []) lines here × IsHere ps d here
+
+module _ (v : Version) (ps : List Subject) where
+  go-more : (lines : List Part) (i : ℕ) (x : Part) (a p q : Place) → i < length lines → Go v ps a (take i lines) p
+      → Rule v ps p (get_or lines i x) q → Go v ps a (take (suc i) lines) q
+  go-more [] i x a p q l g r = absurd (omega arith)
+  go-more (y ∷ ys) zero x a p q l g r = (q, subst (λ (z : Place). Rule v ps z y q) g r, refl)
+  go-more (y ∷ ys) (suc i) x a p q l g r = (g.0, g.1, go-more ys i x g.0 p q (omega arith) g.2 r)
 
 module _ (v : Version) (ps : List Subject) (d : Progress) where
   -- before the first line, the state outside of parts and after none of them is where a listing begins
@@ -228,25 +168,42 @@ module _ (v : Version) (ps : List Subject) (d : Progress) where
   lacks (Within parts s) a i = tt
 
   -- at the end of the file, within a part or where a predicate lacks its part, the first fault is one past the last line
-  pub come-lacks : (lines : List Part) (i : ℕ) → i ≡ length lines → Come v ps (take i lines) d → ((d.at ≡ Away) × (d.parts ≡ length ps) → ⊥)
-      → IsFirstFault v ps lines (length lines + 2)
-  come-lacks lines i e c a = walk-lacks v ps lines i (length lines + 2) c.0 e (ap (λ k. k + 2) (sym e)) c.1 (lacks c.0 a c.2)
+  pub come-lacks : (lines : List Part) (i n : ℕ) → i ≡ length lines → n ≡ length lines + 2 → Come v ps (take i lines) d
+      → ((d.at ≡ Away) × (d.parts ≡ length ps) → ⊥) → IsFirstFault v ps lines n
+  come-lacks lines i n e m c a = record {
+    at = i;
+    line = omega (arith, m, e);
+    within = omega (arith, e);
+    here = c.0;
+    good = c.1;
+    fails = subst (FailsAt v ps c.0) (sym (drop_all i lines (omega (arith, e)))) (lacks c.0 a c.2);
+  }
 
-  whole : (lines : List Part) (i : ℕ) (here : Place) → length lines ≤ i → Go v ps (Outside []) (take i lines) here → IsHere ps d here
-      → d.at ≡ Away → d.parts ≡ length ps → IsValid v ps lines
-  whole lines i (Outside parts) l g h a e = walk-ends v ps lines i parts l g (sym h.1 ∙ e)
-  whole lines i (Within parts s) l g h a e = absurd (away-none (length h.1.vars) d s a h.3)
+  whole : (lines : List Part) (here : Place) → Go v ps (Outside []) lines here → IsHere ps d here → d.at ≡ Away → d.parts ≡ length ps → IsValid v ps lines
+  whole lines (Outside parts) g h a e = record { parts = parts; good = g; all = sym h.1 ∙ e }
+  whole lines (Within parts s) g h a e = absurd (away-none (length h.1.vars) d s a h.3)
 
   -- at the end of the file, outside of parts and after those of all predicates, the lines are valid
   pub come-whole : (lines : List Part) (i : ℕ) → i ≡ length lines → Come v ps (take i lines) d → d.at ≡ Away → d.parts ≡ length ps → IsValid v ps lines
-  come-whole lines i e c a h = whole lines i c.0 (omega (arith, e)) c.1 c.2 a h
+  come-whole lines i e c a h = whole lines c.0 (subst (λ (xs : List Part). Go v ps (Outside []) xs c.0) (take_all i lines (omega (arith, e))) c.1) c.2 a h
 
   -- where the line at hand leads nowhere it is the first that fails, and its number is 2 more than the count of those before it
-  pub come-stops : (lines : List Part) (i : ℕ) (x : Part) (e : Progress) → i < length lines → Come v ps (take i lines) d
-      → ((here : Place) → IsHere ps d here → PlaceStep v ps here (get_or lines i x) false e) → IsFirstFault v ps lines (i + 2)
-  come-stops lines i x e l c h = walk-stops v ps lines i (i + 2) x c.0 l refl c.1 (h c.0 c.2)
+  pub come-stops : (lines : List Part) (i n : ℕ) (x : Part) (e : Progress) → i < length lines → x ≡ get_or lines i x → n ≡ i + 2
+      → Come v ps (take i lines) d → ((here : Place) → IsHere ps d here → PlaceStep v ps here x false e) → IsFirstFault v ps lines n
+  come-stops lines i n x e l y m c h = record {
+    at = i;
+    line = m;
+    within = omega (arith, l);
+    here = c.0;
+    good = c.1;
+    fails = subst (FailsAt v ps c.0) (sym (drop-cons lines i x l)) (subst (λ (z : Part). (q : Place) → Rule v ps c.0 z q → ⊥) y (h c.0 c.2));
+  }
 
   -- where the line at hand leads on, the lines up to it lead to the place of the new state
-  pub come-more : (lines : List Part) (i : ℕ) (x : Part) (e : Progress) → i < length lines → Come v ps (take i lines) d
-      → ((here : Place) → IsHere ps d here → PlaceStep v ps here (get_or lines i x) true e) → Come v ps (take (i + 1) lines) e
-  come-more lines i x e l c h = let r = h c.0 c.2 in (r.0, walk-more v ps lines i x (Outside []) c.0 r.0 l c.1 r.1, r.2)
+  pub come-more : (lines : List Part) (i : ℕ) (x : Part) (e : Progress) → i < length lines → x ≡ get_or lines i x → Come v ps (take i lines) d
+      → ((here : Place) → IsHere ps d here → PlaceStep v ps here x true e) → Come v ps (take (i + 1) lines) e
+  come-more lines i x e l y c h =
+      let r = h c.0 c.2 in
+      let w : suc i ≡ i + 1 = omega arith in
+      let g = go-more v ps lines i x (Outside []) c.0 r.0 l c.1 (subst (λ (z : Part). Rule v ps c.0 z r.0) y r.1) in
+      (r.0, subst (λ (k : ℕ). Go v ps (Outside []) (take k lines) r.0) w g, r.2)

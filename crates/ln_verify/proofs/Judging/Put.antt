@@ -1,5 +1,6 @@
 -- Proves that the lines written for good parts are a valid listing.
 use Rattle.std.proofs.Common.{◌≡◌, ℕ, zero, suc, Bool, true, false, List, [], ◌∷◌, ◌++◌, length, map, refl, sym, ◌∙◌, ap, subst}
+use Rattle.std.proofs.Common.{append-nil, append_assoc, arith, length-append}
 use Rattle.std.specs.Prelude.{IfSome, Option, Some, None, slice_get}
 use Rattle.ln_algebra.specs.Tree.{Tree}
 use Rattle.ln_tree.specs.Exps.{Pairs}
@@ -47,18 +48,6 @@ go-append : (v : Version) (ps : List Subject) (xs ys : List Part) (a b c : Place
 go-append v ps [] ys a b c g h = subst (λ (z : Place). Go v ps z ys c) g h
 go-append v ps (x ∷ xs) ys a b c g h = (g.0, g.1, go-append v ps xs ys g.0 b c g.2 h)
 
-append-nil : {A : Type 0} (xs : List A) → xs ++ [] ≡ xs
-append-nil [] = refl
-append-nil (x ∷ xs) = ap (λ z. x ∷ z) (append-nil xs)
-
-append-more : {A : Type 0} (xs ys : List A) (x : A) → (xs ++ x ∷ []) ++ ys ≡ xs ++ x ∷ ys
-append-more [] ys x = refl
-append-more (z ∷ xs) ys x = ap (λ w. z ∷ w) (append-more xs ys x)
-
-length-more : {A : Type 0} (xs : List A) (x : A) → length (xs ++ x ∷ []) ≡ suc (length xs)
-length-more [] x = refl
-length-more (z ∷ xs) x = ap suc (length-more xs x)
-
 module _ (ps : List Subject) (p : Subject) (parts : List Written) (there : slice_get ps (length parts) ≡ Some p) where
   -- ---- a filter
   triples-go : (done lines : List (Line Triple)) (s t : State FilterKnown (ℕ → Option FilterKnown)) →
@@ -67,7 +56,7 @@ module _ (ps : List Subject) (p : Subject) (parts : List Written) (there : slice
   triples-go done [] s t h = let e = append-nil done in λ i. Within parts (InFilter (e i) (h i))
   triples-go done (x ∷ xs) s t h =
       let r = triples-go (done ++ x ∷ []) xs h.0 t h.2 in
-      let e = append-more done xs x in (
+      let e = append_assoc done (x ∷ []) xs in (
         Within parts (InFilter (done ++ x ∷ []) h.0),
         (p, there, (InFilter (done ++ x ∷ []) h.0, (h.0, h.1, refl), refl)),
         subst (λ (z : List (Line Triple)). Go version_2 ps (Within parts (InFilter (done ++ x ∷ []) h.0)) (map triple_line xs) (Within parts (InFilter z t)))
@@ -96,7 +85,7 @@ module _ (ps : List Subject) (p : Subject) (parts : List Written) (there : slice
   ranges-go f bs a done [] s t h = let e = append-nil done in λ i. Within parts (InBlock f bs a (e i) (h i))
   ranges-go f bs a done (x ∷ xs) s t h =
       let r = ranges-go f bs a (done ++ x ∷ []) xs h.0 t h.2 in
-      let e = append-more done xs x in (
+      let e = append_assoc done (x ∷ []) xs in (
         Within parts (InBlock f bs a (done ++ x ∷ []) h.0),
         (p, there, (InBlock f bs a (done ++ x ∷ []) h.0, (refl, (h.0, h.1, refl)), refl)),
         subst (λ (z : List (Line Range)). Go version_2 ps (Within parts (InBlock f bs a (done ++ x ∷ []) h.0)) (map range_line xs)
@@ -107,8 +96,8 @@ module _ (ps : List Subject) (p : Subject) (parts : List Written) (there : slice
       → Go version_2 ps (Within parts (Between f done)) (block_lines k bs) (Within parts (Between f (done ++ bs)))
   blocks-go f done [] k e g = let q = append-nil done in λ i. Within parts (Between f (q i))
   blocks-go f done (b ∷ bs) k e (g, gs) =
-      let r = blocks-go f (done ++ b ∷ []) bs (suc k) (ap suc e ∙ sym (length-more done b)) gs in
-      let q = append-more done bs b in (
+      let r = blocks-go f (done ++ b ∷ []) bs (suc k) (omega (arith, e, length-append done (b ∷ []))) gs in
+      let q = append_assoc done (b ∷ []) bs in (
         Within parts (InBlock f done b.exps [] fresh),
         (p, there, (InBlock f done b.exps [] fresh, record { number = e; rising = g.rising; of_sites = g.of_sites; to = refl }, refl)),
         go-append version_2 ps (map range_line b.lines) (End ∷ block_lines (suc k) bs) (Within parts (InBlock f done b.exps [] fresh))
@@ -125,17 +114,16 @@ module _ (ps : List Subject) (p : Subject) (parts : List Written) (there : slice
       Go version_2 ps (Within parts (Ordering (record { filter = f; blocks = bs; lists = done }))) (order_lines os ls)
       (Within parts (Ordering (record { filter = f; blocks = bs; lists = done ++ ls })))
   orders-go f bs done [] [] k e h = let q = append-nil done in λ i. Within parts (Ordering (record { filter = f; blocks = bs; lists = q i }))
-  orders-go f bs done [] (l ∷ ls) k e h = absurd h
-  orders-go f bs done (o ∷ os) [] k e h = absurd h
   orders-go f bs done (o ∷ os) (l ∷ ls) k e (h, hs) =
-      let r = orders-go f bs (done ++ l ∷ []) os ls (suc k) (ap suc e ∙ sym (length-more done l)) hs in
-      let q = append-more done ls l in
+      let r = orders-go f bs (done ++ l ∷ []) os ls (suc k) (omega (arith, e, length-append done (l ∷ []))) hs in
+      let q = append_assoc done (l ∷ []) ls in
       let n : IsNextList p (exps_of bs) (length done) o l = subst (λ (j : ℕ). IsNextList p (exps_of bs) j o l) e h in (
         Within parts (Ordering (record { filter = f; blocks = bs; lists = done ++ l ∷ [] })),
         (p, there, (Ordering (record { filter = f; blocks = bs; lists = done ++ l ∷ [] }), record { next = n; to = refl }, refl)),
         subst (λ (z : List (List ℕ)). Go version_2 ps (Within parts (Ordering (record { filter = f; blocks = bs; lists = done ++ l ∷ [] })))
             (order_lines os ls) (Within parts (Ordering (record { filter = f; blocks = bs; lists = z })))) q r,
       )
+  orders-go f bs done os ls k e h = absurd h
 
   first-order : (f : Option (List (Line Triple))) (bs : List Piece) (os ls : List (List ℕ)) (c : Place) (ys : List Part) →
       (os ≡ [] → ⊥) → AreNext p bs 0 os ls →
@@ -153,9 +141,8 @@ module _ (ps : List Subject) (p : Subject) (parts : List Written) (there : slice
 
   as-many : (bs : List Piece) (os ls : List (List ℕ)) (k : ℕ) → AreNext p bs k os ls → length ls ≡ length os
   as-many bs [] [] k h = refl
-  as-many bs [] (l ∷ ls) k h = absurd h
-  as-many bs (o ∷ os) [] k h = absurd h
   as-many bs (o ∷ os) (l ∷ ls) k h = ap suc (as-many bs os ls (suc k) h.1)
+  as-many bs os ls k h = absurd h
 
   part-go : (w : Written) → IsGoodPart version_2 p w → (orders_of p.sites ≡ [] → ⊥)
       → Go version_2 ps (Outside parts) (part_lines p w) (Outside (parts ++ w ∷ []))
@@ -197,24 +184,22 @@ at-end (z ∷ xs) x ys = at-end xs x ys
 pub parts-go : (before ps : List Subject) (parts ws : List Written) → length parts ≡ length before → AreGoodParts version_2 ps ws
     → Go version_2 (before ++ ps) (Outside parts) (all_lines ps ws) (Outside (parts ++ ws))
 parts-go before [] parts [] e h = let q = append-nil parts in λ i. Outside (q i)
-parts-go before [] parts (w ∷ ws) e h = absurd h
-parts-go before (p ∷ ps) parts [] e h = absurd h
 parts-go before (p ∷ ps) parts (w ∷ ws) e (h, hs) =
     let there : slice_get (before ++ p ∷ ps) (length parts) ≡ Some p = ap (slice_get (before ++ p ∷ ps)) e ∙ at-end before p ps in
-    let r = parts-go (before ++ p ∷ []) ps (parts ++ w ∷ []) ws (length-more parts w ∙ ap suc e ∙ sym (length-more before p)) hs in
+    let r = parts-go (before ++ p ∷ []) ps (parts ++ w ∷ []) ws (omega (arith, e, length-append parts (w ∷ []), length-append before (p ∷ []))) hs in
     let a = subst (λ (z : List Subject). Go version_2 z (Outside (parts ++ w ∷ [])) (all_lines ps ws) (Outside ((parts ++ w ∷ []) ++ ws)))
-    (append-more before ps p) r in
+    (append_assoc before (p ∷ []) ps) r in
     let b = subst (λ (z : List Written). Go version_2 (before ++ p ∷ ps) (Outside (parts ++ w ∷ [])) (all_lines ps ws) (Outside z))
-    (append-more parts ws w) a in
+    (append_assoc parts (w ∷ []) ws) a in
     go-append version_2 (before ++ p ∷ ps) (part_lines p w) (all_lines ps ws) (Outside parts) (Outside (parts ++ w ∷ []))
     (Outside (parts ++ w ∷ ws)) (part-go (before ++ p ∷ ps) p parts there w h (some-orders p.sites)) b
+parts-go before ps parts ws e h = absurd h
 
 -- there are as many good parts as predicates
 pub same-size : (ps : List Subject) (ws : List Written) → AreGoodParts version_2 ps ws → length ws ≡ length ps
 same-size [] [] h = refl
-same-size [] (w ∷ ws) h = absurd h
-same-size (p ∷ ps) [] h = absurd h
 same-size (p ∷ ps) (w ∷ ws) h = ap suc (same-size ps ws h.1)
+same-size ps ws h = absurd h
 
 -- good parts, written as lines, are a valid listing
 pub good-valid : GoodPartsAreValid

@@ -1,11 +1,11 @@
 -- The list of an order in a part whose lists stand whole at their orders.
-use Rattle.std.proofs.Common.{◌≡◌, ℕ, ◌+◌, ◌-◌, ◌<◌, ◌≤◌, zero, suc, Bool, true, false, List, [], ◌∷◌, ◌++◌, length, map, take, refl, sym}
-use Rattle.std.proofs.Common.{◌∙◌, ap, arith, get_or, subst}
+use Rattle.std.proofs.Common.{◌≡◌, ℕ, ◌+◌, ◌-◌, ◌<◌, ◌≤◌, zero, suc, Bool, true, false, List, [], ◌∷◌, length, map, take, refl, sym}
+use Rattle.std.proofs.Common.{◌∙◌, ap, append-nil, arith, get_or, subst}
 use Rattle.std.specs.Prelude.{All, Some, slice_get, if◌then◌else◌, ◌==◌}
 use Rattle.std.specs.List.{range_with_len}
 use Rattle.std.specs.Option.{option_map}
 use Rattle.std.proofs.lemmas.Bool.Decides.{nat_tests}
-use Rattle.std.proofs.lemmas.List.{length-take}
+use Rattle.std.proofs.lemmas.List.{length-take, take_all}
 use Rattle.std.proofs.lemmas.Option.{slice_get-get_or, slice_get-map}
 use Rattle.ln_algebra.specs.Vector.{same_vector}
 use Rattle.ln_algebra.proofs.Expanded.Normal.{same_vector-is, same_vector-refl}
@@ -44,10 +44,6 @@ joined-last g a zero list h e =
     let z : a + 0 ≡ a = omega arith in
     let t : g a ≡ list = subst (λ k. g k ≡ list) z e in
     append-nil (g a) ∙ t
-  where
-    append-nil : (xs : List ℕ) → xs ++ [] ≡ xs
-    append-nil [] = refl
-    append-nil (x ∷ xs) = ap (λ z. x ∷ z) (append-nil xs)
 joined-last g a (suc n) list h e =
     let z : a + suc n ≡ (a + 1) + n = omega arith in
     let r = joined-last g (a + 1) n list (λ i l. h i (omega (arith, l))) (subst (λ k. g k ≡ list) z e) in
@@ -76,15 +72,9 @@ module _ (s : Shape) (w : Written) (size : length w.lists ≡ length (orders_of 
       let e = other-length (length (take j o)) s.sites n in
       segment-is o j p (omega (arith, l)) ∙ rw e refl
 
-  take-whole : (o : List ℕ) (k : ℕ) → length o ≡ k → take k o ≡ o
-  take-whole [] zero e = refl
-  take-whole [] (suc k) e = absurd (omega (arith, e))
-  take-whole (x ∷ o) zero e = absurd (omega (arith, e))
-  take-whole (x ∷ o) (suc k) e = ap (λ z. x ∷ z) (take-whole o k (omega (arith, e)))
-
   whole-list : (o : List ℕ) → IsOrderOf s.sites o → segment_of (part_of s w) (take s.sites o) ≡ beside (orders_of s.sites) w.lists o
   whole-list o p =
-      let t = take-whole o s.sites p.size in
+      let t = take_all s.sites o (omega (arith, p.size)) in
       let e = own-length (length o) s.sites p.size in
       segment-is o s.sites p (omega arith) ∙ ap (segment_at s.sites w.lists) t ∙ rw e refl
 

@@ -36,13 +36,12 @@ shape-named S P p h =
 each-named : (S : List SiteOf) (P : List CoordOf) (ps : List PredOf) (ss : List Subject) → list_all (pred_whole S P) ps ≡ true → AreSubjectsOf ps ss
     → map (λ (s : Subject). s.name) ss ≡ map (λ (p : PredOf). p.name) ps
 each-named S P [] [] h a = refl
-each-named S P [] (s ∷ ss) h a = absurd a
-each-named S P (p ∷ ps) [] h a = absurd a
 each-named S P (p ∷ ps) (s ∷ ss) h a =
     let q = and_parts (pred_whole S P p) (list_all (pred_whole S P) ps) h in
     let here : s.name ≡ p.name = a.0.name ∙ shape-named S P p q.0 in
     let rest = each-named S P ps ss q.1 a.1 in
     λ i. here i ∷ rest i
+each-named S P ps ss h a = absurd a
 
 -- in a table the name by which a part is judged is that of its predicate
 pub parts-named : PartsAreNamed

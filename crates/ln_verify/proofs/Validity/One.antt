@@ -10,157 +10,31 @@ use Rattle.ln_cert.specs.declared.part.Part.{Part}
 use Rattle.ln_cert.specs.declared.part.Part.TheVariants.{Predicate, NoFilter, Filter, FilterOp, Decide, Block, BlockOp, RangeOp, End, Order, Done}
 
 line-one : (v : Version) (p : Subject) (s : Spot) (line : Part) (t t' : Spot) → LineRule v p s line t → LineRule v p s line t' → t ≡ t'
-line-one v p Named (Predicate name) t t' r r' = absurd r
 line-one v p Named NoFilter t t' r r' = r ∙ sym r'
 line-one v p Named Filter t t' r r' = r ∙ sym r'
-line-one v p Named (FilterOp op b) t t' r r' = absurd r
-line-one v p Named Decide t t' r r' = absurd r
-line-one v p Named (Block k a') t t' r r' = absurd r
-line-one v p Named (BlockOp op b) t t' r r' = absurd r
-line-one v p Named (RangeOp op lo hi) t t' r r' = absurd r
-line-one v p Named End t t' r r' = absurd r
-line-one v p Named (Order places list) t t' r r' = absurd r
-line-one v p Named Done t t' r r' = absurd r
-line-one v p (InFilter lines s) (Predicate name) t t' r r' = absurd r
-line-one v p (InFilter lines s) NoFilter t t' r r' = absurd r
-line-one v p (InFilter lines s) Filter t t' r r' = absurd r
 line-one v p (InFilter lines s) (FilterOp op b) t t' r r' =
     r.2 ∙ ap (InFilter (lines ++ record { op = op; bound = b } ∷ [])) (some-same r.0 r'.0 (sym r.1.0 ∙ r'.1.0)) ∙ sym r'.2
 line-one v p (InFilter lines s) Decide t t' r r' = r.to ∙ sym r'.to
-line-one v p (InFilter lines s) (Block k a') t t' r r' = absurd r
-line-one v p (InFilter lines s) (BlockOp op b) t t' r r' = absurd r
-line-one v p (InFilter lines s) (RangeOp op lo hi) t t' r r' = absurd r
-line-one v p (InFilter lines s) End t t' r r' = absurd r
-line-one v p (InFilter lines s) (Order places list) t t' r r' = absurd r
-line-one v p (InFilter lines s) Done t t' r r' = absurd r
-line-one v p (Between f bs) (Predicate name) t t' r r' = absurd r
-line-one v p (Between f bs) NoFilter t t' r r' = absurd r
-line-one v p (Between f bs) Filter t t' r r' = absurd r
-line-one v p (Between f bs) (FilterOp op b) t t' r r' = absurd r
-line-one v p (Between f bs) Decide t t' r r' = absurd r
 line-one v p (Between f bs) (Block k a') t t' r r' = r.to ∙ sym r'.to
-line-one v p (Between f bs) (BlockOp op b) t t' r r' = absurd r
-line-one v p (Between f bs) (RangeOp op lo hi) t t' r r' = absurd r
-line-one v p (Between f bs) End t t' r r' = absurd r
 line-one v p (Between f bs) (Order places list) t t' r r' = r.to ∙ sym r'.to
-line-one v p (Between f bs) Done t t' r r' = absurd r
-line-one v p (InBlock f bs a lines s) (Predicate name) t t' r r' = absurd r
-line-one v p (InBlock f bs a lines s) NoFilter t t' r r' = absurd r
-line-one v p (InBlock f bs a lines s) Filter t t' r r' = absurd r
-line-one v p (InBlock f bs a lines s) (FilterOp op b) t t' r r' = absurd r
-line-one v p (InBlock f bs a lines s) Decide t t' r r' = absurd r
-line-one v p (InBlock f bs a lines s) (Block k a') t t' r r' = absurd r
 line-one v p (InBlock f bs a lines s) (BlockOp op b) t t' r r' =
     r.1.2 ∙ ap (InBlock f bs a (lines ++ record { op = op; bound = balanced b } ∷ [])) (some-same r.1.0 r'.1.0 (sym r.1.1.0 ∙ r'.1.1.0)) ∙ sym r'.1.2
 line-one v p (InBlock f bs a lines s) (RangeOp op lo hi) t t' r r' =
     r.1.2 ∙ ap (InBlock f bs a (lines ++ record { op = op; bound = record { low = lo; high = hi } } ∷ []))
     (some-same r.1.0 r'.1.0 (sym r.1.1.0 ∙ r'.1.1.0)) ∙ sym r'.1.2
 line-one v p (InBlock f bs a lines s) End t t' r r' = r.to ∙ sym r'.to
-line-one v p (InBlock f bs a lines s) (Order places list) t t' r r' = absurd r
-line-one v p (InBlock f bs a lines s) Done t t' r r' = absurd r
-line-one v p (Ordering w) (Predicate name) t t' r r' = absurd r
-line-one v p (Ordering w) NoFilter t t' r r' = absurd r
-line-one v p (Ordering w) Filter t t' r r' = absurd r
-line-one v p (Ordering w) (FilterOp op b) t t' r r' = absurd r
-line-one v p (Ordering w) Decide t t' r r' = absurd r
-line-one v p (Ordering w) (Block k a') t t' r r' = absurd r
-line-one v p (Ordering w) (BlockOp op b) t t' r r' = absurd r
-line-one v p (Ordering w) (RangeOp op lo hi) t t' r r' = absurd r
-line-one v p (Ordering w) End t t' r r' = absurd r
 line-one v p (Ordering w) (Order places list) t t' r r' = r.to ∙ sym r'.to
-line-one v p (Ordering w) Done t t' r r' = absurd r
+line-one v p s line t t' r r' = absurd r
 
 part-one : (v : Version) (p : Subject) (parts : List Written) (s : Spot) (line : Part) (q q' : Place) → PartRule v p parts s line q
     → PartRule v p parts s line q' → q ≡ q'
-part-one v p parts Named (Predicate name) q q' r r' = r.2 ∙ ap (Within parts) (line-one v p Named (Predicate name) r.0 r'.0 r.1 r'.1) ∙ sym r'.2
-part-one v p parts Named NoFilter q q' r r' = r.2 ∙ ap (Within parts) (line-one v p Named NoFilter r.0 r'.0 r.1 r'.1) ∙ sym r'.2
-part-one v p parts Named Filter q q' r r' = r.2 ∙ ap (Within parts) (line-one v p Named Filter r.0 r'.0 r.1 r'.1) ∙ sym r'.2
-part-one v p parts Named (FilterOp op b) q q' r r' = r.2 ∙ ap (Within parts) (line-one v p Named (FilterOp op b) r.0 r'.0 r.1 r'.1) ∙ sym r'.2
-part-one v p parts Named Decide q q' r r' = r.2 ∙ ap (Within parts) (line-one v p Named Decide r.0 r'.0 r.1 r'.1) ∙ sym r'.2
-part-one v p parts Named (Block k a') q q' r r' = r.2 ∙ ap (Within parts) (line-one v p Named (Block k a') r.0 r'.0 r.1 r'.1) ∙ sym r'.2
-part-one v p parts Named (BlockOp op b) q q' r r' = r.2 ∙ ap (Within parts) (line-one v p Named (BlockOp op b) r.0 r'.0 r.1 r'.1) ∙ sym r'.2
-part-one v p parts Named (RangeOp op lo hi) q q' r r' = r.2 ∙ ap (Within parts) (line-one v p Named (RangeOp op lo hi) r.0 r'.0 r.1 r'.1) ∙ sym r'.2
-part-one v p parts Named End q q' r r' = r.2 ∙ ap (Within parts) (line-one v p Named End r.0 r'.0 r.1 r'.1) ∙ sym r'.2
-part-one v p parts Named (Order places list) q q' r r' = r.2 ∙ ap (Within parts) (line-one v p Named (Order places list) r.0 r'.0 r.1 r'.1) ∙ sym r'.2
-part-one v p parts Named Done q q' r r' = r.2 ∙ ap (Within parts) (line-one v p Named Done r.0 r'.0 r.1 r'.1) ∙ sym r'.2
-part-one v p parts (InFilter lines s) (Predicate name) q q' r r' =
-    r.2 ∙ ap (Within parts) (line-one v p (InFilter lines s) (Predicate name) r.0 r'.0 r.1 r'.1) ∙ sym r'.2
-part-one v p parts (InFilter lines s) NoFilter q q' r r' = r.2 ∙ ap (Within parts) (line-one v p (InFilter lines s) NoFilter r.0 r'.0 r.1 r'.1) ∙ sym r'.2
-part-one v p parts (InFilter lines s) Filter q q' r r' = r.2 ∙ ap (Within parts) (line-one v p (InFilter lines s) Filter r.0 r'.0 r.1 r'.1) ∙ sym r'.2
-part-one v p parts (InFilter lines s) (FilterOp op b) q q' r r' =
-    r.2 ∙ ap (Within parts) (line-one v p (InFilter lines s) (FilterOp op b) r.0 r'.0 r.1 r'.1) ∙ sym r'.2
-part-one v p parts (InFilter lines s) Decide q q' r r' = r.2 ∙ ap (Within parts) (line-one v p (InFilter lines s) Decide r.0 r'.0 r.1 r'.1) ∙ sym r'.2
-part-one v p parts (InFilter lines s) (Block k a') q q' r r' =
-    r.2 ∙ ap (Within parts) (line-one v p (InFilter lines s) (Block k a') r.0 r'.0 r.1 r'.1) ∙ sym r'.2
-part-one v p parts (InFilter lines s) (BlockOp op b) q q' r r' =
-    r.2 ∙ ap (Within parts) (line-one v p (InFilter lines s) (BlockOp op b) r.0 r'.0 r.1 r'.1) ∙ sym r'.2
-part-one v p parts (InFilter lines s) (RangeOp op lo hi) q q' r r' =
-    r.2 ∙ ap (Within parts) (line-one v p (InFilter lines s) (RangeOp op lo hi) r.0 r'.0 r.1 r'.1) ∙ sym r'.2
-part-one v p parts (InFilter lines s) End q q' r r' = r.2 ∙ ap (Within parts) (line-one v p (InFilter lines s) End r.0 r'.0 r.1 r'.1) ∙ sym r'.2
-part-one v p parts (InFilter lines s) (Order places list) q q' r r' =
-    r.2 ∙ ap (Within parts) (line-one v p (InFilter lines s) (Order places list) r.0 r'.0 r.1 r'.1) ∙ sym r'.2
-part-one v p parts (InFilter lines s) Done q q' r r' = r.2 ∙ ap (Within parts) (line-one v p (InFilter lines s) Done r.0 r'.0 r.1 r'.1) ∙ sym r'.2
-part-one v p parts (Between f bs) (Predicate name) q q' r r' =
-    r.2 ∙ ap (Within parts) (line-one v p (Between f bs) (Predicate name) r.0 r'.0 r.1 r'.1) ∙ sym r'.2
-part-one v p parts (Between f bs) NoFilter q q' r r' = r.2 ∙ ap (Within parts) (line-one v p (Between f bs) NoFilter r.0 r'.0 r.1 r'.1) ∙ sym r'.2
-part-one v p parts (Between f bs) Filter q q' r r' = r.2 ∙ ap (Within parts) (line-one v p (Between f bs) Filter r.0 r'.0 r.1 r'.1) ∙ sym r'.2
-part-one v p parts (Between f bs) (FilterOp op b) q q' r r' = r.2 ∙ ap (Within parts) (line-one v p (Between f bs) (FilterOp op b) r.0 r'.0 r.1 r'.1) ∙ sym r'.2
-part-one v p parts (Between f bs) Decide q q' r r' = r.2 ∙ ap (Within parts) (line-one v p (Between f bs) Decide r.0 r'.0 r.1 r'.1) ∙ sym r'.2
-part-one v p parts (Between f bs) (Block k a') q q' r r' = r.2 ∙ ap (Within parts) (line-one v p (Between f bs) (Block k a') r.0 r'.0 r.1 r'.1) ∙ sym r'.2
-part-one v p parts (Between f bs) (BlockOp op b) q q' r r' = r.2 ∙ ap (Within parts) (line-one v p (Between f bs) (BlockOp op b) r.0 r'.0 r.1 r'.1) ∙ sym r'.2
-part-one v p parts (Between f bs) (RangeOp op lo hi) q q' r r' =
-    r.2 ∙ ap (Within parts) (line-one v p (Between f bs) (RangeOp op lo hi) r.0 r'.0 r.1 r'.1) ∙ sym r'.2
-part-one v p parts (Between f bs) End q q' r r' = r.2 ∙ ap (Within parts) (line-one v p (Between f bs) End r.0 r'.0 r.1 r'.1) ∙ sym r'.2
-part-one v p parts (Between f bs) (Order places list) q q' r r' =
-    r.2 ∙ ap (Within parts) (line-one v p (Between f bs) (Order places list) r.0 r'.0 r.1 r'.1) ∙ sym r'.2
-part-one v p parts (Between f bs) Done q q' r r' = r.2 ∙ ap (Within parts) (line-one v p (Between f bs) Done r.0 r'.0 r.1 r'.1) ∙ sym r'.2
-part-one v p parts (InBlock f bs a lines s) (Predicate name) q q' r r' =
-    r.2 ∙ ap (Within parts) (line-one v p (InBlock f bs a lines s) (Predicate name) r.0 r'.0 r.1 r'.1) ∙ sym r'.2
-part-one v p parts (InBlock f bs a lines s) NoFilter q q' r r' =
-    r.2 ∙ ap (Within parts) (line-one v p (InBlock f bs a lines s) NoFilter r.0 r'.0 r.1 r'.1) ∙ sym r'.2
-part-one v p parts (InBlock f bs a lines s) Filter q q' r r' =
-    r.2 ∙ ap (Within parts) (line-one v p (InBlock f bs a lines s) Filter r.0 r'.0 r.1 r'.1) ∙ sym r'.2
-part-one v p parts (InBlock f bs a lines s) (FilterOp op b) q q' r r' =
-    r.2 ∙ ap (Within parts) (line-one v p (InBlock f bs a lines s) (FilterOp op b) r.0 r'.0 r.1 r'.1) ∙ sym r'.2
-part-one v p parts (InBlock f bs a lines s) Decide q q' r r' =
-    r.2 ∙ ap (Within parts) (line-one v p (InBlock f bs a lines s) Decide r.0 r'.0 r.1 r'.1) ∙ sym r'.2
-part-one v p parts (InBlock f bs a lines s) (Block k a') q q' r r' =
-    r.2 ∙ ap (Within parts) (line-one v p (InBlock f bs a lines s) (Block k a') r.0 r'.0 r.1 r'.1) ∙ sym r'.2
-part-one v p parts (InBlock f bs a lines s) (BlockOp op b) q q' r r' =
-    r.2 ∙ ap (Within parts) (line-one v p (InBlock f bs a lines s) (BlockOp op b) r.0 r'.0 r.1 r'.1) ∙ sym r'.2
-part-one v p parts (InBlock f bs a lines s) (RangeOp op lo hi) q q' r r' =
-    r.2 ∙ ap (Within parts) (line-one v p (InBlock f bs a lines s) (RangeOp op lo hi) r.0 r'.0 r.1 r'.1) ∙ sym r'.2
-part-one v p parts (InBlock f bs a lines s) End q q' r r' = r.2 ∙ ap (Within parts) (line-one v p (InBlock f bs a lines s) End r.0 r'.0 r.1 r'.1) ∙ sym r'.2
-part-one v p parts (InBlock f bs a lines s) (Order places list) q q' r r' =
-    r.2 ∙ ap (Within parts) (line-one v p (InBlock f bs a lines s) (Order places list) r.0 r'.0 r.1 r'.1) ∙ sym r'.2
-part-one v p parts (InBlock f bs a lines s) Done q q' r r' = r.2 ∙ ap (Within parts) (line-one v p (InBlock f bs a lines s) Done r.0 r'.0 r.1 r'.1) ∙ sym r'.2
-part-one v p parts (Ordering w) (Predicate name) q q' r r' = r.2 ∙ ap (Within parts) (line-one v p (Ordering w) (Predicate name) r.0 r'.0 r.1 r'.1) ∙ sym r'.2
-part-one v p parts (Ordering w) NoFilter q q' r r' = r.2 ∙ ap (Within parts) (line-one v p (Ordering w) NoFilter r.0 r'.0 r.1 r'.1) ∙ sym r'.2
-part-one v p parts (Ordering w) Filter q q' r r' = r.2 ∙ ap (Within parts) (line-one v p (Ordering w) Filter r.0 r'.0 r.1 r'.1) ∙ sym r'.2
-part-one v p parts (Ordering w) (FilterOp op b) q q' r r' = r.2 ∙ ap (Within parts) (line-one v p (Ordering w) (FilterOp op b) r.0 r'.0 r.1 r'.1) ∙ sym r'.2
-part-one v p parts (Ordering w) Decide q q' r r' = r.2 ∙ ap (Within parts) (line-one v p (Ordering w) Decide r.0 r'.0 r.1 r'.1) ∙ sym r'.2
-part-one v p parts (Ordering w) (Block k a') q q' r r' = r.2 ∙ ap (Within parts) (line-one v p (Ordering w) (Block k a') r.0 r'.0 r.1 r'.1) ∙ sym r'.2
-part-one v p parts (Ordering w) (BlockOp op b) q q' r r' = r.2 ∙ ap (Within parts) (line-one v p (Ordering w) (BlockOp op b) r.0 r'.0 r.1 r'.1) ∙ sym r'.2
-part-one v p parts (Ordering w) (RangeOp op lo hi) q q' r r' =
-    r.2 ∙ ap (Within parts) (line-one v p (Ordering w) (RangeOp op lo hi) r.0 r'.0 r.1 r'.1) ∙ sym r'.2
-part-one v p parts (Ordering w) End q q' r r' = r.2 ∙ ap (Within parts) (line-one v p (Ordering w) End r.0 r'.0 r.1 r'.1) ∙ sym r'.2
-part-one v p parts (Ordering w) (Order places list) q q' r r' =
-    r.2 ∙ ap (Within parts) (line-one v p (Ordering w) (Order places list) r.0 r'.0 r.1 r'.1) ∙ sym r'.2
 part-one v p parts (Ordering w) Done q q' r r' = r.to ∙ sym r'.to
+part-one v p parts s line q q' r r' = r.2 ∙ ap (Within parts) (line-one v p s line r.0 r'.0 r.1 r'.1) ∙ sym r'.2
 
 -- a line leads to one place at most
 pub rule-one : (v : Version) (ps : List Subject) (here : Place) (line : Part) (q q' : Place) → Rule v ps here line q → Rule v ps here line q' → q ≡ q'
 rule-one v ps (Outside parts) (Predicate name) q q' r r' = r.to ∙ sym r'.to
-rule-one v ps (Outside parts) NoFilter q q' r r' = absurd r
-rule-one v ps (Outside parts) Filter q q' r r' = absurd r
-rule-one v ps (Outside parts) (FilterOp op b) q q' r r' = absurd r
-rule-one v ps (Outside parts) Decide q q' r r' = absurd r
-rule-one v ps (Outside parts) (Block k a') q q' r r' = absurd r
-rule-one v ps (Outside parts) (BlockOp op b) q q' r r' = absurd r
-rule-one v ps (Outside parts) (RangeOp op lo hi) q q' r r' = absurd r
-rule-one v ps (Outside parts) End q q' r r' = absurd r
-rule-one v ps (Outside parts) (Order places list) q q' r r' = absurd r
-rule-one v ps (Outside parts) Done q q' r r' = absurd r
+rule-one v ps (Outside parts) line q q' r r' = absurd r
 rule-one v ps (Within parts s) line q q' (p, g, r) (p', g', r') =
     let e : p ≡ p' = some-same p p' (sym g ∙ g') in
     part-one v p parts s line q q' r (subst (λ (z : Subject). PartRule v z parts s line q') (sym e) r')

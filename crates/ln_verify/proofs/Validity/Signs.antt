@@ -1,9 +1,9 @@
 -- A valid listing has the perturbed sign.
-use Rattle.std.proofs.Common.{◌≡◌, ℕ, ◌<◌, zero, suc, List, [], ◌∷◌, length, map, get_or, refl, sym, ◌∙◌, ap, arith, subst}
+use Rattle.std.proofs.Common.{◌≡◌, ℕ, ◌<◌, List, [], ◌∷◌, length, map, get_or, refl, sym, ◌∙◌, ap, arith, subst}
 use Rattle.std.specs.Prelude.{All, IfSome, IsSome, Option, Some, None, slice_get, slice_index_or}
-use Rattle.std.specs.Option.{option_map}
 use Rattle.std.proofs.lemmas.List.{length-map}
-use Rattle.std.proofs.lemmas.Option.{get_or_from_slice_get, slice_get-map, slice_get_within}
+use Rattle.std.proofs.lemmas.List.Elements.{All-map}
+use Rattle.std.proofs.lemmas.Option.{slice_get-get_or, slice_get_within}
 use Rattle.ln_algebra.specs.Orders.{BySmallest}
 use Rattle.ln_algebra.specs.Terms.{IsNormalOf, derived}
 use Rattle.ln_algebra.specs.Tree.{InputsBelow, Tree}
@@ -121,29 +121,12 @@ module _ (v : Version) (z : Followed v) (p : Subject) where
   filters-carry (Some lines) h = carries-whole lines h
 
 -- ---- lists
-none-past : {A : Type 0} (ys : List A) (j : ℕ) → slice_get ys j ≡ None → j < length ys → ⊥
-none-past [] j q i = omega arith
-none-past (y ∷ ys) zero q i = cc
-none-past (y ∷ ys) (suc j) q i = none-past ys j q (omega arith)
-
 map-all : {A B : Type 0} (g : A → B) (P : B → Type 0) (xs : List A) → ((k : ℕ) (x : A) → slice_get xs k ≡ Some x → P (g x)) → All P (map g xs)
-map-all {A} g P xs h k d l = go (slice_get xs k) refl
-  where
-    go : (o : Option A) → slice_get xs k ≡ o → P (get_or (map g xs) k d)
-    go None q = absurd (none-past xs k q (omega (arith, l, length-map xs g)))
-    go (Some x) q = subst P (sym (get_or_from_slice_get (map g xs) k (g x) d (slice_get-map g xs k ∙ ap (option_map g) q))) (h k x q)
+map-all {A} g P xs h = All-map P g xs (λ k d l. h k (get_or xs k d) (slice_get-get_or xs k d l))
 
 exps-same : (bs : List Piece) → map (λ (c : Code). c.exps) (map code_of bs) ≡ map (λ (b : Piece). b.exps) bs
 exps-same [] = refl
 exps-same (b ∷ bs) = ap (λ z. b.exps ∷ z) (exps-same bs)
-
--- an order that is among all, after as many lists
-order-there : {A : Type 0} (xs : List A) (k n : ℕ) → k < n → n ≡ length xs → (x : A) × (slice_get xs k ≡ Some x)
-order-there {A} xs k n l e = go (slice_get xs k) refl
-  where
-    go : (o : Option A) → slice_get xs k ≡ o → (x : A) × (slice_get xs k ≡ Some x)
-    go None q = absurd (none-past xs k q (omega (arith, l, e)))
-    go (Some x) q = (x, q)
 
 -- the judge's subject of a shape
 abbrev subject_of : Shape → List ℕ → Sparse → Subject
@@ -152,8 +135,8 @@ subject_of s name f = record { name = name; sites = s.sites; vars = s.vars; poly
 module _ (v : Version) (z : Followed v) (s : Shape) (e : Tree) (name : List ℕ) (f : Sparse) (w : Written) (h : PartStands v (subject_of s name f) w) where
   within : (k : ℕ) (list : List ℕ) → slice_get w.lists k ≡ Some list → All (λ n. n < length (map code_of w.blocks)) list
   within k list q =
-      let o = order-there (orders_of s.sites) k (length w.lists) (slice_get_within w.lists k list q) h.all in
-      let t = h.lists k list q o.0 o.1 in
+      let l : k < length (orders_of s.sites) = omega (arith, slice_get_within w.lists k list q, h.all) in
+      let t = h.lists k list q _ (slice_get-get_or (orders_of s.sites) k [] l) in
       λ j d l. omega (arith, t.within j d l, length-map w.blocks code_of, length-map w.blocks (λ (b : Piece). b.exps))
 
   runs : Runs (part_of s w)

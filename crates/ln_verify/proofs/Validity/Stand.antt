@@ -62,46 +62,13 @@ both-more [] op b h e = (e, tt)
 both-more (x ∷ xs) op b h e = (h.0, both-more xs op b h.1 e)
 
 spot-step : (v : Version) (p : Subject) (s : Spot) (line : Part) (t : Spot) → SpotStands v p s → LineRule v p s line t → SpotStands v p t
-spot-step v p Named (Predicate name) t h r = absurd r
 spot-step v p Named NoFilter t h r = rw r (tt, λ j x q. cc)
 spot-step v p Named Filter t h r = rw r refl
-spot-step v p Named (FilterOp op b) t h r = absurd r
-spot-step v p Named Decide t h r = absurd r
-spot-step v p Named (Block k a') t h r = absurd r
-spot-step v p Named (BlockOp op b) t h r = absurd r
-spot-step v p Named (RangeOp op lo hi) t h r = absurd r
-spot-step v p Named End t h r = absurd r
-spot-step v p Named (Order places list) t h r = absurd r
-spot-step v p Named Done t h r = absurd r
-spot-step v p (InFilter lines s) (Predicate name) t h r = absurd r
-spot-step v p (InFilter lines s) NoFilter t h r = absurd r
-spot-step v p (InFilter lines s) Filter t h r = absurd r
 spot-step v p (InFilter lines s) (FilterOp op b) t h r = rw r.2 (run-more (triple_rules v p.vars) lines op b fresh s r.0 h r.1.0)
 spot-step v p (InFilter lines s) Decide t h r = rw r.to
     (record { left = r.left; answered = answer-is (triple_rules v p.vars) lines no_locals s r.left h r.one; whole = r.whole; narrow = r.narrow }, λ j x q. cc)
-spot-step v p (InFilter lines s) (Block k a') t h r = absurd r
-spot-step v p (InFilter lines s) (BlockOp op b) t h r = absurd r
-spot-step v p (InFilter lines s) (RangeOp op lo hi) t h r = absurd r
-spot-step v p (InFilter lines s) End t h r = absurd r
-spot-step v p (InFilter lines s) (Order places list) t h r = absurd r
-spot-step v p (InFilter lines s) Done t h r = absurd r
-spot-step v p (Between f bs) (Predicate name) t h r = absurd r
-spot-step v p (Between f bs) NoFilter t h r = absurd r
-spot-step v p (Between f bs) Filter t h r = absurd r
-spot-step v p (Between f bs) (FilterOp op b) t h r = absurd r
-spot-step v p (Between f bs) Decide t h r = absurd r
 spot-step v p (Between f bs) (Block k a') t h r = rw r.to (h.0, h.1, r.rising, r.of_sites, refl, λ e. tt)
-spot-step v p (Between f bs) (BlockOp op b) t h r = absurd r
-spot-step v p (Between f bs) (RangeOp op lo hi) t h r = absurd r
-spot-step v p (Between f bs) End t h r = absurd r
 spot-step v p (Between f bs) (Order places list) t h r = order-stands v p (record { filter = f; blocks = bs; lists = [] }) places list t h.0 h.1 (λ j x q. cc) r
-spot-step v p (Between f bs) Done t h r = absurd r
-spot-step v p (InBlock f bs a lines s) (Predicate name) t h r = absurd r
-spot-step v p (InBlock f bs a lines s) NoFilter t h r = absurd r
-spot-step v p (InBlock f bs a lines s) Filter t h r = absurd r
-spot-step v p (InBlock f bs a lines s) (FilterOp op b) t h r = absurd r
-spot-step v p (InBlock f bs a lines s) Decide t h r = absurd r
-spot-step v p (InBlock f bs a lines s) (Block k a') t h r = absurd r
 spot-step v p (InBlock f bs a lines s) (BlockOp op b) t h r = rw r.1.2
     (h.0, h.1, h.2, h.3, run-more (block_rules v p.vars) lines op (balanced b) fresh s r.1.0 h.4 r.1.1.0, λ e. both-more lines op (balanced b) (h.5 e) refl)
 spot-step v p (InBlock f bs a lines s) (RangeOp op lo hi) t h r = rw r.1.2 (
@@ -123,19 +90,8 @@ spot-step v p (InBlock f bs a lines s) End t h r = rw r.to (
     bounds = h.5;
   }),
 )
-spot-step v p (InBlock f bs a lines s) (Order places list) t h r = absurd r
-spot-step v p (InBlock f bs a lines s) Done t h r = absurd r
-spot-step v p (Ordering w) (Predicate name) t h r = absurd r
-spot-step v p (Ordering w) NoFilter t h r = absurd r
-spot-step v p (Ordering w) Filter t h r = absurd r
-spot-step v p (Ordering w) (FilterOp op b) t h r = absurd r
-spot-step v p (Ordering w) Decide t h r = absurd r
-spot-step v p (Ordering w) (Block k a') t h r = absurd r
-spot-step v p (Ordering w) (BlockOp op b) t h r = absurd r
-spot-step v p (Ordering w) (RangeOp op lo hi) t h r = absurd r
-spot-step v p (Ordering w) End t h r = absurd r
 spot-step v p (Ordering w) (Order places list) t h r = order-stands v p w places list t h.0 h.1 h.2 r
-spot-step v p (Ordering w) Done t h r = absurd r
+spot-step v p s line t h r = absurd r
 
 -- ---- all parts
 abbrev HoldsAt : Version → List Subject → Place → Type 0
@@ -150,75 +106,13 @@ moved v ps p parts s line q all g h (t, r, to) =
 
 part-step : (v : Version) (ps : List Subject) (p : Subject) (parts : List Written) (s : Spot) (line : Part) (q : Place)
     → PartsStand v ps parts → slice_get ps (length parts) ≡ Some p → SpotStands v p s → PartRule v p parts s line q → HoldsAt v ps q
-part-step v ps p parts Named (Predicate name) q all g h r = moved v ps p parts Named (Predicate name) q all g h r
-part-step v ps p parts Named NoFilter q all g h r = moved v ps p parts Named NoFilter q all g h r
-part-step v ps p parts Named Filter q all g h r = moved v ps p parts Named Filter q all g h r
-part-step v ps p parts Named (FilterOp op b) q all g h r = moved v ps p parts Named (FilterOp op b) q all g h r
-part-step v ps p parts Named Decide q all g h r = moved v ps p parts Named Decide q all g h r
-part-step v ps p parts Named (Block k a') q all g h r = moved v ps p parts Named (Block k a') q all g h r
-part-step v ps p parts Named (BlockOp op b) q all g h r = moved v ps p parts Named (BlockOp op b) q all g h r
-part-step v ps p parts Named (RangeOp op lo hi) q all g h r = moved v ps p parts Named (RangeOp op lo hi) q all g h r
-part-step v ps p parts Named End q all g h r = moved v ps p parts Named End q all g h r
-part-step v ps p parts Named (Order places list) q all g h r = moved v ps p parts Named (Order places list) q all g h r
-part-step v ps p parts Named Done q all g h r = moved v ps p parts Named Done q all g h r
-part-step v ps p parts (InFilter lines s) (Predicate name) q all g h r = moved v ps p parts (InFilter lines s) (Predicate name) q all g h r
-part-step v ps p parts (InFilter lines s) NoFilter q all g h r = moved v ps p parts (InFilter lines s) NoFilter q all g h r
-part-step v ps p parts (InFilter lines s) Filter q all g h r = moved v ps p parts (InFilter lines s) Filter q all g h r
-part-step v ps p parts (InFilter lines s) (FilterOp op b) q all g h r = moved v ps p parts (InFilter lines s) (FilterOp op b) q all g h r
-part-step v ps p parts (InFilter lines s) Decide q all g h r = moved v ps p parts (InFilter lines s) Decide q all g h r
-part-step v ps p parts (InFilter lines s) (Block k a') q all g h r = moved v ps p parts (InFilter lines s) (Block k a') q all g h r
-part-step v ps p parts (InFilter lines s) (BlockOp op b) q all g h r = moved v ps p parts (InFilter lines s) (BlockOp op b) q all g h r
-part-step v ps p parts (InFilter lines s) (RangeOp op lo hi) q all g h r = moved v ps p parts (InFilter lines s) (RangeOp op lo hi) q all g h r
-part-step v ps p parts (InFilter lines s) End q all g h r = moved v ps p parts (InFilter lines s) End q all g h r
-part-step v ps p parts (InFilter lines s) (Order places list) q all g h r = moved v ps p parts (InFilter lines s) (Order places list) q all g h r
-part-step v ps p parts (InFilter lines s) Done q all g h r = moved v ps p parts (InFilter lines s) Done q all g h r
-part-step v ps p parts (Between f bs) (Predicate name) q all g h r = moved v ps p parts (Between f bs) (Predicate name) q all g h r
-part-step v ps p parts (Between f bs) NoFilter q all g h r = moved v ps p parts (Between f bs) NoFilter q all g h r
-part-step v ps p parts (Between f bs) Filter q all g h r = moved v ps p parts (Between f bs) Filter q all g h r
-part-step v ps p parts (Between f bs) (FilterOp op b) q all g h r = moved v ps p parts (Between f bs) (FilterOp op b) q all g h r
-part-step v ps p parts (Between f bs) Decide q all g h r = moved v ps p parts (Between f bs) Decide q all g h r
-part-step v ps p parts (Between f bs) (Block k a') q all g h r = moved v ps p parts (Between f bs) (Block k a') q all g h r
-part-step v ps p parts (Between f bs) (BlockOp op b) q all g h r = moved v ps p parts (Between f bs) (BlockOp op b) q all g h r
-part-step v ps p parts (Between f bs) (RangeOp op lo hi) q all g h r = moved v ps p parts (Between f bs) (RangeOp op lo hi) q all g h r
-part-step v ps p parts (Between f bs) End q all g h r = moved v ps p parts (Between f bs) End q all g h r
-part-step v ps p parts (Between f bs) (Order places list) q all g h r = moved v ps p parts (Between f bs) (Order places list) q all g h r
-part-step v ps p parts (Between f bs) Done q all g h r = moved v ps p parts (Between f bs) Done q all g h r
-part-step v ps p parts (InBlock f bs a lines s) (Predicate name) q all g h r = moved v ps p parts (InBlock f bs a lines s) (Predicate name) q all g h r
-part-step v ps p parts (InBlock f bs a lines s) NoFilter q all g h r = moved v ps p parts (InBlock f bs a lines s) NoFilter q all g h r
-part-step v ps p parts (InBlock f bs a lines s) Filter q all g h r = moved v ps p parts (InBlock f bs a lines s) Filter q all g h r
-part-step v ps p parts (InBlock f bs a lines s) (FilterOp op b) q all g h r = moved v ps p parts (InBlock f bs a lines s) (FilterOp op b) q all g h r
-part-step v ps p parts (InBlock f bs a lines s) Decide q all g h r = moved v ps p parts (InBlock f bs a lines s) Decide q all g h r
-part-step v ps p parts (InBlock f bs a lines s) (Block k a') q all g h r = moved v ps p parts (InBlock f bs a lines s) (Block k a') q all g h r
-part-step v ps p parts (InBlock f bs a lines s) (BlockOp op b) q all g h r = moved v ps p parts (InBlock f bs a lines s) (BlockOp op b) q all g h r
-part-step v ps p parts (InBlock f bs a lines s) (RangeOp op lo hi) q all g h r = moved v ps p parts (InBlock f bs a lines s) (RangeOp op lo hi) q all g h r
-part-step v ps p parts (InBlock f bs a lines s) End q all g h r = moved v ps p parts (InBlock f bs a lines s) End q all g h r
-part-step v ps p parts (InBlock f bs a lines s) (Order places list) q all g h r = moved v ps p parts (InBlock f bs a lines s) (Order places list) q all g h r
-part-step v ps p parts (InBlock f bs a lines s) Done q all g h r = moved v ps p parts (InBlock f bs a lines s) Done q all g h r
-part-step v ps p parts (Ordering w) (Predicate name) q all g h r = moved v ps p parts (Ordering w) (Predicate name) q all g h r
-part-step v ps p parts (Ordering w) NoFilter q all g h r = moved v ps p parts (Ordering w) NoFilter q all g h r
-part-step v ps p parts (Ordering w) Filter q all g h r = moved v ps p parts (Ordering w) Filter q all g h r
-part-step v ps p parts (Ordering w) (FilterOp op b) q all g h r = moved v ps p parts (Ordering w) (FilterOp op b) q all g h r
-part-step v ps p parts (Ordering w) Decide q all g h r = moved v ps p parts (Ordering w) Decide q all g h r
-part-step v ps p parts (Ordering w) (Block k a') q all g h r = moved v ps p parts (Ordering w) (Block k a') q all g h r
-part-step v ps p parts (Ordering w) (BlockOp op b) q all g h r = moved v ps p parts (Ordering w) (BlockOp op b) q all g h r
-part-step v ps p parts (Ordering w) (RangeOp op lo hi) q all g h r = moved v ps p parts (Ordering w) (RangeOp op lo hi) q all g h r
-part-step v ps p parts (Ordering w) End q all g h r = moved v ps p parts (Ordering w) End q all g h r
-part-step v ps p parts (Ordering w) (Order places list) q all g h r = moved v ps p parts (Ordering w) (Order places list) q all g h r
 part-step v ps p parts (Ordering w) Done q all g h r = rw r.to (everywhere-more parts w all (λ p' g'. let e : p ≡ p' = some-same p p' (sym g ∙ g') in
     subst (λ (z : Subject). PartStands v z w) e (record { filter = h.0; blocks = h.1; lists = h.2; all = r.all })))
+part-step v ps p parts s line q all g h r = moved v ps p parts s line q all g h r
 
 rule-step : (v : Version) (ps : List Subject) (here : Place) (line : Part) (q : Place) → HoldsAt v ps here → Rule v ps here line q → HoldsAt v ps q
 rule-step v ps (Outside parts) (Predicate name) q h r = rw r.to (h, λ p g. tt)
-rule-step v ps (Outside parts) NoFilter q h r = absurd r
-rule-step v ps (Outside parts) Filter q h r = absurd r
-rule-step v ps (Outside parts) (FilterOp op b) q h r = absurd r
-rule-step v ps (Outside parts) Decide q h r = absurd r
-rule-step v ps (Outside parts) (Block k a') q h r = absurd r
-rule-step v ps (Outside parts) (BlockOp op b) q h r = absurd r
-rule-step v ps (Outside parts) (RangeOp op lo hi) q h r = absurd r
-rule-step v ps (Outside parts) End q h r = absurd r
-rule-step v ps (Outside parts) (Order places list) q h r = absurd r
-rule-step v ps (Outside parts) Done q h r = absurd r
+rule-step v ps (Outside parts) line q h r = absurd r
 rule-step v ps (Within parts s) line q h (p, g, r) = part-step v ps p parts s line q h.0 g (h.1 p g) r
 
 go-stands : (v : Version) (ps : List Subject) (here : Place) (lines : List Part) (q : Place) → HoldsAt v ps here → Go v ps here lines q → HoldsAt v ps q

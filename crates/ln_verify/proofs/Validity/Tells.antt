@@ -54,9 +54,9 @@ subject-there (q ∷ ps) (s ∷ ss) (suc k) p h e = subject-there ps ss k p h.1 
 
 part-there : {A B : Type 0} (xs : List A) (ys : List B) (k : ℕ) (x : A) → length ys ≡ length xs → slice_get xs k ≡ Some x → (y : B) × (slice_get ys k ≡ Some y)
 part-there [] ys k x l e = cc
-part-there (a ∷ xs) [] k x l e = absurd (omega (arith, l))
 part-there (a ∷ xs) (b ∷ ys) zero x l e = (b, refl)
 part-there (a ∷ xs) (b ∷ ys) (suc k) x l e = part-there xs ys k x (omega (arith, l)) e
+part-there xs ys k x l e = absurd (omega (arith, l))
 
 told : (f : Form) (v : Version) (ss : List Subject) (lines : List Part) (h : IsValid v ss lines) (k : ℕ) (s : Subject) (w : Written)
     (shape : Shape) (e : Tree) (row : Row) → version_of f ≡ v →

@@ -69,40 +69,11 @@ pub none-if : {A : Type 0} (b : Bool) (o : Option A) → o ≡ None → (if b th
 none-if true o h = h
 none-if false o h = refl
 
--- where a test fails, nothing is known
-pub none-then : {A : Type 0} (b : Bool) (o : Option A) → b ≡ false → (if b then o else None) ≡ None
-none-then true o e = cc
-none-then false o e = refl
-
--- where nothing is known, nothing is known after two tests
-pub none-either : {A : Type 0} (b c : Bool) (o : Option A) → o ≡ None → (if b && c then o else None) ≡ None
-none-either b c o h = none-if (b && c) o h
-
--- where the first of two tests fails, nothing is known
-pub none-left : {A : Type 0} (b c : Bool) (o : Option A) → b ≡ false → (if b && c then o else None) ≡ None
-none-left true c o e = cc
-none-left false c o e = refl
-
 -- where the second of two tests fails, nothing is known
 pub none-right : {A : Type 0} (b c : Bool) (o : Option A) → c ≡ false → (if b && c then o else None) ≡ None
 none-right b true o e = cc
 none-right true false o e = refl
 none-right false false o e = refl
-
--- where the tests hold, the rule behind them decides
-module _ {L K : Type 0} (known : L → Tree → ℕ → K) where
-  -- where a test holds, the same is known after it as before
-  pub of-one : (b : Bool) → b ≡ true → (o : Option L) (t : Tree) (s : ℕ) (r : Option K) → IsRule known o t s r
-      → IsRule known o t s (if b then r else None)
-  of-one true e o t s r h = h
-  of-one false e o t s r h = cc
-
-  -- where two tests hold, the same is known after them as before
-  pub of-both : (b c : Bool) → b ≡ true → c ≡ true → (o : Option L) (t : Tree) (s : ℕ) (r : Option K) → IsRule known o t s r
-      → IsRule known o t s (if b && c then r else None)
-  of-both true true e f o t s r h = h
-  of-both true false e f o t s r h = cc
-  of-both false c e f o t s r h = cc
 
 -- ---- filters
 module _ (a : Triple) (s : ℕ) (t : Tree) where

@@ -60,7 +60,4 @@ balanced-within b w h = let e = balanced-magnitude b in (omega (arith, ints), om
 
 -- false isn't true
 pub not-true : (P : Type 0) → false ≡ true → P
-not-true P e = absurd (go e)
-  where
-    go : false ≡ true → ⊥
-    go e = cc
+not-true P e = absurd (cc)

@@ -14,14 +14,14 @@ has_plus-requires-clause-row c =
     c.put_point.ensures.more)
     (for_in_range _ _ _ _ _ _ c.requires.points (rw size c.requires.first) (rw size c.requires.second)
     (rw size c.requires.third)
-    c.requires.differ c.if-k-i.false c.if-k-j.false)
+    c.requires.differ c.if-k-pair.false c.if-k-pair-2.false)
 
 pub returns-clause-passed : goal.returns-clause-passed
 returns-clause-passed c =
     let e = third_row _ _ _ _ _ _ _ _ _ _ c.requires.points c.width.ensures c.requires.third c.requires.held
     c.put_point.ensures.more in (
       λ t x y. subst (IsPlus c.args.p.now) e (c.has_plus.ensures.plus.0 t),
-      λ h. c.has_plus.ensures.plus.1 (subst (IsPlus c.args.p.now) (sym e) (h c.if-k-i.false c.if-k-j.false)),
+      λ h. c.has_plus.ensures.plus.1 (subst (IsPlus c.args.p.now) (sym e) (h c.if-k-pair.false c.if-k-pair-2.false)),
     )
 
 pub returns-clause-held : goal.returns-clause-held

@@ -14,12 +14,12 @@ pub edge_lines-requires-clause-points : goal.edge_lines-requires-clause-points
 edge_lines-requires-clause-points c =
     let s = c.requires.ready.stands in
     let one = one_given (map pred_of c.args.ready.now.compiled.table.preds) s.given.preds _ s.stands.numbered (one_name _ _ _ c.requires.ready.fit refl refl) in
-    points_for c.args.ready.now s.given one.0 _ c.args.points.now s.stands one.1 c.blocks-blocks.ensures.kept
+    points_for c.args.ready.now s.given one.0 _ _ c.args.points.now s.stands one.1 one.2 c.blocks-blocks.ensures.kept
     (answers_for _ _ (rw c.as_slice.ensures.value at c.in_ok-program.ensures.program one.0 one.2)) (c.requires.points s.given s.stands)
 
 pub returns : goal.returns
 returns c = λ given s.
     let one = one_given (map pred_of c.args.ready.now.compiled.table.preds) given.preds _ s.numbered (one_name _ _ _ c.requires.ready.fit refl refl) in
-    edges_said c.args.ready.now given one.0 _ c.args.points.now s one.1 c.blocks-blocks.ensures.kept
+    edges_said c.args.ready.now given one.0 _ _ c.args.points.now s one.1 one.2 c.blocks-blocks.ensures.kept
     (answers_for _ _ (rw c.as_slice.ensures.value at c.in_ok-program.ensures.program one.0 one.2)) (c.requires.points given s) _
     c.in_ok-text.ensures

@@ -5,57 +5,28 @@ use Rattle.ln_bound.specs.Light.{most}
 use Rattle.ln_bound.specs.View.{typed}
 use Rattle.ln_nest.specs.Nested.{nested, total}
 use Rattle.ln_nest.specs.View.{scale, terms_in, abs_total}
-use Rattle.ln_nest.proofs.Forms.Steps.{scale_some, free_weight, divided_weight, few_weight, product_fits, sum_fits_most, ends_free}
+use Rattle.ln_nest.proofs.Forms.Steps.{scale_some, free_weight, divided_weight, product_fits, sum_fits_most, ends_free}
 use Rattle.ln_nest.proofs.Forms.Steps.{ends_product, ends_sum, is_empty, is_some, at_count, constant_has, total_fits}
+use Rattle.ln_nest.proofs.Forms.Bounds.{few_weight}
 use Rattle.ln_nest.proofs.horner.+powers.Goals as goal
 
 pub by_powers-nest_from-requires-then-is_empty : goal.by_powers-nest_from-requires-then-is_empty
-by_powers-nest_from-requires-then-is_empty t c = (
-  omega arith,
-  (
-    omega (arith, c.requires.variable),
-    (
-      c.requires.few,
-      (
-        c.requires.ordered,
-        free_weight (scale c.args.vars.now) c.args.v most
-            (terms_in c.args.terms.items) c.in_ok-with.without.items c.in_ok-with.ensures.without c.requires.weight,
-      ),
-    ),
-  ),
-)
+by_powers-nest_from-requires-then-is_empty t c =
+    let w = free_weight (scale c.args.vars.now) c.args.v most (terms_in c.args.terms.items) c.in_ok-with.without.items
+    c.in_ok-with.ensures.without c.requires.weight in
+    (omega arith, (omega (arith, c.requires.variable), (c.requires.few, (c.requires.ordered, w))))
 
 pub by_powers-nest_from-requires-2 : goal.by_powers-nest_from-requires-2
-by_powers-nest_from-requires-2 t c = (
-  omega arith,
-  (
-    omega (arith, c.requires.variable),
-    (
-      c.requires.few,
-      (
-        c.requires.ordered,
-        free_weight (scale c.args.vars.now) c.args.v most
-            (terms_in c.args.terms.items) c.in_ok-with.without.items c.in_ok-with.ensures.without c.requires.weight,
-      ),
-    ),
-  ),
-)
+by_powers-nest_from-requires-2 t c =
+    let w = free_weight (scale c.args.vars.now) c.args.v most (terms_in c.args.terms.items) c.in_ok-with.without.items
+    c.in_ok-with.ensures.without c.requires.weight in
+    (omega arith, (omega (arith, c.requires.variable), (c.requires.few, (c.requires.ordered, w))))
 
 pub by_powers-by_powers-requires : goal.by_powers-by_powers-requires
-by_powers-by_powers-requires t c = (
-  omega arith,
-  (
-    c.requires.variable,
-    (
-      c.requires.few,
-      (
-        c.requires.ordered,
-        divided_weight (scale c.args.vars.now) c.args.v most (terms_in c.args.terms.items) c.in_ok-with.with.items
-            (scale_some c.args.vars.now c.args.v) c.in_ok-with.ensures.with c.requires.weight,
-      ),
-    ),
-  ),
-)
+by_powers-by_powers-requires t c =
+    let w = divided_weight (scale c.args.vars.now) c.args.v most (terms_in c.args.terms.items) c.in_ok-with.with.items
+    (scale_some c.args.vars.now c.args.v) c.in_ok-with.ensures.with c.requires.weight in
+    (omega arith, (c.requires.variable, (c.requires.few, (c.requires.ordered, w))))
 
 pub by_powers-times-requires : goal.by_powers-times-requires
 by_powers-times-requires t c =

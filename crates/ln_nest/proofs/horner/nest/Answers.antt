@@ -15,46 +15,20 @@ pub nest_from-requires-clause-weight : goal.nest_from-requires-clause-weight
 nest_from-requires-clause-weight c = whole_weight c.as_slice-vars.result.now c.args.s.now.vars c.terms.result.now c.args.f.now
     c.in_ok-terms.terms.items c.as_slice-vars.ensures c.terms.ensures.value c.in_ok-terms.ensures c.requires.small
 
-pub returns-clause-same : goal.returns-clause-same
-returns-clause-same c =
-    let h = whole_has c.as_slice-vars.result.now c.args.s.now.vars c.terms.result.now c.args.f.now c.in_ok-terms.terms.items
-    (typed c.in_ok-t.t) c.as_slice-vars.ensures c.terms.ensures.value c.in_ok-terms.ensures c.in_ok-t.ensures in
-    whole_same 126 (length c.args.s.now.vars) c.args.f.now (typed c.in_ok-t.t) c.requires.degrees h.same
-
-pub returns-clause-sound : goal.returns-clause-sound
-returns-clause-sound c =
-    let h = whole_has c.as_slice-vars.result.now c.args.s.now.vars c.terms.result.now c.args.f.now c.in_ok-terms.terms.items
-    (typed c.in_ok-t.t) c.as_slice-vars.ensures c.terms.ensures.value c.in_ok-terms.ensures c.in_ok-t.ensures in
-    (whole_sound c.args.s.now.vars c.args.f.now (typed c.in_ok-t.t) _ (few_vars c.args.s.now.sites c.args.s.now.vars c.args.s.now.kept)
-    (ordered c.args.s.now.sites c.args.s.now.vars c.args.s.now.vars c.args.s.now.kept refl) c.terms.ensures.form c.requires.degrees c.requires.small h).0
-
-pub returns-clause-form : goal.returns-clause-form
-returns-clause-form c =
-    let h = whole_has c.as_slice-vars.result.now c.args.s.now.vars c.terms.result.now c.args.f.now c.in_ok-terms.terms.items
-    (typed c.in_ok-t.t) c.as_slice-vars.ensures c.terms.ensures.value c.in_ok-terms.ensures c.in_ok-t.ensures in
-    whole_form (length c.args.s.now.vars) c.args.f.now (typed c.in_ok-t.t) h.same
-
-pub returns-clause-exact : goal.returns-clause-exact
-returns-clause-exact c =
-    let h = whole_has c.as_slice-vars.result.now c.args.s.now.vars c.terms.result.now c.args.f.now c.in_ok-terms.terms.items
-    (typed c.in_ok-t.t) c.as_slice-vars.ensures c.terms.ensures.value c.in_ok-terms.ensures c.in_ok-t.ensures in
-    h.exact
-
-pub returns-clause-within : goal.returns-clause-within
-returns-clause-within c =
-    let h = whole_has c.as_slice-vars.result.now c.args.s.now.vars c.terms.result.now c.args.f.now c.in_ok-terms.terms.items
-    (typed c.in_ok-t.t) c.as_slice-vars.ensures c.terms.ensures.value c.in_ok-terms.ensures c.in_ok-t.ensures in
-    (whole_sound c.args.s.now.vars c.args.f.now (typed c.in_ok-t.t) _ (few_vars c.args.s.now.sites c.args.s.now.vars c.args.s.now.kept)
-    (ordered c.args.s.now.sites c.args.s.now.vars c.args.s.now.vars c.args.s.now.kept refl) c.terms.ensures.form c.requires.degrees c.requires.small h).1
-
-pub returns-clause-lean : goal.returns-clause-lean
-returns-clause-lean c =
-    let h = whole_has c.as_slice-vars.result.now c.args.s.now.vars c.terms.result.now c.args.f.now c.in_ok-terms.terms.items
-    (typed c.in_ok-t.t) c.as_slice-vars.ensures c.terms.ensures.value c.in_ok-terms.ensures c.in_ok-t.ensures in
-    whole_lean 126 (length c.args.s.now.vars) c.args.f.now (typed c.in_ok-t.t) h.same
-
-pub returns-clause-cheap : goal.returns-clause-cheap
-returns-clause-cheap c =
-    let h = whole_has c.as_slice-vars.result.now c.args.s.now.vars c.terms.result.now c.args.f.now c.in_ok-terms.terms.items
-    (typed c.in_ok-t.t) c.as_slice-vars.ensures c.terms.ensures.value c.in_ok-terms.ensures c.in_ok-t.ensures in
-    whole_cheap 126 (length c.args.s.now.vars) c.args.f.now (typed c.in_ok-t.t) (omega arith) c.requires.degrees h.same
+pub returns : goal.returns
+returns c =
+    let vars = c.args.s.now.vars in
+    let t = typed c.in_ok-t.t in
+    let h = whole_has c.as_slice-vars.result.now vars c.terms.result.now c.args.f.now c.in_ok-terms.terms.items t c.as_slice-vars.ensures
+    c.terms.ensures.value c.in_ok-terms.ensures c.in_ok-t.ensures in
+    let s = whole_sound vars c.args.f.now t _ (few_vars c.args.s.now.sites vars c.args.s.now.kept)
+    (ordered c.args.s.now.sites vars vars c.args.s.now.kept refl) c.terms.ensures.form c.requires.degrees c.requires.small h in
+    record {
+      same = whole_same 126 (length vars) c.args.f.now t c.requires.degrees h.same;
+      form = whole_form (length vars) c.args.f.now t h.same;
+      sound = s.0;
+      exact = h.exact;
+      within = s.1;
+      lean = whole_lean 126 (length vars) c.args.f.now t h.same;
+      cheap = whole_cheap 126 (length vars) c.args.f.now t (omega arith) c.requires.degrees h.same;
+    }

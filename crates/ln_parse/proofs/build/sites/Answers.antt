@@ -1,10 +1,11 @@
-use Rattle.std.proofs.Common.{List, take, ◌∙◌, refl, ap, sym, subst, arith}
+use Rattle.std.proofs.Common.{List, take, Some, ◌∙◌, ap, sym, subst, arith}
 use Rattle.ln_syntax.specs.declared.raw.RawCoord.{RawCoord}
-use Rattle.ln_syntax.specs.Raw.{Item, SiteItem, item, items, is_site}
-use Rattle.ln_parse.proofs.Building.Lists.{IsAt, SeenAt}
+use Rattle.ln_syntax.specs.Raw.{Item, SiteItem, item, items}
+use Rattle.ln_tree.specs.Table.{site_of}
+use Rattle.ln_parse.specs.Says.{site_said}
 use Rattle.ln_parse.specs.Ready.{ReadyItem, ReadySite}
 use Rattle.ln_parse.proofs.Building.Loops.{item_index}
-use Rattle.ln_parse.proofs.Building.Said.{sites_more, sites_skip}
+use Rattle.ln_parse.proofs.Building.Said.{said_more, said_skip}
 use Rattle.ln_parse.proofs.build.sites.Goals as goal
 use Rattle.ln_parse.proofs.build.sites.Goals.{in-Site+in_ok-site-in-Site+in_ok-push-in-Site, in-Param, in-Pred}
 
@@ -18,21 +19,15 @@ site-requires c =
 pub items-preserved : goal.items-preserved
 items-preserved c =
     let its = c.args.its.now in
-    let bytes = c.args.bytes.now in
     let i = c.items.it-index in
     let x = c.it-item.result in
-    let at : IsAt its i x = record { below = omega arith; is = c.it-item.is } in
-    let here : SeenAt item its i (item x) = record { element = x; at = at; seen = refl } in
+    let says = site_said c.args.bytes.now in
+    let skip = said_skip says site_of its i x c.items.sites c.match-it.sites (omega arith) c.it-item.is in
     elim c.match-it.branch [
       | in-Site+in_ok-site-in-Site+in_ok-push-in-Site w ↦
-          sites_more bytes its i w.in-Site.name w.deref.result.now c.items.sites c.match-it.sites w.in_ok-site-in-Site.field-0
-          (record {
-            element = x;
-            at = at;
-            seen = ap item w.in-Site.is ∙ ap (λ (cs : List RawCoord). SiteItem w.in-Site.name cs) (sym w.deref.ensures.value);
-          }) w.in_ok-site-in-Site.ensures (w.sites-is ∙ w.in_ok-push-in-Site.ensures.ok) c.items.invariant
-      | in-Param w ↦ sites_skip bytes its i (item x) c.items.sites c.match-it.sites here (ap (λ x. is_site (item x)) w.in-Param.is) w.sites-is
-          c.items.invariant
-      | in-Pred w ↦ sites_skip bytes its i (item x) c.items.sites c.match-it.sites here (ap (λ x. is_site (item x)) w.in-Pred.is) w.sites-is
-          c.items.invariant
+          said_more says site_of its i x c.items.sites c.match-it.sites (omega arith) c.it-item.is w.in_ok-site-in-Site.field-0
+          (ap (λ x. says (item x)) w.in-Site.is ∙ ap (λ (cs : List RawCoord). says (SiteItem w.in-Site.name cs)) (sym w.deref.ensures.value)
+          ∙ ap (λ s. Some s) (sym w.in_ok-site-in-Site.ensures)) (w.sites-is ∙ w.in_ok-push-in-Site.ensures.ok) c.items.invariant
+      | in-Param w ↦ skip (ap (λ x. says (item x)) w.in-Param.is) w.sites-is c.items.invariant
+      | in-Pred w ↦ skip (ap (λ x. says (item x)) w.in-Pred.is) w.sites-is c.items.invariant
     ]

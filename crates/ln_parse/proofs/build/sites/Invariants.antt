@@ -1,5 +1,7 @@
-use Rattle.ln_parse.proofs.Building.Said.{SitesOn}
+use Rattle.ln_tree.specs.Table.{site_of}
+use Rattle.ln_parse.specs.Says.{site_said}
+use Rattle.ln_parse.proofs.Building.Said.{SaidOn}
 use Rattle.ln_parse.proofs.build.sites.Given as goal
 
 abbrev pub invariant-items : goal.invariant-items
-invariant-items l = SitesOn l.bytes l.its l.it-index l.sites
+invariant-items l = SaidOn (site_said l.bytes) site_of l.its l.it-index l.sites

@@ -59,8 +59,8 @@ term-unary-requires-in-factors t c =
 
 pub term-factors-preserved : goal.term-factors-preserved
 term-factors-preserved t c =
-    rw c.in_ok-next.ensures.end (products_times c.factors.invariant
-    (record { sign = c.is.ensures.0 c.factors-test.true; read = c.in_ok-right.ensures }) c.in_ok-next.ensures.value)
+    rw c.in_ok-next.ensures.end
+    (products_times c.factors.invariant (c.is.ensures.0 c.factors-test.true) c.in_ok-right.ensures c.in_ok-next.ensures.value)
 
 pub term-returns : goal.term-returns
 term-returns t c = products_end c.factors.invariant (λ h. true≢false (sym (c.is.ensures.1 h) ∙ c.factors-test.false))

@@ -11,19 +11,12 @@ use Rattle.ln_parse.proofs.Building.Predicates.{PredAt}
 use Rattle.ln_parse.proofs.Building.Kept.{PredReady, few_args, shape_kept, pred_kept, args_kept, as_many}
 use Rattle.ln_parse.proofs.predicate.predicate.Goals as goal
 
-pub laid_out-requires-clause-few : goal.laid_out-requires-clause-few
-laid_out-requires-clause-few c =
+pub laid_out-requires : goal.laid_out-requires
+laid_out-requires c =
     let s = c.args.s.now in
-    let f =
-    (few_args s.bytes.now (items s.items.now) s.args.now c.in_ok-args.args c.in_ok-args.ensures c.requires.ready.site_args c.requires.ready.param_args).all in
-    rw c.as_slice.ensures f
-
-pub laid_out-requires-clause-site_args : goal.laid_out-requires-clause-site_args
-laid_out-requires-clause-site_args c =
-    let s = c.args.s.now in
-    let f =
-    (few_args s.bytes.now (items s.items.now) s.args.now c.in_ok-args.args c.in_ok-args.ensures c.requires.ready.site_args c.requires.ready.param_args).sites in
-    rw c.as_slice.ensures f
+    let r = c.requires.ready in
+    let f = few_args s.bytes.now (items s.items.now) s.args.now c.in_ok-args.args c.in_ok-args.ensures r.site_args r.param_args in
+    record { good = c.requires.declared.good_sites; few = rw c.as_slice.ensures f.all; site_args = rw c.as_slice.ensures f.sites }
 
 pub body_of-requires-clause-args : goal.body_of-requires-clause-args
 body_of-requires-clause-args c =

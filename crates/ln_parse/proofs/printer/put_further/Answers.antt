@@ -9,12 +9,8 @@ use Rattle.ln_parse.proofs.printer.put_further.Goals as goal
 pub args-2-preserved : goal.args-2-preserved
 args-2-preserved c =
     let t = table_of c.args.t.now.sites c.args.t.now.params c.args.t.now.preds in
-    each_more (further t) arg_of c.args.list.now c.args-2.a-index c.args-2.invariant (record {
-      element = c.a-item.result;
-      at = record { below = omega arith; is = c.a-item.is };
-      puts = then (puts_fixed (codes ", ") (λ (rest : List Lexeme). word Comma (codes ",") ∷ gap ∷ rest) (λ rest. refl) c.in_ok-put.ensures)
-          c.in_ok-put_arg.ensures;
-    })
+    each_more (further t) arg_of c.args.list.now c.args-2.a-index c.a-item.result c.args-2.invariant (omega arith) c.a-item.is
+    (then (puts_fixed (codes ", ") (λ (rest : List Lexeme). word Comma (codes ",") ∷ gap ∷ rest) (λ rest. refl) c.in_ok-put.ensures) c.in_ok-put_arg.ensures)
 
 pub returns : goal.returns
 returns c = each_done (further (table_of c.args.t.now.sites c.args.t.now.params c.args.t.now.preds)) arg_of c.args.list.now c.args.list.now

@@ -1,9 +1,5 @@
-use Rattle.std.proofs.Common.{sym, append-nil}
 use Rattle.ln_poly.proofs.TermLists.Products.{copies-more, copies-end}
 use Rattle.ln_poly.proofs.arithmetic.put_all.Goals as goal
-
-pub loop-t-init : goal.loop-t-init
-loop-t-init c = sym (append-nil c.args.out.now.items)
 
 pub loop-t-preserved : goal.loop-t-preserved
 loop-t-preserved c =

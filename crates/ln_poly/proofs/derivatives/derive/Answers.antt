@@ -7,8 +7,8 @@ pub terms-init : goal.terms-init
 terms-init c = rw c.new-out.ensures.items (deriving-init _ _ _ _ _)
 
 pub put_derived-requires-clause-room : goal.put_derived-requires-clause-room
-put_derived-requires-clause-room c = deriving-room c.args.s.now.vars _ c.args.f.now c.args.v c.args.n c.terms.t-index c.t-item.result
-    c.terms-f.ensures.value c.requires.variable c.requires.small (omega arith) c.t-item.is
+put_derived-requires-clause-room c = deriving-room c.args.s.now.vars _ c.args.f.now _ c.args.v c.args.n c.terms.t-index c.t-item.result
+    c.terms-f.ensures.value c.requires.variable c.requires.small (omega arith) c.t-item.is c.terms.invariant
 
 pub terms-preserved : goal.terms-preserved
 terms-preserved c = deriving-step c.args.s.now.vars _ c.args.f.now _ _ c.args.v c.args.n c.terms.t-index
@@ -21,20 +21,8 @@ nonzero-h-requires-clause-small c =
     deriving-end _ _ _ _ _ _ _ _ c.terms-f.ensures.value c.terms-test.false c.terms.invariant in
     omega (arith, d.size, c.requires.small)
 
-pub nonzero-h-requires-clause-rising : goal.nonzero-h-requires-clause-rising
-nonzero-h-requires-clause-rising c = c.terms.invariant.rising
-
 pub returns-clause-coefficients : goal.returns-clause-coefficients
 returns-clause-coefficients c =
     let d : AreDerived c.terms.out.items c.args.f.now (length c.args.s.now.vars) c.args.v c.args.n (sizes c.args.s.now.vars) =
     deriving-end _ _ _ _ _ _ _ _ c.terms-f.ensures.value c.terms-test.false c.terms.invariant in
     λ m. c.nonzero-h.ensures.coefficients (length c.args.s.now.vars) m ∙ d.coefficients m
-
-pub returns-clause-form : goal.returns-clause-form
-returns-clause-form c = c.nonzero-h.ensures.form
-
-pub returns-clause-below : goal.returns-clause-below
-returns-clause-below c = c.nonzero-h.ensures.below (length c.args.s.now.vars) c.terms.invariant.below
-
-pub nonzero-h-requires-clause-sorted : goal.nonzero-h-requires-clause-sorted
-nonzero-h-requires-clause-sorted c = c.terms.invariant.sorted

@@ -1,6 +1,7 @@
 use Rattle.std.proofs.Common.{arith, length}
 use Rattle.ln_tree.specs.Exps.{IsAbove, IsRising}
-use Rattle.ln_poly.proofs.Derivations.Several.{first-light, first-step, no-length, none-derived, several-light, several-step, some-length, variable-at}
+use Rattle.ln_poly.proofs.Derivations.Several.{first-light, first-step, no-length, none-derived, several-light, several-step, some-length}
+use Rattle.ln_poly.proofs.Loads.Weighing.{variable-at}
 use Rattle.ln_poly.proofs.derivatives.derive_by.Goals as goal
 
 pub returns-then-is_empty-clause-derivative : goal.returns-then-is_empty-clause-derivative

@@ -25,27 +25,22 @@ lowered-requires c =
     let e : c.exponent_of-e.result ≡ exponent c.args.v c.args.t.now.0 = c.exponent_of-e.ensures.value ∙ ap (exponent c.args.v) c.pairs.ensures.value in
     omega (arith, c.if-e-n.false, e)
 
-pub returns-then-e-n-clause-none : goal.returns-then-e-n-clause-none
-returns-then-e-n-clause-none c = λ h. refl
-
-pub returns-then-e-n-clause-some : goal.returns-then-e-n-clause-some
-returns-then-e-n-clause-some c =
+pub returns-then-e-n : goal.returns-then-e-n
+returns-then-e-n c =
     let e : c.exponent_of-e.result ≡ exponent c.args.v c.args.t.now.0 = c.exponent_of-e.ensures.value ∙ ap (exponent c.args.v) c.pairs.ensures.value in
-    λ h. absurd (omega (arith, h, e, c.if-e-n.true))
+    record { none = λ h. refl; some = λ h. absurd (omega (arith, h, e, c.if-e-n.true)) }
 
-pub returns-clause-none : goal.returns-clause-none
-returns-clause-none c =
-    let e : c.exponent_of-e.result ≡ exponent c.args.v c.args.t.now.0 = c.exponent_of-e.ensures.value ∙ ap (exponent c.args.v) c.pairs.ensures.value in
-    λ h. absurd (omega (arith, h, e, c.if-e-n.false))
-
-pub returns-clause-some : goal.returns-clause-some
-returns-clause-some c =
+pub returns : goal.returns
+returns c =
     let e : c.exponent_of-e.result ≡ exponent c.args.v c.args.t.now.0 = c.exponent_of-e.ensures.value ∙ ap (exponent c.args.v) c.pairs.ensures.value in
     let b : get_or c.args.column.now c.exponent_of-e.result 0 ≡ binomial c.exponent_of-e.result c.args.n =
     c.requires.column c.exponent_of-e.result c.exponent_of-e.ensures.small in
     let f : FitsSigned w128 c.args.t.now.1 = search rules in
-    λ h. record {
-      exps = c.in_ok-exps.exps;
-      put = rw (to_z-of_z w128 c.args.t.now.1 f, c.from.ensures, b, e) at c.in_ok-push_times.ensures;
-      lowered = c.in_ok-exps.ensures;
+    record {
+      none = λ h. absurd (omega (arith, h, e, c.if-e-n.false));
+      some = λ h. record {
+        exps = c.in_ok-exps.exps;
+        put = rw (to_z-of_z w128 c.args.t.now.1 f, c.from.ensures, b, e) at c.in_ok-push_times.ensures;
+        lowered = c.in_ok-exps.ensures;
+      };
     }

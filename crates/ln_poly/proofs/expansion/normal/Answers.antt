@@ -42,43 +42,26 @@ expand-requires-clause-light c =
     let p = c.args.p.now in
     rw (c.as_slice-vars.ensures, c.as_slice-lets.ensures) (pred-expands p.args p.shape.vars p.lets (length p.let_names) p.root p.kept c.requires).1
 
-pub returns-clause-few : goal.returns-clause-few
-returns-clause-few c =
+pub returns : goal.returns
+returns c =
     let p = c.args.p.now in
+    let n = length p.shape.vars in
+    let root = closed_root p.shape.vars (map formula p.lets) (formula p.root) in
+    let lets = expanded_lets p.shape.vars [] (map formula p.lets) in
+    let nodes = expanded p.shape.vars (closed_lets p.shape.vars (map formula p.lets)) (formula p.root) in
     let k = rw (c.as_slice-vars.ensures, c.as_slice-lets.ensures) at c.expand.ensures.ok in
+    let e = rw (c.as_slice-vars.ensures, c.as_slice-lets.ensures) at c.expand.ensures.err in
     let a = rw (c.as_slice-vars.ensures, c.as_slice-lets.ensures) at c.in_ok-polys.ensures.few in
-    IfOk-weaker c.expand.result _ _ (λ f q. few-both (length p.shape.vars) (expanded_lets p.shape.vars [] (map formula p.lets))
-    (expanded p.shape.vars (closed_lets p.shape.vars (map formula p.lets)) (formula p.root)) a q.few) k
-
-pub returns-clause-degrees : goal.returns-clause-degrees
-returns-clause-degrees c =
-    let p = c.args.p.now in
-    let k = rw (c.as_slice-vars.ensures, c.as_slice-lets.ensures) at c.expand.ensures.ok in
-    IfOk-weaker c.expand.result _ _ (λ f q. root-degrees (length p.shape.vars) two (closed_root p.shape.vars (map formula p.lets) (formula p.root)) f
-    (two-sizes (length p.shape.vars)) (root-light (length p.shape.vars) two (closed_lets p.shape.vars (map formula p.lets))
-    (tree p.shape.vars (formula p.root)) (pred-expands p.args p.shape.vars p.lets (length p.let_names) p.root p.kept c.requires).1) q.normal) k
-
-pub returns-clause-zero : goal.returns-clause-zero
-returns-clause-zero c =
-    let p = c.args.p.now in
-    let k = rw (c.as_slice-vars.ensures, c.as_slice-lets.ensures) at c.expand.ensures.ok in
-    IfOk-weaker c.expand.result _ _ (λ f q. (
-      no-terms-zero (length p.shape.vars) (closed_root p.shape.vars (map formula p.lets) (formula p.root)) f q.normal,
-      zero-no-terms (length p.shape.vars) (closed_root p.shape.vars (map formula p.lets) (formula p.root)) f q.normal,
-    )) k
-
-pub returns-clause-err : goal.returns-clause-err
-returns-clause-err c =
-    let p = c.args.p.now in
-    let k = rw (c.as_slice-vars.ensures, c.as_slice-lets.ensures) at c.expand.ensures.err in
-    let a = rw (c.as_slice-vars.ensures, c.as_slice-lets.ensures) at c.in_ok-polys.ensures.few in
-    MatchResult-weaker c.expand.result k (λ f t. tt) (λ s q. stop-behind (length p.shape.vars) (expanded_lets p.shape.vars [] (map formula p.lets))
-    (expanded p.shape.vars (closed_lets p.shape.vars (map formula p.lets)) (formula p.root)) s a q)
-
-pub returns-clause-normal : goal.returns-clause-normal
-returns-clause-normal c =
-    let k = rw (c.as_slice-vars.ensures, c.as_slice-lets.ensures) at c.expand.ensures.ok in
-    IfOk-weaker c.expand.result _ _ (λ f q. q.normal) k
+    let light = (pred-expands p.args p.shape.vars p.lets (length p.let_names) p.root p.kept c.requires).1 in
+    let whole = root-light n two (closed_lets p.shape.vars (map formula p.lets)) (tree p.shape.vars (formula p.root)) light in
+    record {
+      normal = IfOk-weaker c.expand.result _ _ (λ f q. q.normal) k;
+      few = IfOk-weaker c.expand.result _ _ (λ f q. few-both n lets nodes a q.few) k;
+      terms = IfOk-weaker c.expand.result _ _ (λ f q. q.terms) k;
+      degrees = IfOk-weaker c.expand.result _ _ (λ f q. root-degrees n two root f (two-sizes n) whole q.normal) k;
+      zero = IfOk-weaker c.expand.result _ _ (λ f q. (no-terms-zero n root f q.normal, zero-no-terms n root f q.normal)) k;
+      err = MatchResult-weaker c.expand.result e (λ f t. tt) (λ s q. stop-behind n lets nodes s a q);
+    }
 
 pub returns-in_err-polys-clause-err : goal.returns-in_err-polys-clause-err
 returns-in_err-polys-clause-err c =

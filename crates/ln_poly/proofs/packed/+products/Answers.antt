@@ -4,37 +4,14 @@ use Rattle.ln_poly.proofs.Packing.Loops.{halves-joined, sum-room}
 use Rattle.ln_poly.proofs.packed.+products.Goals as goal
 
 pub merge-requires : goal.merge-requires
-merge-requires g t c = (
-  search rules,
-  (
-    omega (
-      arith,
-      length-take c.products-n.result c.products-n.new.out,
-      length-take c.products-m.result c.products-m.new.out,
-      c.products-n.ensures.few,
-      c.products-m.ensures.few,
-      c.requires.long,
-      c.halves-split.ensures.split,
-      c.halves-split.ensures.rows,
-    ),
-    sum-room _ _ c.args.f.now _ _ c.args.g.now c.products-n.ensures.products c.products-m.ensures.products c.halves-split.ensures.whole
-        c.requires.fit.room,
-  ),
-)
+merge-requires g t c =
+    let n = length-take c.products-n.result c.products-n.new.out in
+    let m = length-take c.products-m.result c.products-m.new.out in
+    let e = c.halves-split.ensures in
+    let room = sum-room _ _ c.args.f.now _ _ c.args.g.now c.products-n.ensures.products c.products-m.ensures.products e.whole c.requires.fit.room in
+    (search rules, (omega (arith, n, m, c.products-n.ensures.few, c.products-m.ensures.few, c.requires.long, e.split, e.rows), room))
 
 pub returns-clause-products : goal.returns-clause-products
 returns-clause-products g t c =
     halves-joined _ _ _ c.args.f.now _ _ c.args.g.now c.products-n.ensures.products c.products-m.ensures.products c.merge.ensures.merge
     c.halves-split.ensures.whole
-
-pub returns-clause-few : goal.returns-clause-few
-returns-clause-few g t c = omega (
-  arith,
-  length-take c.products-n.result c.products-n.new.out,
-  length-take c.products-m.result c.products-m.new.out,
-  c.merge.ensures.few,
-  c.products-n.ensures.few,
-  c.products-m.ensures.few,
-  c.halves-split.ensures.split,
-  c.halves-split.ensures.rows,
-)

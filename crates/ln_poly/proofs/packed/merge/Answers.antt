@@ -1,7 +1,8 @@
 use Rattle.std.proofs.Common.{FitsSigned, ap, arith, of_z, rules, sym, to_z, ◌∙◌}
 use Rattle.std.proofs.lemmas.Int.{to_z-of_z}
+use Rattle.std.proofs.lemmas.List.{take_rest}
 use mir.Syntax.{w128}
-use Rattle.ln_poly.proofs.Packing.Loops.{factors-room, merged-end, merging-both, merging-first, merging-neither, merging-second, not-below, rest-is}
+use Rattle.ln_poly.proofs.Packing.Loops.{factors-room, merged-end, merging-both, merging-first, merging-neither, merging-second, not-below}
 use Rattle.ln_poly.proofs.packed.merge.Goals as goal
 use Rattle.ln_poly.proofs.packed.merge.Goals.{then-both-test+else-j-g, else-both-test}
 
@@ -44,4 +45,4 @@ returns-clause-merge g c =
       | then-both-test+else-j-g w ↦ λ _ r. omega (arith, r, w.if-j-g.false)
       | else-both-test w ↦ λ l _. omega (arith, l, w.both-test.false)
     ])
-    (rest-is c.args.f.now c.both.i) (rest-is c.args.g.now c.both.j) c.put_rest.ensures.rest c.put_rest-2.ensures.rest
+    (take_rest c.args.f.now c.both.i) (take_rest c.args.g.now c.both.j) c.put_rest.ensures.rest c.put_rest-2.ensures.rest

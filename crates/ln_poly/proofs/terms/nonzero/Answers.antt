@@ -12,26 +12,13 @@ seal-requires c =
     filter_from_retain _ has_factor (λ p x b q k. search rules) _ _ _ c.retain.ensures.filtered in
     rw (c.from_vec.ensures, f) (is_poly _ c.requires.sorted c.requires.small c.requires.rising)
 
-pub returns-clause-coefficients : goal.returns-clause-coefficients
-returns-clause-coefficients c =
+pub returns : goal.returns
+returns c =
     let f : c.retain.new.self.items ≡ filter has_factor c.args.terms.items =
     filter_from_retain _ has_factor (λ p x b q k. search rules) _ _ _ c.retain.ensures.filtered in
-    λ n m. rw (c.seal.ensures, c.from_vec.ensures, f) (filtered-coefficient n m _)
-
-pub returns-clause-size : goal.returns-clause-size
-returns-clause-size c =
-    let f : c.retain.new.self.items ≡ filter has_factor c.args.terms.items =
-    filter_from_retain _ has_factor (λ p x b q k. search rules) _ _ _ c.retain.ensures.filtered in
-    rw (c.seal.ensures, c.from_vec.ensures, f) (filtered-size _)
-
-pub returns-clause-form : goal.returns-clause-form
-returns-clause-form c =
-    let f : c.retain.new.self.items ≡ filter has_factor c.args.terms.items =
-    filter_from_retain _ has_factor (λ p x b q k. search rules) _ _ _ c.retain.ensures.filtered in
-    rw (c.seal.ensures, c.from_vec.ensures, f) (is_poly _ c.requires.sorted c.requires.small c.requires.rising)
-
-pub returns-clause-below : goal.returns-clause-below
-returns-clause-below c =
-    let f : c.retain.new.self.items ≡ filter has_factor c.args.terms.items =
-    filter_from_retain _ has_factor (λ p x b q k. search rules) _ _ _ c.retain.ensures.filtered in
-    λ n h. rw (c.seal.ensures, c.from_vec.ensures, f) (All-filter has_factor (λ t. IsAbove t.0 n) _ h)
+    record {
+      coefficients = λ n m. rw (c.seal.ensures, c.from_vec.ensures, f) (filtered-coefficient n m _);
+      size = rw (c.seal.ensures, c.from_vec.ensures, f) (filtered-size _);
+      form = rw (c.seal.ensures, c.from_vec.ensures, f) (is_poly _ c.requires.sorted c.requires.small c.requires.rising);
+      below = λ n h. rw (c.seal.ensures, c.from_vec.ensures, f) (All-filter has_factor (λ t. IsAbove t.0 n) _ h);
+    }

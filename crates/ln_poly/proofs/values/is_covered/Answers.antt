@@ -2,7 +2,7 @@ use Rattle.std.proofs.Common.{◌<◌, ◌≤◌, ap, arith, length, get_or, sym
 use Rattle.ln_tree.specs.Exps.{exponent}
 use Rattle.ln_tree.proofs.Powers.{found}
 use Rattle.ln_poly.proofs.Evaluations.Parts.{Pass, failed, passed}
-use Rattle.ln_poly.proofs.Evaluations.Summing.{pair-above}
+use Rattle.ln_poly.proofs.Loads.Weighing.{variable-at}
 use Rattle.ln_poly.proofs.values.is_covered.Goals as goal
 
 pub returns-then-exponent_of-q : goal.returns-then-exponent_of-q
@@ -12,7 +12,7 @@ returns-then-exponent_of-q c =
     let h : i < length a = omega (arith, c.pairs-test.true) in
     let e : exponent (get_or a i (0, 0)).0 c.args.m.now < (get_or a i (0, 0)).1 =
     omega (arith, c.exponent_of.ensures.value, ap (exponent (get_or a i (0, 0)).0) c.pairs-pairs.ensures.value, c.if-exponent_of-q.true) in
-    sym (failed (length c.args.s.now.vars) c.args.m.now a (get_or a i (0, 0)) (pair-above (length c.args.s.now.vars) a i c.requires.above h)
+    sym (failed (length c.args.s.now.vars) c.args.m.now a (get_or a i (0, 0)) (variable-at (length c.args.s.now.vars) a i c.requires.above h)
     (found (get_or a i (0, 0)).0 a i c.requires.rising h refl) e)
 
 pub returns : goal.returns

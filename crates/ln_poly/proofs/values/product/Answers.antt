@@ -8,7 +8,8 @@ use Rattle.ln_tree.specs.Row.{values}
 use Rattle.ln_tree.proofs.Powers.{small-at}
 use Rattle.ln_tree.proofs.KeptLemmas.{within_length}
 use Rattle.ln_poly.specs.Weight.{pairs_weight}
-use Rattle.ln_poly.proofs.Evaluations.Summing.{pair-above, pair-within, product-end, product-on, product-room}
+use Rattle.ln_poly.proofs.Evaluations.Summing.{pair-within, product-end, product-on, product-room}
+use Rattle.ln_poly.proofs.Loads.Weighing.{variable-at}
 use Rattle.ln_poly.proofs.values.product.Goals as goal
 
 pub bounds-row-from : goal.bounds-row-from
@@ -18,7 +19,7 @@ bounds-row-from c =
     omega (
       arith,
       c.from.ensures,
-      pair-above (length c.args.s.now.vars) ps c.pairs.p-index above (omega (arith, c.pairs-test.true)),
+      variable-at (length c.args.s.now.vars) ps c.pairs.p-index above (omega (arith, c.pairs-test.true)),
       within_length c.args.s.now.vars c.args.row.now c.requires.row,
     )
 
@@ -63,14 +64,8 @@ pairs-preserved c =
     rw (to_z-of_z w128 c.with_pair-z.result fr) (product-on c.args.s.now.vars c.args.row.now c.args.a.now ps c.args.t.now.1 _
     c.pairs.p-index there c.requires.row above c.pairs.invariant c.with_pair-z.result within e)
 
-pub returns-clause-value : goal.returns-clause-value
-returns-clause-value c =
+pub returns : goal.returns
+returns c =
     let r = product-end c.args.s.now.vars (values c.args.row.now) c.args.a.now c.pairs-pairs.result.now c.args.t.now.1 _ c.pairs.p-index
     (omega (arith, c.pairs-test.false)) c.pairs.invariant in
-    rw c.pairs-pairs.ensures.value at r.0
-
-pub returns-clause-small : goal.returns-clause-small
-returns-clause-small c =
-    let r = product-end c.args.s.now.vars (values c.args.row.now) c.args.a.now c.pairs-pairs.result.now c.args.t.now.1 _ c.pairs.p-index
-    (omega (arith, c.pairs-test.false)) c.pairs.invariant in
-    rw c.pairs-pairs.ensures.value at r.1
+    record { value = rw c.pairs-pairs.ensures.value at r.0; small = rw c.pairs-pairs.ensures.value at r.1 }

@@ -1,5 +1,5 @@
 use Rattle.ln_signs.proofs.ExplainedRows.{sound_pred}
-use Rattle.ln_signs.proofs.SignsLaws.{has_records}
+use Rattle.ln_signs.proofs.RunLaws.{has_records}
 use Rattle.ln_signs.proofs.explain.work.Goals as goal
 
 pub returns : goal.returns
@@ -7,4 +7,4 @@ returns g c = λ given s.
     let there = c.in_ok-target.ensures.given given s in
     let sound = sound_pred _ given _ s c.requires.stands.sound there in
     rw c.no_watchers.ensures at (c.put_lines.ensures given (sound, c.in_ok-target.ensures.rank)
-    (has_records given _ _ there (c.short_text.ensures.is given s)))
+    (has_records there.pred there.names (c.short_text.ensures.is given s)))

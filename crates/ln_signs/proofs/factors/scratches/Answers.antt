@@ -1,11 +1,17 @@
-use Rattle.std.proofs.Common.{length, refl}
-use Rattle.std.proofs.lemmas.Option.{slice_get_read, slice_get-get_or}
-use Rattle.ln_signs.proofs.FactorsLaws.{one_more_made}
+use Rattle.std.proofs.Common.{◌∙◌, subst}
+use Rattle.std.proofs.lemmas.List.{take_all, take_more}
+use Rattle.std.proofs.lemmas.Option.{get_or_from_slice_get}
+use Rattle.ln_code.specs.Memory.{MadeFor}
+use Rattle.ln_code.specs.Part.{Part}
+use Rattle.ln_signs.proofs.FactorsLaws.{IsMadeAt, made_for, paired_more}
 use Rattle.ln_signs.proofs.factors.scratches.Goals as goal
 
 pub each-preserved : goal.each-preserved
 each-preserved c =
-    let within = c.requires c.each.i-index 0 c.each-test.true in
-    rw c.in_ok-push.ensures.items (one_more_made c.args.programs.now c.args.which.now c.each.scratches.items c.in_ok-scratch.scratch
-    c.each.i-index _ c.index-programs-i.result c.each.invariant (slice_get-get_or c.args.which.now c.each.i-index 0 c.each-test.true)
-    (slice_get_read c.args.programs.now (length c.args.programs.now) _ _ refl within c.index-programs-i.is) c.in_ok-scratch.ensures)
+    rw (c.in_ok-push.ensures.items, take_more c.args.which.now c.each.i-index 0 c.each-test.true)
+    (paired_more (IsMadeAt c.args.programs.now) _ c.each.scratches.items _ c.in_ok-scratch.scratch c.each.invariant
+    (λ p e. subst (λ (q : Part). MadeFor q c.in_ok-scratch.scratch)
+    (c.index-programs-i.is ∙ get_or_from_slice_get c.args.programs.now _ p _ e) c.in_ok-scratch.ensures))
+
+pub returns : goal.returns
+returns c = made_for c.args.programs.now _ c.each.scratches.items (rw (take_all _ c.args.which.now c.each-test.false) at c.each.invariant)

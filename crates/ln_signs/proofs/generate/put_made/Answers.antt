@@ -1,17 +1,22 @@
-use Rattle.ln_signs.proofs.GenLaws.{rows_cut, close_cut, all_put}
+use Rattle.std.proofs.Common.{sym}
+use Rattle.ln_frame.proofs.LinesLaws.{memory_write, ok_err}
+use Rattle.ln_frame.proofs.LinesCarry.{close_carried, early_carried, end_carried}
+use Rattle.ln_signs.proofs.GenLaws.{by_lines, no_part}
 use Rattle.ln_signs.proofs.generate.put_made.Goals as goal
 
 pub returns-then-not-put_rows : goal.returns-then-not-put_rows
 returns-then-not-put_rows g c = λ given e.
     let ran = rw (c.new-panel.ensures, c.seed_from_u64-g.ensures) at c.if-not-put_rows.ensures in
-    rows_cut c.args.target.now c.requires.rank c.requires.belongs _ _ _ given e ran
+    no_part (λ x. memory_write (sym x)) (early_carried (by_lines c.args.target.now c.requires.rank c.requires.belongs _ _ _ given e) ran)
 
 pub returns-then-not-close : goal.returns-then-not-close
 returns-then-not-close g c = λ given e.
     let ran = rw (c.new-panel.ensures, c.seed_from_u64-g.ensures) at c.if-not-put_rows.ensures in
-    close_cut c.args.target.now c.requires.rank c.requires.belongs _ _ _ given e ran c.if-not-close.ensures
+    no_part (λ x. memory_write (sym x))
+    (close_carried (by_lines c.args.target.now c.requires.rank c.requires.belongs _ _ _ given e) ran c.if-not-close.ensures)
 
 pub returns : goal.returns
 returns g c = λ given e.
     let ran = rw (c.new-panel.ensures, c.seed_from_u64-g.ensures) at c.if-not-put_rows.ensures in
-    all_put c.args.target.now c.requires.rank c.requires.belongs _ _ _ given e ran c.if-not-close.ensures
+    no_part (λ x. ok_err x)
+    (end_carried (by_lines c.args.target.now c.requires.rank c.requires.belongs _ _ _ given e) ran c.if-not-close.ensures)

@@ -1,7 +1,4 @@
 use Rattle.ln_signs.proofs.generate.work.Goals as goal
 
-pub run_made-requires : goal.run_made-requires
-run_made-requires g c = c.in_ok-target.ensures.rank
-
 pub returns : goal.returns
 returns g c = λ given s. c.run_made.ensures given (c.in_ok-target.ensures.given given s).pred

@@ -1,7 +1,10 @@
 use Rattle.std.proofs.Common.{sym, ◌∙◌, subst}
 use Rattle.ln_tree.specs.Table.{pred_of}
 use Rattle.ln_signs.specs.Run.{HasRecords}
-use Rattle.ln_signs.proofs.RowsLaws.{header_carried, fewer}
+use Rattle.ln_frame.specs.declared.stop.Why.TheVariants.{Header}
+use Rattle.ln_frame.proofs.Carry.{told_carried}
+use Rattle.ln_signs.specs.Rows.{header}
+use Rattle.ln_signs.proofs.RowsLaws.{fewer}
 use Rattle.ln_signs.proofs.FewRecords.{few_in}
 use Rattle.ln_signs.proofs.records.put_lines.Goals as goal
 
@@ -21,5 +24,4 @@ returns-in-Ok-false g c = λ given k h.
     let wrong = rw c.in-Ok-false.field-0-test at c.in-Ok-false.ensures in
     let there = subst (HasRecords given (pred_of (g.W.RecordWriter.over c.args.writer.now)) (g.W.RecordWriter.columns c.args.writer.now))
     (sym c.new-rows.ensures) h in
-    header_carried (g.W.RecordWriter.begins c.args.writer.now) (g.W.RecordWriter.line c.args.writer.now given.preds) _ given _ _ _ _ _ _ _ there wrong
-    c.say.ensures
+    told_carried _ _ ⊥ ⊥ _ Header _ _ _ (header _ _ _ there wrong) c.say.ensures

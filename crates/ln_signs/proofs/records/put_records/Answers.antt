@@ -20,9 +20,6 @@ take_record-requires-clause-few g c =
     let takes = from_some c.in-Ok-Some.field-0 c.in-Ok-Some.read _ (rw c.pred.ensures at c.in-Ok-Some.ensures.takes) (search rules) in
     next_few _ _ _ _ _ c.rows.invariant.3 takes.1 c.requires.few
 
-pub take_record-requires-clause-space : goal.take_record-requires-clause-space
-take_record-requires-clause-space g c = rw c.if-not-put_piece.ensures.room c.rows.invariant.2
-
 pub returns-in-Ok-None : goal.returns-in-Ok-None
 returns-in-Ok-None g c = λ ps k.
     let ends = c.in-Ok-None.ensures.end (search rules) in

@@ -1,13 +1,10 @@
-use Rattle.std.proofs.Common.{refl, rules}
+use Rattle.std.proofs.Common.{refl}
 use Rattle.ln_tree.specs.Table.{pred_of}
 use Rattle.ln_frame.proofs.LinesLaws.{sends_ran}
 use Rattle.ln_frame.proofs.LinesCarry.{early_carried, closes_carried}
 use Rattle.ln_signs.proofs.RowsLaws.{by_lines, headed}
 use Rattle.ln_frame.proofs.HeadCarry.{head_carried, head_cut}
 use Rattle.ln_signs.proofs.records.put_rows.Goals as goal
-
-pub put_records-ran-requires-clause-space : goal.put_records-ran-requires-clause-space
-put_records-ran-requires-clause-space g c = c.make_room.ensures.space _ (search rules)
 
 pub returns-then-not-put_out : goal.returns-then-not-put_out
 returns-then-not-put_out g c = λ given k h.

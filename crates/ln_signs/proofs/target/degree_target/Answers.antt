@@ -1,14 +1,13 @@
 use Rattle.std.proofs.Common.{◌≡◌, arith, length, map}
 use Rattle.ln_tree.specs.Table.{pred_of}
 use Rattle.ln_frame.proofs.ReadyLaws.{one_within, one_numbered}
-use Rattle.ln_signs.proofs.GradedLaws.{is_kept, kept_named}
+use Rattle.ln_signs.proofs.GradedLaws.{kept_first}
 use Rattle.ln_signs.proofs.TargetLaws.{given_by}
 use Rattle.ln_signs.proofs.target.degree_target.Goals as goal
 
 pub unreachable-requires : goal.unreachable-requires
 unreachable-requires c =
-    is_kept (map pred_of c.args.ready.now.compiled.table.preds) c.args.ready.now.numbers.items c.requires.ready.fit.least
-    (rw c.in-None.is at c.requires.kept)
+    rw c.in-None.is at (kept_first (map pred_of c.args.ready.now.compiled.table.preds) _ _ c.requires.ready.fit.least c.requires.kept)
 
 pub graded-requires-clause-within : goal.graded-requires-clause-within
 graded-requires-clause-within c =
@@ -18,8 +17,8 @@ graded-requires-clause-within c =
 
 pub graded-requires-clause-answers : goal.graded-requires-clause-answers
 graded-requires-clause-answers c = λ p.
-    rw c.as_slice.ensures.value
-    (kept_named (map pred_of c.args.ready.now.compiled.table.preds) _ _ c.requires.ready.fit.least (rw c.in-Some.is at c.requires.kept) p)
+    let kept = kept_first (map pred_of c.args.ready.now.compiled.table.preds) _ _ c.requires.ready.fit.least c.requires.kept in
+    rw c.as_slice.ensures.value ((rw c.in-Some.is at kept) p)
 
 pub returns-clause-given : goal.returns-clause-given
 returns-clause-given c given = λ s.

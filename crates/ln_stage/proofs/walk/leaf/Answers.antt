@@ -5,10 +5,10 @@ use Rattle.ln_stage.proofs.Walks.StepLemmas.{leaf-cut, leaf-sees}
 use Rattle.ln_stage.proofs.walk.leaf.Goals as goal
 
 pub returns-clause-ok : goal.returns-clause-ok
-returns-clause-ok c = c.are_all-cut.ensures ∙ leaf-cut c.args.f.now c.args.kept.now c.args.p.now _ c.requires.step c.in_ok-a.ensures
-
-pub returns-clause-seen : goal.returns-clause-seen
-returns-clause-seen c = c.in_ok-see.ensures.ok ∙ leaf-sees c.args.f.now c.args.kept.now c.args.p.now c.args.tally.now _ c.requires.step c.in_ok-a.ensures
+returns-clause-ok c = record {
+  seen = c.in_ok-see.ensures.ok ∙ leaf-sees c.args.f.now c.args.kept.now c.args.p.now c.args.tally.now _ c.requires.step c.in_ok-a.ensures;
+  cut = c.are_all-cut.ensures ∙ leaf-cut c.args.f.now c.args.kept.now c.args.p.now _ c.requires.step c.in_ok-a.ensures;
+}
 
 pub returns-in_err-see-clause-err : goal.returns-in_err-see-clause-err
 returns-in_err-see-clause-err c =

@@ -1,5 +1,6 @@
 use Rattle.ln_frame.specs.Said.{count}
-use Rattle.ln_top.proofs.Steps.TopLaws.{exact, keeps}
+use Rattle.ln_top.specs.declared.words.Command.TheVariants as command
+use Rattle.ln_top.proofs.Steps.TopLaws.{by_work, keeps}
 use Rattle.ln_top.proofs.Theorem.HeadlineLaws.{graded_headline, headline}
 use Rattle.ln_top.proofs.Theorem.ProductsLaws.{products}
 use Rattle.ln_top.proofs.Theorem.EdgedLaws.{edged}
@@ -16,46 +17,28 @@ returns-clause-kept g c =
     c.carry_out.ensures.quiet
 
 pub returns-clause-headline : goal.returns-clause-headline
-returns-clause-headline g c s =
-    headline _ (g.F.Files.told c.args.files.now) _ _ _ _
-    (exact _ (g.F.Files.told c.args.files.now) _ _ _ _ _ _ _ c.status_of.ensures c.carry_out.ensures.done s)
+returns-clause-headline g c s = by_work command.Run _ c.status_of.ensures c.carry_out.ensures.done (λ k i w. headline k i (w s))
 
 pub returns-clause-graded : goal.returns-clause-graded
-returns-clause-graded g c s =
-    graded_headline _ (g.F.Files.told c.args.files.now) _ _ _ _
-    (exact _ (g.F.Files.told c.args.files.now) _ _ _ _ _ _ _ c.status_of.ensures c.carry_out.ensures.done s)
+returns-clause-graded g c s = by_work command.Graded _ c.status_of.ensures c.carry_out.ensures.done (λ k i w. graded_headline k i (w s))
 
 pub returns-clause-products : goal.returns-clause-products
-returns-clause-products g c s =
-    products _ (g.F.Files.told c.args.files.now) _ _ _ _
-    (exact _ (g.F.Files.told c.args.files.now) _ _ _ _ _ _ _ c.status_of.ensures c.carry_out.ensures.done s)
+returns-clause-products g c s = by_work command.Product _ c.status_of.ensures c.carry_out.ensures.done (λ k i w. products k i (w s))
 
 pub returns-clause-emitted : goal.returns-clause-emitted
-returns-clause-emitted g c s =
-    emitted _ (g.F.Files.told c.args.files.now) _ _ _ _
-    (exact _ (g.F.Files.told c.args.files.now) _ _ _ _ _ _ _ c.status_of.ensures c.carry_out.ensures.done s)
+returns-clause-emitted g c s = by_work command.Emit _ c.status_of.ensures c.carry_out.ensures.done (λ k i w. emitted k i (w s))
 
 pub returns-clause-listed : goal.returns-clause-listed
-returns-clause-listed g c s =
-    listed _ (g.F.Files.told c.args.files.now) _ _ _ _
-    (exact _ (g.F.Files.told c.args.files.now) _ _ _ _ _ _ _ c.status_of.ensures c.carry_out.ensures.done s)
+returns-clause-listed g c s = by_work command.List _ c.status_of.ensures c.carry_out.ensures.done (λ k i w. listed k i (w s))
 
 pub returns-clause-edged : goal.returns-clause-edged
-returns-clause-edged g c s =
-    edged _ (g.F.Files.told c.args.files.now) _ _ _ _
-    (exact _ (g.F.Files.told c.args.files.now) _ _ _ _ _ _ _ c.status_of.ensures c.carry_out.ensures.done s)
+returns-clause-edged g c s = by_work command.Edges _ c.status_of.ensures c.carry_out.ensures.done (λ k i w. edged k i (w s))
 
 pub returns-clause-explained : goal.returns-clause-explained
-returns-clause-explained g c s =
-    explained _ (g.F.Files.told c.args.files.now) _ _ _ _
-    (exact _ (g.F.Files.told c.args.files.now) _ _ _ _ _ _ _ c.status_of.ensures c.carry_out.ensures.done s)
+returns-clause-explained g c s = by_work command.Explain _ c.status_of.ensures c.carry_out.ensures.done (λ k i w. explained k i (w s))
 
 pub returns-clause-audited : goal.returns-clause-audited
-returns-clause-audited g c =
-    audited _ (g.F.Files.told c.args.files.now) _ _ _ _
-    (exact _ (g.F.Files.told c.args.files.now) _ _ _ _ _ _ _ c.status_of.ensures c.carry_out.ensures.done)
+returns-clause-audited g c = by_work command.Audit _ c.status_of.ensures c.carry_out.ensures.done audited
 
 pub returns-clause-trusted : goal.returns-clause-trusted
-returns-clause-trusted g c =
-    trusted _ (g.F.Files.told c.args.files.now) _ _ _ _
-    (exact _ (g.F.Files.told c.args.files.now) _ _ _ _ _ _ _ c.status_of.ensures c.carry_out.ensures.done)
+returns-clause-trusted g c = by_work command.Verify _ c.status_of.ensures c.carry_out.ensures.done trusted

@@ -1,13 +1,12 @@
 -- Answers to the goals of `over_lines` in src/judging.rt.
-use Rattle.std.proofs.Common.{arith, refl, sym, ◌∙◌}
+use Rattle.std.proofs.Common.{arith, refl, sym, ◌∙◌, true≢false}
 use Rattle.ln_trace.specs.Unread.{IsTaken}
 use Rattle.ln_trace.proofs.Midway.{judged-seen, midway-ends, midway-first, midway-lacks, midway-more, midway-stops}
-use Rattle.ln_trace.proofs.Steps.{clash, false-true}
 use Rattle.ln_trace.proofs.judging.over_lines.Goals as goal
 
 pub lines-init : goal.lines-init
 lines-init c = record {
-  holds = λ i. absurd (clash c.args.state.now.inside i c.requires.inside);
+  holds = λ i. absurd (true≢false (sym i ∙ c.requires.inside));
   midway = λ e ls p h. midway-first _ e c.args.case.now.poly.now _ c.args.rows.now ls c.args.state.now c.args.lines.now
       c.requires.second c.requires.inside c.requires.none h;
 }
@@ -33,7 +32,7 @@ pub returns-then-not-branch-2 : goal.returns-then-not-branch-2
 returns-then-not-branch-2 c =
     λ e ls p h. midway-lacks _ e _ _ c.args.rows.now ls c.lines.state c.lines.rows c.lines.lines p
     (c.lines.invariant.midway e ls p h) c.next.new.self _ (rw c.in_default.is at c.in_ok-l.ensures.takes) c.number-then-not-branch-2.ensures
-    (λ o. false-true (sym c.if-not-branch-2.true ∙ c.in_ok-is_over.ensures.over.1 o))
+    (λ o. true≢false (sym (sym c.if-not-branch-2.true ∙ c.in_ok-is_over.ensures.over.1 o)))
 
 pub returns : goal.returns
 returns c =

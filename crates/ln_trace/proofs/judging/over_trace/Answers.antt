@@ -1,12 +1,11 @@
 -- Answers to the goals of `over_trace` in src/judging.rt.
-use Rattle.std.proofs.Common.{arith, refl, sym, ◌∙◌}
+use Rattle.std.proofs.Common.{arith, refl, sym, ◌∙◌, true≢false}
 use Rattle.ln_trace.proofs.Midway.{judged-seen, stands-ends, stands-first, stands-lacks, stands-more, stands-stops}
-use Rattle.ln_trace.proofs.Steps.{clash, false-true}
 use Rattle.ln_trace.proofs.judging.over_trace.Goals as goal
 
 pub lines-init : goal.lines-init
 lines-init c = record {
-  holds = λ i. absurd (clash c.args.state.now.inside i c.requires.inside);
+  holds = λ i. absurd (true≢false (sym i ∙ c.requires.inside));
   stands =
       λ e p. stands-first _ e c.args.case.now.poly.now _ c.args.rows.now c.args.read.now c.args.state.now c.requires.inside c.requires.none;
 }
@@ -32,7 +31,7 @@ returns-then-not-branch-2 c =
     λ e p. stands-lacks _ e _ _ c.args.rows.now c.args.read.now c.lines.state c.lines.rows p c.lines.i
     (c.lines.invariant.stands e p) _ (omega (arith, c.lines-test.false, c.lines.auto.i-end))
     (omega (arith, c.requires.few, c.lines-test.false, c.lines.auto.i-end))
-    (λ o. false-true (sym c.if-not-branch-2.true ∙ c.in_ok-is_over.ensures.over.1 o))
+    (λ o. true≢false (sym (sym c.if-not-branch-2.true ∙ c.in_ok-is_over.ensures.over.1 o)))
 
 pub returns : goal.returns
 returns c =

@@ -1,9 +1,9 @@
-use Rattle.std.proofs.Common.{◌≡◌, true, false, ap, length, map, rules}
+use Rattle.std.proofs.Common.{◌≡◌, ◌∙◌, true, false, ap, length, map, rules, sym, true≢false}
 use Rattle.ln_tree.specs.Exps.{vector}
 use Rattle.ln_order.specs.Places.{order_places}
 use Rattle.ln_order.specs.Sites.{sites_of}
 use Rattle.ln_trace.specs.Left.{left_at}
-use Rattle.ln_trace.proofs.Following.{may, none-earlier, true-false}
+use Rattle.ln_trace.proofs.Following.{may, none-earlier}
 use Rattle.ln_trace.proofs.next.may_be_next.Goals as goal
 
 pub returns-else-earlier : goal.returns-else-earlier
@@ -18,4 +18,4 @@ returns-else-earlier c =
     (map (vector (length c.args.s.now.vars)) (left_at c.args.st.now (order_places c.args.o.now) c.args.spot)) z c.is_behind.result t
     (c.is_behind.ensures stood last)
     (none-earlier sites _ (vector (length c.args.s.now.vars) c.args.a.now) (vector (length c.args.s.now.vars) c.in-Some.b.now) _
-    (ap (map (vector (length c.args.s.now.vars))) c.in-Some.ensures.0) (λ y. true-false c.earlier.result (c.earlier.ensures.1 y) f)) i
+    (ap (map (vector (length c.args.s.now.vars))) c.in-Some.ensures.0) (λ y. true≢false (sym (c.earlier.ensures.1 y) ∙ f))) i

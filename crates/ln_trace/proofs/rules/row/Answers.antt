@@ -1,15 +1,15 @@
 -- Answers to the goals of `row` in src/rules.rt.
-use Rattle.std.proofs.Common.{sym, ◌∙◌}
-use Rattle.ln_trace.proofs.Steps.{false-true, row-elsewhere, row-goes, row-other, row-range}
+use Rattle.std.proofs.Common.{sym, ◌∙◌, true≢false}
+use Rattle.ln_trace.proofs.Steps.{row-elsewhere, row-goes, row-other, row-range}
 use Rattle.ln_trace.proofs.rules.row.Goals as goal
 
 pub returns-then-not-is_next : goal.returns-then-not-is_next
 returns-then-not-is_next c = λ f st k. row-elsewhere c.args.p.now.shape f st c.args.rows.now c.args.state.now c.args.n _ _
-    (λ h. false-true (sym c.if-not-is_next.true ∙ c.is_next.ensures.1 h))
+    (λ h. true≢false (sym (sym c.if-not-is_next.true ∙ c.is_next.ensures.1 h)))
 
 pub returns-then-not-is : goal.returns-then-not-is
 returns-then-not-is c = λ f st k. row-other c.args.p.now.shape f st c.args.rows.now c.args.state.now c.args.n c.in_ok-next.next
-    c.taken.new.rows c.taken.new.row _ (λ h. false-true (sym c.if-not-is.true ∙ c.is.ensures.1 h)) c.in_ok-next.ensures
+    c.taken.new.rows c.taken.new.row _ (λ h. true≢false (sym (sym c.if-not-is.true ∙ c.is.ensures.1 h))) c.in_ok-next.ensures
 
 pub returns : goal.returns
 returns c =

@@ -1,6 +1,6 @@
-use Rattle.std.proofs.Common.{sym, ◌∙◌}
+use Rattle.std.proofs.Common.{sym, ◌∙◌, true≢false}
 use Rattle.ln_trace.proofs.Premises.{case-numbers, size-staged}
-use Rattle.ln_trace.proofs.Steps.{false-true, sign-goes, sign-outside, sign-too-soon, sign-unsaid}
+use Rattle.ln_trace.proofs.Steps.{sign-goes, sign-outside, sign-too-soon, sign-unsaid}
 use Rattle.ln_trace.proofs.rules.sign.Goals as goal
 
 pub returns-then-not-state : goal.returns-then-not-state
@@ -8,7 +8,7 @@ returns-then-not-state c = λ rows. sign-outside _ _ _ rows c.args.state.now c.a
 
 pub returns-then-not-is_said : goal.returns-then-not-is_said
 returns-then-not-is_said c = λ rows. sign-unsaid _ _ _ rows c.args.state.now c.args.t rows _
-    (λ h. false-true (sym c.if-not-is_said.true ∙ c.is_said.ensures.1 h))
+    (λ h. true≢false (sym (sym c.if-not-is_said.true ∙ c.is_said.ensures.1 h)))
 
 pub is_whole-requires-clause-order : goal.is_whole-requires-clause-order
 is_whole-requires-clause-order c = size-staged _ _ _ c.args.state.now c.requires.case (c.requires.holds c.if-not-state.false)
@@ -21,7 +21,7 @@ is_whole-requires-clause-numbers c = case-numbers _ _ _ c.requires.case
 
 pub returns-then-not-is_whole : goal.returns-then-not-is_whole
 returns-then-not-is_whole c = λ rows. sign-too-soon _ _ _ rows c.args.state.now c.args.t rows _
-    (c.requires.holds c.if-not-state.false) (λ h. false-true (sym c.if-not-is_whole.true ∙ c.is_whole.ensures.1 h))
+    (c.requires.holds c.if-not-state.false) (λ h. true≢false (sym (sym c.if-not-is_whole.true ∙ c.is_whole.ensures.1 h)))
 
 pub returns : goal.returns
 returns c =

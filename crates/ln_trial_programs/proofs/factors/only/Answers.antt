@@ -1,6 +1,6 @@
 -- Answers to the goals of `only` in src/factors.rt.
 use Rattle.std.proofs.Common.{rules}
-use Rattle.ln_trial_programs.proofs.ThreeSites.{one_item, one_program}
+use Rattle.ln_trial_programs.proofs.OneProgram.{one_item, one_program}
 use Rattle.ln_trial_programs.proofs.factors.only.Goals as goal
 
 pub returns-in-len1-len1 : goal.returns-in-len1-len1

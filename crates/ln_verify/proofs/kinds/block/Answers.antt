@@ -5,8 +5,10 @@ use Rattle.ln_tree.specs.declared.shape.VarInfo.{VarInfo}
 use Rattle.ln_tree.specs.Exps.{IsRising, Pairs}
 use Rattle.ln_code.specs.Kept.{AreOfSites}
 use Rattle.ln_verify.specs.Here.{subject_of}
+use Rattle.ln_verify.specs.Rules.{in_range}
+use Rattle.ln_verify.specs.Values.{IsFor}
 use Rattle.ln_verify.proofs.Engines.AtSpots.{block-refused, opened}
-use Rattle.ln_verify.proofs.Engines.Empty.{block_stack-empty}
+use Rattle.ln_verify.proofs.Engines.Empty.{empty-state}
 use Rattle.ln_verify.proofs.Values.Ranges.{not-true}
 use Rattle.ln_verify.proofs.kinds.block.Goals as goal
 
@@ -37,4 +39,5 @@ returns c v =
     (c.is_at.ensures.0 c.if-not-is_at.false) (c.if-k-len.false ∙ c.len.ensures)
     (subst (λ (vs : List VarInfo). AreOfSites vs c.args.a.now) c.as_slice.ensures (c.are_of_sites.ensures.0 c.if-not-are_of_sites.false)) m.1
     (c.in_ok-push.ensures.ok ∙ ap (λ (e : Pairs). c.args.state.now.exps ++ e ∷ []) m.0)
-    (λ n. block_stack-empty n c.in_ok-state.field-0 c.in_ok-state.ensures.values c.in_ok-state.ensures.locals)
+    (λ n. empty-state (IsFor in_range n) c.in_ok-state.field-0.values.items c.in_ok-state.field-0.locals.items
+    c.in_ok-state.ensures.values c.in_ok-state.ensures.locals)

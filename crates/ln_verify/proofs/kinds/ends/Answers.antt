@@ -7,14 +7,16 @@ use Rattle.ln_tree.specs.Exps.{IsAbove, Pairs, vector}
 use Rattle.ln_poly.specs.Expansion.{IsNormal}
 use Rattle.ln_poly.specs.Sparse.{terms_of}
 use Rattle.ln_verify.specs.Here.{subject_of}
-use Rattle.ln_verify.proofs.Polynomials.Closes.{block_stack-ends, block_stack-not-one, last-above, last-is}
+use Rattle.ln_verify.specs.Rules.{in_range}
+use Rattle.ln_verify.proofs.Polynomials.Closes.{block_stack-ends, last-above, last-is, not-one}
 use Rattle.ln_verify.proofs.Values.Ranges.{not-true}
 use Rattle.ln_verify.proofs.kinds.ends.Goals as goal
 
 pub returns-then-len-ne1 : goal.returns-then-len-ne1
 returns-then-len-ne1 c es a s e m i = (
   λ t. not-true _ t,
-  λ q. absurd (block_stack-not-one (subject_of c.args.case.now) a c.args.block_stack.now s (λ l. c.if-len-ne1.true (omega (arith, c.len.ensures, l))) i q),
+  λ q. absurd (not-one in_range (length c.args.case.now.shape.vars) c.args.block_stack.now.values.items s.stack i.stack
+      (λ l. c.if-len-ne1.true (omega (arith, c.len.ensures, l))) q.left q.one),
 )
 
 pub returns : goal.returns
@@ -23,7 +25,7 @@ returns c es a s e m i =
     let p = subject_of c.args.case.now in
     let f : c.index-exps-exps.result ≡ a = c.index-exps-exps.is ∙ last-is c.args.exps.now es a c.index-exps-exps.result e in
     let above : IsAbove c.index-exps-exps.result n = subst (λ (x : Pairs). IsAbove x n) (sym f) (last-above n c.args.exps.now es a e m) in
-    block_stack-ends p a c.args.block_stack.now s c.index.result.now c.index.result.now c.in_ok-ok.ok (omega (arith, c.len.ensures, c.if-len-ne1.false))
+    block_stack-ends p a c.args.block_stack.now s c.index.result.now c.in_ok-ok.ok (omega (arith, c.len.ensures, c.if-len-ne1.false))
     c.index.ensures i
     (subst (λ (x : Pairs). (t : Tree) → IsNormal n t c.index.result.now.poly → IsTrue c.in_ok-ok.ok ↔ IsNormalOf n t (derived (vector n x) (terms_of n p.poly)))
     f (rw c.in_ok-f.ensures at c.in_ok-ok.ensures above))

@@ -1,9 +1,11 @@
 -- Answers to the goals of `order` in src/kinds.rt.
 use Rattle.std.proofs.Common.{arith, sym, ◌∙◌, subst, List, length}
+use Rattle.std.proofs.lemmas.Option.{slice_get_within}
+use Rattle.ln_order.specs.Orders.{orders_of}
 use Rattle.ln_tree.specs.Exps.{Pairs}
 use Rattle.ln_verify.specs.Line.{IsNextList}
 use Rattle.ln_verify.specs.Here.{AreAbove, subject_of}
-use Rattle.ln_verify.proofs.Engines.AtSpots.{next-within, order-not, order-nowhere, ordered}
+use Rattle.ln_verify.proofs.Engines.AtSpots.{order-not, order-nowhere, ordered}
 use Rattle.ln_verify.proofs.Judging.Places.{case-orders}
 use Rattle.ln_verify.proofs.Values.Ranges.{not-true}
 use Rattle.ln_verify.proofs.kinds.order.Goals as goal
@@ -17,7 +19,7 @@ returns-then-n-len c v =
     let p = subject_of c.args.case.now in
     let o = case-orders c.args.case.now c.requires in
     order-not v p c.args.state.now c.args.places.now c.args.list.now c.in-Some.n (sym c.before-2.ensures ∙ c.in-Some.is)
-    (λ a h. let w = next-within p c.args.state.now.exps c.in-Some.n c.args.places.now c.args.list.now h in omega (arith, w, o, c.len.ensures, c.if-n-len.true))
+    (λ a h. let w = slice_get_within (orders_of p.sites) c.in-Some.n c.args.places.now h.order in omega (arith, w, o, c.len.ensures, c.if-n-len.true))
 
 pub returns-then-not-branch : goal.returns-then-not-branch
 returns-then-not-branch c v =

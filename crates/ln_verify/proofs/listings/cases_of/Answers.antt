@@ -1,17 +1,16 @@
 -- Answers to the goals of `cases_of` in src/listings.rt.
-use Rattle.std.proofs.Common.{arith, sym, subst}
-use Rattle.ln_tree.specs.declared.pred.Pred.{Pred}
-use Rattle.ln_tree.specs.Table.{pred_of}
-use Rattle.ln_stage.specs.Sound.{IsSound}
-use Rattle.ln_verify.proofs.Judging.Subjects.{case-subject, cases-first, cases-next, cases-whole, sound-at}
+use Rattle.std.proofs.Common.{arith, refl}
+use Rattle.std.proofs.lemmas.Option.{slice_get_read}
+use Rattle.ln_verify.proofs.Judging.Subjects.{case-subject, cases-first, cases-next, cases-whole}
+use Rattle.ln_verify.proofs.Validity.Tells.{sound-of}
 use Rattle.ln_verify.proofs.listings.cases_of.Goals as goal
 
 pub each-init : goal.each-init
 each-init c = cases-first c.args.preds.now c.new-cases.result.items c.new-cases.ensures.items
 
 pub case_of-requires : goal.case_of-requires
-case_of-requires c = subst (λ (p : Pred). IsSound (pred_of p)) (sym c.index-preds-i.is)
-    (sound-at c.args.preds.now c.each.i c.index-preds-i.result c.requires (omega (arith, c.each-test.true)))
+case_of-requires c = sound-of c.args.preds.now c.each.i c.index-preds-i.result c.requires
+    (slice_get_read c.args.preds.now _ c.each.i c.index-preds-i.result refl (omega (arith, c.each-test.true)) c.index-preds-i.is)
 
 pub each-preserved : goal.each-preserved
 each-preserved c =

@@ -11,16 +11,15 @@ pub returns-in_default : goal.returns-in_default
 returns-in_default g c v vars n b k h i =
     let e = g.L.Limits.rules v vars in
     let x = c.args.x.now in
-    subst (λ (z : g.L.Limits.Known). IsMade (IsFor g.L.Limits.known n) g.L.Limits.tree n None (e.again z b)) (sym i.is)
-    (nothing g.L.Limits.known g.L.Limits.tree g.met.L.Limits.tree_known n i.tree x.size (e.again (g.L.Limits.known x.limits i.tree x.size) b)
+    subst (IsMade (IsFor g.L.Limits.known n) g.L.Limits.tree n None) (λ a. e.again (sym i.is a) b)
+    (nothing g.L.Limits.known g.L.Limits.tree g.met.L.Limits.tree_known n i.tree x.size _
     (c.in_default.ensures.rule x.size i.tree _ (exact x.size x.size refl) (c.of_local.ensures v vars b i.tree x.size h)))
 
 pub returns : goal.returns
 returns g c v vars n b k h i =
     let e = g.L.Limits.rules v vars in
     let x = c.args.x.now in
-    subst (λ (z : g.L.Limits.Known). IsMade (IsFor g.L.Limits.known n) g.L.Limits.tree n c.kept.result (e.again z b)) (sym i.is)
-    (made g.L.Limits.known g.L.Limits.tree g.met.L.Limits.tree_known n c.in-Some.limits i.tree x.size x.size
-    (e.again (g.L.Limits.known x.limits i.tree x.size) b) c.kept.result
+    subst (IsMade (IsFor g.L.Limits.known n) g.L.Limits.tree n c.kept.result) (λ a. e.again (sym i.is a) b)
+    (made g.L.Limits.known g.L.Limits.tree g.met.L.Limits.tree_known n c.in-Some.limits i.tree x.size x.size _ c.kept.result
     (c.in-Some.ensures.rule x.size i.tree _ (exact x.size x.size refl) (c.of_local.ensures v vars b i.tree x.size h)) refl
     (c.kept.ensures n i.tree (subst (λ (f : Sparse). IsNormal n i.tree f) (sym c.in_ok-h.ensures) i.normal)))

@@ -18,16 +18,15 @@ pub returns-in_default : goal.returns-in_default
 returns-in_default g c v vars n b k h i =
     let e = g.L.Limits.rules v vars in
     let x = c.args.x in
-    subst (λ (z : g.L.Limits.Known). IsMade (IsFor g.L.Limits.known n) g.L.Limits.tree n None (e.minus c.args.w b z)) (sym i.is)
-    (nothing g.L.Limits.known g.L.Limits.tree g.met.L.Limits.tree_known n (Neg i.tree) x.size (e.minus c.args.w b (g.L.Limits.known x.limits i.tree x.size))
+    subst (IsMade (IsFor g.L.Limits.known n) g.L.Limits.tree n None) (λ a. e.minus c.args.w b (sym i.is a))
+    (nothing g.L.Limits.known g.L.Limits.tree g.met.L.Limits.tree_known n (Neg i.tree) x.size _
     (c.in_default.ensures.rule x.size (Neg i.tree) _ (exact x.size x.size refl) (c.of_minus.ensures v vars b i.tree x.size h)))
 
 pub returns : goal.returns
 returns g c v vars n b k h i =
     let e = g.L.Limits.rules v vars in
     let x = c.args.x in
-    subst (λ (z : g.L.Limits.Known). IsMade (IsFor g.L.Limits.known n) g.L.Limits.tree n c.kept.result (e.minus c.args.w b z)) (sym i.is)
-    (made g.L.Limits.known g.L.Limits.tree g.met.L.Limits.tree_known n c.in-Some.limits (Neg i.tree) x.size x.size
-    (e.minus c.args.w b (g.L.Limits.known x.limits i.tree x.size)) c.kept.result
+    subst (IsMade (IsFor g.L.Limits.known n) g.L.Limits.tree n c.kept.result) (λ a. e.minus c.args.w b (sym i.is a))
+    (made g.L.Limits.known g.L.Limits.tree g.met.L.Limits.tree_known n c.in-Some.limits (Neg i.tree) x.size x.size _ c.kept.result
     (c.in-Some.ensures.rule x.size (Neg i.tree) _ (exact x.size x.size refl) (c.of_minus.ensures v vars b i.tree x.size h)) refl
     (c.kept.ensures n (Neg i.tree) (negated-normal n i.tree c.args.x.poly c.opposite.result i.normal c.opposite.ensures)))

@@ -1,8 +1,9 @@
 -- Answers to the goals of `with_one` in src/steps.rt.
-use Rattle.std.proofs.Common.{length, refl}
+use Rattle.std.proofs.Common.{List, ap, length, refl}
 use Rattle.ln_code.specs.declared.op.Op.TheVariants.{Neg}
+use Rattle.ln_code.specs.Engine.{step}
 use Rattle.ln_verify.specs.Values.{IsFor}
-use Rattle.ln_verify.proofs.Engines.Steps.{one-step, popped, pushed-came}
+use Rattle.ln_verify.proofs.Engines.Steps.{popped, pushed-came}
 use Rattle.ln_verify.proofs.steps.with_one.Goals as goal
 
 pub returns : goal.returns
@@ -14,5 +15,5 @@ returns g c v vars b h s i =
     let o = popped (IsFor g.L.Limits.known n) c.args.on.now.values.items mid c.in-Some.x s.stack c.in-Some.ensures i.stack in
     pushed-came (IsFor g.L.Limits.known n) g.L.Limits.tree n e room s (Neg c.args.w) b refl o.rest mid o.below c.args.on.now.locals.items i.size i.locals
     c.minus-v.result (e.minus c.args.w b o.top) c.push.new.values.items c.in_ok-ok.ok
-    (one-step (IsFor g.L.Limits.known n) g.L.Limits.tree n e room c.args.w b s.locals s.stack o.rest o.top o.is)
+    (ap (λ (z : List g.L.Limits.Known). step e (Neg c.args.w) b s.locals z) o.is)
     (c.minus-v.ensures v vars n b o.top h o.for_it) c.in_ok-ok.ensures

@@ -1,4 +1,4 @@
-use Rattle.std.proofs.Common.{[], ◌∷◌, ◌++◌, ◌∙◌, ap, arith, refl, rules}
+use Rattle.std.proofs.Common.{◌<◌, [], ◌∷◌, ◌++◌, ◌∙◌, ap, arith, length, refl, rules}
 use Rattle.std.proofs.lemmas.List.Elements.{All-get_or}
 use Rattle.ln_poly.specs.Packed.{pairs_from}
 use Rattle.ln_poly.specs.Words.{IsPlace}
@@ -8,13 +8,11 @@ use Rattle.ln_poly.proofs.fields.Fields.unpacked.Goals as goal
 use Rattle.ln_poly.proofs.fields.Fields.unpacked.Goals.{then-vars-test+else-is_below, else-vars-test}
 
 pub take-e-requires : goal.take-e-requires
-take-e-requires g c = (
-  search rules,
-  (
-    All-get_or (IsPlace g.row.N) c.args.self.now.shifts c.vars.v 0 (omega (arith, c.vars-test.true, c.args.self.now.long)) c.args.self.now.places,
-    opening-small c.args.self.now.shifts _ _ _ c.vars.v _ c.vars.invariant (omega (arith, c.vars-test.true, c.args.self.now.long)) refl,
-  ),
-)
+take-e-requires g c =
+    let l : c.vars.v < length c.args.self.now.shifts = omega (arith, c.vars-test.true, c.args.self.now.long) in
+    let place = All-get_or (IsPlace g.row.N) c.args.self.now.shifts c.vars.v 0 l c.args.self.now.places in
+    let small = opening-small c.args.self.now.shifts _ _ _ c.vars.v _ c.vars.invariant l refl in
+    (search rules, (place, small))
 
 pub put_exponent-requires-clause-small : goal.put_exponent-requires-clause-small
 put_exponent-requires-clause-small g c = omega (

@@ -7,6 +7,3 @@ use Rattle.ln_poly.proofs.poly.Poly.negated.Goals as goal
 pub seal-requires : goal.seal-requires
 seal-requires c = subst IsPoly (sym (c.from_vec.ensures ∙ c.negate.ensures ∙ ap negated c.into_terms-terms.ensures.value))
     (poly-negated c.args.self c.into_terms-terms.ensures.form)
-
-pub returns : goal.returns
-returns c = c.seal.ensures ∙ c.from_vec.ensures ∙ c.negate.ensures ∙ ap negated c.into_terms-terms.ensures.value

@@ -1,8 +1,5 @@
 use Rattle.ln_signs.proofs.SignsLaws.{line_there}
 use Rattle.ln_signs.proofs.run.TargetRecordWriter.make_room.Goals as goal
 
-pub returns-in_err-scratch-clause-has : goal.returns-in_err-scratch-clause-has
-returns-in_err-scratch-clause-has c = λ ps k n fields. line_there c.args.self.now c.scratch.ensures.belongs n fields
-
 pub returns-clause-has : goal.returns-clause-has
-returns-clause-has c = λ ps k n fields. line_there c.args.self.now c.scratch.ensures.belongs n fields
+returns-clause-has c = λ ps k. line_there c.args.self.now c.scratch.ensures.belongs

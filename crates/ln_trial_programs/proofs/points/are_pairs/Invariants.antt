@@ -1,6 +1,0 @@
--- The loop of `are_pairs` in src/points.rt.
-use Rattle.ln_code.specs.Memory.{MadeFor}
-use Rattle.ln_trial_programs.proofs.points.are_pairs.Given as goal
-
-abbrev pub invariant-pairs : goal.invariant-pairs
-invariant-pairs l = MadeFor l.p l.s
