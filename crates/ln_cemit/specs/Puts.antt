@@ -1,14 +1,18 @@
 -- Defines what is appended for one operation, whatever follows it.
 use Rattle.std.specs.Prelude.{◌≡◌, ℕ, zero, suc, ◌/◌, ◌^◌, Bool, true, false, ◌||◌, ◌≤◌, length, take}
-use Rattle.std.specs.Prelude.{nat_le, List, [], ◌∷◌, ◌++◌, ◌==◌, if◌then◌else◌, codes, reverse, Option, Some, None, slice_get}
+use Rattle.std.specs.Prelude.{nat_le, List, [], ◌∷◌, codes, reverse, Option, Some, None, slice_get}
 use Rattle.ln_bound.specs.declared.fitted.Width.{Width}
 use Rattle.ln_code.specs.Engine.{next}
 use Rattle.ln_csyn.specs.Words.{most_number}
-use Rattle.ln_csyn.specs.Tree.{Expr, Body, End, Group, Fun}
+use Rattle.ln_bound.specs.declared.fitted.Width.TheVariants.{W64}
+use Rattle.ln_csyn.specs.Tree.{Expr, Inner, Minus, Two, Body, End, Group, Fun}
+use Rattle.ln_csyn.specs.Tree as c
 use Rattle.ln_csyn.specs.Grammar.{Token}
 use Rattle.ln_csyn.specs.Spelling.{lexeme, type_text, spell, spell_body, Goes}
 use Rattle.ln_cemit.specs.declared.slot.Slot.{Slot}
-use Rattle.ln_cemit.specs.Emit.{Rest, reads, type_of}
+use Rattle.ln_cemit.specs.declared.slot.Side.{Side}
+use Rattle.ln_cemit.specs.declared.slot.Side.TheVariants.{Number, Value, Same, Opposite, Both, Quotient}
+use Rattle.ln_cemit.specs.Emit.{Rest, constant, cut_expr, operand, reads, type_of}
 use Rattle.ln_cemit.specs.Names.{answer_name, decl_name, filter_name}
 use Rattle.ln_cemit.specs.File.{one_fun}
 use Rattle.ln_cemit.specs.Walked.{attempt, less, picks}
@@ -19,6 +23,15 @@ use Rattle.ln_code.specs.Part.{FilterCode}
 -- a declaration, before a rest
 abbrev pub decl_before : ℕ → Width → Expr → List Token → List Token
 decl_before n w e r = lexeme (type_text (type_of w)) ∷ lexeme (decl_name n) ∷ lexeme (codes "=") ∷ spell e (lexeme (codes ";") ∷ r)
+
+-- the expression of a right side in this width
+abbrev pub side_expr : Width → Side → Expr
+side_expr w (Number z) = Inner (type_of w) (constant z)
+side_expr w (Value v) = c.Value (type_of w) v
+side_expr w (Same s) = operand decl_name w s
+side_expr w (Opposite s) = Minus (operand decl_name w s)
+side_expr w (Both o x y) = Two o (operand decl_name w x) (operand decl_name w y)
+side_expr w (Quotient m s) = cut_expr m (operand decl_name W64 s)
 
 -- the first part of a number in k + 1 parts is a NUMBER
 abbrev pub parts_fit : ℕ → ℕ → Bool
@@ -86,8 +99,3 @@ filter_funs x (Some f) = one_fun (filter_name x) (filter_body f) ∷ []
 abbrev pub filter_tried : List ℕ → Option FilterCode → Body → Body
 filter_tried x None b = b
 filter_tried x (Some f) b = Group 2 (attempt answer_name (filter_name x)) b
-
--- the tokens of a text that parts them by blanks, where some of the first one was read already
-abbrev pub tokens_in : List ℕ → List ℕ → List Token → List Token
-tokens_in w [] r = lexeme w ∷ r
-tokens_in w (c ∷ cs) r = if c == 32 then lexeme w ∷ tokens_in [] cs r else tokens_in (w ++ c ∷ []) cs r

@@ -18,12 +18,11 @@ ghost use Rattle.ln_cemit.specs.Ways.{block_way, filter_way};
 
 use crate::put::{put_decl_name, put_number_of, put_operand, put_operation};
 use crate::slot::{Slot, Way};
-use crate::tokens::put_tokens;
 use ln_base::NoMemory;
 use ln_bound::Width;
 use ln_code::{Block, FilterBlock, Op, Triple};
 use ln_csyn::COp;
-use ln_csyn::spell::{brace_left, brace_right, left, put, put_op, right, semi, word_return};
+use ln_csyn::spell::{put, put_op, put_tokens};
 use ln_interval::Pair;
 use std::alloc::Global;
 
@@ -32,7 +31,7 @@ fn put_minus(out: &mut Vec<u8>, width: Width, e: u64) -> Result<(), NoMemory>
 {
     put_tokens(out, b"( -")?;
     put_number_of(out, width, e)?;
-    right(out)
+    put(out, b")")
 }
 
 // The least number that isn't below -e.
@@ -74,20 +73,20 @@ fn put_below(out: &mut Vec<u8>, e: u64, slot: Slot) -> Result<(), NoMemory>
 fn put_sign_expr(out: &mut Vec<u8>, e: u64, slot: Slot) -> Result<(), NoMemory>
     ensures { IfOk result (λ x. Puts out.old.items out.new.items (spell (sign_expr decl_name e slot))) }
 {
-    left(out)?;
+    put(out, b"(")?;
     put_above(out, e, slot)?;
     put_op(out, COp::Sub)?;
     put_below(out, e, slot)?;
-    right(out)
+    put(out, b")")
 }
 
 fn put_answer(out: &mut Vec<u8>, e: u64, slot: Slot) -> Result<(), NoMemory>
     ensures { IfOk result (λ x. Puts out.old.items out.new.items
         (λ r. lexeme (codes "return") ∷ spell (sign_expr decl_name e slot) (lexeme (codes ";") ∷ r))) }
 {
-    word_return(out)?;
+    put(out, b"return")?;
     put_sign_expr(out, e, slot)?;
-    semi(out)
+    put(out, b";")
 }
 
 // Appends the return of the sign of the one remaining value.
@@ -355,9 +354,9 @@ fn put_fun(
         (spell_fun (one_fun title.now (body_of decl_name e (lines_of ops.now ways.now))))) }
 {
     put_one_head(out, title)?;
-    brace_left(out)?;
+    put(out, b"{")?;
     put_body(alloc, out, e, ops, ways)?;
-    brace_right(out)
+    put(out, b"}")
 }
 
 fn block_ways(alloc: Global, pairs: &[Pair]) -> Result<Vec<Way>, NoMemory>

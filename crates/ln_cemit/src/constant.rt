@@ -5,9 +5,8 @@ ghost use Rattle.ln_csyn.specs.Tree.{Inner};
 ghost use Rattle.ln_cemit.specs.Emit.{constant, in_parts, natural};
 ghost use Rattle.ln_cemit.specs.Puts.{parts_fit};
 
-use crate::tokens::put_tokens;
 use ln_base::NoMemory;
-use ln_csyn::spell::{put_op, right};
+use ln_csyn::spell::{put, put_op, put_tokens};
 use ln_csyn::write::{put_cast, put_constant};
 use ln_csyn::{COp, CType};
 
@@ -25,7 +24,7 @@ fn put_parts(out: &mut Vec<u8>, k: u8, n: u128) -> Result<(), NoMemory>
     put_constant(out, CType::Int128, 2147483648)?;
     put_tokens(out, b") +")?;
     put_constant(out, CType::Int128, (n % 2147483648) as u64)?;
-    right(out)
+    put(out, b")")
 }
 
 // A number from 0 up: as it is below 2^63, else in parts.
@@ -45,7 +44,7 @@ fn put_negative(out: &mut Vec<u8>, size: u128) -> Result<(), NoMemory>
 {
     put_tokens(out, b"( -")?;
     put_natural(out, size)?;
-    right(out)
+    put(out, b")")
 }
 
 fn put_whole(out: &mut Vec<u8>, z: i128) -> Result<(), NoMemory>
@@ -64,5 +63,5 @@ pub(crate) fn put_inner(out: &mut Vec<u8>, kind: CType, z: i128) -> Result<(), N
 {
     put_cast(out, kind)?;
     put_whole(out, z)?;
-    right(out)
+    put(out, b")")
 }

@@ -20,7 +20,7 @@ use crate::walk::{Prefix, name_of, put_try, put_walked};
 use ln_base::NoMemory;
 use ln_code::{Block, FilterBlock, Program, Programs};
 use ln_csyn::layout::lay_fun;
-use ln_csyn::spell::{brace_left, brace_right};
+use ln_csyn::spell::put;
 use ln_order::{Order, all_orders};
 use std::alloc::Global;
 use std::mem::replace;
@@ -156,9 +156,9 @@ fn put_call_fun(alloc: Global, out: &mut Vec<u8>, p: &Program) -> Result<(), NoM
     ensures { IfOk result (λ x. Puts out.old.items out.new.items (spell_fun (two_fun (call_name (part_name p.now)) (call_body p.now)))) }
 {
     put_call_head(alloc, out, p)?;
-    brace_left(out)?;
+    put(out, b"{")?;
     put_call_body(alloc, out, p)?;
-    brace_right(out)
+    put(out, b"}")
 }
 
 fn put_call(alloc: Global, out: &mut Vec<u8>, p: &Program) -> Result<(), NoMemory>

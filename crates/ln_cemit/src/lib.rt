@@ -15,7 +15,6 @@ pub mod laws;
 pub(crate) mod put;
 pub(crate) mod slot;
 pub(crate) mod title;
-pub(crate) mod tokens;
 pub mod two;
 pub(crate) mod walk;
 

@@ -4,20 +4,19 @@ ghost use Rattle.ln_csyn.specs.Spelling.{Puts, cast_before, lexeme, spell, type_
 ghost use Rattle.ln_csyn.specs.Tree.{Inner, Minus, Number, Two, Value};
 ghost use Rattle.ln_cemit.specs.Emit.{constant, cut_expr, operand, pushing, type_of, put_cut, put_get, put_neg, put_op, put_set, put_two};
 ghost use Rattle.ln_cemit.specs.Names.{decl_name};
-ghost use Rattle.ln_cemit.specs.Puts.{decl_before, locals_of, Does, MayMove, Moves, Stores};
+ghost use Rattle.ln_cemit.specs.Puts.{decl_before, locals_of, side_expr, Does, MayMove, Moves, Stores};
 ghost use Rattle.ln_bound.specs.Widths.{wider};
 ghost use Rattle.ln_bound.specs.declared.fitted.Width.TheVariants.{W64};
 ghost use Rattle.ln_csyn.specs.declared.tree.CType.TheVariants.{Int64};
 ghost use Rattle.ln_csyn.specs.declared.tree.COp.TheVariants.{Div};
 
 use crate::constant::put_inner;
-use crate::slot::{Slot, Way};
-use crate::tokens::put_tokens;
+use crate::slot::{Side, Slot, Way};
 use itoa::Buffer;
 use ln_base::NoMemory;
 use ln_bound::Width;
 use ln_code::{Op, cut};
-use ln_csyn::spell::{equals, left, put_op, put_type, right, semi};
+use ln_csyn::spell::{put, put_op, put_tokens, put_type};
 use ln_csyn::write::{put_cast, put_constant, put_value};
 use ln_csyn::{COp, CType};
 
@@ -54,13 +53,7 @@ fn put_decl_head(out: &mut Vec<u8>, n: usize, width: Width) -> Result<(), NoMemo
 {
     put_width(out, width)?;
     put_decl_name(out, n)?;
-    equals(out)
-}
-
-fn put_value_of(out: &mut Vec<u8>, width: Width, v: u64) -> Result<(), NoMemory>
-    ensures { IfOk result (λ x. Puts out.old.items out.new.items (spell (Value (type_of width) v))) }
-{
-    put_value(out, type_of(width), v)
+    put(out, b"=")
 }
 
 /// Appends a constant of this width.
@@ -68,12 +61,6 @@ pub(crate) fn put_number_of(out: &mut Vec<u8>, width: Width, n: u64) -> Result<(
     ensures { IfOk result (λ x. Puts out.old.items out.new.items (spell (Number (type_of width) n))) }
 {
     put_constant(out, type_of(width), n)
-}
-
-fn put_inner_of(out: &mut Vec<u8>, width: Width, z: i128) -> Result<(), NoMemory>
-    ensures { IfOk result (λ x. Puts out.old.items out.new.items (spell (Inner (type_of width) (constant z)))) }
-{
-    put_inner(out, type_of(width), z)
 }
 
 fn put_cast_of(out: &mut Vec<u8>, width: Width) -> Result<(), NoMemory>
@@ -87,7 +74,7 @@ pub(crate) fn put_operand(out: &mut Vec<u8>, width: Width, slot: Slot) -> Result
 {
     put_cast_of(out, width)?;
     put_decl_name(out, slot.at)?;
-    right(out)
+    put(out, b")")
 }
 
 fn put_opposite(out: &mut Vec<u8>, width: Width, slot: Slot) -> Result<(), NoMemory>
@@ -95,177 +82,27 @@ fn put_opposite(out: &mut Vec<u8>, width: Width, slot: Slot) -> Result<(), NoMem
 {
     put_tokens(out, b"( -")?;
     put_operand(out, width, slot)?;
-    right(out)
-}
-
-fn put_opposite_decl(out: &mut Vec<u8>, n: usize, width: Width, slot: Slot) -> Result<(), NoMemory>
-    ensures { IfOk result (λ x. Puts out.old.items out.new.items (decl_before n width (Minus (operand decl_name width slot)))) }
-{
-    put_decl_head(out, n, width)?;
-    put_opposite(out, width, slot)?;
-    semi(out)
-}
-
-// Appends the declaration of the opposite of the last value, which takes its place on the stack.
-fn negate(out: &mut Vec<u8>, n: usize, width: Width, stack: &mut Vec<Slot>) -> Result<(), NoMemory>
-    requires { 1 ≤ length stack.now.items }
-    ensures { IfOk result (λ x. Moves out.old.items out.new.items stack.new.items
-        (λ ls go. put_neg decl_name width n (reverse stack.old.items) ls go)) }
-{
-    let slot = stack.pop().unwrap();
-    put_opposite_decl(out, n, width, slot)?;
-    stack.push(Slot { at: n, width })?;
-    Ok(())
+    put(out, b")")
 }
 
 fn put_both(out: &mut Vec<u8>, op: COp, width: Width, x: Slot, y: Slot) -> Result<(), NoMemory>
     ensures { IfOk result (λ z. Puts out.old.items out.new.items (spell (Two op (operand decl_name width x) (operand decl_name width y)))) }
 {
-    left(out)?;
+    put(out, b"(")?;
     put_operand(out, width, x)?;
     put_op(out, op)?;
     put_operand(out, width, y)?;
-    right(out)
-}
-
-fn put_both_decl(
-    out: &mut Vec<u8>,
-    n: usize,
-    op: COp,
-    width: Width,
-    x: Slot,
-    y: Slot,
-) -> Result<(), NoMemory>
-    ensures { IfOk result (λ z. Puts out.old.items out.new.items
-        (decl_before n width (Two op (operand decl_name width x) (operand decl_name width y)))) }
-{
-    put_decl_head(out, n, width)?;
-    put_both(out, op, width, x, y)?;
-    semi(out)
-}
-
-// Appends the declaration of an operation on the last two values, which takes their place on the stack.
-fn combine(
-    out: &mut Vec<u8>,
-    n: usize,
-    op: COp,
-    width: Width,
-    stack: &mut Vec<Slot>,
-) -> Result<(), NoMemory>
-    requires { 2 ≤ length stack.now.items }
-    ensures { IfOk result (λ x. Moves out.old.items out.new.items stack.new.items
-        (λ ls go. put_two decl_name op width n (reverse stack.old.items) ls go)) }
-{
-    let y = stack.pop().unwrap();
-    let x = stack.pop().unwrap();
-    put_both_decl(out, n, op, width, x, y)?;
-    stack.push(Slot { at: n, width })?;
-    Ok(())
-}
-
-fn put_value_decl(out: &mut Vec<u8>, n: usize, width: Width, v: u64) -> Result<(), NoMemory>
-    ensures { IfOk result (λ z. Puts out.old.items out.new.items (decl_before n width (Value (type_of width) v))) }
-{
-    put_decl_head(out, n, width)?;
-    put_value_of(out, width, v)?;
-    semi(out)
-}
-
-// Appends the declaration of a value of the row, and pushes it.
-fn read(
-    out: &mut Vec<u8>,
-    n: usize,
-    width: Width,
-    v: u64,
-    stack: &mut Vec<Slot>,
-) -> Result<(), NoMemory>
-    ensures { IfOk result (λ x. Moves out.old.items out.new.items stack.new.items
-        (λ ls go. pushing decl_name n width (Value (type_of width) v) (reverse stack.old.items) ls go)) }
-{
-    put_value_decl(out, n, width, v)?;
-    stack.push(Slot { at: n, width })?;
-    Ok(())
-}
-
-fn put_same_decl(out: &mut Vec<u8>, n: usize, width: Width, slot: Slot) -> Result<(), NoMemory>
-    ensures { IfOk result (λ x. Puts out.old.items out.new.items (decl_before n width (operand decl_name width slot))) }
-{
-    put_decl_head(out, n, width)?;
-    put_operand(out, width, slot)?;
-    semi(out)
-}
-
-// Appends the declaration of the last value, which is taken off the stack into a local.
-fn store(
-    out: &mut Vec<u8>,
-    n: usize,
-    j: u8,
-    stack: &mut Vec<Slot>,
-    locals: &mut [Option<Slot>],
-) -> Result<(), NoMemory>
-    requires { (1 ≤ length stack.now.items) × (j < length locals.now) }
-    ensures { IfOk result (λ x. Stores out.old.items out.new.items stack.new.items locals.new
-        (λ go. put_set decl_name j n (reverse stack.old.items) (locals_of locals.old) go)) }
-{
-    let slot = stack.pop().unwrap();
-    put_same_decl(out, n, slot.width, slot)?;
-    locals[j as usize] = Some(Slot {
-        at: n,
-        width: slot.width,
-    });
-    Ok(())
-}
-
-// Appends the declaration of a local, and pushes it.
-fn load(
-    out: &mut Vec<u8>,
-    n: usize,
-    width: Width,
-    slot: Slot,
-    stack: &mut Vec<Slot>,
-) -> Result<(), NoMemory>
-    ensures { IfOk result (λ x. Moves out.old.items out.new.items stack.new.items
-        (λ ls go. pushing decl_name n (wider slot.width width) (operand decl_name (wider slot.width width) slot)
-        (reverse stack.old.items) ls go)) }
-{
-    let wide = slot.width.wider(width);
-    put_same_decl(out, n, wide, slot)?;
-    stack.push(Slot { at: n, width: wide })?;
-    Ok(())
-}
-
-fn put_pushed_decl(out: &mut Vec<u8>, n: usize, width: Width, z: i128) -> Result<(), NoMemory>
-    ensures { IfOk result (λ x. Puts out.old.items out.new.items (decl_before n width (Inner (type_of width) (constant z)))) }
-{
-    put_decl_head(out, n, width)?;
-    put_inner_of(out, width, z)?;
-    semi(out)
-}
-
-// Appends the declaration of a number, and pushes it.
-fn push(
-    out: &mut Vec<u8>,
-    n: usize,
-    width: Width,
-    z: i128,
-    stack: &mut Vec<Slot>,
-) -> Result<(), NoMemory>
-    ensures { IfOk result (λ x. Moves out.old.items out.new.items stack.new.items
-        (λ ls go. pushing decl_name n width (Inner (type_of width) (constant z)) (reverse stack.old.items) ls go)) }
-{
-    put_pushed_decl(out, n, width, z)?;
-    stack.push(Slot { at: n, width })?;
-    Ok(())
+    put(out, b")")
 }
 
 fn put_division(out: &mut Vec<u8>, slot: Slot, n: u64) -> Result<(), NoMemory>
     ensures { IfOk result (λ x. Puts out.old.items out.new.items (spell (Two Div (operand decl_name W64 slot) (Number Int64 n)))) }
 {
-    left(out)?;
+    put(out, b"(")?;
     put_operand(out, Width::W64, slot)?;
     put_op(out, COp::Div)?;
     put_constant(out, CType::Int64, n)?;
-    right(out)
+    put(out, b")")
 }
 
 fn power(m: u8) -> u64
@@ -286,12 +123,128 @@ fn put_quotient(out: &mut Vec<u8>, m: u8, slot: Slot) -> Result<(), NoMemory>
     }
 }
 
-fn put_quotient_decl(out: &mut Vec<u8>, n: usize, m: u8, slot: Slot) -> Result<(), NoMemory>
-    ensures { IfOk result (λ x. Puts out.old.items out.new.items (decl_before n W64 (cut_expr m (operand decl_name W64 slot)))) }
+fn put_side(out: &mut Vec<u8>, width: Width, side: Side) -> Result<(), NoMemory>
+    ensures { IfOk result (λ z. Puts out.old.items out.new.items (spell (side_expr width side))) }
 {
-    put_decl_head(out, n, Width::W64)?;
-    put_quotient(out, m, slot)?;
-    semi(out)
+    match side {
+        Side::Number(z) => put_inner(out, type_of(width), z),
+        Side::Value(v) => put_value(out, type_of(width), v),
+        Side::Same(slot) => put_operand(out, width, slot),
+        Side::Opposite(slot) => put_opposite(out, width, slot),
+        Side::Both(op, x, y) => put_both(out, op, width, x, y),
+        Side::Quotient(m, slot) => put_quotient(out, m, slot),
+    }
+}
+
+// Appends a declaration.
+fn put_decl(out: &mut Vec<u8>, n: usize, width: Width, side: Side) -> Result<(), NoMemory>
+    ensures { IfOk result (λ z. Puts out.old.items out.new.items (decl_before n width (side_expr width side))) }
+{
+    put_decl_head(out, n, width)?;
+    put_side(out, width, side)?;
+    put(out, b";")
+}
+
+// Appends the declaration of the opposite of the last value, which takes its place on the stack.
+fn negate(out: &mut Vec<u8>, n: usize, width: Width, stack: &mut Vec<Slot>) -> Result<(), NoMemory>
+    requires { 1 ≤ length stack.now.items }
+    ensures { IfOk result (λ x. Moves out.old.items out.new.items stack.new.items
+        (λ ls go. put_neg decl_name width n (reverse stack.old.items) ls go)) }
+{
+    let slot = stack.pop().unwrap();
+    put_decl(out, n, width, Side::Opposite(slot))?;
+    stack.push(Slot { at: n, width })?;
+    Ok(())
+}
+
+// Appends the declaration of an operation on the last two values, which takes their place on the stack.
+fn combine(
+    out: &mut Vec<u8>,
+    n: usize,
+    op: COp,
+    width: Width,
+    stack: &mut Vec<Slot>,
+) -> Result<(), NoMemory>
+    requires { 2 ≤ length stack.now.items }
+    ensures { IfOk result (λ x. Moves out.old.items out.new.items stack.new.items
+        (λ ls go. put_two decl_name op width n (reverse stack.old.items) ls go)) }
+{
+    let y = stack.pop().unwrap();
+    let x = stack.pop().unwrap();
+    put_decl(out, n, width, Side::Both(op, x, y))?;
+    stack.push(Slot { at: n, width })?;
+    Ok(())
+}
+
+// Appends the declaration of a value of the row, and pushes it.
+fn read(
+    out: &mut Vec<u8>,
+    n: usize,
+    width: Width,
+    v: u64,
+    stack: &mut Vec<Slot>,
+) -> Result<(), NoMemory>
+    ensures { IfOk result (λ x. Moves out.old.items out.new.items stack.new.items
+        (λ ls go. pushing decl_name n width (Value (type_of width) v) (reverse stack.old.items) ls go)) }
+{
+    put_decl(out, n, width, Side::Value(v))?;
+    stack.push(Slot { at: n, width })?;
+    Ok(())
+}
+
+// Appends the declaration of the last value, which is taken off the stack into a local.
+fn store(
+    out: &mut Vec<u8>,
+    n: usize,
+    j: u8,
+    stack: &mut Vec<Slot>,
+    locals: &mut [Option<Slot>],
+) -> Result<(), NoMemory>
+    requires { (1 ≤ length stack.now.items) × (j < length locals.now) }
+    ensures { IfOk result (λ x. Stores out.old.items out.new.items stack.new.items locals.new
+        (λ go. put_set decl_name j n (reverse stack.old.items) (locals_of locals.old) go)) }
+{
+    let slot = stack.pop().unwrap();
+    put_decl(out, n, slot.width, Side::Same(slot))?;
+    locals[j as usize] = Some(Slot {
+        at: n,
+        width: slot.width,
+    });
+    Ok(())
+}
+
+// Appends the declaration of a local, and pushes it.
+fn load(
+    out: &mut Vec<u8>,
+    n: usize,
+    width: Width,
+    slot: Slot,
+    stack: &mut Vec<Slot>,
+) -> Result<(), NoMemory>
+    ensures { IfOk result (λ x. Moves out.old.items out.new.items stack.new.items
+        (λ ls go. pushing decl_name n (wider slot.width width) (operand decl_name (wider slot.width width) slot)
+        (reverse stack.old.items) ls go)) }
+{
+    let wide = slot.width.wider(width);
+    put_decl(out, n, wide, Side::Same(slot))?;
+    stack.push(Slot { at: n, width: wide })?;
+    Ok(())
+}
+
+// Appends the declaration of a number, and pushes it.
+fn push(
+    out: &mut Vec<u8>,
+    n: usize,
+    width: Width,
+    z: i128,
+    stack: &mut Vec<Slot>,
+) -> Result<(), NoMemory>
+    ensures { IfOk result (λ x. Moves out.old.items out.new.items stack.new.items
+        (λ ls go. pushing decl_name n width (Inner (type_of width) (constant z)) (reverse stack.old.items) ls go)) }
+{
+    put_decl(out, n, width, Side::Number(z))?;
+    stack.push(Slot { at: n, width })?;
+    Ok(())
 }
 
 // Appends the declaration of a quotient by 2^m of the last value, which takes its place on the stack.
@@ -301,7 +254,7 @@ fn divide(out: &mut Vec<u8>, n: usize, m: u8, stack: &mut Vec<Slot>) -> Result<(
         (λ ls go. put_cut decl_name m n (reverse stack.old.items) ls go)) }
 {
     let slot = stack.pop().unwrap();
-    put_quotient_decl(out, n, m, slot)?;
+    put_decl(out, n, Width::W64, Side::Quotient(m, slot))?;
     stack.push(Slot {
         at: n,
         width: Width::W64,

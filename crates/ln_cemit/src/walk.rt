@@ -12,10 +12,9 @@ ghost use Rattle.ln_cemit.specs.Walked.{attempt, less, picks, says_nothing, trie
 ghost use Rattle.ln_cemit.specs.Whole.{part_name};
 
 use crate::title::block_title;
-use crate::tokens::put_tokens;
 use ln_base::NoMemory;
 use ln_code::Program;
-use ln_csyn::spell::{brace_left, brace_right, put, put_op};
+use ln_csyn::spell::{put, put_op, put_tokens};
 use ln_csyn::write::put_index;
 use ln_csyn::{COp, CType};
 use ln_order::Order;
@@ -38,9 +37,9 @@ pub(crate) fn put_try(out: &mut Vec<u8>, title: &[u8]) -> Result<(), NoMemory>
     ensures { IfOk result (λ x. (b : Body) → Goes out.old.items out.new.items (spell_body b)
         (spell_body (Group 2 (attempt answer_name title.now) b))) }
 {
-    brace_left(out)?;
+    put(out, b"{")?;
     put_attempt(out, title)?;
-    brace_right(out)
+    put(out, b"}")
 }
 
 fn put_block_try(
@@ -108,7 +107,7 @@ fn put_ends(out: &mut Vec<u8>, n: usize) -> Result<(), NoMemory>
     if n == 0 {
         return Ok(());
     }
-    brace_right(out)?;
+    put(out, b"}")?;
     put_ends(out, n - 1)?;
     Ok(())
 }

@@ -1,6 +1,5 @@
 -- Blocks and programs as they are made.
 pub mod BuildingLemmas
-pub mod CopyLemmas
 pub mod GatheringLemmas
 pub mod MakingLemmas
 pub mod ProgramLemmas

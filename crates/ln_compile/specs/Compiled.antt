@@ -121,6 +121,13 @@ IsStageCountAt ps i n = (p : PredOf) → slice_get ps i ≡ Some p → IsStageCo
 abbrev pub IsProgramAt : List PredOf → ℕ → Part → Type 0
 IsProgramAt ps i part = (p : PredOf) → slice_get ps i ≡ Some p → IsProgramOf p part
 
+-- the predicates with these numbers
+abbrev pub AreNumbered : List PredOf → List ℕ → List PredOf → Type 0
+AreNumbered table [] [] = Unit {0}
+AreNumbered table [] (p ∷ ps) = ⊥
+AreNumbered table (i ∷ is) [] = ⊥
+AreNumbered table (i ∷ is) (p ∷ ps) = (slice_get table i ≡ Some p) × AreNumbered table is ps
+
 -- the number of the first predicate of a name
 abbrev pub number_of : List ℕ → List Pred → Option ℕ
 number_of name preds = position (λ p. bytes_eq (name_bytes p.name) name) preds

@@ -7,24 +7,17 @@ use Rattle.ln_poly.specs.Sparse.{Sparse}
 use Rattle.ln_stage.specs.Lists.{all_covering}
 use Rattle.ln_code.specs.Part.{Code, ops_in_blocks}
 use Rattle.ln_due.specs.Derivative.{IsDerivativeBlock}
-use Rattle.ln_compile.specs.Compiled.{AreStageCounts, IsFromExact, IsOwn}
+use Rattle.ln_compile.specs.Compiled.{AreStageCounts, IsFromExact}
 use Rattle.ln_compile.specs.Accepted.{AreSound}
 
--- the block is one of the scaled derivative of f by its exponents, and is made from an exact tree
-pub record IsBlockOf (vars : List VarInfo) (f : Sparse) (c : Code) : Type 0 where
-  pub block : IsDerivativeBlock vars f c
-  pub exact : IsFromExact vars f c
-
--- blocks for these exponents, with at most 524,352 operations in the first and in each other 4,096 for each term that covers its
--- exponents and 68 more
-pub record AreBlocksOf (p : PredOf) (f : Sparse) (exps : List Pairs) (blocks : List Code) : Type 0 where
-  pub own : Code
+-- blocks for these exponents, of which the first is this one, with at most 4,096 operations in each other for each term that covers
+-- its exponents and 68 more; each other is made from an exact tree
+pub record AreBlocksOf (vars : List VarInfo) (f : Sparse) (own : Code) (exps : List Pairs) (blocks : List Code) : Type 0 where
   pub first : slice_get blocks 0 ≡ Some own
-  pub is_own : IsOwn p own
-  pub small : length own.ops ≤ 524352
-  pub vectors : map (λ c. vector (length p.vars) c.exps) blocks ≡ map (vector (length p.vars)) exps
-  pub each : All (IsBlockOf p.vars f) blocks
-  pub few : ops_in_blocks blocks ≤ 524352 + 4096 * all_covering (length p.vars) f (map (vector (length p.vars)) exps) + 68 * length exps
+  pub vectors : map (λ c. vector (length vars) c.exps) blocks ≡ map (vector (length vars)) exps
+  pub each : All (IsDerivativeBlock vars f) blocks
+  pub exact : IsFromExact vars f own → All (IsFromExact vars f) blocks
+  pub few : ops_in_blocks blocks ≤ length own.ops + 4096 * all_covering (length vars) f (map (vector (length vars)) exps) + 68 * length exps
 
 -- these predicates have no fault, and these are their stage counts
 pub record AreCounted (ps : List PredOf) (ns : List ℕ) : Type 0 where

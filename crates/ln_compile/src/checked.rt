@@ -1,5 +1,5 @@
 //! Sources whose predicates have no fault.
-ghost use Rattle.std.specs.Prelude.{◌≡◌, ◌≤◌, ◌<◌, length, map, IfErr, IfOk};
+ghost use Rattle.std.specs.Prelude.{◌≡◌, ◌≤◌, ◌<◌, length, map, slice_get, IfErr, IfOk, Some};
 ghost use Rattle.ln_tree.specs.Table.{pred_of, table_of};
 ghost use Rattle.ln_compile.specs.Accepted.{Accepted};
 ghost use Rattle.ln_compile.specs.Compiled.{AreProgramsOf, IsProgramAt, IsStageCountAt, number_of};
@@ -13,7 +13,7 @@ use ln_base::{NoMemory, Seq};
 use ln_code::{Program, Programs};
 use ln_parse::parse;
 use ln_poly::Poly;
-use ln_tree::Table;
+use ln_tree::{Pred, Table};
 use std::alloc::Global;
 use std::marker::Model;
 
@@ -63,6 +63,14 @@ impl Checked {
             .as_slice()
             .iter()
             .position(|p| p.name.bytes() == name)
+    }
+
+    /// The predicate of a number. It allocates nothing.
+    pub fn pred(&self, i: usize) -> &Pred
+        requires { i < length self.now.table.preds }
+        ensures { slice_get self.now.table.preds i ≡ Some result.now }
+    {
+        &self.table.preds.as_slice()[i]
     }
 
     /// The stage count of a predicate, by its number. It allocates nothing.

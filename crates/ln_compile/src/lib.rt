@@ -12,7 +12,7 @@
 //! The crate ln_due defines the verdict that is required on a row; the law of `due` adds which filter a predicate has and where it decides.
 #![tactic(auto)]
 
-pub(crate) mod blocks;
+pub mod blocks;
 pub mod checked;
 pub mod due;
 pub(crate) mod judge;
@@ -23,6 +23,7 @@ pub(crate) mod programs;
 pub mod refusal;
 pub mod source;
 
+pub use blocks::blocks_after;
 pub use checked::{Checked, check};
 pub use refusal::Refusal;
 pub use source::{Compiled, compile};

@@ -17,8 +17,8 @@ ghost use Rattle.ln_code.specs.Part.{ops_in_filter};
 ghost use Rattle.ln_code.specs.Carried.{CarriesWhole};
 ghost use Rattle.ln_compile.specs.Compiled.{IsFilterOf, IsProgramOf};
 
-use crate::blocks::blocks;
-use ln_base::{NoMemory, Seq};
+use crate::blocks::{blocks_after, first_block};
+use ln_base::NoMemory;
 use ln_bound::size::size;
 use ln_code::{FilterBlock, Program};
 use ln_filter::plan;
@@ -26,18 +26,6 @@ use ln_poly::Poly;
 use ln_stage::Stages;
 use ln_tree::Pred;
 use std::alloc::Global;
-
-// The segments of the stages, once more.
-fn segments(alloc: Global, st: &Stages) -> Result<Seq<Seq<u32>>, NoMemory>
-    ensures { IfOk result (λ ss. ss ≡ st.now.segments) }
-{
-    let mut segments = Seq::new(alloc);
-    'prefixes: for segment in st.segments() {
-        let numbers = segment.as_slice().to_vec(alloc)?;
-        segments.push(Seq::from_vec(numbers))?;
-    }
-    Ok(segments)
-}
 
 // The filter of a predicate, if it has one.
 fn filter(alloc: Global, p: &Pred) -> Result<Option<FilterBlock>, NoMemory>
@@ -56,23 +44,23 @@ fn filter(alloc: Global, p: &Pred) -> Result<Option<FilterBlock>, NoMemory>
 }
 
 /// The program of a predicate with this normal polynomial and these stages.
-pub(crate) fn program(alloc: Global, p: &Pred, f: &Poly, st: &Stages) -> Result<Program, NoMemory>
+pub(crate) fn program(alloc: Global, p: &Pred, f: &Poly, st: Stages) -> Result<Program, NoMemory>
     requires light { AreLight (loaded_of (pred_of p.now)) }
     requires terms { HaveFewTerms (length p.now.shape.vars) (expanded_of (pred_of p.now)) }
     requires normal { IsNormal (length p.now.shape.vars) (root_of (pred_of p.now)) f.now }
     requires weight { weighted_sum (weights p.now.shape.vars) (terms_of (length p.now.shape.vars) f.now) ≤ most }
     requires degrees { All (λ t. total_degree (vector (length p.now.shape.vars) t.0) ≤ 126) f.now }
     requires some { f.now ≢ [] }
-    requires stages { AreStagesOf p.now.shape.sites p.now.shape.vars f.now st.now }
-    requires count { stage_count (vectors_of (length p.now.shape.vars) st.now) ≤ 65536 }
-    requires stage_weight { stage_weight (length p.now.shape.vars) f.now (vectors_of (length p.now.shape.vars) st.now) ≤ 131072 }
+    requires stages { AreStagesOf p.now.shape.sites p.now.shape.vars f.now st }
+    requires count { stage_count (vectors_of (length p.now.shape.vars) st) ≤ 65536 }
+    requires stage_weight { stage_weight (length p.now.shape.vars) f.now (vectors_of (length p.now.shape.vars) st) ≤ 131072 }
     ensures program { IfOk result (λ c. IsProgramOf (pred_of p.now) c) }
     ensures name { IfOk result (λ c. c.shape.name ≡ p.now.shape.name) }
     ensures small { IfOk result (λ c. length c.blocks ≤ 65536) }
 {
     let filter = filter(alloc, p)?;
-    let blocks = blocks(alloc, p, f, st)?;
-    let segments = segments(alloc, st)?;
+    let first = first_block(alloc, p)?;
+    let blocks = blocks_after(alloc, f, &p.shape, first, &st)?;
     let shape = p.shape.copy(alloc)?;
-    Ok(Program::join(shape, filter, blocks, segments))
+    Ok(Program::join(shape, filter, blocks, st.into_segments()))
 }

@@ -72,7 +72,7 @@ fn compiled_of(alloc: Global, p: &Pred, f: &Poly) -> Result<Program, Refusal>
 {
     weighed(0, p, f)?;
     let st = staged(alloc, 0, p, f)?;
-    let program = program(alloc, p, f, &st)?;
+    let program = program(alloc, p, f, st)?;
     Ok(program)
 }
 

@@ -1,6 +1,6 @@
 -- Defines the tokens that are written for a file, each before a rest, and their text: one blank after each.
 use Rattle.std.specs.Prelude.{◌≡◌, ℕ, Bool, true, false, List, [], ◌∷◌, ◌++◌, codes, decimal}
-use Rattle.std.specs.Prelude.{if◌then◌else◌, Option, Some, None, bytes_eq}
+use Rattle.std.specs.Prelude.{◌==◌, if◌then◌else◌, Option, Some, None, bytes_eq}
 use Rattle.ln_csyn.specs.declared.tree.CType.{CType}
 use Rattle.ln_csyn.specs.declared.tree.CType.TheVariants.{Int, Int64, Int128}
 use Rattle.ln_csyn.specs.declared.tree.COp.{COp}
@@ -34,6 +34,11 @@ op_among text (o ∷ os) = if bytes_eq text (op_text o) then Some o else op_amon
 -- a token of the one line that is written
 abbrev pub lexeme : List ℕ → Token
 lexeme text = record { text = text; line = 2 }
+
+-- the tokens of a text that parts them by blanks, where some of the first one was read already
+abbrev pub tokens_in : List ℕ → List ℕ → List Token → List Token
+tokens_in w [] r = lexeme w ∷ r
+tokens_in w (c ∷ cs) r = if c == 32 then lexeme w ∷ tokens_in [] cs r else tokens_in (w ++ c ∷ []) cs r
 
 -- the beginning of a cast to this type, `( ( TYPE )`, before a rest
 abbrev pub cast_before : CType → List Token → List Token

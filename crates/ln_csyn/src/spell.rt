@@ -1,7 +1,7 @@
 //! Appends tokens to a text, each with a blank after it. The writer appends a file from its tree with these functions, and a caller without a tree
 //! may append tokens one by one: by the contracts these tokens are between the old text and the new one.
-ghost use Rattle.std.specs.Prelude.{◌∷◌, IfOk, decimal, codes};
-ghost use Rattle.ln_csyn.specs.Spelling.{Puts, lexeme, type_text, op_text};
+ghost use Rattle.std.specs.Prelude.{[], ◌∷◌, IfOk, decimal};
+ghost use Rattle.ln_csyn.specs.Spelling.{Puts, lexeme, tokens_in, type_text, op_text};
 
 use crate::tree::{COp, CType};
 use crate::word::op_word;
@@ -15,6 +15,13 @@ pub fn put(out: &mut Vec<u8>, text: &[u8]) -> Result<(), NoMemory>
     out.extend_from_slice(text)?;
     out.push(b' ')?;
     Ok(())
+}
+
+/// Appends tokens, which are parted by blanks in the text, and a blank after the last.
+pub fn put_tokens(out: &mut Vec<u8>, text: &[u8]) -> Result<(), NoMemory>
+    ensures { IfOk result (λ x. Puts out.old.items out.new.items (tokens_in [] text.now)) }
+{
+    put(out, text)
 }
 
 /// Appends a NUMBER.
@@ -41,123 +48,4 @@ pub fn put_op(out: &mut Vec<u8>, op: COp) -> Result<(), NoMemory>
     ensures { IfOk result (λ x. Puts out.old.items out.new.items (λ r. lexeme (op_text op) ∷ r)) }
 {
     put(out, op_word(op))
-}
-
-/// Appends `(`.
-pub fn left(out: &mut Vec<u8>) -> Result<(), NoMemory>
-    ensures { IfOk result (λ x. Puts out.old.items out.new.items (λ r. lexeme (codes "(") ∷ r)) }
-{
-    put(out, b"(".as_slice())
-}
-
-/// Appends `)`.
-pub fn right(out: &mut Vec<u8>) -> Result<(), NoMemory>
-    ensures { IfOk result (λ x. Puts out.old.items out.new.items (λ r. lexeme (codes ")") ∷ r)) }
-{
-    put(out, b")".as_slice())
-}
-
-/// Appends `-`.
-pub fn dash(out: &mut Vec<u8>) -> Result<(), NoMemory>
-    ensures { IfOk result (λ x. Puts out.old.items out.new.items (λ r. lexeme (codes "-") ∷ r)) }
-{
-    put(out, b"-".as_slice())
-}
-
-/// Appends `=`.
-pub fn equals(out: &mut Vec<u8>) -> Result<(), NoMemory>
-    ensures { IfOk result (λ x. Puts out.old.items out.new.items (λ r. lexeme (codes "=") ∷ r)) }
-{
-    put(out, b"=".as_slice())
-}
-
-/// Appends `*`.
-pub fn star(out: &mut Vec<u8>) -> Result<(), NoMemory>
-    ensures { IfOk result (λ x. Puts out.old.items out.new.items (λ r. lexeme (codes "*") ∷ r)) }
-{
-    put(out, b"*".as_slice())
-}
-
-/// Appends `,`.
-pub fn comma(out: &mut Vec<u8>) -> Result<(), NoMemory>
-    ensures { IfOk result (λ x. Puts out.old.items out.new.items (λ r. lexeme (codes ",") ∷ r)) }
-{
-    put(out, b",".as_slice())
-}
-
-/// Appends `;`.
-pub fn semi(out: &mut Vec<u8>) -> Result<(), NoMemory>
-    ensures { IfOk result (λ x. Puts out.old.items out.new.items (λ r. lexeme (codes ";") ∷ r)) }
-{
-    put(out, b";".as_slice())
-}
-
-/// Appends `[`.
-pub fn square_left(out: &mut Vec<u8>) -> Result<(), NoMemory>
-    ensures { IfOk result (λ x. Puts out.old.items out.new.items (λ r. lexeme (codes "[") ∷ r)) }
-{
-    put(out, b"[".as_slice())
-}
-
-/// Appends `]`.
-pub fn square_right(out: &mut Vec<u8>) -> Result<(), NoMemory>
-    ensures { IfOk result (λ x. Puts out.old.items out.new.items (λ r. lexeme (codes "]") ∷ r)) }
-{
-    put(out, b"]".as_slice())
-}
-
-/// Appends `{`.
-pub fn brace_left(out: &mut Vec<u8>) -> Result<(), NoMemory>
-    ensures { IfOk result (λ x. Puts out.old.items out.new.items (λ r. lexeme (codes "{") ∷ r)) }
-{
-    put(out, b"{".as_slice())
-}
-
-/// Appends `}`.
-pub fn brace_right(out: &mut Vec<u8>) -> Result<(), NoMemory>
-    ensures { IfOk result (λ x. Puts out.old.items out.new.items (λ r. lexeme (codes "}") ∷ r)) }
-{
-    put(out, b"}".as_slice())
-}
-
-/// Appends `v`.
-pub fn values(out: &mut Vec<u8>) -> Result<(), NoMemory>
-    ensures { IfOk result (λ x. Puts out.old.items out.new.items (λ r. lexeme (codes "v") ∷ r)) }
-{
-    put(out, b"v".as_slice())
-}
-
-/// Appends `x`.
-pub fn indices(out: &mut Vec<u8>) -> Result<(), NoMemory>
-    ensures { IfOk result (λ x. Puts out.old.items out.new.items (λ r. lexeme (codes "x") ∷ r)) }
-{
-    put(out, b"x".as_slice())
-}
-
-/// Appends `if`.
-pub fn word_if(out: &mut Vec<u8>) -> Result<(), NoMemory>
-    ensures { IfOk result (λ x. Puts out.old.items out.new.items (λ r. lexeme (codes "if") ∷ r)) }
-{
-    put(out, b"if".as_slice())
-}
-
-/// Appends `return`.
-pub fn word_return(out: &mut Vec<u8>) -> Result<(), NoMemory>
-    ensures { IfOk result (λ x. Puts out.old.items out.new.items (λ r. lexeme (codes "return") ∷ r)) }
-{
-    put(out, b"return".as_slice())
-}
-
-/// Appends `const`.
-pub fn word_const(out: &mut Vec<u8>) -> Result<(), NoMemory>
-    ensures { IfOk result (λ x. Puts out.old.items out.new.items (λ r. lexeme (codes "const") ∷ r)) }
-{
-    put(out, b"const".as_slice())
-}
-
-/// Appends `static`.
-pub fn word_static(out: &mut Vec<u8>) -> Result<(), NoMemory>
-    ensures { IfOk result (λ x. Puts out.old.items out.new.items (λ r. lexeme (codes "static") ∷ r)) }
-{
-    put(out, b"static".as_slice())
 }

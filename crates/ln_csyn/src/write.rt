@@ -1,5 +1,5 @@
 //! Writes a file: the tokens of one function after the other, each with a blank after it, which are then laid out.
-ghost use Rattle.std.specs.Prelude.{◌≡◌, true, false, ◌∷◌, [], IfOk, List, codes, map};
+ghost use Rattle.std.specs.Prelude.{◌≡◌, ◌∷◌, [], IfOk, List, codes, map};
 ghost use Rattle.ln_csyn.specs.View.{expr_tree, stmt_front, body_tree, fun_tree};
 ghost use Rattle.ln_csyn.specs.Tree.{Body, Fun, Two, Minus, Number, Name, Value, Index, Call, Inner};
 ghost use Rattle.ln_csyn.specs.Spelling.{Puts, lexeme, type_text, op_text, cast_before, place_before, spell, Goes, spell_body};
@@ -10,11 +10,7 @@ ghost use Rattle.ln_csyn.specs.Lines.{SameUpToLines};
 
 use crate::layout::lay_fun;
 use crate::read::CFile;
-use crate::spell::{
-    brace_left, brace_right, comma, dash, equals, indices, left, put, put_number, put_op, put_type,
-    right, semi, square_left, square_right, star, values, word_const, word_if, word_return,
-    word_static,
-};
+use crate::spell::{put, put_number, put_op, put_tokens, put_type};
 use crate::tree::{CExpr, CForm, CFun, COp, CPrim, CStmt, CType};
 use ln_base::NoMemory;
 use std::alloc::Global;
@@ -55,16 +51,16 @@ fn put_fun(out: &mut Vec<u8>, f: &CFun) -> Result<(), NoMemory>
     put_static(out, f.own)?;
     put_type(out, CType::Int)?;
     put_own_name(out, f)?;
-    left(out)?;
+    put(out, b"(")?;
     put_parameters(out, f.indexed)?;
-    right(out)?;
+    put(out, b")")?;
     put_fun_body(out, f)
 }
 
 fn put_static(out: &mut Vec<u8>, own: bool) -> Result<(), NoMemory>
     ensures { IfOk result (λ x. Puts out.old.items out.new.items (spell_own own)) }
 {
-    if own { word_static(out) } else { Ok(()) }
+    if own { put(out, b"static") } else { Ok(()) }
 }
 
 fn put_own_name(out: &mut Vec<u8>, f: &CFun) -> Result<(), NoMemory>
@@ -76,34 +72,11 @@ fn put_own_name(out: &mut Vec<u8>, f: &CFun) -> Result<(), NoMemory>
 fn put_parameters(out: &mut Vec<u8>, indexed: bool) -> Result<(), NoMemory>
     ensures { IfOk result (λ x. Puts out.old.items out.new.items (spell_parameters indexed)) }
 {
-    if indexed { put_both(out) } else { put_one(out) }
-}
-
-fn put_one(out: &mut Vec<u8>) -> Result<(), NoMemory>
-    ensures { IfOk result (λ x. Puts out.old.items out.new.items (spell_parameters false)) }
-{
-    put_pointer(out)?;
-    values(out)
-}
-
-fn put_both(out: &mut Vec<u8>) -> Result<(), NoMemory>
-    ensures { IfOk result (λ x. Puts out.old.items out.new.items (spell_parameters true)) }
-{
-    put_pointer(out)?;
-    indices(out)?;
-    comma(out)?;
-    put_pointer(out)?;
-    values(out)
-}
-
-/// Appends `const int64_t *`.
-pub fn put_pointer(out: &mut Vec<u8>) -> Result<(), NoMemory>
-    ensures { IfOk result (λ x. Puts out.old.items out.new.items (λ r. lexeme (codes "const") ∷ lexeme (codes "int64_t")
-        ∷ lexeme (codes "*") ∷ r)) }
-{
-    word_const(out)?;
-    put_type(out, CType::Int64)?;
-    star(out)
+    if indexed {
+        put_tokens(out, b"const int64_t * x , const int64_t * v")
+    } else {
+        put_tokens(out, b"const int64_t * v")
+    }
 }
 
 fn put_fun_body(out: &mut Vec<u8>, f: &CFun) -> Result<(), NoMemory>
@@ -118,9 +91,9 @@ fn put_block(out: &mut Vec<u8>, body: &[CStmt]) -> Result<(), NoMemory>
     ensures { IfOk result (λ x. Puts out.old.items out.new.items (λ r. lexeme (codes "{") ∷ spell_body (body_tree body.now)
         (lexeme (codes "}") ∷ r))) }
 {
-    brace_left(out)?;
+    put(out, b"{")?;
     put_body(out, body)?;
-    brace_right(out)
+    put(out, b"}")
 }
 
 #[cycle(body)]
@@ -165,28 +138,27 @@ fn put_decl(out: &mut Vec<u8>, kind: CType, name: &[u8], e: &CExpr) -> Result<()
 {
     put_type(out, kind)?;
     put(out, name)?;
-    equals(out)?;
+    put(out, b"=")?;
     put_expr(out, e)?;
-    semi(out)
+    put(out, b";")
 }
 
 fn put_test(out: &mut Vec<u8>, e: &CExpr) -> Result<(), NoMemory>
     ensures { IfOk result (λ x. Puts out.old.items out.new.items (λ r. lexeme (codes "if") ∷ lexeme (codes "(")
         ∷ spell (expr_tree e.now) (lexeme (codes ")") ∷ r))) }
 {
-    word_if(out)?;
-    left(out)?;
+    put_tokens(out, b"if (")?;
     put_expr(out, e)?;
-    right(out)
+    put(out, b")")
 }
 
 fn put_return(out: &mut Vec<u8>, e: &CExpr) -> Result<(), NoMemory>
     ensures { IfOk result (λ x. Puts out.old.items out.new.items (λ r. lexeme (codes "return") ∷ spell (expr_tree e.now)
         (lexeme (codes ";") ∷ r))) }
 {
-    word_return(out)?;
+    put(out, b"return")?;
     put_expr(out, e)?;
-    semi(out)
+    put(out, b";")
 }
 
 /// Appends an expression.
@@ -196,7 +168,7 @@ pub fn put_expr(out: &mut Vec<u8>, e: &CExpr) -> Result<(), NoMemory>
 {
     match e {
         CExpr::Two(op, a, b) => {
-            left(out)?;
+            put(out, b"(")?;
             put_expr(out, a)?;
             put_right(out, *op, b)
         }
@@ -218,17 +190,16 @@ fn put_right(out: &mut Vec<u8>, op: COp, b: &CExpr) -> Result<(), NoMemory>
 {
     put_op(out, op)?;
     put_expr(out, b)?;
-    right(out)
+    put(out, b")")
 }
 
 #[cycle(put)]
 fn put_minus(out: &mut Vec<u8>, e: &CExpr) -> Result<(), NoMemory>
     ensures { IfOk result (λ x. Puts out.old.items out.new.items (spell (Minus (expr_tree e.now)))) }
 {
-    left(out)?;
-    dash(out)?;
+    put_tokens(out, b"( -")?;
     put_expr(out, e)?;
-    right(out)
+    put(out, b")")
 }
 
 #[cycle(put)]
@@ -237,17 +208,16 @@ fn put_inner(out: &mut Vec<u8>, kind: CType, e: &CExpr) -> Result<(), NoMemory>
 {
     put_cast(out, kind)?;
     put_expr(out, e)?;
-    right(out)
+    put(out, b")")
 }
 
 /// Appends `((TYPE)`, the beginning of an expression that is a cast.
 pub fn put_cast(out: &mut Vec<u8>, kind: CType) -> Result<(), NoMemory>
     ensures { IfOk result (λ x. Puts out.old.items out.new.items (cast_before kind)) }
 {
-    left(out)?;
-    left(out)?;
+    put_tokens(out, b"( (")?;
     put_type(out, kind)?;
-    right(out)
+    put(out, b")")
 }
 
 /// Appends `((TYPE)NUMBER)`.
@@ -256,7 +226,7 @@ pub fn put_constant(out: &mut Vec<u8>, kind: CType, n: u64) -> Result<(), NoMemo
 {
     put_cast(out, kind)?;
     put_number(out, n)?;
-    right(out)
+    put(out, b")")
 }
 
 /// Appends `((TYPE)NAME)`.
@@ -265,7 +235,7 @@ pub fn put_name(out: &mut Vec<u8>, kind: CType, name: &[u8]) -> Result<(), NoMem
 {
     put_cast(out, kind)?;
     put(out, name)?;
-    right(out)
+    put(out, b")")
 }
 
 /// Appends `((TYPE)v[N])`.
@@ -273,13 +243,7 @@ pub fn put_value(out: &mut Vec<u8>, kind: CType, n: u64) -> Result<(), NoMemory>
     ensures { IfOk result (λ x. Puts out.old.items out.new.items (spell (Value kind n))) }
 {
     put_cast(out, kind)?;
-    put_v(out, n)
-}
-
-fn put_v(out: &mut Vec<u8>, n: u64) -> Result<(), NoMemory>
-    ensures { IfOk result (λ x. Puts out.old.items out.new.items (place_before (codes "v") n)) }
-{
-    put_place(out, b"v".as_slice(), n)
+    put_place(out, b"v", n)
 }
 
 /// Appends `((TYPE)x[N])`.
@@ -287,23 +251,16 @@ pub fn put_index(out: &mut Vec<u8>, kind: CType, n: u64) -> Result<(), NoMemory>
     ensures { IfOk result (λ x. Puts out.old.items out.new.items (spell (Index kind n))) }
 {
     put_cast(out, kind)?;
-    put_x(out, n)
-}
-
-fn put_x(out: &mut Vec<u8>, n: u64) -> Result<(), NoMemory>
-    ensures { IfOk result (λ x. Puts out.old.items out.new.items (place_before (codes "x") n)) }
-{
-    put_place(out, b"x".as_slice(), n)
+    put_place(out, b"x", n)
 }
 
 fn put_place(out: &mut Vec<u8>, name: &[u8], n: u64) -> Result<(), NoMemory>
     ensures { IfOk result (λ x. Puts out.old.items out.new.items (place_before name.now n)) }
 {
     put(out, name)?;
-    square_left(out)?;
+    put(out, b"[")?;
     put_number(out, n)?;
-    square_right(out)?;
-    right(out)
+    put_tokens(out, b"] )")
 }
 
 /// Appends `((TYPE)NAME(v))`.
@@ -312,8 +269,5 @@ pub fn put_call(out: &mut Vec<u8>, kind: CType, name: &[u8]) -> Result<(), NoMem
 {
     put_cast(out, kind)?;
     put(out, name)?;
-    left(out)?;
-    values(out)?;
-    right(out)?;
-    right(out)
+    put_tokens(out, b"( v ) )")
 }

@@ -1,10 +1,9 @@
 -- The predicate of a name, by its number.
-use Rattle.std.proofs.Common.{◌≡◌, ℕ, ◌<◌, ◌≤◌, cond, Bool, true, false, List}
-use Rattle.std.proofs.Common.{map, length, Some, None, option_map, refl, ap, sym, ◌∙◌, subst, arith}
+use Rattle.std.proofs.Common.{◌≡◌, ℕ, ◌<◌, ◌≤◌, cond, Bool, true, false, List, [], ◌∷◌, find, Option}
+use Rattle.std.proofs.Common.{map, length, Some, None, option_map, refl, ap, sym, ◌∙◌, arith}
 use Rattle.std.specs.Prelude.{slice_get, position, nat_lt, bytes_eq}
 use Rattle.std.specs.List.{position_or_len}
-use Rattle.std.proofs.lemmas.Option.{same_Some, slice_get-map, slice_get_past, slice_get_within}
-use Rattle.std.proofs.lemmas.List.{length-map}
+use Rattle.std.proofs.lemmas.Option.{slice_get-map, slice_get_past}
 use Rattle.std.proofs.lemmas.List.Folds.{find_at}
 use Rattle.std.proofs.lemmas.Bool.Decides.{nat_tests}
 use Rattle.ln_tree.specs.declared.pred.Pred.{Pred}
@@ -13,7 +12,21 @@ use Rattle.ln_tree.specs.Table.{PredOf, pred_of}
 use Rattle.ln_parse.proofs.ReadBack.InputsThere.{at_place}
 use Rattle.ln_compile.specs.Compiled.{number_of}
 use Rattle.ln_frame.specs.Given.{named}
-use Rattle.ln_frame.proofs.Likeness.{named_in, named_like}
+
+-- the first predicate of a name, in memory
+abbrev pub named_in : List ℕ → List Pred → Option Pred
+named_in name preds = find (λ p. bytes_eq (name_bytes p.name) name) preds
+
+named_if : (b : Bool) (p : Pred) (o : Option Pred) (v : Option PredOf) → option_map pred_of o ≡ v
+    → option_map pred_of (cond b (Some p) o) ≡ cond b (Some (pred_of p)) v
+named_if true p o v e = refl
+named_if false p o v e = e
+
+-- the first predicate of a name in memory stands for the first of that name in what the table stands for
+pub named_like : (name : List ℕ) (ps : List Pred) → option_map pred_of (named_in name ps) ≡ named name (map pred_of ps)
+named_like name [] = refl
+named_like name (p ∷ ps) =
+    named_if (bytes_eq (name_bytes p.name) name) p (named_in name ps) (named name (map pred_of ps)) (named_like name ps)
 
 -- where a number was found, it is the position of the first that passes
 some_position : (test : Pred → Bool) (ps : List Pred) (i : ℕ) → position test ps ≡ Some i → (i ≡ position_or_len test ps) × (i < length ps)
@@ -54,12 +67,3 @@ none_at name ps e =
     let test = λ (q : Pred). bytes_eq (name_bytes q.name) name in
     sym (named_like name ps) ∙ ap (option_map pred_of)
     (find_at test ps ∙ slice_get_past ps (position_or_len test ps) (no_position test ps e))
-
--- a number that has a predicate is within
-pub within_at : (ps : List Pred) (i : ℕ) (p : PredOf) → slice_get (map pred_of ps) i ≡ Some p → i < length ps
-within_at ps i p e = subst (λ n. i < n) (length-map ps pred_of) (slice_get_within (map pred_of ps) i p e)
-
--- and the predicate in memory with this number stands for it
-pub same_at : (ps : List Pred) (i : ℕ) (p : Pred) (q : PredOf) → slice_get ps i ≡ Some p
-    → slice_get (map pred_of ps) i ≡ Some q → q ≡ pred_of p
-same_at ps i p q e f = sym (same_Some (pred_of p) q (sym (slice_get-map pred_of ps i ∙ ap (option_map pred_of) e) ∙ f))

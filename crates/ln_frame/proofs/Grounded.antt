@@ -9,7 +9,7 @@ use Rattle.ln_parse.specs.ReadsBack.{Every}
 use Rattle.ln_compile.specs.Accepted.{AreSound}
 use Rattle.ln_frame.specs.Source.{view}
 use Rattle.ln_frame.specs.Given.{Given, named}
-use Rattle.ln_frame.proofs.Likeness.{named_in, named_like}
+use Rattle.ln_frame.proofs.FindLaws.{named_in, named_like}
 
 -- each of these predicates is the first of some name
 abbrev pub AreFound : List PredOf → List PredOf → Type 0

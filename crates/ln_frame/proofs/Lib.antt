@@ -1,4 +1,3 @@
-pub mod HeaderLaws
 pub mod HeadCarry
 pub mod LinesCarry
 pub mod LinesLaws
@@ -8,6 +7,5 @@ pub mod Outcomes
 pub mod FindLaws
 pub mod Grounded
 pub mod Laws
-pub mod Likeness
 pub mod ReadyLaws
 pub mod Lightness

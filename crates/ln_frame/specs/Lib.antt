@@ -3,7 +3,6 @@ pub mod Given
 pub mod Source
 pub mod Stop
 pub mod Signature
-pub mod Columns
 pub mod Subject
 pub mod Carried
 pub mod Lines

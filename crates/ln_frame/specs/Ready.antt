@@ -1,18 +1,12 @@
 -- Defines what the program has ready for the work, and what it stands for.
-use Rattle.std.specs.Prelude.{◌≡◌, ℕ, ◌≤◌, List, [], ◌∷◌, map, length, slice_get, Some}
-use Rattle.ln_tree.specs.Table.{PredOf, pred_of}
+use Rattle.std.specs.Prelude.{◌≡◌, ℕ, ◌≤◌, List, [], ◌∷◌, map, length}
+use Rattle.ln_tree.specs.Table.{pred_of}
 use Rattle.ln_compile.specs.Accepted.{AreSound}
+use Rattle.ln_compile.specs.Compiled.{AreNumbered}
 use Rattle.ln_frame.specs.declared.ready.Ready.{Ready}
 use Rattle.ln_frame.specs.Source.{view}
 use Rattle.ln_frame.specs.Given.{Given, most_file}
 use Rattle.ln_frame.specs.Signature.{Form, Signature}
-
--- the predicates with these numbers
-abbrev pub AreNumbered : List PredOf → List ℕ → List PredOf → Type 0
-AreNumbered table [] [] = Unit {0}
-AreNumbered table [] (p ∷ ps) = ⊥
-AreNumbered table (i ∷ is) [] = ⊥
-AreNumbered table (i ∷ is) (p ∷ ps) = (slice_get table i ≡ Some p) × AreNumbered table is ps
 
 -- the further files are within their limit
 abbrev pub AreShort : List (List ℕ) → Type 0

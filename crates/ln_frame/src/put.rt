@@ -1,11 +1,12 @@
 //! Writes to a stream, and numbers in texts.
 ghost use Rattle.std.specs.Prelude.{◌≡◌, ◌++◌, ◌↔◌, [], Err, IfOk, IsTrue, decimal};
-ghost use Rattle.ln_frame.specs.Said.{count};
+ghost use Rattle.ln_frame.specs.Said.{count, line};
 ghost use Rattle.ln_frame.specs.Lines.{Sends, Wrote};
 
 use crate::status::Early;
 use itoa::Buffer;
 use ln_base::{Console, NoMemory, Port, put_all};
+use std::alloc::Global;
 
 /// Adds bytes, and after them the digits of a number.
 pub fn add_number(text: &mut Vec<u8>, front: &[u8], n: u64) -> Result<(), NoMemory>
@@ -15,6 +16,16 @@ pub fn add_number(text: &mut Vec<u8>, front: &[u8], n: u64) -> Result<(), NoMemo
     text.extend_from_slice(front)?;
     text.extend_from_slice(buffer.format(n).as_bytes())?;
     Ok(())
+}
+
+/// Returns the line of a word and a number.
+pub fn numbered(alloc: Global, word: &[u8], n: u32) -> Result<Vec<u8>, NoMemory>
+    ensures { IfOk result (λ v. v.items ≡ line (word.now ++ decimal n)) }
+{
+    let mut text = Vec::new(alloc);
+    add_number(&mut text, word, u64::from(n))?;
+    text.push(b'\n')?;
+    Ok(text)
 }
 
 /// Writes a text to Out, and returns whether all of it was written.

@@ -1,5 +1,5 @@
 //! The input of the work.
-ghost use Rattle.std.specs.Prelude.{◌≡◌, ◌≤◌, ◌<◌, [], ◌∷◌, map, length};
+ghost use Rattle.std.specs.Prelude.{◌≡◌, ◌≤◌, [], ◌∷◌, map, length};
 ghost use Rattle.std.specs.Prelude.{slice_get, slice_index_or, Some};
 ghost use Rattle.ln_tree.specs.Table.{pred_of};
 ghost use Rattle.ln_frame.specs.Source.{view};
@@ -66,13 +66,5 @@ pub fn named(ready: &Ready) -> &Pred
     requires one { length ready.now.numbers.items ≡ 1 }
     ensures { slice_get ready.now.compiled.table.preds (slice_index_or ready.now.numbers.items 0 0) ≡ Some result.now }
 {
-    pred_at(&ready.compiled, ready.numbers.as_slice()[0])
-}
-
-/// Returns predicate number `i`.
-pub fn pred_at(c: &Checked, i: usize) -> &Pred
-    requires { i < length c.now.table.preds }
-    ensures { slice_get c.now.table.preds i ≡ Some result.now }
-{
-    &c.table().preds.as_slice()[i]
+    ready.compiled.pred(ready.numbers.as_slice()[0])
 }

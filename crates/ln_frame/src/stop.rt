@@ -2,10 +2,10 @@
 ghost use Rattle.std.specs.Prelude.{◌≡◌, ◌≢◌, ◌++◌, IfOk};
 ghost use Rattle.ln_base.specs.Outside.{refused};
 ghost use Rattle.ln_frame.specs.Said.{count, line};
-ghost use Rattle.ln_frame.specs.Stop.{placed_text, point_text, why_end};
+ghost use Rattle.ln_frame.specs.Stop.{placed_text, why_end};
 ghost use Rattle.ln_frame.specs.Carried.{PutsText, Says, stop_line, stop_result};
 
-use crate::put::add_number;
+use crate::put::{add_number, numbered};
 use crate::status::{Early, End};
 use ln_base::{Console, NoMemory, Port, put_all};
 use ln_compile::Refusal;
@@ -113,15 +113,6 @@ fn placed_line(alloc: Global, word: &str, place: Place) -> Result<Vec<u8>, NoMem
     Ok(text)
 }
 
-fn point_line(alloc: Global, n: u32) -> Result<Vec<u8>, NoMemory>
-    ensures { IfOk result (λ v. v.items ≡ line (point_text n)) }
-{
-    let mut text = Vec::new(alloc);
-    add_number(&mut text, b"error point ", u64::from(n))?;
-    text.push(b'\n')?;
-    Ok(text)
-}
-
 // Returns how a stop ends.
 fn stop_result(stop: Stop) -> Result<End, Early>
     ensures { result ≡ stop_result stop }
@@ -179,7 +170,7 @@ pub fn say<C: Console>(alloc: Global, con: &mut C, stop: Stop) -> Result<End, Ea
         Stop::Tell(Why::Header) => put_line(con, stop, b"error header\n"),
         Stop::Tell(Why::Shape) => put_line(con, stop, b"error shape\n"),
         Stop::Tell(Why::Many) => put_line(con, stop, b"error many\n"),
-        Stop::Tell(Why::Point(n)) => match point_line(alloc, n) {
+        Stop::Tell(Why::Point(n)) => match numbered(alloc, b"error point ", n) {
             Ok(text) => put_line(con, stop, &text),
             Err(e) => Err(Early::Memory(e)),
         },

@@ -1,4 +1,2 @@
-pub mod Carrying
-pub mod Gathering
 pub mod Joining
 pub mod Answering

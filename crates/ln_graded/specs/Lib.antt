@@ -1,2 +1,1 @@
 pub mod Graded
-pub mod Made

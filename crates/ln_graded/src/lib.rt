@@ -6,13 +6,12 @@
 //! derivative at its stage; and the list of each order of the sites is whole where the order is. It is refused exactly where
 //! these lists have more stages, or these stages more weight, than the limits allow.
 //!
-//! The verdict that a row requires is defined in ln_due; by the law `graded_is_due` it is that of such a program. Blocks are made as
-//! ln_compile makes them, from a nested tree of the derivative; neither crate depends on the other.
+//! The verdict that a row requires is defined in ln_due; by the law `graded_is_due` it is that of such a program. The further blocks
+//! are made by ln_compile.
 //!
 //! Source: Yap's admissible orders, "Symbolic treatment of geometric degeneracies" (1990).
 #![tactic(auto)]
 
-pub(crate) mod blocks;
 pub mod laws;
 pub mod program;
 pub mod stop;

@@ -6,10 +6,10 @@ ghost use Rattle.ln_stage.specs.Lists.{stage_count, stage_weight};
 ghost use Rattle.ln_stage.specs.Staged.{vectors_of};
 ghost use Rattle.ln_graded.specs.Graded.{Begins, IsGradable, IsGraded, IsWithin, StopsFor};
 
-use crate::blocks::blocks;
 use crate::stop::GradedStop;
 use ln_base::NoMemory;
 use ln_code::{Block, FilterBlock, Program};
+use ln_compile::blocks_after;
 use ln_poly::Poly;
 use ln_stage::{StageStop, Stages, graded_stages};
 use ln_tree::Shape;
@@ -45,13 +45,13 @@ fn filter(alloc: Global, p: &Program) -> Result<Option<FilterBlock>, NoMemory>
     }
 }
 
-// The first block of a program that has one.
-fn first_block(p: &Program) -> &Block
+// The first block of a program that has one, once more.
+fn first_block(alloc: Global, p: &Program) -> Result<Block, NoMemory>
     requires { 0 < length p.now.blocks }
-    ensures first { slice_get p.now.blocks 0 ≡ Some result.now }
+    ensures first { IfOk result (λ b. slice_get p.now.blocks 0 ≡ Some b) }
     ensures kept { IsProgram p.now }
 {
-    &p.blocks()[0]
+    p.blocks()[0].copy(alloc)
 }
 
 // The program with these stages.
@@ -64,7 +64,8 @@ fn joined(alloc: Global, f: &Poly, s: &Shape, p: &Program, st: Stages) -> Result
     ensures within { IfOk result (IsWithin s.now f.now (stage_count (vectors_of (length s.now.vars) st))
         (stage_weight (length s.now.vars) f.now (vectors_of (length s.now.vars) st))) }
 {
-    let blocks = blocks(alloc, f, s, first_block(p), &st)?;
+    let first = first_block(alloc, p)?;
+    let blocks = blocks_after(alloc, f, s, first, &st)?;
     let filter = filter(alloc, p)?;
     let shape = s.copy(alloc)?;
     Ok(Program::join(shape, filter, blocks, st.into_segments()))

@@ -1,6 +1,6 @@
 -- `audit`: what it requires is carried out by a whole text; a trace is agreed or has one first line that is wrong, and where it ends.
 use Rattle.std.proofs.Common.{◌≡◌, ℕ, List, [], ◌∷◌, length, refl, ap, sym, ◌∙◌, Option, Some, Result}
-use Rattle.std.specs.Prelude.{slice_get, slice_index_or}
+use Rattle.std.specs.Prelude.{slice_get, slice_index_or, IfOk, Ok, Err}
 use Rattle.ln_base.specs.Outside.{Shown}
 use Rattle.ln_algebra.specs.Tree.{InputsBelow, Tree}
 use Rattle.ln_compile.specs.Accepted.{root_of}
@@ -31,28 +31,35 @@ use Rattle.ln_judges.specs.Audit.{AreJudged, AuditEnds, AuditSaid, HasTrace, IsA
 use Rattle.ln_judges.specs.Audit.{agreed_text, form, puts_it, rule, stops_before, wrong_text}
 use Rattle.ln_frame.specs.Carried as carried
 use Rattle.ln_frame.specs.Carried.{CarriesOut, NoPart, PutsText}
-use Rattle.ln_frame.specs.Columns.{columns_of, names_of}
+use Rattle.ln_rows.specs.Header.{columns_of, names_of}
 use Rattle.ln_frame.specs.Ready.{StandsFor}
 use Rattle.ln_frame.specs.Subject.{subject_of}
-use Rattle.ln_frame.specs.Columns.{IsWrongHeader}
+use Rattle.ln_rows.specs.Header.{IsWrongHeader}
 use Rattle.ln_frame.specs.Said.{Count, Said, whole}
 use Rattle.ln_frame.specs.Given.{Given}
 use Rattle.ln_frame.specs.Work as kind_of
 use Rattle.ln_frame.specs.Work.{IsWorkEnd}
 use Rattle.ln_frame.proofs.Loops.{Streams, faults_in}
-use Rattle.ln_frame.proofs.HeaderLaws.{tail_same}
+use Rattle.ln_rows.proofs.HeaderLaws.{tail_same}
 use Rattle.ln_frame.proofs.Carry.{text_carried, told_carried}
-use Rattle.ln_frame.proofs.Likeness.{columns_like}
-use Rattle.ln_frame.proofs.ReadyLaws.{one_numbered}
+use Rattle.ln_rows.proofs.HeaderLaws.{columns_like}
+use Rattle.ln_compile.proofs.Numbers.{one_numbered}
 use Rattle.ln_frame.proofs.Laws.{IsLawful, one_by_said, shape_objects}
 use Rattle.ln_frame.specs.Signature.{asks_nothing}
 
 -- ---- two ways to see what is given are one
+-- equal lists have equal first items
+pub firsts_same : {A : Type 0} {x y : A} {xs ys : List A} → x ∷ xs ≡ y ∷ ys → x ≡ y
+firsts_same e = cc
+
+seconds_same : {A : Type 0} {x y z w : A} → x ∷ y ∷ [] ≡ z ∷ w ∷ [] → y ≡ w
+seconds_same e = cc
+
 module _ {g : Given} {p q : PredOf} {names others : List (List ℕ)} {rs ss : Records} {t u : List ℕ}
     (h : HasTrace g p names rs t) (k : HasTrace g q others ss u) where
   -- a trace is audited by only one predicate
   pub same_pred : p ≡ q
-  same_pred = let e = h.pred in let f = k.pred in cc
+  same_pred = firsts_same (sym h.pred ∙ k.pred)
 
   -- the columns have only one list of names
   pub same_names : names ≡ others
@@ -60,15 +67,11 @@ module _ {g : Given} {p q : PredOf} {names others : List (List ℕ)} {rs ss : Re
 
   -- the rows file has only one list of records
   pub same_records : rs ≡ ss
-  same_records =
-      let e = h.texts in
-      let f = k.texts in
-      let same : h.rows ≡ k.rows = cc in
-      sym h.are ∙ ap records_in same ∙ k.are
+  same_records = sym h.are ∙ ap records_in (firsts_same (sym h.texts ∙ k.texts)) ∙ k.are
 
   -- only one text is the trace
   pub same_trace : t ≡ u
-  same_trace = let e = h.texts in let f = k.texts in cc
+  same_trace = seconds_same (sym h.texts ∙ k.texts)
 
 -- the header is right or wrong
 wrong_right : {P : Type 0} {g : Given} {p q : PredOf} {names others : List (List ℕ)} {rs ss : Records} {t u : List ℕ}
@@ -183,6 +186,11 @@ pub opened_judged : (p : PredOf) (records : Records) (trace : List ℕ) (u : Unr
 opened_judged p records trace u (Agreed n) o h =
     let a = h o.read o.left in (record { lines = o.read; text = o.trace; agreed = a.0 }, a.1)
 opened_judged p records trace u (Wrong at) o h = rule o.read o.trace (h o.read o.left)
+
+-- what follows from two facts on the value of a result
+pub then_both : {T E : Type 0} (r : Result T E) (P Q R : T → Type 0) → ((x : T) → P x → Q x → R x) → IfOk r P → IfOk r Q → IfOk r R
+then_both (Ok x) P Q R f p q = f x p q
+then_both (Err e) P Q R f p q = tt
 
 -- the judge's expression is the predicate's root
 pub judged_of : (p : Pred) (f : Sparse) (records : Records) (u : Unread) (j : Judged) → InputsBelow (length p.shape.vars) (root_of (pred_of p))

@@ -46,13 +46,15 @@ use Rattle.ln_frame.specs.declared.stop.Stop.{Stop}
 use Rattle.ln_frame.specs.declared.stop.Stop.TheVariants as stop
 use Rattle.ln_frame.specs.declared.stop.Why.{Why}
 use Rattle.ln_frame.specs.declared.stop.Why.TheVariants.{Header, Point}
+use Rattle.ln_judges.proofs.AuditLaws.{firsts_same}
 use Rattle.ln_judges.specs.Three.{is_one_of_three, is_three, one_type, type_of}
 use Rattle.ln_frame.specs.Carried.{CarriesOut, Halts, NoPart, Says, short, tells}
 use Rattle.ln_judges.specs.Edges as edges
 use Rattle.ln_judges.specs.Edges.{AreEdgesOf, AreOfType, EdgesEnds, EdgesSaid, HasPoints, HasType, HoldsPoints, IsTypeOf, ReadsPoints, edges_work}
 use Rattle.ln_judges.specs.Edges.{StopsPoints, edges_signature, point_names}
-use Rattle.ln_frame.specs.Ready.{AreNumbered, StandsFor}
-use Rattle.ln_frame.specs.Columns.{IsWrongHeader}
+use Rattle.ln_compile.specs.Compiled.{AreNumbered}
+use Rattle.ln_frame.specs.Ready.{StandsFor}
+use Rattle.ln_rows.specs.Header.{IsWrongHeader}
 use Rattle.ln_frame.specs.Said.{Said, Count, whole}
 use Rattle.ln_frame.specs.Source.{view}
 use Rattle.ln_frame.specs.Given.{Given, Outcome, stops, missing, gives}
@@ -61,34 +63,33 @@ use Rattle.ln_frame.specs.Work as kind_of
 use Rattle.ln_frame.specs.Work.{IsWorkEnd}
 use Rattle.ln_frame.proofs.Carry.{says_carried}
 use Rattle.ln_frame.proofs.Outcomes.{some_same}
-use Rattle.ln_frame.proofs.Likeness.{site_like}
-use Rattle.ln_frame.proofs.ReadyLaws as prepared
+use Rattle.ln_rows.proofs.HeaderLaws.{site_like}
+use Rattle.ln_compile.proofs.Numbers.{one_numbered}
 use Rattle.ln_frame.proofs.Laws.{IsLawful, shape_objects}
 use Rattle.ln_frame.specs.Signature.{asks_shape}
-use Rattle.ln_frame.proofs.HeaderLaws.{header_is, tail_same}
+use Rattle.ln_rows.proofs.HeaderLaws.{header_is, tail_same}
 
 -- ---- what is given is one
+same_kind : {a b c d e f : List ℕ} {k l : ℕ} → SiteArg a k ∷ SiteArg b k ∷ SiteArg c k ∷ [] ≡ SiteArg d l ∷ SiteArg e l ∷ SiteArg f l ∷ [] → k ≡ l
+same_kind e = cc
+
+same_stop : {why other : Why} → (let o : Outcome (List PointOf) = stops why in o ≡ stops other) → why ≡ other
+same_stop e = cc
+
 -- a predicate is over three sites of one type
 one_three : (t : TableOf) (p : PredOf) (a b : SiteOf) → IsOfThree t p a → IsOfThree t p b → a ≡ b
 one_three t p a b h k =
-    let e = h.args in
-    let f = k.args in
-    let same : h.kind ≡ k.kind = cc in
-    same_Some a b (sym h.there ∙ ap (slice_get t.sites) same ∙ k.there)
+    same_Some a b (sym h.there ∙ ap (slice_get t.sites) (same_kind (sym h.args ∙ k.args)) ∙ k.there)
 
 -- two ways to see what is given have one predicate
 pub same_pred : (g : Given) (p q : PredOf) (a b : SiteOf) → HasType g p a → HasType g q b → p ≡ q
-same_pred g p q a b h k = let e = h.pred in let f = k.pred in cc
+same_pred g p q a b h k = firsts_same (sym h.pred ∙ k.pred)
 
 same_type : (g : Given) (p q : PredOf) (a b : SiteOf) → HasType g p a → HasType g q b → a ≡ b
 same_type g p q a b h k = one_three g.table q a b (rw (same_pred g p q a b h k) at h.three) k.three
 
 same_records : (g : Given) (p q : PredOf) (a b : SiteOf) (rs ss : Records) → HasPoints g p a rs → HasPoints g q b ss → rs ≡ ss
-same_records g p q a b rs ss h k =
-    let e = h.text in
-    let f = k.text in
-    let same : h.bytes ≡ k.bytes = cc in
-    sym h.are ∙ ap records_in same ∙ k.are
+same_records g p q a b rs ss h k = sym h.are ∙ ap records_in (firsts_same (sym h.text ∙ k.text)) ∙ k.are
 
 -- ---- the points file comes to one thing
 not_wrong : {P : Type 0} {names : List (List ℕ)} {rs xs : Records} → IsWrongHeader names rs → rs ≡ names ∷ xs → P
@@ -149,8 +150,7 @@ one_text p q ps qs s t e f x y =
 -- the output that `edges` requires is one
 pub one_said : (g : Given) (a b : Said) → EdgesSaid g a → EdgesSaid g b → a ≡ b
 one_said g a b (edges.stopped p s rs why h x) (edges.stopped q t ss other k y) =
-    let same : why ≡ other = cc (one_outcome g p q s t rs ss (stops why) (stops other) h k x y) in
-    ap said_of same
+    ap said_of (same_stop (one_outcome g p q s t rs ss (stops why) (stops other) h k x y))
 one_said g a b (edges.stopped p s rs why h x) (edges.listed q t ss qs text k y z) = never_both g p q s t rs ss why qs h k x y
 one_said g a b (edges.listed p s rs ps text h x z) (edges.stopped q t ss other k y) = never_both g q p t s ss rs other ps k h y x
 one_said g a b (edges.listed p s rs ps text h x z) (edges.listed q t ss qs more k y w) =
@@ -162,8 +162,7 @@ ends_so g a (edges.listed p s rs ps text h x z) = edges.done p s rs ps h x refl
 
 one : (g : Given) (a b : End) → EdgesEnds g a → EdgesEnds g b → a ≡ b
 one g a b (edges.stopped p s rs why h x e) (edges.stopped q t ss other k y f) =
-    let same : why ≡ other = cc (one_outcome g p q s t rs ss (stops why) (stops other) h k x y) in
-    e ∙ ap why_end same ∙ sym f
+    e ∙ ap why_end (same_stop (one_outcome g p q s t rs ss (stops why) (stops other) h k x y)) ∙ sym f
 one g a b (edges.stopped p s rs why h x e) (edges.done q t ss qs k y f) = never_both g p q s t rs ss why qs h k x y
 one g a b (edges.done p s rs ps h x e) (edges.stopped q t ss other k y f) = never_both g q p t s ss rs other ps k h y x
 one g a b (edges.done p s rs ps h x e) (edges.done q t ss qs k y f) = e ∙ sym f
@@ -217,7 +216,7 @@ module _ (r : Ready) (g : Given) (p : PredOf) (number : ℕ) (program : Part) (p
     (given : g.preds ≡ p ∷ []) (there : slice_get (map pred_of r.compiled.table.preds) number ≡ Some p)
     (kept : IsProgram program) (answers : AnswersFor BySmallest p program) (holds : HoldsPoints g points) where
   same : holds.pred ≡ p
-  same = let e = holds.has.has.pred in cc
+  same = firsts_same (sym holds.has.has.pred ∙ given)
 
   parts : (p.sites ≡ 3) × (p.vars ≡ three_of holds.type.coords) × (length holds.type.coords ≤ 32)
   parts =
@@ -306,7 +305,7 @@ number_is args x t h i e =
 pub asked_three : (ps : List Pred) (numbers : List ℕ) (preds : List PredOf) (p : Pred) → AreNumbered (map pred_of ps) numbers preds
     → length numbers ≡ 1 → slice_get ps (slice_index_or numbers 0 0) ≡ Some p → edges_signature.suits.asks preds
     → is_three (map arg_of p.args) ≡ true
-asked_three ps numbers preds p h l e a = subst edges_signature.suits.asks (prepared.one_numbered ps numbers preds p h l e) a
+asked_three ps numbers preds p h l e a = subst edges_signature.suits.asks (one_numbered ps numbers preds p h l e) a
 
 first_within : (sites params k : ℕ) (a b c : List ℕ)
     → list_all (is_one_of sites params) (SiteArg a k ∷ SiteArg b k ∷ SiteArg c k ∷ []) ≡ true → k < sites
@@ -332,7 +331,7 @@ pub type_given : (r : Ready) (g : Given) (p : Pred) (k : ℕ) (s : Site) → Sta
 type_given r g p k s stands l e (a, b, c, are) f = record {
   pred = pred_of p;
   has = record {
-    pred = prepared.one_numbered r.compiled.table.preds r.numbers.items g.preds p stands.numbered l e;
+    pred = one_numbered r.compiled.table.preds r.numbers.items g.preds p stands.numbered l e;
     three = record {
       kind = k;
       first = a;

@@ -6,8 +6,8 @@ use Rattle.ln_tree.specs.declared.items.Arg.{Arg}
 use Rattle.ln_tree.specs.declared.pred.Pred.{Pred}
 use Rattle.ln_tree.specs.Table.{PredOf, arg_of, pred_of}
 use Rattle.ln_judges.specs.Three.{is_one_of_three, is_three}
-use Rattle.ln_frame.specs.Ready.{AreNumbered}
-use Rattle.ln_frame.proofs.ReadyLaws.{one_numbered, one_within}
+use Rattle.ln_compile.specs.Compiled.{AreNumbered}
+use Rattle.ln_compile.proofs.Numbers.{one_numbered, one_within}
 
 -- three arguments, or fewer or more
 pub not_three : (xs : List Arg) → (length xs ≡ 3 → ⊥) → false ≡ is_three (map arg_of xs)

@@ -15,9 +15,9 @@ use Rattle.ln_frame.specs.declared.status.End.TheVariants.{Done, Invalid, Rows}
 use Rattle.ln_frame.specs.declared.status.Early.{Early}
 use Rattle.ln_frame.specs.declared.status.Early.TheVariants.{Memory}
 use Rattle.ln_frame.specs.declared.stop.Why.TheVariants.{Header}
-use Rattle.ln_frame.specs.Columns.{columns_of}
+use Rattle.ln_rows.specs.Header.{columns_of}
 use Rattle.ln_frame.specs.Subject.{subject_of}
-use Rattle.ln_frame.specs.Columns.{IsWrongHeader}
+use Rattle.ln_rows.specs.Header.{IsWrongHeader}
 use Rattle.ln_frame.specs.Said.{Count, IsCalm, Said, line, whole}
 use Rattle.ln_frame.specs.Given.{Given}
 use Rattle.ln_frame.specs.Stop.{said_of}

@@ -15,8 +15,8 @@ use Rattle.ln_frame.specs.declared.status.End.TheVariants.{Done}
 use Rattle.ln_frame.specs.declared.stop.Stop.{Stop}
 use Rattle.ln_frame.specs.declared.stop.Why.{Why}
 use Rattle.ln_frame.specs.declared.stop.Why.TheVariants.{Header, Many, Point}
-use Rattle.ln_frame.specs.Columns.{site_names}
-use Rattle.ln_frame.specs.Columns.{IsWrongHeader}
+use Rattle.ln_rows.specs.Header.{site_names}
+use Rattle.ln_rows.specs.Header.{IsWrongHeader}
 use Rattle.ln_frame.specs.Said.{Said, whole}
 use Rattle.ln_frame.specs.Given.{Given, Outcome, stops, gives}
 use Rattle.ln_frame.specs.Stop.{said_of, why_end}

@@ -4,14 +4,13 @@ ghost use Rattle.ln_tree.specs.Table.{pred_of};
 ghost use Rattle.ln_stage.specs.Sound.{IsSound};
 ghost use Rattle.ln_judges.specs.Audit.{AreJudged, AuditSaid, HasTrace, IsAuditOf, PutsOrStops, audit_signature};
 ghost use Rattle.ln_frame.specs.Carried.{CarriesOut, NoPart};
-ghost use Rattle.ln_frame.specs.Columns.{names_of};
 ghost use Rattle.ln_frame.specs.Ready.{IsReadyFor, StandsFor};
-ghost use Rattle.ln_frame.specs.Columns.{HeaderIs};
+ghost use Rattle.ln_rows.specs.Header.{HeaderIs, names_of};
 ghost use Rattle.ln_frame.specs.Said.{count};
 ghost use Rattle.ln_frame.specs.Given.{Given, most_file};
 
 use ln_base::{Console, NoMemory};
-use ln_frame::put::add_number;
+use ln_frame::put::numbered;
 use ln_frame::ready::{Ready, named, two_texts};
 use ln_frame::status::{Early, End};
 use ln_frame::stop::{Stop, Why, put_text, say};
@@ -33,8 +32,7 @@ fn judged(
     ensures { IfOk result (λ j. AreJudged (pred_of p.now) rows.old lines.old j) }
 {
     let case = case_of(alloc, p)?;
-    let j = judge_lines(alloc, p, &case.poly, &case.stages, rows, lines)?;
-    Ok(j)
+    judge_lines(alloc, p, &case.poly, &case.stages, rows, lines)
 }
 
 // Returns what is judged of a trace: a form fault comes first.
@@ -48,16 +46,6 @@ fn audited(alloc: Global, p: &Pred, rows: &mut Rows<'_>, trace: &[u8]) -> Result
         Err(TraceStop::Form(at)) => Ok(Judged::Wrong(at)),
         Err(TraceStop::NoMemory(e)) => Err(e),
     }
-}
-
-// `agreed N` or `wrong LINE`.
-fn numbered(alloc: Global, word: &[u8], n: u32) -> Result<Vec<u8>, NoMemory>
-    ensures { IfOk result (λ v. v.items ≡ (word.now ++ decimal n) ++ codes "\n") }
-{
-    let mut text = Vec::new(alloc);
-    add_number(&mut text, word, u64::from(n))?;
-    text.push(b'\n')?;
-    Ok(text)
 }
 
 // Writes what is judged of a trace.

@@ -91,8 +91,7 @@ fn lines(alloc: Global, ready: &Ready, points: &[Point]) -> Result<Vec<u8>, NoMe
     // The contract of `blocks` states that the program follows the rules.
     let _blocks = program.blocks();
     let mut scratch = Scratch::new(alloc, &program)?;
-    let text = edge_lines(alloc, &program, &mut scratch, points)?;
-    Ok(text)
+    edge_lines(alloc, &program, &mut scratch, points)
 }
 
 // Writes the lines of the edges.

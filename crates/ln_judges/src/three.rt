@@ -2,7 +2,7 @@
 ghost use Rattle.std.specs.Prelude.{◌≡◌, ◌<◌, All, List, length, map, Some};
 ghost use Rattle.ln_tree.specs.Table.{PredOf, arg_of, pred_of};
 ghost use Rattle.ln_judges.specs.Three.{is_one_of_three, is_three, one_type, type_of};
-ghost use Rattle.ln_frame.specs.Ready.{AreNumbered};
+ghost use Rattle.ln_compile.specs.Compiled.{AreNumbered};
 
 use ln_tree::{Arg, Pred};
 

@@ -1,13 +1,13 @@
 //! The work of `verify`: a listing is judged against its source.
-ghost use Rattle.std.specs.Prelude.{◌≡◌, ◌++◌, IfOk, MatchOption, codes, decimal};
+ghost use Rattle.std.specs.Prelude.{IfOk, MatchOption};
 ghost use Rattle.ln_frame.specs.Carried.{CarriesOut, NoPart};
 ghost use Rattle.ln_frame.specs.Ready.{IsReadyFor, StandsFor};
-ghost use Rattle.ln_frame.specs.Said.{count, line};
+ghost use Rattle.ln_frame.specs.Said.{count};
 ghost use Rattle.ln_frame.specs.Given.{Given};
 ghost use Rattle.ln_judges.specs.Verify.{HasFault, HasValid, VerifySaid, verify_signature};
 
 use ln_base::{Console, NoMemory};
-use ln_frame::put::add_number;
+use ln_frame::put::numbered;
 use ln_frame::ready::{Ready, short_text, sound_table};
 use ln_frame::status::{Early, End};
 use ln_frame::stop::put_text;
@@ -25,16 +25,6 @@ fn first_fault(alloc: Global, ready: &Ready) -> Result<Option<u32>, NoMemory>
     }
 }
 
-// `invalid LINE`.
-fn fault_text(alloc: Global, at: u32) -> Result<Vec<u8>, NoMemory>
-    ensures { IfOk result (λ v. v.items ≡ line (codes "invalid " ++ decimal at)) }
-{
-    let mut text = Vec::new(alloc);
-    add_number(&mut text, b"invalid ", u64::from(at))?;
-    text.push(b'\n')?;
-    Ok(text)
-}
-
 /// Writes `valid`, or `invalid LINE`.
 pub fn work<C: Console>(alloc: Global, con: &mut C, ready: &Ready) -> Result<End, Early>
     requires { IsReadyFor verify_signature ready.now }
@@ -45,6 +35,6 @@ pub fn work<C: Console>(alloc: Global, con: &mut C, ready: &Ready) -> Result<End
     let Some(at) = fault else {
         return put_text(con, b"valid\n", End::Done);
     };
-    let text = fault_text(alloc, at)?;
+    let text = numbered(alloc, b"invalid ", at)?;
     put_text(con, &text, End::Invalid)
 }

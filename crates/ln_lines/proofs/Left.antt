@@ -169,3 +169,16 @@ module _ {S L : Type 0} (R : Rules S L) (sound : AreSound R) where
   taken u w l t k b m c d =
       let n : length w.text ≡ length u.text - k = ap length d ∙ length-drop k u.text in
       record { goes_on = goes_on u w l t k b c d; next = m; shorter = omega (arith, b.some, b.within) }
+
+-- ---- lines that are gathered
+-- of all that were left, these were taken, and the others are left
+abbrev pub Gathered : {S L : Type 0} → Rules S L → Rules S L → Unread S → Unread S → List L → Type 0
+Gathered {L = L} R Q old now done = (ls : List L) → AreLeft R old ls → (behind : List L) × (ls ≡ done ++ behind) × AreLeft Q now behind
+
+-- one line more
+pub gathered_more : {S L : Type 0} (R P Q : Rules S L) (old u w : Unread S) (done more : List L) (l : L) → Gathered R P old u done
+    → ((ls : List L) → AreLeft P u ls → GoesOn Q ls l w) → more ≡ done ++ (l ∷ []) → Gathered R Q old w more
+gathered_more R P Q old u w done more l g t q ls h =
+    let p = g ls h in
+    let k = t p.0 p.2 in
+    (k.behind, p.1 ∙ ap (λ x. done ++ x) k.first ∙ sym (append_assoc done (l ∷ []) k.behind) ∙ ap (λ x. x ++ k.behind) (sym q), k.left)

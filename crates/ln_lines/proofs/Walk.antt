@@ -1,5 +1,5 @@
 -- Where lines lead.
-use Rattle.std.proofs.Common.{◌≡◌, ℕ, List, [], ◌∷◌, ◌++◌, map, Option, Some, None, refl, sym, ap, ◌∙◌}
+use Rattle.std.proofs.Common.{◌≡◌, ℕ, ◌≤◌, List, [], ◌∷◌, ◌++◌, length, map, Option, Some, None, refl, sym, ap, ◌∙◌, arith, length-append}
 use Rattle.ln_base.specs.Exponents.{Each}
 use Rattle.ln_base.specs.Lines.{joined, lines, parted, words}
 use Rattle.ln_base.proofs.Texts.Lines.{lines_of_each, snoc_same}
@@ -33,6 +33,15 @@ some_next R (Some u) ls t e = (u, refl)
 
 -- ---- the text of a line
 module _ {S L : Type 0} (R : Rules S L) where
+  joined_many : (ls : List L) → length ls ≤ length (joined (map (text_of R) ls))
+  joined_many [] = omega arith
+  joined_many (l ∷ ls) =
+      omega (arith, length-append (text_of R l) (joined (map (text_of R) ls)), length-append (parted (R.words_of l)) (10 ∷ []), joined_many ls)
+
+  -- a text has no more lines than bytes
+  pub few_lines : (bs : List ℕ) (ls : List L) → bs ≡ joined (texts_of R ls) → length ls ≤ length bs
+  few_lines bs ls e = omega (arith, ap length e, length-append R.first (joined (map (text_of R) ls)), joined_many ls)
+
   -- bytes with the words of a line are its text, up to the line feed
   pub words_line : (body : List ℕ) (l : L) → words body ≡ R.words_of l → body ++ (10 ∷ []) ≡ text_of R l
   words_line body l e = ap (λ (x : List ℕ). x ++ (10 ∷ [])) (sym (parted_words body) ∙ ap parted e)

@@ -2,3 +2,4 @@
 pub mod Form
 pub mod Fault
 pub mod Unread
+pub mod Judge

@@ -4,3 +4,4 @@ pub mod Left
 pub mod Line
 pub mod Plain
 pub mod Columns
+pub mod Header

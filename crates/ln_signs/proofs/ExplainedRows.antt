@@ -55,9 +55,11 @@ use Rattle.ln_trace.specs.Text.{text_of_line, text_of_lines}
 use Rattle.ln_trace.specs.Told.{stop_at, up_to_first}
 use Rattle.ln_frame.specs.Subject.{subject_of}
 use Rattle.ln_frame.specs.declared.ready.Ready.{Ready}
-use Rattle.ln_frame.specs.Ready.{AreNumbered, StandsFor}
+use Rattle.ln_compile.specs.Compiled.{AreNumbered}
+use Rattle.ln_frame.specs.Ready.{StandsFor}
 use Rattle.ln_frame.specs.Given.{Given}
-use Rattle.ln_signs.specs.Target.{Belongs, IsGivenBy, TargetOf, pred_in}
+use Rattle.ln_target.specs.Target.{Belongs, TargetOf, pred_in}
+use Rattle.ln_signs.specs.Named.{IsGivenBy}
 use Rattle.ln_frame.proofs.Lightness.{light_of}
 use Rattle.ln_signs.specs.Explain.{ExplainLine}
 use Rattle.ln_signs.proofs.OneLine.{by_read, line_of}

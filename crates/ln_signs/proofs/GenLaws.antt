@@ -28,10 +28,10 @@ use Rattle.ln_gen.specs.GenRow.{words, past}
 use Rattle.ln_signs.specs.Gen.{Draw, draw, drawn, draws, seeded, GenStep, GenSaid, made, GenEnds, done, gen_work}
 use Rattle.ln_frame.specs.Lines as l
 use Rattle.ln_frame.specs.Lines.{Lines, PutsOne, Wrote}
-use Rattle.ln_signs.specs.Target.{Belongs, TargetOf, pred_in}
+use Rattle.ln_target.specs.Target.{Belongs, TargetOf, pred_in}
 use Rattle.ln_frame.specs.Work as kind_of
 use Rattle.ln_frame.specs.Work.{IsWorkEnd}
-use Rattle.ln_signs.proofs.TargetLaws.{owed_there}
+use Rattle.ln_target.proofs.TargetLaws.{owed_there}
 use Rattle.ln_frame.proofs.Loops.{Written, StepTo, Streams, faults_in, each_good}
 use Rattle.ln_frame.proofs.LinesLaws.{Writing, running_none, no_last, SameLines, one_lines}
 use Rattle.ln_frame.proofs.LinesCarry.{Task, IsByLines}

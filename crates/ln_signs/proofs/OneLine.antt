@@ -5,7 +5,7 @@ use Rattle.ln_tree.specs.Table.{PredOf}
 use Rattle.ln_code.specs.declared.verdict.Verdict.{Verdict}
 use Rattle.ln_rows.specs.Record.{read_row}
 use Rattle.ln_rows.specs.declared.record.RowStop.{RowStop}
-use Rattle.ln_signs.specs.Line.{SaysOf, due, is_bare, refused_}
+use Rattle.ln_target.specs.Line.{SaysOf, due, is_bare, refused_}
 use Rattle.ln_signs.specs.Rows.{SaysLine}
 
 -- a record is read as one row

@@ -1,115 +1,35 @@
 -- `product`: each record has a line, and one line, and so what it requires is one.
-use Rattle.std.proofs.Common.{◌≡◌, ℕ, zero, suc, ◌<◌, List, [], ◌∷◌, ◌++◌, length, take, refl, ap, sym, ◌∙◌, true}
-use Rattle.std.proofs.Common.{subst, arith, Some, None, Ok, All}
-use Rattle.std.specs.Prelude.{slice_get, ◌*ℤ◌}
-use Rattle.std.proofs.lemmas.List.Elements.{All-head, All-tail}
+use Rattle.std.proofs.Common.{◌≡◌, ℕ, List, [], ◌∷◌, ◌++◌, refl, ap, sym, ◌∙◌, true, subst, None, Ok}
+use Rattle.std.specs.Prelude.{◌*ℤ◌}
 use Rattle.ln_base.specs.declared.sign.Sign.{Sign}
 use Rattle.ln_base.specs.declared.sign.Sign.TheVariants.{Minus, Zero, Plus}
 use Rattle.ln_algebra.specs.Product.{multiplied_numbers}
 use Rattle.ln_tree.specs.declared.shape.Shape.{Shape}
-use Rattle.ln_tree.specs.declared.shape.VarInfo.{VarInfo}
 use Rattle.ln_tree.specs.Row.{InRange, Row}
 use Rattle.ln_tree.specs.Table.{PredOf, pred_of, TableOf}
 use Rattle.ln_tree.specs.declared.pred.Pred.{Pred}
 use Rattle.ln_frame.specs.Said.{line}
 use Rattle.ln_frame.specs.Given.{Given}
-use Rattle.ln_signs.specs.Factors.{AreFactors, AreProgramsAt, FactorsOf, IsInRangeOf}
-use Rattle.ln_signs.specs.Line.{decider_text}
+use Rattle.ln_target.specs.Alike.{are_alike}
+use Rattle.ln_target.specs.Factors.{AreFactors, AreProgramsAt, FactorsOf}
+use Rattle.ln_target.specs.Line.{decider_text}
+use Rattle.ln_target.proofs.FactorsLaws.{range_as, IsOver, alike_over, owed_all}
 use Rattle.ln_signs.specs.Product.{AreDue, IsMultiplied, Multiplied, ProductLine, deciders_after, product_text, product_work}
 use Rattle.ln_frame.proofs.Laws.{IsLawful, shape_objects}
 use Rattle.ln_frame.proofs.Grounded.{IsGrounded, each_found}
-use Rattle.ln_code.specs.declared.row.Row as code
 use Rattle.ln_code.specs.declared.verdict.Verdict.{Verdict}
-use Rattle.ln_code.specs.Kept.{IsProgram}
-use Rattle.ln_code.specs.Part.{Part}
-use Rattle.ln_code.specs.RowOf.{row_of}
-use Rattle.ln_code.specs.Verdict.{IsVerdict}
-use Rattle.ln_code.proofs.Verdicts.Machine.{programs-run, rows-have}
 use Rattle.ln_due.specs.Due.{sign_number}
 use Rattle.ln_due.specs.DueLaw.{Agree}
 use Rattle.ln_due.proofs.Verdicts.UniqueLemmas.{sign-number-same}
-use Rattle.ln_factor.specs.Factors.{AreOver, AreVerdicts, IsFactor, IsRowOfFactors, numbers_of}
-use Rattle.ln_compile.specs.Compiled.{IsProgramOf}
-use Rattle.ln_compile.proofs.Listing.FilteredLemmas.{one_due, programs_answer}
+use Rattle.ln_factor.specs.Factors.{numbers_of}
+use Rattle.ln_compile.proofs.Listing.FilteredLemmas.{one_due}
 use Rattle.ln_rows.proofs.Fields.RangeLemmas.{row_in_range}
 use Rattle.ln_parse.specs.ReadsBack.{Every}
 use Rattle.ln_parse.proofs.Wholes.WholeParts.{PredParts, table_parts}
-use Rattle.ln_parse.proofs.ReadBack.InputsThere.{at_place}
-use Rattle.ln_signs.proofs.FactorsLaws.{range_as, IsOver, alike_over}
 use Rattle.ln_frame.specs.Signature.{asks_shape}
-use Rattle.ln_signs.specs.Alike.{are_alike}
 use Rattle.ln_frame.specs.Source.{view}
 use Rattle.ln_signs.proofs.OneLine.{line_of, said_there, says_alike}
 use Rattle.ln_signs.proofs.RowsLaws.{HasLines, HasOneLine, SameLine, lawful_rows, one_line, unseen}
-
--- ---- verdicts
-module _ (sites : ℕ) (vars : List VarInfo) (programs : List Part)
-    (kept : (i : ℕ) (part : Part) → slice_get programs i ≡ Some part → IsProgram part) where
-  later : (k : ℕ) (ks : List ℕ) (j : ℕ) (part : Part) → IsFactor programs ks j part → IsFactor programs (k ∷ ks) (suc j) part
-  later k ks j part f = record { place = f.place; named = f.named; there = f.there }
-
-  -- the verdict of each factor's machine is the one that the row requires
-  pub due_all : (r : code.Row) (ks : List ℕ) (ps : List PredOf) (vs : List Verdict) → AreOver sites vars programs ks
-      → AreVerdicts programs ks r vs → InRange sites vars (row_of sites vars r) → All (λ i. i < length programs) ks
-      → AreProgramsAt programs ks ps → AreDue ps (row_of sites vars r) vs
-  due_all r [] [] [] o ve range pl a = tt
-  due_all r [] [] (v ∷ vs) o ve range pl a = absurd (omega (arith, ve.size))
-  due_all r [] (p ∷ ps) vs o ve range pl a = absurd a
-  due_all r (k ∷ ks) [] vs o ve range pl a = absurd a
-  due_all r (k ∷ ks) (p ∷ ps) [] o ve range pl a = absurd (omega (arith, ve.size))
-  due_all r (k ∷ ks) (p ∷ ps) (v ∷ vs) o ve range pl a =
-      let here = at_place programs k (All-head (λ (i : ℕ). i < length programs) k ks pl) in
-      let f : IsFactor programs (k ∷ ks) 0 here.0 = record { place = k; named = refl; there = here.1 } in
-      let same = o 0 here.0 f in
-      let carries : IsProgramOf p here.0 = a.0 here.0 here.1 in
-      let verdict : IsVerdict here.0 (row_of sites vars r) v = rw (same.0, same.1) at (ve.each 0 here.0 v f refl) in
-      let within = range_as sites p.sites vars p.vars (row_of sites vars r) (sym same.0 ∙ carries.sites) (sym same.1 ∙ carries.vars)
-      range in (
-        programs_answer p here.0 (row_of sites vars r) v (kept k here.0 here.1) carries within verdict,
-        due_all r ks ps vs (λ j part g. o (suc j) part (later k ks j part g))
-            (record { size = omega (arith, ve.size); each = λ j part u g e. ve.each (suc j) part u (later k ks j part g) e })
-            range (All-tail (λ (i : ℕ). i < length programs) k ks pl) a.1,
-      )
-
-  -- each factor requires a verdict of a row in range
-  pub owed_all : (row : Row) (ks : List ℕ) (ps : List PredOf) → AreOver sites vars programs ks → InRange sites vars row
-      → All (λ i. i < length programs) ks → AreProgramsAt programs ks ps → (vs : List Verdict) × AreDue ps row vs
-  owed_all row [] [] o range pl a = ([], tt)
-  owed_all row [] (p ∷ ps) o range pl a = absurd a
-  owed_all row (k ∷ ks) [] o range pl a = absurd a
-  owed_all row (k ∷ ks) (p ∷ ps) o range pl a =
-      let here = at_place programs k (All-head (λ (i : ℕ). i < length programs) k ks pl) in
-      let f : IsFactor programs (k ∷ ks) 0 here.0 = record { place = k; named = refl; there = here.1 } in
-      let same = o 0 here.0 f in
-      let carries : IsProgramOf p here.0 = a.0 here.0 here.1 in
-      let inside = range_as sites here.0.shape.sites vars here.0.shape.vars row (sym same.0) (sym same.1) range in
-      let within = range_as sites p.sites vars p.vars row (sym same.0 ∙ carries.sites) (sym same.1 ∙ carries.vars) range in
-      let v = rows-have here.0 row (programs-run here.0 (kept k here.0 here.1)) inside in
-      let rest = owed_all row ks ps (λ j part g. o (suc j) part (later k ks j part g)) range
-      (All-tail (λ (i : ℕ). i < length programs) k ks pl) a.1 in
-      (v.0 ∷ rest.0, (programs_answer p here.0 row v.0 (kept k here.0 here.1) carries within v.1, rest.1))
-
--- the row that arrays hold is one of factors, and their verdicts on it are those required
-pub row_of_factors : (t : FactorsOf) (programs : List Part) (which : List ℕ) (r : code.Row) → AreFactors t → programs ≡ t.programs
-    → which ≡ t.which → IsInRangeOf t.pred r → IsRowOfFactors programs which r
-row_of_factors t programs which r f e w range =
-    record { sites = t.pred.shape.sites; vars = t.pred.shape.vars; alike = rw (e, w) f.over; range = range }
-
--- a slice that was filled in is in its vector
-pub take_front : (n : ℕ) (xs ys : List Verdict) → n ≡ length xs → take n (xs ++ ys) ≡ xs
-take_front zero [] ys e = refl
-take_front zero (x ∷ xs) ys e = absurd (omega (arith, e))
-take_front (suc n) [] ys e = absurd (omega (arith, e))
-take_front (suc n) (x ∷ xs) ys e = ap (λ (zs : List Verdict). x ∷ zs) (take_front n xs ys (omega (arith, e)))
-
--- the verdicts of the factors' programs on a row in range are those that it requires of the factors
-pub due_for : (t : FactorsOf) (which : List ℕ) (r : code.Row) (vs shown : List Verdict) → AreFactors t → which ≡ t.which
-    → IsInRangeOf t.pred r → AreVerdicts t.programs which r vs → shown ≡ vs
-    → (ps : List PredOf) → AreProgramsAt t.programs t.which ps → AreDue ps (row_of t.pred.shape.sites t.pred.shape.vars r) shown
-due_for t which r vs shown f w range ve same ps a =
-    let there : AreVerdicts t.programs t.which r vs = subst (λ (ks : List ℕ). AreVerdicts t.programs ks r vs) w ve in
-    subst (λ (us : List Verdict). AreDue ps (row_of t.pred.shape.sites t.pred.shape.vars r) us) (sym same)
-    (due_all t.pred.shape.sites t.pred.shape.vars t.programs f.kept r t.which ps vs f.over there range f.places a)
 
 -- ---- the sign of a product
 times_there : (s t : Sign) → (u : Sign) × (sign_number u ≡ sign_number s *ℤ sign_number t)

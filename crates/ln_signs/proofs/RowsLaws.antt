@@ -10,7 +10,7 @@ use Rattle.ln_watch.specs.Panel.{State, last_lines}
 use Rattle.ln_frame.specs.declared.status.Early.TheVariants.{Write}
 use Rattle.ln_frame.specs.Said.{Said, count}
 use Rattle.ln_frame.specs.Given.{Given}
-use Rattle.ln_signs.specs.Line.{is_row}
+use Rattle.ln_target.specs.Line.{is_row}
 use Rattle.ln_frame.specs.Lines as l
 use Rattle.ln_frame.specs.Lines.{Lines, Takes, Wrote, all_good, took, tore}
 use Rattle.ln_signs.specs.Run as run
@@ -18,7 +18,7 @@ use Rattle.ln_signs.specs.Run.{HasRecords, RunEnds, end_of}
 use Rattle.ln_signs.specs.Rows as rows
 use Rattle.ln_signs.specs.Rows.{LineOf, RowStep, RowsPart, RowsSaid, SaysLine, rows_work, said_of_rows}
 use Rattle.ln_signs.specs.Watching.{Watching, watching, next_lines, next, last_of}
-use Rattle.ln_frame.proofs.HeaderLaws.{tail_same}
+use Rattle.ln_rows.proofs.HeaderLaws.{tail_same}
 use Rattle.ln_signs.proofs.RunLaws.{ends_by, same_given, wrong_right}
 use Rattle.ln_frame.proofs.Loops.{StepTo, Written}
 use Rattle.ln_signs.proofs.WatchingLaws.{none_left, none_told}

@@ -9,14 +9,14 @@ use Rattle.ln_rows.specs.Record.{read_row}
 use Rattle.ln_rows.specs.declared.record.RowStop.{RowStop}
 use Rattle.ln_frame.specs.declared.status.End.{End}
 use Rattle.ln_frame.specs.Given.{Given}
-use Rattle.ln_frame.specs.Columns.{columns_of, IsWrongHeader}
-use Rattle.ln_signs.specs.Line.{is_read, is_row}
+use Rattle.ln_rows.specs.Header.{columns_of, IsWrongHeader}
+use Rattle.ln_target.specs.Line.{is_read, is_row}
 use Rattle.ln_frame.specs.Lines.{all_good}
 use Rattle.ln_frame.specs.Work as kind_of
 use Rattle.ln_frame.specs.Work.{IsWorkEnd}
 use Rattle.ln_signs.specs.Run as run
 use Rattle.ln_signs.specs.Run.{RunEnds, HasRecords, IsRow, IsNoRow, end_of}
-use Rattle.ln_frame.proofs.HeaderLaws.{tail_same}
+use Rattle.ln_rows.proofs.HeaderLaws.{tail_same}
 
 -- a record that is a row in range, and one that isn't
 as_row : (p : PredOf) (fields : List (List ℕ)) (o : Result Row RowStop) → read_row p.sites p.vars fields ≡ o

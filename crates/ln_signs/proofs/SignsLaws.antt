@@ -19,14 +19,14 @@ use Rattle.ln_frame.specs.Said.{Count, line}
 use Rattle.ln_frame.specs.Stop.{why_end}
 use Rattle.ln_frame.specs.Signature.{asks_nothing}
 use Rattle.ln_signs.specs.Graded.{FirstHasFew, many_stages}
-use Rattle.ln_signs.specs.Line.{said_text}
+use Rattle.ln_target.specs.Line.{said_text}
 use Rattle.ln_signs.specs.Signs.{RunLine, RunPart, RunSaid, graded_work, run_work, shown_of}
-use Rattle.ln_signs.specs.Target.{Belongs, TargetOf, pred_in}
+use Rattle.ln_target.specs.Target.{Belongs, TargetOf, pred_in}
 use Rattle.ln_signs.specs.Watching.{watching}
 use Rattle.ln_frame.proofs.Laws.{IsLawful, shape_objects, usage_other}
 use Rattle.ln_signs.proofs.OneLine.{line_of, said_there, says_alike}
 use Rattle.ln_signs.proofs.RowsLaws.{HasLines, HasOneLine, SameLine, lawful_rows, one_line, unseen}
-use Rattle.ln_signs.proofs.TargetLaws.{owed_there}
+use Rattle.ln_target.proofs.TargetLaws.{owed_there}
 use Rattle.ln_signs.proofs.WatchingLaws.{left_alike, lines_alike}
 
 -- each record has a line

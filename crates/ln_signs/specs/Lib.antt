@@ -1,12 +1,9 @@
-pub mod Alike
 pub mod Graded
-pub mod Target
-pub mod Line
 pub mod Watching
 pub mod Run
 pub mod Rows
 pub mod Signs
-pub mod Factors
 pub mod Product
 pub mod Explain
 pub mod Gen
+pub mod Named

@@ -1,31 +1,19 @@
 -- `product FILE NAME NAME.. ROWS`: a line for each record after the header, with the sign of the product and each factor's decider.
-use Rattle.std.specs.Prelude.{◌≡◌, ℕ, List, [], ◌∷◌, ◌++◌, Result, Ok, Err, codes, true, None}
-use Rattle.ln_base.specs.declared.sign.Sign.{Sign}
+use Rattle.std.specs.Prelude.{◌≡◌, ℕ, List, [], codes, true, None, Result}
 use Rattle.ln_algebra.specs.Product.{multiplied_numbers}
-use Rattle.ln_tree.specs.Row.{Row}
 use Rattle.ln_tree.specs.Table.{PredOf}
-use Rattle.ln_code.specs.declared.verdict.Verdict.{Verdict}
 use Rattle.ln_due.specs.Due.{sign_number}
 use Rattle.ln_factor.specs.Factors.{numbers_of}
-use Rattle.ln_compile.specs.Filtered.{IsDue}
 use Rattle.ln_rows.specs.declared.record.RowStop.{RowStop}
+use Rattle.ln_target.specs.Alike.{are_alike}
+pub use Rattle.ln_target.specs.Factors.{AreDue}
+use Rattle.ln_target.specs.Line.{SaysOf}
+pub use Rattle.ln_target.specs.Line.{Multiplied, deciders_after, product_text}
 use Rattle.ln_frame.specs.Said.{Said, line}
 use Rattle.ln_frame.specs.Given.{Given}
-use Rattle.ln_signs.specs.Line.{SaysOf, decider_text, sign_text, stop_text}
 use Rattle.ln_frame.specs.Work.{Work}
 use Rattle.ln_frame.specs.Signature.{Signature, asks_shape}
-use Rattle.ln_signs.specs.Alike.{are_alike}
-use Rattle.ln_signs.specs.Factors.{Paired}
 use Rattle.ln_signs.specs.Rows.{LineOf, RowsPart, RowsSaid, SaysLine, rows_work}
-
--- each factor has a verdict that the row requires of it
-abbrev pub AreDue : List PredOf → Row → List Verdict → Type 0
-AreDue ps row = Paired (λ p. IsDue p row) ps
-
--- a sign and the verdicts of the factors
-pub record Multiplied : Type 0 where
-  pub sign : Sign
-  pub verdicts : List Verdict
 
 -- the sign is the product of the verdicts' signs
 abbrev pub IsMultiplied : Multiplied → Type 0
@@ -35,25 +23,6 @@ IsMultiplied m = sign_number m.sign ≡ multiplied_numbers (numbers_of m.verdict
 -- row, or why the record is invalid
 abbrev pub SaysProduct : PredOf → List PredOf → List (List ℕ) → Result Multiplied RowStop → Type 0
 SaysProduct p ps = SaysOf (λ row m. AreDue ps row m.verdicts × IsMultiplied m) p
-
--- the deciders of verdicts: this byte before the first, and a comma before each further one
-abbrev pub deciders_after : ℕ → List Verdict → List ℕ
-deciders_after byte [] = []
-deciders_after byte (v ∷ vs) = byte ∷ decider_text v.by ++ deciders_after 44 vs
-
--- the sign, a space and the deciders, with commas between; or why the record is invalid
-abbrev pub product_text : List (List ℕ) → Result Multiplied RowStop → List ℕ
-product_text names (Ok m) = sign_text m.sign ++ deciders_after 32 m.verdicts
-product_text names (Err stop) = stop_text names stop
-
--- what is said with these verdicts
-abbrev pub with_verdicts : List Verdict → Result Sign RowStop → Result Multiplied RowStop
-with_verdicts vs (Ok s) = Ok (record { sign = s; verdicts = vs })
-with_verdicts vs (Err stop) = Err stop
-
--- the room that eight deciders fit in, in bytes
-abbrev pub deciders_room : ℕ
-deciders_room = 328
 
 -- the line of a record of a product of these predicates; watchers are shown nothing
 abbrev pub ProductLine : List PredOf → LineOf

@@ -9,10 +9,10 @@ use Rattle.ln_frame.specs.declared.stop.Why.TheVariants.{Header}
 use Rattle.ln_frame.specs.Said.{Said}
 use Rattle.ln_frame.specs.Stop.{said_of}
 use Rattle.ln_frame.specs.Given.{Given}
-use Rattle.ln_signs.specs.Line.{is_row}
+use Rattle.ln_target.specs.Line.{is_row}
 use Rattle.ln_frame.specs.Lines.{Lines, all_good}
 use Rattle.ln_signs.specs.Run.{HasRecords, RunEnds, end_of}
-use Rattle.ln_frame.specs.Columns.{IsWrongHeader}
+use Rattle.ln_rows.specs.Header.{IsWrongHeader}
 use Rattle.ln_frame.specs.Work.{Work}
 use Rattle.ln_signs.specs.Watching.{Watching, watching, next_lines, next, last_of}
 

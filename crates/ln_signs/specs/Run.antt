@@ -8,7 +8,7 @@ use Rattle.ln_rows.specs.declared.record.RowStop.{RowStop}
 use Rattle.ln_frame.specs.declared.status.End.{End}
 use Rattle.ln_frame.specs.declared.status.End.TheVariants.{Done, Rows}
 use Rattle.ln_frame.specs.Given.{Given}
-use Rattle.ln_frame.specs.Columns.{columns_of, IsWrongHeader}
+use Rattle.ln_rows.specs.Header.{columns_of, IsWrongHeader}
 use Rattle.ln_frame.specs.Signature.{Signature, asks_nothing}
 use Rattle.ln_signs.specs.Graded.{FirstHasFew, many_stages}
 
@@ -20,10 +20,6 @@ end_of false = Rows
 -- this many bytes are gathered before they are written
 abbrev pub piece : ℕ
 piece = 65536
-
--- the room that a line fits in that names no column; the longest is that of a product of eight factors
-abbrev pub row_room : ℕ
-row_room = 330
 
 -- the room for a piece and one more line
 abbrev pub piece_room : ℕ

@@ -7,7 +7,7 @@ use Rattle.ln_rows.specs.declared.record.RowStop.{RowStop}
 use Rattle.ln_watch.specs.Panel.{State}
 use Rattle.ln_frame.specs.Said.{Said, line}
 use Rattle.ln_frame.specs.Given.{Given}
-use Rattle.ln_signs.specs.Line.{Says, said_text}
+use Rattle.ln_target.specs.Line.{Says, said_text}
 use Rattle.ln_signs.specs.Rows.{LineOf, RowsPart, RowsSaid, SaysLine, rows_work}
 use Rattle.ln_frame.specs.Work.{Work}
 

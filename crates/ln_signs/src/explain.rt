@@ -8,18 +8,19 @@ ghost use Rattle.ln_signs.specs.Explain.{ExplainPart, ExplainSaid, explain_signa
 ghost use Rattle.ln_frame.specs.Ready.{IsReadyFor, StandsFor};
 ghost use Rattle.ln_frame.specs.Said.{count};
 ghost use Rattle.ln_frame.specs.Given.{Given};
-ghost use Rattle.ln_signs.specs.Target.{Belongs};
+ghost use Rattle.ln_target.specs.Target.{Belongs};
 ghost use Rattle.ln_tree.specs.Table.{pred_of};
 ghost use Rattle.ln_trace.specs.Text.{first_line};
 
-use crate::records::{RecordWriter, put_lines};
-use crate::target::{Target, one_target};
+use crate::named::one_target;
+use crate::records::{Record, RecordWriter, put_lines};
 use crate::watching::no_watchers;
 use ln_base::{Console, NoMemory};
-use ln_code::{Row, Scratch, Verdict};
+use ln_code::{Scratch, Verdict};
 use ln_frame::ready::{Ready, short_text};
 use ln_frame::status::{Early, End};
-use ln_rows::{RowStop, Rows};
+use ln_rows::Rows;
+use ln_target::target::Target;
 use ln_trace::{explain_row, put_refused};
 use ln_tree::Pred;
 use std::alloc::Global;
@@ -65,21 +66,20 @@ impl<'a> RecordWriter for Explainer<'a> {
 
     fn add(
         &self,
-        alloc: Global,
         room: &mut Scratch,
         number: u32,
-        read: Result<(), RowStop>,
-        row: &Row,
+        record: Record<'_>,
         text: &mut Vec<u8>,
     ) -> Result<Option<Verdict>, NoMemory> {
-        match read {
+        let alloc = *text.allocator();
+        match record.read {
             Ok(()) => {
                 explain_row(
                     alloc,
                     self.target.program(),
                     room,
                     u64::from(number),
-                    row,
+                    record.row,
                     text,
                 )?;
                 Ok(None)

@@ -5,15 +5,16 @@ ghost use Rattle.ln_tree.specs.Table.{PredOf, pred_of};
 ghost use Rattle.ln_compile.specs.Filtered.{AnswersFor};
 ghost use Rattle.ln_frame.specs.Carried.{CarriesOut};
 ghost use Rattle.ln_signs.specs.Graded.{FirstHasFew, HasFewGraded, KeepsGraded};
-ghost use Rattle.ln_frame.specs.Ready.{AreNumbered, IsReadyFor, StandsFor};
+ghost use Rattle.ln_compile.specs.Compiled.{AreNumbered};
+ghost use Rattle.ln_frame.specs.Ready.{IsReadyFor, StandsFor};
 ghost use Rattle.ln_frame.specs.Signature.{Refuses};
 ghost use Rattle.ln_signs.specs.Run.{graded_signature};
 ghost use Rattle.ln_frame.specs.Said.{count};
 ghost use Rattle.ln_frame.specs.Given.{Given};
 ghost use Rattle.ln_signs.specs.Signs.{RunPart, RunSaid};
 
+use crate::named::degree_target;
 use crate::records::put_lines;
-use crate::target::degree_target;
 use crate::watching::no_watchers;
 use ln_base::{Console, Span};
 use ln_code::Program;

@@ -4,16 +4,13 @@
 //! loops that show verdicts to it.
 #![tactic(auto)]
 
-pub mod alike;
 pub mod explain;
-pub mod factors;
 mod gather;
 pub mod generate;
 pub mod graded;
-pub mod line;
+mod named;
 pub mod panel;
 pub mod product;
 mod records;
 pub mod run;
-pub mod target;
 mod watching;

@@ -5,12 +5,12 @@ ghost use Rattle.ln_tree.specs.Table.{PredOf, pred_of};
 ghost use Rattle.ln_code.specs.declared.verdict.Verdict.{Verdict as verdict};
 ghost use Rattle.ln_rows.specs.Left.{records_in};
 ghost use Rattle.ln_frame.specs.Carried.{CarriesOut};
-ghost use Rattle.ln_signs.specs.Factors.{IsInRangeOf, IsReadOf};
-ghost use Rattle.ln_signs.specs.Line.{is_row};
+ghost use Rattle.ln_target.specs.Factors.{IsInRangeOf, IsReadOf};
+ghost use Rattle.ln_target.specs.Line.{is_row};
 ghost use Rattle.ln_frame.specs.Lines.{Closes, Gathers, Takes};
 ghost use Rattle.ln_signs.specs.Rows.{RowStep, RowsPart, RowsSaid};
 ghost use Rattle.ln_signs.specs.Run.{HasRecords, end_of, piece_room, piece};
-ghost use Rattle.ln_frame.specs.Columns.{HeaderIs};
+ghost use Rattle.ln_rows.specs.Header.{HeaderIs};
 ghost use Rattle.ln_frame.specs.Said.{count};
 ghost use Rattle.ln_frame.specs.Given.{Given, most_file};
 ghost use Rattle.ln_signs.specs.Watching.{watching};
@@ -32,6 +32,13 @@ use std::alloc::Global;
 
 // The room that any line fits in that names no column, in bytes.
 const ROOM: usize = 330;
+
+/// A record as it was read: what came of it, and its row where it is one.
+#[derive(Clone, Copy)]
+pub(crate) struct Record<'a> {
+    pub read: Result<(), RowStop>,
+    pub row: &'a Row,
+}
 
 /// Writes the lines of a record. Contracts see the text before all lines, the predicate whose columns the records have, the names of the columns, and what
 /// a record's lines are; that may depend on what the code doesn't hold, so it is said for the predicates that it knows. And they see which capacity the
@@ -76,19 +83,17 @@ pub(crate) trait RecordWriter {
     /// Adds the lines of the record with this number that was read, and returns the verdict that watchers are shown, if any.
     fn add(
         &self,
-        alloc: Global,
         room: &mut Self::Room,
         number: u32,
-        read: Result<(), RowStop>,
-        row: &Row,
+        record: Record<'_>,
         text: &mut Vec<u8>,
     ) -> Result<Option<Verdict>, NoMemory>
         requires fits { fits self.now room.old }
         requires number { 1 ≤ number }
-        requires range { OnOk read (IsInRangeOf (over self.now) row.now) }
+        requires range { OnOk record.read (IsInRangeOf (over self.now) record.row.now) }
         requires less { vec_len text.old < piece }
         requires space { space self.now (vec_capacity text.old) }
-        ensures line { IfOk result (λ shown. (fields : List (List ℕ)) → IsReadOf (over self.now) fields read row.now
+        ensures line { IfOk result (λ shown. (fields : List (List ℕ)) → IsReadOf (over self.now) fields record.entry.read record.entry.row.now
             → (ps : List PredOf) → knows self.now ps → (out : List ℕ)
             × line self.now ps (pred_of (over self.now)) (columns self.now) number fields shown out
             × (text.new.items ≡ text.old.items ++ out)) }
@@ -106,21 +111,20 @@ fn is_good(read: &Result<(), RowStop>) -> bool
 
 // Adds the line of a record that was read and shows its verdict, if any, to the watchers. Returns whether the record is a row.
 fn take_record<C: Console, W: RecordWriter>(
-    alloc: Global,
     con: &mut C,
     writer: &W,
     room: &mut W::Room,
-    read: Result<(), RowStop>,
-    row: &Row,
+    record: Record<'_>,
     text: &mut Vec<u8>,
     viewers: &mut Viewers,
 ) -> Result<bool, Early>
     requires fits { W.fits writer.now room.old }
-    requires range { OnOk read (IsInRangeOf (W.over writer.now) row.now) }
+    requires range { OnOk record.read (IsInRangeOf (W.over writer.now) record.row.now) }
     requires less { vec_len text.old < piece }
     requires space { W.space writer.now (vec_capacity text.old) }
     requires few { viewers.old.seen + 1 < 2 ^ 32 }
-    ensures takes { (fields : List (List ℕ)) → IsReadOf (W.over writer.now) fields read row.now → (ps : List PredOf) → W.knows writer.now ps
+    ensures takes { (fields : List (List ℕ)) → IsReadOf (W.over writer.now) fields record.entry.read record.entry.row.now
+        → (ps : List PredOf) → W.knows writer.now ps
         → Takes (RowStep (W.line writer.now ps (pred_of (W.over writer.now)) (W.columns writer.now))) (is_row (pred_of (W.over writer.now)))
         (watching viewers.old.seen (states_of kind_of tally_of viewers.old.panel.watchers.items)) fields
         (count (C.faults con.old) (C.faults con.new)) result text.old.items text.new.items
@@ -130,9 +134,9 @@ fn take_record<C: Console, W: RecordWriter>(
     ensures fits { W.fits writer.now room.new }
     ensures space { W.space writer.now (vec_capacity text.new) }
 {
-    let good = is_good(&read);
+    let good = is_good(&record.read);
     let number = (viewers.seen + 1) as u32;
-    let shown = writer.add(alloc, room, number, read, row, text)?;
+    let shown = writer.add(room, number, record, text)?;
     if !view(con, viewers, shown) {
         return Err(Early::Write);
     }
@@ -142,7 +146,6 @@ fn take_record<C: Console, W: RecordWriter>(
 // Gathers the lines of the remaining records and writes them in pieces; what is in `text` at the end is still to be written. Returns whether
 // each record is a row.
 fn put_records<C: Console, W: RecordWriter>(
-    alloc: Global,
     con: &mut C,
     writer: &W,
     room: &mut W::Room,
@@ -170,12 +173,13 @@ fn put_records<C: Console, W: RecordWriter>(
             return Err(Early::Write);
         }
         match rows.next_row(writer.pred(), &mut row) {
-            Ok(Some(read)) => match take_record(
-                alloc, con, writer, room, read, &row, text, viewers,
-            ) {
-                Ok(right) => good &= right,
-                Err(early) => return Err(early),
-            },
+            Ok(Some(read)) => {
+                let record = Record { read, row: &row };
+                match take_record(con, writer, room, record, text, viewers) {
+                    Ok(right) => good &= right,
+                    Err(early) => return Err(early),
+                }
+            }
             Ok(None) => return Ok(good),
             Err(e) => return Err(Early::Memory(e)),
         }
@@ -215,10 +219,31 @@ fn put_rows<C: Console, W: RecordWriter>(
     }
     let panel = Panel::new(watchers);
     let mut viewers = Viewers { seen: 0, panel };
-    let ran = put_records(alloc, con, writer, &mut room, rows, &mut text, &mut viewers);
+    let ran = put_records(con, writer, &mut room, rows, &mut text, &mut viewers);
     match put_rest(con, &text, ran) {
         Ok(good) => close_after(con, viewers.panel, good),
         Err(early) => Err(early),
+    }
+}
+
+// The work on all records, of which the first is the header, or isn't.
+fn put_from_header<C: Console, W: RecordWriter>(
+    alloc: Global,
+    con: &mut C,
+    writer: &W,
+    rows: &mut Rows<'_>,
+    watchers: Vec<Box<dyn Watch>>,
+) -> Result<End, Early>
+    requires few { length rows.old < 2 ^ 32 }
+    ensures { (g : Given) → W.knows writer.now g.preds → HasRecords g (pred_of (W.over writer.now)) (W.columns writer.now) rows.old
+        → CarriesOut (RowsSaid (W.begins writer.now) (W.line writer.now g.preds) (states_of kind_of tally_of watchers.items) g)
+        (RowsPart (W.begins writer.now) (W.line writer.now g.preds) (states_of kind_of tally_of watchers.items) g) ⊥ ⊥
+        (count (C.faults con.old) (C.faults con.new)) result (C.shown con.old) (C.shown con.new) }
+{
+    match writer.take_header(rows) {
+        Ok(true) => put_rows(alloc, con, writer, rows, watchers),
+        Ok(false) => say(alloc, con, Stop::Tell(Why::Header)),
+        Err(e) => Err(Early::Memory(e)),
     }
 }
 
@@ -238,9 +263,5 @@ pub(crate) fn put_lines<C: Console, W: RecordWriter>(
         (count (C.faults con.old) (C.faults con.new)) result (C.shown con.old) (C.shown con.new) }
 {
     let mut rows = Rows::new(alloc, text);
-    match writer.take_header(&mut rows) {
-        Ok(true) => put_rows(alloc, con, writer, &mut rows, watchers),
-        Ok(false) => say(alloc, con, Stop::Tell(Why::Header)),
-        Err(e) => Err(Early::Memory(e)),
-    }
+    put_from_header(alloc, con, writer, &mut rows, watchers)
 }

@@ -4,43 +4,39 @@ ghost use Rattle.std.specs.Prelude.{vec_len, vec_capacity, IfOk, IsOk, OnOk, OnE
 ghost use Rattle.ln_algebra.specs.Orders.{BySmallest};
 ghost use Rattle.ln_code.specs.Memory.{MadeFor};
 ghost use Rattle.ln_frame.specs.Carried.{CarriesOut};
-ghost use Rattle.ln_signs.specs.Line.{Says, is_bare_record, line_room, said_text};
+ghost use Rattle.ln_target.specs.Line.{Says, is_bare_record, line_room, said_text};
 ghost use Rattle.ln_frame.specs.Ready.{IsReadyFor, StandsFor};
 ghost use Rattle.ln_signs.specs.Run.{run_signature, piece_room};
 ghost use Rattle.ln_frame.specs.Said.{count, line};
 ghost use Rattle.ln_frame.specs.Given.{Given};
-ghost use Rattle.ln_signs.specs.Factors.{IsInRangeOf, IsReadOf};
-ghost use Rattle.ln_signs.specs.Target.{pred_in};
+ghost use Rattle.ln_target.specs.Factors.{IsInRangeOf, IsReadOf};
+ghost use Rattle.ln_target.specs.Target.{pred_in};
 ghost use Rattle.ln_watch.specs.Panel.{states_of};
 ghost use Rattle.ln_signs.specs.Signs.{RunLine, RunPart, RunSaid, shown_of};
 
-use crate::line::add_line;
-use crate::records::{RecordWriter, put_lines};
-use crate::target::{Target, one_target};
+use crate::named::one_target;
+use crate::records::{Record, RecordWriter, put_lines};
 use ln_base::{Console, NoMemory};
-use ln_code::{Row, Scratch, Verdict};
+use ln_code::{Scratch, Verdict};
 use ln_frame::ready::{Ready, short_text};
 use ln_frame::status::{Early, End};
 use ln_rows::{RowStop, Rows};
+use ln_target::line::add_line;
+use ln_target::target::Target;
 use ln_tree::Pred;
 use ln_watch::Watch;
 use std::alloc::Global;
 
 // Returns the result of the predicate on a record that was read: the verdict on its row, or why the record is invalid.
-fn verdict_of(
-    target: &Target<'_>,
-    s: &mut Scratch,
-    read: Result<(), RowStop>,
-    row: &Row,
-) -> Result<Verdict, RowStop>
+fn verdict_of(target: &Target<'_>, s: &mut Scratch, record: Record<'_>) -> Result<Verdict, RowStop>
     requires made { MadeFor target.now.program s.old }
-    requires range { OnOk read (IsInRangeOf target.now.pred row.now) }
-    ensures says { (fields : List (List ℕ)) → IsReadOf target.now.pred fields read row.now
+    requires range { OnOk record.read (IsInRangeOf target.now.pred record.row.now) }
+    ensures says { (fields : List (List ℕ)) → IsReadOf target.now.pred fields record.entry.read record.entry.row.now
         → Says target.now.rank (pred_in target.now) fields result }
     ensures made { MadeFor target.now.program s.new }
 {
-    match read {
-        Ok(()) => Ok(target.verdict(s, row)),
+    match record.read {
+        Ok(()) => Ok(target.verdict(s, record.row)),
         Err(stop) => Err(stop),
     }
 }
@@ -57,27 +53,25 @@ fn shown_of(said: Result<Verdict, RowStop>) -> Option<Verdict>
 
 // Adds the line of a record that was read, and returns what is said of it. Only a line that names a column allocates.
 fn add_record(
-    alloc: Global,
     target: &Target<'_>,
     s: &mut Scratch,
-    read: Result<(), RowStop>,
-    row: &Row,
+    record: Record<'_>,
     text: &mut Vec<u8>,
 ) -> Result<Result<Verdict, RowStop>, NoMemory>
     requires made { MadeFor target.now.program s.old }
-    requires range { OnOk read (IsInRangeOf target.now.pred row.now) }
+    requires range { OnOk record.read (IsInRangeOf target.now.pred record.row.now) }
     requires room { vec_len text.old + line_room ≤ vec_capacity text.old }
-    ensures says { IfOk result (λ said. (fields : List (List ℕ)) → IsReadOf target.now.pred fields read row.now
+    ensures says { IfOk result (λ said. (fields : List (List ℕ)) → IsReadOf target.now.pred fields record.entry.read record.entry.row.now
         → Says target.now.rank (pred_in target.now) fields said) }
     ensures line { IfOk result (λ said. text.new.items ≡ text.old.items ++ line (said_text target.now.names said)) }
     ensures err { OnErr result (text.new.items ≡ text.old.items) }
     ensures made { MadeFor target.now.program s.new }
     ensures room { vec_capacity text.old ≤ vec_capacity text.new }
-    ensures steady { (fields : List (List ℕ)) → IsReadOf target.now.pred fields read row.now
+    ensures steady { (fields : List (List ℕ)) → IsReadOf target.now.pred fields record.entry.read record.entry.row.now
         → is_bare_record (pred_in target.now) fields ≡ true → IsOk result }
 {
-    let said = verdict_of(target, s, read, row);
-    add_line(alloc, text, target, said)?;
+    let said = verdict_of(target, s, record);
+    add_line(*text.allocator(), text, target, said)?;
     Ok(said)
 }
 
@@ -116,14 +110,12 @@ impl<'a> RecordWriter for Target<'a> {
 
     fn add(
         &self,
-        alloc: Global,
         room: &mut Scratch,
         number: u32,
-        read: Result<(), RowStop>,
-        row: &Row,
+        record: Record<'_>,
         text: &mut Vec<u8>,
     ) -> Result<Option<Verdict>, NoMemory> {
-        let said = add_record(alloc, self, room, read, row, text)?;
+        let said = add_record(self, room, record, text)?;
         Ok(shown_of(said))
     }
 }

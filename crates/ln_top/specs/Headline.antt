@@ -14,7 +14,7 @@ use Rattle.ln_frame.specs.Said.{line, put_both}
 use Rattle.ln_top.specs.ByValue.{IsVerdictByValue, plain_value}
 use Rattle.ln_top.specs.Perturbed.{IsSignIn, NotZeroWithoutParams}
 use Rattle.ln_top.specs.Steps.{WhereGiven}
-use Rattle.ln_signs.specs.Line.{decider_text, sign_text}
+use Rattle.ln_target.specs.Line.{decider_text, sign_text}
 use Rattle.ln_signs.specs.Run.{HasRecords}
 
 -- the line is the sign and the decider of the verdict that the row, which is in range, requires in this order of infinitesimals. Its sign is

@@ -22,7 +22,7 @@ use Rattle.ln_frame.specs.Said.{line, put_both}
 use Rattle.ln_top.specs.Headline.{IsOneLine}
 use Rattle.ln_top.specs.Perturbed.{IsSignOn}
 use Rattle.ln_top.specs.Steps.{WhereGiven}
-use Rattle.ln_signs.specs.Line.{sign_text}
+use Rattle.ln_target.specs.Line.{sign_text}
 use Rattle.ln_signs.specs.Product.{AreDue, deciders_after}
 use Rattle.ln_signs.specs.Run.{HasRecords}
 

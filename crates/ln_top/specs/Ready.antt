@@ -10,7 +10,8 @@ use Rattle.ln_signs.specs.Graded.{KeepsGraded}
 use Rattle.ln_top.specs.declared.words.Command.{Command}
 use Rattle.ln_top.specs.declared.words.Command.TheVariants.{Graded}
 use Rattle.ln_top.specs.Plan.{Plan}
-use Rattle.ln_frame.specs.Ready.{AreNumbered, StandsFor}
+use Rattle.ln_compile.specs.Compiled.{AreNumbered}
+use Rattle.ln_frame.specs.Ready.{StandsFor}
 
 -- names were found, at these numbers
 pub record HasNumbers (table : List PredOf) (names : List (List ℕ)) (numbers : List ℕ) : Type 0 where

@@ -6,10 +6,11 @@ ghost use Rattle.ln_base.specs.Outside.{Rose};
 ghost use Rattle.ln_tree.specs.Table.{PredOf, pred_of};
 ghost use Rattle.ln_top.specs.Plan.{with_bytes};
 ghost use Rattle.ln_top.specs.Signature.{Asks, signature_of};
-ghost use Rattle.ln_top.specs.Steps.{Each, Finds, Prepares, Reads};
+ghost use Rattle.ln_top.specs.Steps.{Compiles, Each, Finds, Prepares, Reads, most_source};
+ghost use Rattle.ln_frame.specs.Source.{view};
 ghost use Rattle.ln_frame.specs.Given.{gives, most_file};
 ghost use Rattle.ln_frame.specs.Carried.{Halts};
-ghost use Rattle.ln_frame.specs.Ready.{AreNumbered};
+ghost use Rattle.ln_compile.specs.Compiled.{AreNumbered};
 ghost use Rattle.ln_frame.specs.Signature.{Refuses};
 ghost use Rattle.ln_top.specs.Ready.{HasNumbers, IsReady, KeepsFor};
 
@@ -21,8 +22,8 @@ use ln_compile::Checked;
 use ln_frame::ready::Ready;
 use ln_frame::stop::{Stop, Why};
 use ln_judges::three::one_of_three;
-use ln_signs::alike::alike;
 use ln_signs::graded::graded_first;
+use ln_target::alike::alike;
 use std::alloc::Global;
 
 /// The most bytes of a source file.
@@ -122,6 +123,43 @@ fn suited(
     }
 }
 
+// Takes the steps of a plan that come after its source was read and compiled: the numbers of its names, the program that is kept, its texts.
+fn later<F: Files>(
+    alloc: Global,
+    files: &mut F,
+    plan: Plan<'_>,
+    bytes: &[u8],
+    c: &Checked,
+) -> Result<(Vec<usize>, Option<Program>, Vec<Vec<u8>>), Stop>
+    requires read { Reads (F.told files.old) most_source plan.source.now (gives bytes.now) }
+    requires short { length bytes.now ≤ 1048576 }
+    requires compiles { Compiles bytes.now (gives (view c.now.table)) }
+    ensures found { IfOk result (λ r. HasNumbers (map pred_of c.now.table.preds) (map string_bytes plan.entry.names.now) r.0.items) }
+    ensures asked { IfOk result (λ r. (preds : List PredOf) → AreNumbered (map pred_of c.now.table.preds) r.0.items preds
+        → Asks plan.entry.command preds) }
+    ensures kept { IfOk result (λ r. KeepsFor plan.entry.command (map pred_of c.now.table.preds) r.0.items r.1) }
+    ensures read { IfOk result (λ r. Each (Reads (F.told files.old) most_file) (map string_bytes plan.entry.files.now)
+        (gives (map (λ t. t.items) r.2.items))) }
+    ensures numbers { IfOk result (λ r. length r.0.items ≡ length plan.entry.names.now) }
+    ensures texts { IfOk result (λ r. length r.2.items ≡ length plan.entry.files.now) }
+    ensures err { IfErr result (Halts (Prepares (with_bytes plan.entry) (F.told files.old))
+        (Rose (F.faults files.old) (F.faults files.new))) }
+    ensures quiet { result ≢ Err Stop.Read → F.faults files.new ≡ F.faults files.old }
+{
+    let numbers = match numbers(alloc, c, plan.names) {
+        Ok(numbers) => numbers,
+        Err(stop) => return Err(stop),
+    };
+    let kept = match suited(alloc, plan.command, bytes, c, &numbers) {
+        Ok(kept) => kept,
+        Err(stop) => return Err(stop),
+    };
+    match texts(alloc, files, plan.files) {
+        Ok(texts) => Ok((numbers, kept, texts)),
+        Err(stop) => Err(stop),
+    }
+}
+
 /// Takes the steps of a plan.
 pub fn prepare<F: Files>(alloc: Global, files: &mut F, plan: Plan<'_>) -> Result<Ready, Stop>
     ensures ok { IfOk result (λ r. IsReady (with_bytes plan.entry) (F.told files.old) r) }
@@ -140,16 +178,8 @@ pub fn prepare<F: Files>(alloc: Global, files: &mut F, plan: Plan<'_>) -> Result
         Ok(compiled) => compiled,
         Err(stop) => return Err(stop),
     };
-    let numbers = match numbers(alloc, &compiled, plan.names) {
-        Ok(numbers) => numbers,
-        Err(stop) => return Err(stop),
-    };
-    let kept = match suited(alloc, plan.command, &bytes, &compiled, &numbers) {
-        Ok(kept) => kept,
-        Err(stop) => return Err(stop),
-    };
-    match texts(alloc, files, plan.files) {
-        Ok(texts) => Ok(Ready {
+    match later(alloc, files, plan, &bytes, &compiled) {
+        Ok((numbers, kept, texts)) => Ok(Ready {
             compiled,
             numbers,
             kept,

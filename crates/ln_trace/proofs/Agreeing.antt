@@ -1,5 +1,5 @@
 -- Proves that agreed traces have the perturbed signs, and that what is explained is agreed.
-use Rattle.std.proofs.Common.{◌≡◌, ℕ, ◌+◌, ◌<◌, zero, suc, refl, sym, ◌∙◌, ap, subst, arith, true, List, [], ◌∷◌, ◌++◌, length, Some, None, is_some}
+use Rattle.std.proofs.Common.{◌≡◌, ℕ, ◌+◌, ◌<◌, zero, suc, refl, sym, ◌∙◌, ap, subst, arith, true, List, [], ◌∷◌, length, Some, None, is_some}
 use Rattle.std.specs.Prelude.{Option, Ok, slice_get}
 use Rattle.std.proofs.Math.IntN.{ℤ}
 use Rattle.ln_algebra.specs.Earlier.{IsOver}
@@ -16,8 +16,9 @@ use Rattle.ln_rows.specs.Record.{read_row}
 use Rattle.ln_trace.specs.declared.line.TraceLine.{TraceLine}
 use Rattle.ln_trace.specs.declared.line.TraceLine.TheVariants as line
 use Rattle.ln_trace.specs.Told.{AreTold, IsNext, IsSigned, Leads, Stood}
+use Rattle.ln_lines.proofs.Judging.{go_append}
 use Rattle.ln_trace.specs.Trace.{Between, Place, Subject, Within}
-use Rattle.ln_trace.specs.Judge.{Go, IsAgreed}
+use Rattle.ln_trace.specs.Judge.{Go, IsAgreed, judge_of}
 use Rattle.ln_trace.specs.Signs.{AreExplained, AreOf, AreRight, Explains, HaveStages, RowsDiffer, a_row, at_lines, no_row, signs_in}
 use Rattle.ln_trace.proofs.Telling.{list-told, told-signed}
 
@@ -69,10 +70,6 @@ pub agreed-right : (s : Subject) (records : Records) (lines : List TraceLine) �
 agreed-right s records lines inputs differ g = right s inputs differ (length records) lines (Between 0 records) tt g
 
 -- ---- completeness
-go-behind : (s : Subject) (p q r : Place) (xs ys : List TraceLine) → Go s p xs q → Go s q ys r → Go s p (xs ++ ys) r
-go-behind s p q r [] ys g h = subst (λ z. Go s z ys r) g h
-go-behind s p q r (x ∷ xs) ys (t, u, g) h = (t, u, go-behind s t q r xs ys g h)
-
 -- variables with an exponent are those of sites
 site-at : (vars : List VarInfo) (v : ℕ) → v < length vars → is_of_site (slice_get vars v) ≡ is_some (site_of vars v)
 site-at [] v h = absurd (omega arith)
@@ -127,7 +124,7 @@ module _ (s : Subject) (differ : RowsDiffer s) (some : HaveStages s) where
       subst (IsSigned (length s.vars) (row_sites s.vars row.index) s.tree r.0) (sym signed) r.2 in (
         Within (k + 1) left row [],
         record { number = e; fields = fields; behind = left; next = refl; row = row; read = read; to = refl },
-        go-behind s (Within (k + 1) left row []) (Within (k + 1) left row r.0) (Between (k + 1) left) (at_lines ps) (line.Sign t ∷ [])
+        go_append (judge_of s) (Within (k + 1) left row []) (Within (k + 1) left row r.0) (Between (k + 1) left) (at_lines ps) (line.Sign t ∷ [])
             (ats-go s row (k + 1) left ps _ [] r.0 of r.1)
             (Between (k + 1) left, record { signed = i; to = refl }, refl),
       )
@@ -140,7 +137,7 @@ module _ (s : Subject) (differ : RowsDiffer s) (some : HaveStages s) where
       let g : Go s (Between (k + 1) records) rest (Between (k + suc (length records)) []) =
       subst (λ j. Go s (Between (k + 1) records) rest (Between j [])) w (records-go records (k + 1) rest more) in
       subst (λ ls. Go s (Between k (fields ∷ records)) ls (Between (k + suc (length records)) [])) (sym e)
-      (go-behind s (Between k (fields ∷ records)) (Between (k + 1) records) (Between (k + suc (length records)) []) front rest
+      (go_append (judge_of s) (Between k (fields ∷ records)) (Between (k + 1) records) (Between (k + suc (length records)) []) front rest
       (record-go k (k + 1) fields records front refl ex) g)
 
   -- lines that explain each record, from the first on, are an agreed trace

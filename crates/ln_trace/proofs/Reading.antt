@@ -4,4 +4,3 @@ pub mod OneLine
 pub mod Walk
 pub mod Sound
 pub mod Whole
-pub mod Gathered

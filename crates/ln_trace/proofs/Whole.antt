@@ -1,11 +1,10 @@
 -- A trace that is judged as a whole: how many lines it has, and what the result means.
-use Rattle.std.proofs.Common.{◌≡◌, ℕ, ◌≤◌, List, [], ◌∷◌, length, map, ap, arith, refl, subst, sym, ◌∙◌}
+use Rattle.std.proofs.Common.{◌≡◌, ℕ, ◌≤◌, List, length, ap, arith, refl, subst, sym, ◌∙◌}
 use Rattle.std.specs.Prelude.{None, Option}
-use Rattle.std.proofs.lemmas.List.{length-append}
-use Rattle.ln_base.specs.Lines.{joined, parted}
 use Rattle.ln_algebra.specs.Tree.{Tree}
 use Rattle.ln_tree.specs.declared.shape.Shape.{Shape}
 use Rattle.ln_poly.specs.Sparse.{Sparse}
+use Rattle.ln_lines.proofs.Walk.{few_lines}
 use Rattle.ln_rows.specs.Left.{Records}
 use Rattle.ln_trace.specs.declared.judged.Judged.{Judged}
 use Rattle.ln_trace.specs.declared.judged.Judged.TheVariants.{Agreed, Wrong}
@@ -14,22 +13,15 @@ use Rattle.ln_trace.specs.Form.{IsKept}
 use Rattle.ln_trace.specs.Here.{HasPoly, subject_of}
 use Rattle.ln_trace.specs.Judge.{IsAnswer}
 use Rattle.ln_trace.specs.Judged.{IsJudged, fault_of}
+use Rattle.ln_trace.specs.Reading.{trace_rules}
 use Rattle.ln_trace.specs.Signs.{AreRight, signs_in}
-use Rattle.ln_trace.specs.Text.{first_line, text_of_line, words_of}
 use Rattle.ln_trace.specs.Trace.{Subject}
 use Rattle.ln_trace.proofs.Midway.{judged-answer, judged-signs}
 
 -- ---- how many lines
-text-some : (l : TraceLine) → 1 ≤ length (text_of_line l)
-text-some l = omega (arith, length-append (parted (words_of l)) (10 ∷ []))
-
-joined-many : (ls : List TraceLine) → length ls ≤ length (joined (map text_of_line ls))
-joined-many [] = omega arith
-joined-many (l ∷ ls) = omega (arith, text-some l, joined-many ls, length-append (text_of_line l) (joined (map text_of_line ls)))
-
 -- a trace of at most 67,108,864 bytes has at most as many lines
 pub few-lines : (read ls : List TraceLine) → read ≡ ls → IsKept ls → length read ≤ 67108864
-few-lines read ls q h = omega (arith, ap length q, h.short, ap length h.text.text, length-append first_line (joined (map text_of_line ls)), joined-many ls)
+few-lines read ls q h = omega (arith, ap length q, h.short, few_lines trace_rules h.bytes ls h.text.text)
 
 -- ---- the result
 -- what was judged of the lines that were read is the result for the lines of the trace

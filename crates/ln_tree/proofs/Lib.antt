@@ -4,3 +4,4 @@ pub mod Monomials
 pub mod Pairs
 pub mod Powers
 pub mod Searching
+pub mod Words

@@ -1,5 +1,5 @@
 -- Exponents of a monomial, as pairs of a variable's number and its exponent.
-use Rattle.std.specs.Prelude.{◌≡◌, ℕ, zero, suc, ◌+◌, ◌<◌, ◌==◌, ◌&&◌, eqb, Bool, true, refl, List, [], ◌∷◌, if◌then◌else◌}
+use Rattle.std.specs.Prelude.{◌≡◌, ℕ, zero, suc, ◌+◌, ◌*◌, ◌<◌, ◌==◌, ◌&&◌, eqb, Bool, true, refl, List, [], ◌∷◌, if◌then◌else◌}
 use Rattle.std.proofs.lemmas.Bool.{and_parts, eqb-true}
 use Rattle.std.specs.Cmp.Lexicographic.{slice_cmp}
 use Rattle.std.proofs.Common.{arith}
@@ -33,6 +33,20 @@ IsRising (p ∷ ps) = (0 < p.1) × (p.1 < 128) × AllAbove p.0 ps × IsRising ps
 -- are the two the same list of pairs?
 abbrev pub same_pairs : Pairs → Pairs → Bool
 same_pairs = pointwise (eq_of_both (on (λ p. p.0) ◌==◌) (on (λ p. p.1) ◌==◌))
+
+-- both numbers of each pair are bytes
+abbrev pub AreBytes : Pairs → Type 0
+AreBytes [] = Unit {0}
+AreBytes (p ∷ ps) = (p.0 < 256) × (p.1 < 256) × AreBytes ps
+
+-- a pair of bytes as a number
+abbrev pub pair_number : ℕ × ℕ → ℕ
+pair_number p = p.0 + 256 * p.1
+
+-- pairs as a number, the first in the lowest place
+abbrev pub pairs_number : Pairs → ℕ
+pairs_number [] = 0
+pairs_number (p ∷ ps) = pair_number p + 65536 * pairs_number ps
 
 -- the test of equality finds equal lists alone
 pub same_pairs-is : (xs ys : Pairs) → same_pairs xs ys ≡ true → xs ≡ ys

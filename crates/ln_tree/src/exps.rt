@@ -1,6 +1,6 @@
 //! Defines the exponents of a monomial, as pairs of a variable and its exponent, and their order.
-ghost use Rattle.std.specs.Prelude.{◌≡◌, ◌<◌, ◌++◌, [], ◌∷◌, IfOk, OnOk, OnErr};
-ghost use Rattle.ln_tree.specs.Exps.{IsRising, exponent, pair_cmp, pairs_cmp, same_pairs};
+ghost use Rattle.std.specs.Prelude.{◌≡◌, ◌+◌, ◌<◌, ◌≤◌, ◌++◌, [], ◌∷◌, IfOk, OnOk, OnErr, drop, length, take};
+ghost use Rattle.ln_tree.specs.Exps.{AreBytes, IsRising, exponent, pair_cmp, pair_number, pairs_cmp, pairs_number, same_pairs};
 
 use ln_base::NoMemory;
 use smallvec::SmallVec;
@@ -9,12 +9,15 @@ use std::cmp::Ordering;
 use std::hash::{Hash, Hasher};
 use std::marker::Model;
 
+// How many pairs are kept in the value; a longer list is on the heap.
+const KEPT: usize = 8;
+
 /// The exponents of a monomial: pairs of a variable's number and its exponent, variables rising, exponents from 1 to 127.
 /// Contracts see the list of pairs. Equality and hash are the list's. The order is the lexicographic order of monomials: at the first
 /// variable in which two differ, the one with the larger exponent is the larger, where a variable that isn't listed has exponent 0.
 #[derive(Drop)]
 pub struct Exps {
-    pairs: SmallVec<(u8, u8), 8>,
+    pairs: SmallVec<(u8, u8), KEPT>,
 }
 
 impl Model for Exps {
@@ -66,8 +69,17 @@ impl Exps {
     pub fn copy(&self) -> Result<Exps, NoMemory>
         ensures { IfOk result (λ e. e ≡ self.now) }
     {
+        let alloc = *self.pairs.allocator();
+        let pairs = self.pairs.as_slice();
+        if pairs.len() <= KEPT {
+            return Ok(Exps {
+                pairs: SmallVec::from_slice(alloc, pairs)?,
+            });
+        }
+        let mut own = Vec::with_capacity(alloc, pairs.len())?;
+        own.extend_from_slice(pairs)?;
         Ok(Exps {
-            pairs: SmallVec::from_slice(*self.pairs.allocator(), self.pairs.as_slice())?,
+            pairs: SmallVec::from_vec(own),
         })
     }
 
@@ -115,18 +127,46 @@ fn cmp_pairs(a: &[(u8, u8)], b: &[(u8, u8)]) -> Ordering
     a.len().cmp(&b.len())
 }
 
-// Are two lists of pairs the same? Where they are of one length all pairs are compared, which takes less time than a branch at each.
+// A pair as a number of 16 bits.
+fn number(p: (u8, u8)) -> u64
+    ensures value { result ≡ pair_number p }
+    ensures bytes { AreBytes (p ∷ []) }
+{
+    p.0 as u64 + 256 * p.1 as u64
+}
+
+// The four pairs from place i on, as a number.
+fn four_at(s: &[(u8, u8)], i: usize) -> u64
+    requires { i + 4 ≤ length s.now }
+    ensures value { result ≡ pairs_number (take 4 (drop i s.now)) }
+    ensures bytes { AreBytes (take 4 (drop i s.now)) }
+{
+    let end = number(s[i + 2]) + 65536 * number(s[i + 3]);
+    number(s[i]) + 65536 * (number(s[i + 1]) + 65536 * end)
+}
+
+// Are two lists of pairs the same? Four pairs are one comparison.
 fn are_same(a: &[(u8, u8)], b: &[(u8, u8)]) -> bool
     ensures { result ≡ same_pairs a.now b.now }
 {
-    if a.len() != b.len() {
+    let n = a.len();
+    if n != b.len() {
         return false;
     }
-    let mut same = true;
-    'pairs: for i in 0..a.len() {
-        same &= a[i].0 == b[i].0 && a[i].1 == b[i].1;
+    let mut i = 0;
+    'fours: while 4 <= n - i {
+        if four_at(a, i) != four_at(b, i) {
+            return false;
+        }
+        i += 4;
     }
-    same
+    'pairs: while i < n {
+        if number(a[i]) != number(b[i]) {
+            return false;
+        }
+        i += 1;
+    }
+    true
 }
 
 impl PartialEq for Exps {

@@ -1,14 +1,12 @@
-//! Tests of what the program writes for words, sources and rows, over files and streams in memory: a case of each kind, streams that fail, and
-//! which files are read. examples/checks/commands_table.py has the cases of words, sources and rows, which run on the program itself.
+//! Tests of what the program writes for words, sources and rows, over files and streams in memory: streams that fail, and which files are read.
+//! examples/checks/commands_table.py has the cases of words, sources and rows, which run on the program itself.
 use crate::spheres::CIRCLE;
-use crate::support::{Case, Faults, NO_FAULTS, are_answered, is_answered, is_said, shelf};
-use ln_base::{MemFiles, NoMemory};
+use crate::support::{Case, Faults, HEAD, are_answered, is_answered, is_said, shelf};
+use ln_base::{MemConsole, MemFiles, NoMemory};
 use ln_top::Status;
-use ln_trial_programs::sample::ORIENT;
+use ln_trial_programs::sample::{ORIENT, SQUARES};
 use std::alloc::Global;
 use std::test::Fail;
-
-const HEAD: &str = "p,p.x,p.y,q,q.x,q.y,r,r.x,r.y\n";
 
 const EQUAL: &str = "p,p.x,p.y,q,q.x,q.y,r,r.x,r.y
 1,1,0,2,0,0,3,0,0
@@ -37,33 +35,22 @@ done
 
 const SOURCE_LIMIT: usize = 1_048_576;
 
-const CHECK: &[&str] = &["check", "s.ln"];
+const CHECK: &str = "check s.ln";
 
-const RUN: &[&str] = &["run", "s.ln", "orient", "r.csv"];
+const RUN: &str = "run s.ln orient r.csv";
 
-const VERIFY: &[&str] = &["verify", "s.ln", "r.csv"];
+const VERIFY: &str = "verify s.ln r.csv";
 
-const CHECK_ABSENT: &[&str] = &["check", "t.ln"];
+const LIST: &str = "list s.ln";
+
+const EMIT: &str = "emit s.ln";
+
+const CHECK_ABSENT: &str = "check t.ln";
 
 const EACH: &[Case<'static>] = &[
-    (
-        CHECK,
-        ORIENT,
-        HEAD,
-        Status::Done,
-        "orient sites 3 stages 30\n",
-        "",
-    ),
+    (LIST, "", "", Status::Done, "listing 2\n", ""),
     (RUN, ORIENT, EQUAL, Status::Done, "+ 3\n+ 4\n- 4\n", ""),
     (VERIFY, NOUGHT, NOUGHT_RANGES, Status::Done, "valid\n", ""),
-    (
-        CHECK,
-        "site a { }",
-        HEAD,
-        Status::Refused,
-        "",
-        "error syntax 1:10\n",
-    ),
 ];
 
 #[test]
@@ -72,22 +59,26 @@ fn each_command_has_its_lines(rt: HostRuntime) -> Result<(), Fail> {
     Ok(())
 }
 
-// Words, the room of a stream, the writes that fail, and what is then on Out and on Err.
-const CUT: &[(&[&str], usize, &[u64], &str, &str)] = &[
-    (RUN, 4096, &[1], "", ""),
-    (RUN, 4096, &[2], "+ 3\n+ 4", ""),
-    (RUN, 6, &[], "+ 3\n+ ", ""),
-    (CHECK, 4096, &[1], "", ""),
-    (CHECK, 4096, &[2], "orient ", ""),
-    (CHECK, 9, &[], "orient si", ""),
-    (&[], 5, &[], "", "error"),
-    (CHECK_ABSENT, 7, &[], "", "error r"),
+// Words over a source and rows, the room of a stream, the writes that fail, and what is then on Out and on Err.
+const CUT: &[(&str, &str, &str, usize, &[u64], &str, &str)] = &[
+    (RUN, ORIENT, EQUAL, 4096, &[1], "", ""),
+    (RUN, ORIENT, EQUAL, 4096, &[2], "+ 3\n+ 4", ""),
+    (RUN, ORIENT, EQUAL, 6, &[], "+ 3\n+ ", ""),
+    (CHECK, ORIENT, EQUAL, 4096, &[1], "", ""),
+    (CHECK, ORIENT, EQUAL, 4096, &[2], "orient ", ""),
+    (CHECK, ORIENT, EQUAL, 9, &[], "orient si", ""),
+    (CHECK, "#", HEAD, 4096, &[1], "", ""),
+    ("", ORIENT, EQUAL, 5, &[], "", "error"),
+    (CHECK_ABSENT, ORIENT, EQUAL, 7, &[], "", "error r"),
+    (VERIFY, NOUGHT, NOUGHT_RANGES, 3, &[], "val", ""),
+    (LIST, SQUARES, "", 5, &[], "listi", ""),
+    (EMIT, ORIENT, "", 8, &[], "#include", ""),
 ];
 
 // Do the streams hold a prefix, where a write fails?
 fn are_cut(alloc: Global) -> Result<bool, NoMemory> {
-    for (words, room, puts, out, err) in CUT {
-        let case = (*words, ORIENT, EQUAL, Status::Write, *out, *err);
+    for (words, source, rows, room, puts, out, err) in CUT {
+        let case = (*words, *source, *rows, Status::Write, *out, *err);
         let faults = Faults {
             reads: &[],
             puts,
@@ -102,14 +93,7 @@ fn are_cut(alloc: Global) -> Result<bool, NoMemory> {
 
 #[test]
 fn a_fault_of_writing_leaves_the_first_bytes(rt: HostRuntime) -> Result<(), Fail> {
-    let alloc = rt.alloc();
-    assert!(rt; are_cut(alloc)?);
-    let cut = (VERIFY, NOUGHT, NOUGHT_RANGES, Status::Write, "val", "");
-    let narrow = Faults {
-        room: 3,
-        ..NO_FAULTS
-    };
-    assert!(rt; is_answered(alloc, &cut, narrow, Vec::new(alloc))?);
+    assert!(rt; are_cut(rt.alloc())?);
     Ok(())
 }
 
@@ -118,72 +102,46 @@ fn asks(files: &MemFiles, file: usize) -> bool {
     files.asked().iter().any(|call| call.file == Some(file))
 }
 
-// Is this the result, and were this many files asked for, the source first?
-fn stops(alloc: Global, case: &Case<'_>, asked: usize) -> Result<bool, NoMemory> {
-    let (_, source, rows, ..) = *case;
-    let mut files = shelf(alloc, source, rows, &[])?;
-    let said = is_said(alloc, case, &mut files)?;
+// Words over a source, how they end without a byte on Out, and how many files they ask for, the source first.
+type Stop<'a> = (&'a str, &'a str, Status, &'a str, usize);
+
+fn stops(alloc: Global, stop: &Stop<'_>) -> Result<bool, NoMemory> {
+    let (words, source, status, err, asked) = *stop;
+    let mut files = shelf(alloc, source, HEAD, &[])?;
+    let con = MemConsole::new(alloc, 4096, 7, Vec::new(alloc))?;
+    let case = (words, source, HEAD, status, "", err);
+    let said = is_said(alloc, &case, &mut files, con, Vec::new(alloc))?;
     Ok(said && asks(&files, 0) == (asked > 0) && asks(&files, 1) == (asked > 1))
 }
 
-const STOPS: &[(Case<'static>, usize)] = &[
+const STOPS: &[Stop<'static>] = &[
+    ("run s.ln", ORIENT, Status::Usage, "error usage\n", 0),
+    ("list s.ln s", SQUARES, Status::Usage, "error usage\n", 0),
     (
-        (
-            &["run", "s.ln"],
-            ORIENT,
-            HEAD,
-            Status::Usage,
-            "",
-            "error usage\n",
-        ),
+        "emit s.ln orient",
+        ORIENT,
+        Status::Usage,
+        "error usage\n",
         0,
     ),
-    (
-        (
-            RUN,
-            "site a { }",
-            HEAD,
-            Status::Refused,
-            "",
-            "error syntax 1:10\n",
-        ),
-        1,
-    ),
-    (
-        (
-            RUN,
-            CIRCLE,
-            HEAD,
-            Status::NoPredicate,
-            "",
-            "error predicate\n",
-        ),
-        1,
-    ),
-    (
-        (CHECK_ABSENT, ORIENT, HEAD, Status::Read, "", "error read\n"),
-        0,
-    ),
-    ((RUN, ORIENT, HEAD, Status::Done, "", ""), 2),
+    (LIST, "#", Status::Refused, "error lexical 1:1\n", 1),
+    (EMIT, "#", Status::Refused, "error lexical 1:1\n", 1),
+    (RUN, "site a { }", Status::Refused, "error syntax 1:10\n", 1),
+    (RUN, CIRCLE, Status::NoPredicate, "error predicate\n", 1),
+    (CHECK_ABSENT, ORIENT, Status::Read, "error read\n", 0),
+    (RUN, ORIENT, Status::Done, "", 2),
 ];
 
 // The same of a source over its limit, and of those of the table.
 fn all_stop(alloc: Global) -> Result<bool, NoMemory> {
-    for (case, asked) in STOPS {
-        if !stops(alloc, case, *asked)? {
+    for stop in STOPS {
+        if !stops(alloc, stop)? {
             return Ok(false);
         }
     }
     let long = " ".repeat(alloc, SOURCE_LIMIT + 1)?;
-    let case = (
-        RUN,
-        long.as_str(),
-        HEAD,
-        Status::TooLong,
-        "",
-        "error long\n",
-    );
-    stops(alloc, &case, 1)
+    let stop = (RUN, long.as_str(), Status::TooLong, "error long\n", 1);
+    stops(alloc, &stop)
 }
 
 #[test]

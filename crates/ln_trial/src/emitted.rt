@@ -1,37 +1,35 @@
-//! Tests that read back what `emit` writes: its calls return the signs of rows.
+//! Tests of what `emit` writes, and of the library's `emit`, which writes the same: its calls return the signs of rows.
 use crate::spheres::CIRCLE;
-use crate::support::{Case, Faults, are_answered, is_answered, said_within, shelf};
-use ln_base::{MemConsole, NoMemory, Port};
+use crate::support::written;
+use ln_base::{NoMemory, Port};
+use ln_cemit::emit;
 use ln_cmean::{CAnswer, CFault, CScratch, call};
 use ln_csyn::{CFile, CStop, read_c};
-use ln_top::Status;
+use ln_trial_programs::sample::{ORIENT, compiled};
 use std::alloc::Global;
 use std::test::Fail;
-
-const ORIENT: &str = "site point { x: -1000 .. 1000; y: -1000 .. 1000; }
-predicate orient(p: point, q: point, r: point) {
-  sign (p.x - r.x)*(q.y - r.y) - (p.y - r.y)*(q.x - r.x);
-}
-";
 
 const UNUSED: &str = "site num { t: -9 .. 9; }
 predicate f(a: num, b: num) { let d = a.t*b.t; sign a.t - b.t; }
 ";
 
-const EMIT: &[&str] = &["emit", "s.ln"];
-
-const ROOM: usize = 1 << 20;
-
-// The C of a source.
-fn emitted(alloc: Global, source: &str) -> Result<MemConsole, NoMemory> {
-    let mut files = shelf(alloc, source, "", &[])?;
-    let (_, con) = said_within(alloc, EMIT, &mut files, ROOM, &[])?;
-    Ok(con)
+// The C that the library writes for the programs of a source; none where the source is refused, or the program writes another C.
+fn text_of(alloc: Global, source: &str) -> Result<Option<Vec<u8>>, NoMemory> {
+    let con = written(alloc, "emit s.ln", source)?;
+    let Some(c) = compiled(alloc, source)? else {
+        return Ok(None);
+    };
+    let text = emit(alloc, c.programs())?;
+    if text.as_slice() == con.bytes(Port::Out) {
+        Ok(Some(text))
+    } else {
+        Ok(None)
+    }
 }
 
 // The file of a text; none where it is no file.
 fn file_of(alloc: Global, text: &[u8]) -> Result<Option<CFile>, NoMemory> {
-    if text.len() > ROOM {
+    if text.len() > 1 << 20 {
         return Ok(None);
     }
     match read_c(alloc, text) {
@@ -75,6 +73,14 @@ fn wide_in(
     Ok(Some(wide))
 }
 
+// The file that a source's C is when it is read back.
+fn read_back(alloc: Global, source: &str) -> Result<Option<CFile>, NoMemory> {
+    match text_of(alloc, source)? {
+        Some(text) => file_of(alloc, &text),
+        None => Ok(None),
+    }
+}
+
 /// The same of the C of a source, read back.
 pub fn wide_of(
     alloc: Global,
@@ -82,8 +88,7 @@ pub fn wide_of(
     name: &str,
     rows: &[CRow],
 ) -> Result<Option<u64>, NoMemory> {
-    let con = emitted(alloc, source)?;
-    match file_of(alloc, con.bytes(Port::Out))? {
+    match read_back(alloc, source)? {
         Some(file) => wide_in(alloc, &file, name, rows),
         None => Ok(None),
     }
@@ -93,11 +98,13 @@ const ORIENT_ROWS: &[CRow] = &[
     // The filter decides.
     (&[1, 2, 3], &[0, 0, 1, 0, 0, 1], 1, 1),
     (&[2, 1, 3], &[0, 0, 0, 1, 1, 0], -1, 1),
-    // On a line: a stage decides.
+    // On a line, none of them level: after the filter and block 0 the coefficient of p.y, 2 - 1.
     (&[1, 2, 3], &[0, 0, 1, 1, 2, 2], 1, 3),
+    // Upright: that of p.x, 1 - 2.
     (&[1, 2, 3], &[0, 0, 0, 1, 0, 2], -1, 4),
+    // q and r are one point: that of q.y, 1 - 0.
     (&[1, 2, 3], &[1, 0, 0, 0, 0, 0], 1, 5),
-    // One point: the last of five.
+    // One point: 1 is all that is left, and -1 where q comes before p.
     (&[1, 2, 3], &[5, 5, 5, 5, 5, 5], 1, 6),
     (&[2, 1, 3], &[5, 5, 5, 5, 5, 5], -1, 6),
 ];
@@ -108,16 +115,49 @@ fn calls_give_the_signs(rt: HostRuntime) -> Result<(), Fail> {
     Ok(())
 }
 
-// Has the C of a source no function of a name?
-fn lacks(alloc: Global, source: &str, name: &str) -> Result<bool, NoMemory> {
-    let con = emitted(alloc, source)?;
-    match file_of(alloc, con.bytes(Port::Out))? {
-        Some(file) => match called(alloc, &file, name, &[1, 2, 3], &[0; 6])? {
-            Err(CFault::NoFunction) => Ok(true),
-            _ => Ok(false),
-        },
+// How many calls of blocks a text has: each follows its cast, as in `((int)lb0_orient(v))`.
+fn calls_of_blocks(text: &[u8]) -> u32 {
+    let mut calls = 0u32;
+    let mut before = [0u8; 2];
+    for byte in text {
+        calls = calls.saturating_add(u32::from(before == *b")l" && *byte == b'b'));
+        before = [before[1], *byte];
+    }
+    calls
+}
+
+// The same of the C of a source; none where there is none.
+fn blocks_called(alloc: Global, source: &str) -> Result<Option<u32>, NoMemory> {
+    match text_of(alloc, source)? {
+        Some(text) => Ok(Some(calls_of_blocks(&text))),
+        None => Ok(None),
+    }
+}
+
+// Is this the C of a source?
+fn is_text(alloc: Global, source: &str, want: &str) -> Result<bool, NoMemory> {
+    match text_of(alloc, source)? {
+        Some(text) => Ok(text.as_slice() == want.as_bytes()),
         None => Ok(false),
     }
+}
+
+// One call for the empty prefix of the orders, two for each of three sites and two for each of six pairs: six whole lists would have 30.
+#[test]
+fn the_c_of_the_orientation_has_19_calls_of_blocks(rt: HostRuntime) -> Result<(), Fail> {
+    let alloc = rt.alloc();
+    assert!(rt; matches!(blocks_called(alloc, ORIENT)?, Some(19)));
+    assert!(rt; is_text(alloc, "", "#include <stdint.h>\n")?);
+    Ok(())
+}
+
+// Has the C of a source no function of a name?
+fn lacks(alloc: Global, source: &str, name: &str) -> Result<bool, NoMemory> {
+    let Some(file) = read_back(alloc, source)? else {
+        return Ok(false);
+    };
+    let was = called(alloc, &file, name, &[1, 2, 3], &[0; 6])?;
+    Ok(matches!(was, Err(CFault::NoFunction)))
 }
 
 #[test]
@@ -146,34 +186,6 @@ const CIRCLES: &[CRow] = &[
 #[test]
 fn circles_at_the_ends_of_ranges(rt: HostRuntime) -> Result<(), Fail> {
     assert!(rt; wide_of(rt.alloc(), CIRCLE, "ln_incircle", CIRCLES)?.is_some());
-    Ok(())
-}
-
-const REFUSED: &[Case<'static>] = &[
-    (EMIT, "#", "", Status::Refused, "", "error lexical 1:1\n"),
-    (
-        &["emit", "s.ln", "orient"],
-        ORIENT,
-        "",
-        Status::Usage,
-        "",
-        "error usage\n",
-    ),
-];
-
-const CUT: Case<'static> = (EMIT, ORIENT, "", Status::Write, "#include", "");
-
-const EIGHT_BYTES: Faults<'static> = Faults {
-    reads: &[],
-    puts: &[],
-    room: 8,
-};
-
-#[test]
-fn refusals_and_faults_of_emit(rt: HostRuntime) -> Result<(), Fail> {
-    let alloc = rt.alloc();
-    assert!(rt; are_answered(alloc, REFUSED)?);
-    assert!(rt; is_answered(alloc, &CUT, EIGHT_BYTES, Vec::new(alloc))?);
     Ok(())
 }
 

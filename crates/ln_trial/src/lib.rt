@@ -2,10 +2,9 @@
 //!
 //! Most cases of words and files run on the program itself (examples/checks/said.py). Here are those that need more: `failing` has streams and files that
 //! fail at each of their calls, `commands` streams that are too short and which files are read, `watchers` what watchers that are handed in say of
-//! records, `panel` what they say of verdicts, `listings` what `list` writes, read back, `emitted` what `emit` writes, read back and called, `repeated`
-//! predicates whose equal parts are computed once, `many` long runs, of which no clause speaks. `verdicts`, `by_degree`, `verified` and `traced` call
-//! `run_row`, `graded`, `verify` and `judge` themselves, `verified` on listings of `changed`. `products`, `graded`, `generated`, `edges` and
-//! `traces` have a case or two of each command, `spheres` a source. Random predicates are compared by examples/checks/plain.py.
+//! records, `panel` what they say of verdicts, `listings` what `list` writes, read back, `emitted` what `emit` writes, read back and called, `generated`
+//! what `gen` writes, `many` long runs, of which no clause speaks. `verdicts`, `by_degree`, `verified` and `traced` call `run_row`, `graded`, `verify`
+//! and `judge` themselves. `spheres` has a source. Random predicates are compared by examples/checks/plain.py.
 //!
 //! One function of `support` calls `lnc`, and the others call that: each caller of `lnc` takes the check long.
 #![tactic(auto)]
@@ -13,11 +12,7 @@
 #[cfg(test)]
 mod by_degree;
 #[cfg(test)]
-mod changed;
-#[cfg(test)]
 mod commands;
-#[cfg(test)]
-mod edges;
 #[cfg(test)]
 mod emitted;
 #[cfg(test)]
@@ -25,25 +20,17 @@ mod failing;
 #[cfg(test)]
 mod generated;
 #[cfg(test)]
-mod graded;
-#[cfg(test)]
 mod listings;
 #[cfg(test)]
 mod many;
 #[cfg(test)]
 mod panel;
 #[cfg(test)]
-mod products;
-#[cfg(test)]
-mod repeated;
-#[cfg(test)]
 mod spheres;
 #[cfg(test)]
 mod support;
 #[cfg(test)]
 mod traced;
-#[cfg(test)]
-mod traces;
 #[cfg(test)]
 mod verdicts;
 #[cfg(test)]

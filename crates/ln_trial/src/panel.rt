@@ -1,5 +1,5 @@
 //! Watchers that leave, that stay and that are cut off, over streams in memory.
-
+use crate::support::{Kind, boxes};
 use ln_base::{MemConsole, NoMemory, Port, Sign};
 use ln_code::{By, Verdict};
 use ln_signs::panel::Panel;
@@ -87,20 +87,18 @@ fn a_box_leaves_between_two_that_stay(rt: HostRuntime) -> Result<(), Fail> {
 }
 
 // Three watchers of the first perturbed rows, and two of signs.
-fn five(alloc: Global) -> Result<Vec<Box<dyn Watch>>, NoMemory> {
-    let mut boxes: Vec<Box<dyn Watch>> = Vec::new(alloc);
-    boxes.push(Box::new(alloc, FirstWatch::new(1))?)?;
-    boxes.push(Box::new(alloc, FirstWatch::new(2))?)?;
-    boxes.push(Box::new(alloc, FirstWatch::new(1))?)?;
-    boxes.push(Box::new(alloc, SignWatch::new())?)?;
-    boxes.push(Box::new(alloc, SignWatch::new())?)?;
-    Ok(boxes)
-}
+const FIVE: &[Kind] = &[
+    Kind::First,
+    Kind::FirstTwo,
+    Kind::First,
+    Kind::Signs,
+    Kind::Signs,
+];
 
 // Does the write of the first line that comes third fail, and that of the last line, and are those before them there?
 fn are_cut(alloc: Global) -> Result<bool, NoMemory> {
     let mut con = MemConsole::new(alloc, 400, 100, Vec::from_slice(alloc, &[3, 8])?)?;
-    let mut panel = Panel::new(five(alloc)?);
+    let mut panel = Panel::new(boxes(alloc, FIVE)?);
     let first = is_shown(&mut panel, &mut con, 5, Sign::Plus, By::Stage(1));
     let left = panel.watchers.len();
     let second = is_shown(&mut panel, &mut con, 6, Sign::Plus, By::Filter);

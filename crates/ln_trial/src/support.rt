@@ -1,11 +1,14 @@
 //! Files and a console in memory, for the tests.
 use ln_base::{MemConsole, MemFiles, NoMemory, Port};
 use ln_top::{Status, lnc};
-use ln_watch::{FirstWatch, SignWatch, Watch};
+use ln_watch::{DeciderWatch, FirstWatch, SignWatch, Watch};
 use std::alloc::Global;
 
-/// Words over a source and rows; the status that they require, and the bytes on Out and on Err.
-pub type Case<'a> = (&'a [&'a str], &'a str, &'a str, Status, &'a str, &'a str);
+/// The header of rows of the orientation.
+pub const HEAD: &str = "p,p.x,p.y,q,q.x,q.y,r,r.x,r.y\n";
+
+/// Words, with blanks between them, over a source and rows; the status that they require, and the bytes on Out and on Err.
+pub type Case<'a> = (&'a str, &'a str, &'a str, Status, &'a str, &'a str);
 
 /// The failures: these calls of the files, these writes, and the writes past this many bytes of a stream.
 #[derive(Clone, Copy)]
@@ -32,10 +35,10 @@ pub fn shelf(alloc: Global, source: &str, rows: &str, fails: &[u64]) -> Result<M
     Ok(MemFiles::new(files, Vec::from_slice(alloc, fails)?))
 }
 
-/// These words, each a text of its own.
-pub fn texts(alloc: Global, words: &[&str]) -> Result<Vec<String>, NoMemory> {
+/// The words of a text, each a text of its own.
+pub fn texts(alloc: Global, words: &str) -> Result<Vec<String>, NoMemory> {
     let mut all = Vec::new(alloc);
-    for word in words {
+    for word in words.split_ascii_whitespace() {
         all.push(String::from_str(alloc, word)?)?;
     }
     Ok(all)
@@ -44,7 +47,7 @@ pub fn texts(alloc: Global, words: &[&str]) -> Result<Vec<String>, NoMemory> {
 /// The status of the words, with these watchers. Nothing else here calls the program.
 pub fn answered(
     alloc: Global,
-    words: &[&str],
+    words: &str,
     files: &mut MemFiles,
     con: &mut MemConsole,
     watchers: Vec<Box<dyn Watch>>,
@@ -53,36 +56,16 @@ pub fn answered(
     Ok(lnc(alloc, &words, files, con, watchers))
 }
 
-/// The status, and the console with what was written, seven bytes at a time; the calls in `fails` fail.
-pub fn said(
-    alloc: Global,
-    words: &[&str],
-    files: &mut MemFiles,
-    fails: &[u64],
-) -> Result<(Status, MemConsole), NoMemory> {
-    said_within(alloc, words, files, 4096, fails)
+/// What the words write over a source, on streams with room for 2^20 bytes.
+pub fn written(alloc: Global, words: &str, source: &str) -> Result<MemConsole, NoMemory> {
+    let mut con = MemConsole::new(alloc, 1 << 20, 7, Vec::new(alloc))?;
+    let mut files = shelf(alloc, source, "", &[])?;
+    answered(alloc, words, &mut files, &mut con, Vec::new(alloc))?;
+    Ok(con)
 }
 
-/// The same over streams with room for this many bytes each.
-pub fn said_within(
-    alloc: Global,
-    words: &[&str],
-    files: &mut MemFiles,
-    room: usize,
-    fails: &[u64],
-) -> Result<(Status, MemConsole), NoMemory> {
-    let mut con = MemConsole::new(alloc, room, 7, Vec::from_slice(alloc, fails)?)?;
-    let status = answered(alloc, words, files, &mut con, Vec::new(alloc))?;
-    Ok((status, con))
-}
-
-/// Are these bytes on the two streams?
-pub fn tells(con: &MemConsole, out: &str, err: &str) -> bool {
-    con.bytes(Port::Out) == out.as_bytes() && con.bytes(Port::Err) == err.as_bytes()
-}
-
-// Have the words their status and their bytes over these files and this console?
-fn are_owed(
+/// Have the words their status and their bytes over these files and this console?
+pub fn is_said(
     alloc: Global,
     case: &Case<'_>,
     files: &mut MemFiles,
@@ -91,16 +74,11 @@ fn are_owed(
 ) -> Result<bool, NoMemory> {
     let (words, _, _, status, out, err) = *case;
     let was = answered(alloc, words, files, &mut con, watchers)?;
-    Ok(was == status && tells(&con, out, err))
+    let put = con.bytes(Port::Out) == out.as_bytes() && con.bytes(Port::Err) == err.as_bytes();
+    Ok(was == status && put)
 }
 
-/// Have the words their status and their bytes over these files, without watchers?
-pub fn is_said(alloc: Global, case: &Case<'_>, files: &mut MemFiles) -> Result<bool, NoMemory> {
-    let con = MemConsole::new(alloc, 4096, 7, Vec::new(alloc))?;
-    are_owed(alloc, case, files, con, Vec::new(alloc))
-}
-
-/// Have the words their status and their bytes, with these watchers, where this fails?
+/// Have the words their status and their bytes, with these watchers, where this fails? A write takes seven bytes at most.
 pub fn is_answered(
     alloc: Global,
     case: &Case<'_>,
@@ -110,7 +88,7 @@ pub fn is_answered(
     let (_, source, rows, ..) = *case;
     let con = MemConsole::new(alloc, faults.room, 7, Vec::from_slice(alloc, faults.puts)?)?;
     let mut files = shelf(alloc, source, rows, faults.reads)?;
-    are_owed(alloc, case, &mut files, con, watchers)
+    is_said(alloc, case, &mut files, con, watchers)
 }
 
 /// Have all words their status and their bytes, without watchers, where nothing fails?
@@ -123,11 +101,30 @@ pub fn are_answered(alloc: Global, cases: &[Case<'_>]) -> Result<bool, NoMemory>
     Ok(true)
 }
 
+/// A watcher of signs, of deciders, or of the first perturbed row, the first two or the first three.
+#[derive(Clone, Copy)]
+pub enum Kind {
+    Signs,
+    Deciders,
+    First,
+    FirstTwo,
+    FirstThree,
+}
+
 /// Two watchers of the first perturbed rows, and one of the signs between them.
-pub fn three_boxes(alloc: Global) -> Result<Vec<Box<dyn Watch>>, NoMemory> {
+pub const AROUND_SIGNS: &[Kind] = &[Kind::First, Kind::Signs, Kind::FirstTwo];
+
+/// Watchers of these kinds.
+pub fn boxes(alloc: Global, kinds: &[Kind]) -> Result<Vec<Box<dyn Watch>>, NoMemory> {
     let mut boxes: Vec<Box<dyn Watch>> = Vec::new(alloc);
-    boxes.push(Box::new(alloc, FirstWatch::new(1))?)?;
-    boxes.push(Box::new(alloc, SignWatch::new())?)?;
-    boxes.push(Box::new(alloc, FirstWatch::new(2))?)?;
+    for kind in kinds {
+        match kind {
+            Kind::Signs => boxes.push(Box::new(alloc, SignWatch::new())?)?,
+            Kind::Deciders => boxes.push(Box::new(alloc, DeciderWatch::new())?)?,
+            Kind::First => boxes.push(Box::new(alloc, FirstWatch::new(1))?)?,
+            Kind::FirstTwo => boxes.push(Box::new(alloc, FirstWatch::new(2))?)?,
+            Kind::FirstThree => boxes.push(Box::new(alloc, FirstWatch::new(3))?)?,
+        }
+    }
     Ok(boxes)
 }

@@ -3,11 +3,12 @@ ghost use Rattle.std.specs.Prelude.{map};
 ghost use Rattle.ln_tree.specs.Table.{pred_of};
 ghost use Rattle.ln_stage.specs.Sound.{AreSound, IsSound};
 
+use crate::verified::accepted;
 use ln_base::NoMemory;
-use ln_compile::{Checked, Refusal, check};
+use ln_compile::{Refusal, check};
 use ln_rows::Rows;
 use ln_trace::{Trace, TraceStop, judge, read_trace};
-use ln_tree::{Pred, Table};
+use ln_tree::Pred;
 use ln_trial_programs::sample::ORIENT;
 use ln_verify::cases::case_of;
 use std::alloc::Global;
@@ -16,31 +17,20 @@ use std::test::Fail;
 // Three points in one place, without the names of the columns.
 const RECORD: &[u8] = b"1,5,5,2,5,5,3,5,5\n";
 
-// Traces, with the first line that fails, 0 where none does and 1 where a form fault is in line 1.
-const WANTED: &[(&str, u32)] = &[
-    (
-        "trace 1\nrow 1\nat : 0\nat 1^1 : 0\nat 0^1 : 0\nat 3^1 : 0\nat 0^1 3^1 : 1\nsign +\n",
-        0,
-    ),
+// Their trace.
+const TRACE: &str =
+    "trace 1\nrow 1\nat : 0\nat 1^1 : 0\nat 0^1 : 0\nat 3^1 : 0\nat 0^1 3^1 : 1\nsign +\n";
+
+// A trace in which a text stands for another, with the first line that fails, 0 where none does and 1 where a form fault is in line 1.
+const WANTED: &[(&str, &str, &str, u32)] = &[
+    (TRACE, "", "", 0),
     // Another value, a stage that is left out, another sign, no sign, no record.
-    (
-        "trace 1\nrow 1\nat : 1\nat 1^1 : 0\nat 0^1 : 0\nat 3^1 : 0\nat 0^1 3^1 : 1\nsign +\n",
-        3,
-    ),
-    (
-        "trace 1\nrow 1\nat : 0\nat 1^1 : 0\nat 3^1 : 0\nat 0^1 3^1 : 1\nsign +\n",
-        5,
-    ),
-    (
-        "trace 1\nrow 1\nat : 0\nat 1^1 : 0\nat 0^1 : 0\nat 3^1 : 0\nat 0^1 3^1 : 1\nsign -\n",
-        8,
-    ),
-    (
-        "trace 1\nrow 1\nat : 0\nat 1^1 : 0\nat 0^1 : 0\nat 3^1 : 0\nat 0^1 3^1 : 1\n",
-        8,
-    ),
-    ("trace 1\n", 2),
-    ("trace 2\n", 1),
+    (TRACE, "at : 0", "at : 1", 3),
+    (TRACE, "at 0^1 : 0\n", "", 5),
+    (TRACE, "sign +", "sign -", 8),
+    (TRACE, "sign +\n", "", 8),
+    ("trace 1\n", "", "", 2),
+    ("trace 2\n", "", "", 1),
 ];
 
 // The first line that fails by a predicate, 0 where none does.
@@ -66,14 +56,6 @@ fn fault_in(alloc: Global, preds: &[Pred], trace: &Trace) -> Result<Option<u32>,
         }
         _ => Ok(None),
     }
-}
-
-// The table of an accepted source.
-fn accepted(c: &Checked) -> &Table
-    requires { AreSound (map pred_of c.now.table.preds) }
-    ensures { AreSound (map pred_of result.now.preds) }
-{
-    c.table()
 }
 
 // The first line of a trace of the orientation that fails; none where the source is refused.
@@ -102,7 +84,8 @@ fn fails_at(alloc: Global, text: &[u8], line: u32) -> Result<bool, NoMemory> {
 }
 
 fn all_fail(alloc: Global) -> Result<bool, NoMemory> {
-    for (text, line) in WANTED {
+    for (trace, old, new, line) in WANTED {
+        let text = trace.replacen(alloc, *old, new, 1)?;
         if !fails_at(alloc, text.as_bytes(), *line)? {
             return Ok(false);
         }

@@ -1,5 +1,5 @@
 //! The verdicts that `run_row` gives on rows of compiled programs, with what they count.
-ghost use Rattle.std.specs.Prelude.{◌≡◌, IfSome};
+ghost use Rattle.std.specs.Prelude.{◌≡◌};
 
 use ln_base::{NoMemory, Sign};
 use ln_code::{By, Program, Row, Scratch, Verdict, run_row};
@@ -10,55 +10,15 @@ use ln_trial_programs::sample::{ORIENT, compiled};
 use std::alloc::Global;
 use std::test::Fail;
 
-// The predicate of a source and its program, where there is one.
-fn only(c: &Compiled) -> Option<(&Pred, &Program)>
-    ensures { IfSome result (λ both. (both.1.now.shape.sites ≡ both.0.now.shape.sites)
-        × (both.1.now.shape.vars ≡ both.0.now.shape.vars)) }
-{
-    match (c.table().preds.as_slice(), c.programs().as_slice()) {
-        ([pred], [program]) => Some((pred, program)),
-        _ => None,
-    }
-}
-
-// The verdict of a predicate's program on a record's row, in memory made for it; none where the record is no row.
-fn verdict_on(
-    alloc: Global,
-    pred: &Pred,
-    program: &Program,
-    record: &str,
-) -> Result<Option<Verdict>, NoMemory>
-    requires sites { program.now.shape.sites ≡ pred.now.shape.sites }
-    requires vars { program.now.shape.vars ≡ pred.now.shape.vars }
-{
-    let mut s = Scratch::new(alloc, program)?;
-    let mut rows = Rows::new(alloc, record.as_bytes());
-    let mut row = Row {
-        index: [0; 5],
-        values: [0; 168],
-    };
-    match rows.next_row(pred, &mut row)? {
-        Some(Ok(())) => Ok(Some(run_row(program, &mut s, &row))),
-        _ => Ok(None),
-    }
-}
-
-/// Returns the verdict of a source's one program on a record's row; none where there is another number of programs, or no row.
-pub fn verdict(alloc: Global, c: &Compiled, record: &str) -> Result<Option<Verdict>, NoMemory> {
-    match only(c) {
-        Some((pred, program)) => verdict_on(alloc, pred, program, record),
-        None => Ok(None),
-    }
-}
-
-// The calls of this many runs of the program on a record's row, added up, in memory made once; none where the record is no row.
-fn calls_on(
+// The verdict of a predicate's program on a record's row, and the calls of this many runs of it, added up, in memory made once; none where the
+// record is no row.
+fn runs_on(
     alloc: Global,
     pred: &Pred,
     program: &Program,
     record: &str,
     count: usize,
-) -> Result<Option<u64>, NoMemory>
+) -> Result<Option<(Verdict, u64)>, NoMemory>
     requires sites { program.now.shape.sites ≡ pred.now.shape.sites }
     requires vars { program.now.shape.vars ≡ pred.now.shape.vars }
 {
@@ -71,24 +31,24 @@ fn calls_on(
     let Some(Ok(())) = rows.next_row(pred, &mut row)? else {
         return Ok(None);
     };
-    let mut calls = 0u64;
-    'runs: for _ in 0..count {
+    let first = run_row(program, &mut s, &row);
+    let mut calls = u64::from(first.calls);
+    'runs: for _ in 1..count {
         calls = calls.saturating_add(u64::from(run_row(program, &mut s, &row).calls));
     }
-    Ok(Some(calls))
+    Ok(Some((first, calls)))
 }
 
-/// Returns the calls of this many runs of a source's one program on a record's row, added up; none where there is another number of
-/// programs, or no row.
-pub fn calls_of_runs(
+/// The same of a source's one program; none where there is another number of programs, too.
+pub fn runs(
     alloc: Global,
     c: &Compiled,
     record: &str,
     count: usize,
-) -> Result<Option<u64>, NoMemory> {
-    match only(c) {
-        Some((pred, program)) => calls_on(alloc, pred, program, record, count),
-        None => Ok(None),
+) -> Result<Option<(Verdict, u64)>, NoMemory> {
+    match (c.table().preds.as_slice(), c.programs().as_slice()) {
+        ([pred], [program]) => runs_on(alloc, pred, program, record, count),
+        _ => Ok(None),
     }
 }
 
@@ -118,8 +78,10 @@ fn decides(by: By, stage: Option<u32>) -> bool {
 // Is this the verdict on the row of a record? None of the operations is wide.
 fn is_given(alloc: Global, c: &Compiled, want: &Want) -> Result<bool, NoMemory> {
     let (record, sign, stage, calls) = *want;
-    match verdict(alloc, c, record)? {
-        Some(v) => { Ok(v.sign == sign && decides(v.by, stage) && v.calls == calls && v.wide == 0) }
+    match runs(alloc, c, record, 1)? {
+        Some((v, _)) => {
+            Ok(v.sign == sign && decides(v.by, stage) && v.calls == calls && v.wide == 0)
+        }
         None => Ok(false),
     }
 }
@@ -153,8 +115,8 @@ pub fn wide_of_rows(
     };
     let mut wide = 0u64;
     for record in records {
-        match verdict(alloc, &c, record)? {
-            Some(v) => wide = wide.saturating_add(u64::from(v.wide)),
+        match runs(alloc, &c, record, 1)? {
+            Some((v, _)) => wide = wide.saturating_add(u64::from(v.wide)),
             None => return Ok(None),
         }
     }

@@ -3,30 +3,19 @@ ghost use Rattle.std.specs.Prelude.{◌≤◌, length, map};
 ghost use Rattle.ln_tree.specs.Table.{pred_of};
 ghost use Rattle.ln_compile.specs.Accepted.{AreSound};
 
-use crate::changed::{BOUNDS, RANGES, TURNS, changed};
-use ln_base::NoMemory;
-use ln_cert::{ListStop, Listing, read_listing};
+use crate::listings::listing_of;
+use crate::support::written;
+use ln_base::{NoMemory, Port};
+use ln_cert::Listing;
 use ln_compile::{Checked, Refusal, check};
 use ln_tree::Table;
-use ln_trial_programs::sample::{ORIENT, SQUARES};
+use ln_trial_programs::sample::{BLOCKS, ORIENT, RANGES, SQUARES};
 use ln_verify::{Judged, verify};
 use std::alloc::Global;
 use std::test::Fail;
 
-// The listing of a text; none where it is none.
-fn listing_of(alloc: Global, text: &[u8]) -> Result<Option<Listing>, NoMemory> {
-    if text.len() > 1 << 20 {
-        return Ok(None);
-    }
-    match read_listing(alloc, text) {
-        Ok(listing) => Ok(Some(listing)),
-        Err(ListStop::NoMemory(e)) => Err(e),
-        Err(ListStop::Form(_)) => Ok(None),
-    }
-}
-
-// The table of an accepted source.
-fn accepted(c: &Checked) -> &Table
+/// The table of an accepted source.
+pub fn accepted(c: &Checked) -> &Table
     requires { AreSound (map pred_of c.now.table.preds) }
     ensures { AreSound (map pred_of result.now.preds) }
 {
@@ -63,39 +52,55 @@ fn first_failing(alloc: Global, source: &str, text: &[u8]) -> Result<Option<u32>
     }
 }
 
-// A source and a listing that is changed, from a line on this many lines to a text; and the first line that fails, 0 where none does.
-type Want = (&'static str, &'static str, u32, u32, &'static str, u32);
+// A source, the version and the rest of a listing in which a text stands for another; and the first line that fails, 0 where none does.
+type Want = (
+    &'static str,
+    u32,
+    &'static str,
+    &'static str,
+    &'static str,
+    u32,
+);
 
 const WANTED: &[Want] = &[
-    ("", "listing 1\n", 0, 0, "", 0),
-    ("", "listing 2\n", 0, 0, "", 0),
-    ("", BOUNDS, 0, 0, "", 2),
-    (SQUARES, "listing 1\n", 0, 0, "", 2),
-    (SQUARES, BOUNDS, 0, 0, "", 0),
-    (SQUARES, RANGES, 0, 0, "", 0),
-    (ORIENT, TURNS, 0, 0, "", 0),
+    ("", 1, "", "", "", 0),
+    ("", 2, "", "", "", 0),
+    ("", 1, BLOCKS, "", "", 2),
+    (SQUARES, 1, "", "", "", 2),
+    (SQUARES, 1, BLOCKS, "", "", 0),
+    (SQUARES, 2, RANGES, "", "", 0),
     // Another source's listing.
-    (ORIENT, BOUNDS, 0, 0, "", 2),
+    (ORIENT, 1, BLOCKS, "", "", 2),
     // A product that passes its bound; a wider one; another product than the derivative.
-    (SQUARES, BOUNDS, 28, 1, "mul64 19", 28),
-    (SQUARES, BOUNDS, 28, 1, "mul128 20", 0),
-    (SQUARES, BOUNDS, 26, 3, "push 3 3\ninput 0 10\nmul64 30", 29),
-    (SQUARES, RANGES, 28, 1, "mul64 -20 19", 28),
+    (SQUARES, 1, BLOCKS, "mul64 20", "mul64 19", 28),
+    (SQUARES, 1, BLOCKS, "mul64 20", "mul128 20", 0),
+    (
+        SQUARES,
+        1,
+        BLOCKS,
+        "push 2 2\ninput 0 10\nmul64 20",
+        "push 3 3\ninput 0 10\nmul64 30",
+        29,
+    ),
+    (SQUARES, 2, RANGES, "mul64 -20 20", "mul64 -20 19", 28),
 ];
 
 fn is_judged(alloc: Global, want: &Want) -> Result<bool, NoMemory> {
-    let (source, listing, at, cut, new, line) = *want;
-    let text = changed(alloc, listing.as_bytes(), at, cut, new.as_bytes())?;
-    Ok(first_failing(alloc, source, &text)? == Some(line))
+    let (source, version, listing, old, new, line) = *want;
+    let mut text = format!(in alloc; "listing {version}\n")?;
+    text.push_str(&listing.replacen(alloc, old, new, 1)?)?;
+    Ok(first_failing(alloc, source, text.as_bytes())? == Some(line))
 }
 
+// Are those of the table judged so, and what `list` writes for the orientation as valid?
 fn are_judged(alloc: Global) -> Result<bool, NoMemory> {
     for want in WANTED {
         if !is_judged(alloc, want)? {
             return Ok(false);
         }
     }
-    Ok(true)
+    let turns = written(alloc, "list s.ln", ORIENT)?;
+    Ok(first_failing(alloc, ORIENT, turns.bytes(Port::Out))? == Some(0))
 }
 
 #[test]

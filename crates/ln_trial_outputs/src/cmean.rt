@@ -1,21 +1,10 @@
 //! Files of the C subset, read and called: their signs, the lines at which they have no meaning, and what is counted.
+use crate::csyn::SAMPLE;
 use ln_cmean::{CAnswer, CFault, CScratch, call};
 use ln_csyn::{CFile, read_c};
 use std::alloc::Global;
 use std::process::Abort;
 use std::test::Fail;
-
-const DOUBLE: &str = "#include <stdint.h>
-static int f(const int64_t *v) {
-  int64_t t = (((int64_t)v[0]) * ((int64_t)2));
-  if ((((int64_t)t) > ((int64_t)0))) { return ((int)1); }
-  return ((int)0);
-}
-int g(const int64_t *x, const int64_t *v) {
-  if ((((int64_t)x[0]) < ((int64_t)x[1]))) { return ((int)f(v)); }
-  return (-((int)1));
-}
-";
 
 // Functions that a body can call; the body begins on line 9.
 const HEAD: &str = "#include <stdint.h>
@@ -34,9 +23,6 @@ static int later(const int64_t *v) { return ((int)1); }
 ";
 
 const VALUES: [i64; 4] = [-9223372036854775808, 9223372036854775807, -7, 40000];
-
-/// A body of the function `g`, with its sign or the line at which it has no meaning.
-type Body = (&'static str, Result<i32, u32>);
 
 fn read(rt: &impl Abort, alloc: Global, text: &[u8]) -> Result<CFile, Fail> {
     assert!(rt; text.len() <= 1 << 20);
@@ -65,22 +51,25 @@ fn called(rt: &impl Abort, alloc: Global, body: &str) -> Result<Result<CAnswer, 
 }
 
 /// Whether this is the sign, or the line.
-fn tells(was: Result<CAnswer, CFault>, want: Result<i32, u32>) -> bool {
-    match (was, want) {
-        (Ok(answer), Ok(sign)) => answer.sign == sign,
-        (Err(CFault::Undefined(line)), Err(wanted)) => line == wanted,
-        _ => false,
-    }
+fn tells(alloc: Global, was: Result<CAnswer, CFault>, want: &str) -> Result<bool, Fail> {
+    let text = match was {
+        Ok(answer) => format!(in alloc; "{}", answer.sign)?,
+        Err(CFault::Undefined(line)) => format!(in alloc; "line {line}")?,
+        Err(_) => String::new(alloc),
+    };
+    Ok(text.as_str() == want)
 }
 
-fn all_give(rt: &impl Abort, alloc: Global, bodies: &[Body]) -> Result<(), Fail> {
-    for (body, want) in bodies {
-        assert!(rt; tells(called(rt, alloc, body)?, *want), "{body}");
+/// Each body of the function `g`, with its sign or the line at which it has no meaning before it, gives that.
+fn all_give(rt: &impl Abort, alloc: Global, bodies: &[&str]) -> Result<(), Fail> {
+    for row in bodies {
+        let (want, body) = row.split_once(": ").unwrap_or(("", row));
+        assert!(rt; tells(alloc, called(rt, alloc, body)?, want)?, "{body}");
     }
     Ok(())
 }
 
-/// A call of a function of `DOUBLE`: its name, the indices, the values, and what it returns.
+/// A call of a function of `SAMPLE`: its name, the indices, the values, and what it returns.
 type Call = (
     &'static str,
     [i64; 2],
@@ -121,80 +110,46 @@ fn answers(alloc: Global, file: &CFile, wanted: &Call) -> Result<bool, Fail> {
     Ok(first == wanted.3 && again == wanted.3)
 }
 
-fn all_answer(rt: &impl Abort, alloc: Global, file: &CFile) -> Result<(), Fail> {
+#[test]
+fn a_file_of_two_functions_is_called(rt: HostRuntime) -> Result<(), Fail> {
+    let file = read(&rt, rt.alloc(), SAMPLE.as_bytes())?;
     for wanted in CALLS {
-        assert!(rt; answers(alloc, file, wanted)?, "{}", wanted.0);
+        assert!(rt; answers(rt.alloc(), &file, wanted)?, "{}", wanted.0);
     }
     Ok(())
 }
 
-#[test]
-fn a_file_of_two_functions_is_called(rt: HostRuntime) -> Result<(), Fail> {
-    let file = read(&rt, rt.alloc(), DOUBLE.as_bytes())?;
-    all_answer(&rt, rt.alloc(), &file)
-}
-
-const NARROW: &[Body] = &[
+const NARROW: &[&str] = &[
     // An `int` at both ends, and past them.
-    ("return ((int)32767);", Ok(32767)),
-    ("return (-((int)32767));", Ok(-32767)),
-    ("return ((int)32768);", Err(9)),
-    ("return ((int)v[3]);", Err(9)),
-    ("return (((int)32767) + ((int)1));", Err(9)),
-    ("return ((-((int)32767)) - ((int)1));", Err(9)),
+    "32767: return ((int)32767);",
+    "-32767: return (-((int)32767));",
+    "line 9: return ((int)32768);",
+    "line 9: return ((int)v[3]);",
+    "line 9: return (((int)32767) + ((int)1));",
+    "line 9: return ((-((int)32767)) - ((int)1));",
     // An `int64_t`.
-    (
-        "return ((((int64_t)v[1]) - ((int64_t)1)) > ((int64_t)0));",
-        Ok(1),
-    ),
-    (
-        "int64_t a = ((int64_t)v[1]);\nint64_t b = (((int64_t)a) + ((int64_t)1));",
-        Err(10),
-    ),
-    (
-        "return ((((int64_t)v[0]) - ((int64_t)1)) < ((int64_t)0));",
-        Err(9),
-    ),
-    (
-        "return ((((int64_t)v[1]) * ((int64_t)2)) > ((int64_t)0));",
-        Err(9),
-    ),
-    ("return ((-((int64_t)v[0])) > ((int64_t)0));", Err(9)),
+    "1: return ((((int64_t)v[1]) - ((int64_t)1)) > ((int64_t)0));",
+    "line 10: int64_t a = ((int64_t)v[1]);\nint64_t b = (((int64_t)a) + ((int64_t)1));",
+    "line 9: return ((((int64_t)v[0]) - ((int64_t)1)) < ((int64_t)0));",
+    "line 9: return ((((int64_t)v[1]) * ((int64_t)2)) > ((int64_t)0));",
+    "line 9: return ((-((int64_t)v[0])) > ((int64_t)0));",
 ];
 
 // p is 2^126.
-const WIDE: &[Body] = &[
-    (
-        "__int128 p = (((__int128)v[0]) * ((__int128)v[0]));
+const WIDE: &[&str] = &[
+    "1: __int128 p = (((__int128)v[0]) * ((__int128)v[0]));
 return (((((__int128)p) - ((__int128)1)) + ((__int128)p)) > ((__int128)0));",
-        Ok(1),
-    ),
-    (
-        "__int128 p = (((__int128)v[0]) * ((__int128)v[0]));
+    "line 10: __int128 p = (((__int128)v[0]) * ((__int128)v[0]));
 return ((((__int128)p) + ((__int128)p)) > ((__int128)0));",
-        Err(10),
-    ),
-    (
-        "__int128 p = (((__int128)v[0]) * ((__int128)v[0]));
+    "line 11: __int128 p = (((__int128)v[0]) * ((__int128)v[0]));
 __int128 q = ((-((__int128)p)) - ((__int128)p));
 __int128 r = (((__int128)q) - ((__int128)1));",
-        Err(11),
-    ),
-    (
-        "__int128 p = (((__int128)v[0]) * ((__int128)v[0]));
+    "line 11: __int128 p = (((__int128)v[0]) * ((__int128)v[0]));
 __int128 q = ((-((__int128)p)) - ((__int128)p));
 __int128 r = (-((__int128)q));",
-        Err(11),
-    ),
-    (
-        "__int128 p = (((__int128)v[0]) * ((__int128)v[0]));
+    "line 10: __int128 p = (((__int128)v[0]) * ((__int128)v[0]));
 __int128 q = (((__int128)p) * ((__int128)2));",
-        Err(10),
-    ),
-    (
-        "__int128 p = ((__int128)v[1]);\nreturn ((((int64_t)p) + ((int64_t)0)) == ((int64_t)v[1]));",
-        Ok(1),
-    ),
+    "1: __int128 p = ((__int128)v[1]);\nreturn ((((int64_t)p) + ((int64_t)0)) == ((int64_t)v[1]));",
 ];
 
 #[test]
@@ -203,21 +158,18 @@ fn numbers_stay_within_their_type(rt: HostRuntime) -> Result<(), Fail> {
     all_give(&rt, rt.alloc(), WIDE)
 }
 
-const OPERATIONS: &[Body] = &[
+const OPERATIONS: &[&str] = &[
     // `/` truncates towards zero; its divisor has to be one of its type.
-    (
-        "return ((((int64_t)v[2]) / ((int64_t)2)) == (-((int64_t)3)));",
-        Ok(1),
-    ),
-    ("return (((int)1) / ((int)40000));", Err(9)),
+    "1: return ((((int64_t)v[2]) / ((int64_t)2)) == (-((int64_t)3)));",
+    "line 9: return (((int)1) / ((int)40000));",
     // Comparisons.
-    ("return (((int)1) != ((int)2));", Ok(1)),
-    ("return (((int)2) < ((int)2));", Ok(0)),
+    "1: return (((int)1) != ((int)2));",
+    "0: return (((int)2) < ((int)2));",
     // Types that differ.
-    ("return ((((int64_t)1) + ((int)1)) > ((int64_t)0));", Err(9)),
-    ("int a = ((int64_t)1);", Err(9)),
-    ("if (((int64_t)1)) { }\nreturn ((int)1);", Err(9)),
-    ("return ((int64_t)1);", Err(9)),
+    "line 9: return ((((int64_t)1) + ((int)1)) > ((int64_t)0));",
+    "line 9: int a = ((int64_t)1);",
+    "line 9: if (((int64_t)1)) { }\nreturn ((int)1);",
+    "line 9: return ((int64_t)1);",
 ];
 
 #[test]
@@ -225,43 +177,34 @@ fn operands_have_one_type(rt: HostRuntime) -> Result<(), Fail> {
     all_give(&rt, rt.alloc(), OPERATIONS)
 }
 
-const NAMES: &[Body] = &[
+const NAMES: &[&str] = &[
     // A name before its declaration, within it, after its braces; the innermost of two.
-    ("int a = ((int)b);\nint b = ((int)1);", Err(9)),
-    ("int a = ((int)1);\n{\nint a = ((int)a); }", Err(11)),
-    ("{ int a = ((int)1); }\nreturn ((int)a);", Err(10)),
-    (
-        "int a = ((int)1); { int a = ((int)2); return ((int)a); }",
-        Ok(2),
-    ),
-    (
-        "int a = ((int)1); { int a = ((int)2); } return ((int)a);",
-        Ok(1),
-    ),
-    ("return ((int)v);", Err(9)),
+    "line 9: int a = ((int)b);\nint b = ((int)1);",
+    "line 11: int a = ((int)1);\n{\nint a = ((int)a); }",
+    "line 10: { int a = ((int)1); }\nreturn ((int)a);",
+    "2: int a = ((int)1); { int a = ((int)2); return ((int)a); }",
+    "1: int a = ((int)1); { int a = ((int)2); } return ((int)a);",
+    "line 9: return ((int)v);",
     // Places past the end, and `x` where the function hasn't it.
-    ("return ((int)v[2]);", Ok(-7)),
-    ("return ((int)v[4]);", Err(9)),
-    ("return ((int)x[1]);", Ok(2)),
-    ("return ((int)x[2]);", Err(9)),
-    ("return ((int)place(v));", Err(6)),
+    "-7: return ((int)v[2]);",
+    "line 9: return ((int)v[4]);",
+    "2: return ((int)x[1]);",
+    "line 9: return ((int)x[2]);",
+    "line 6: return ((int)place(v));",
     // Functions that are unknown, later, have two parameters, or don't return.
-    ("return ((int)one(v));", Ok(1)),
-    ("return ((int)two(v));", Err(9)),
-    ("return ((int)later(v));", Err(9)),
-    ("return ((int)g(v));", Err(9)),
-    ("return ((int)none(v));", Err(5)),
+    "1: return ((int)one(v));",
+    "line 9: return ((int)two(v));",
+    "line 9: return ((int)later(v));",
+    "line 9: return ((int)g(v));",
+    "line 5: return ((int)none(v));",
     // The left operand comes first, and types last.
-    ("return (((int)none(v)) + ((int)place(v)));", Err(5)),
-    ("return (((int)place(v)) + ((int)none(v)));", Err(6)),
-    ("return (((int64_t)one(v)) + ((int)none(v)));", Err(5)),
+    "line 5: return (((int)none(v)) + ((int)place(v)));",
+    "line 6: return (((int)place(v)) + ((int)none(v)));",
+    "line 5: return (((int64_t)one(v)) + ((int)none(v)));",
     // The innermost statement; braces that aren't entered; no `return`.
-    ("if (((int)1)) {\nint a = ((int)40000);\n}", Err(10)),
-    (
-        "if (((int)0)) {\nint a = ((int)40000);\n}\nreturn ((int)3);",
-        Ok(3),
-    ),
-    ("{ int a = ((int)1);\n}", Err(11)),
+    "line 10: if (((int)1)) {\nint a = ((int)40000);\n}",
+    "3: if (((int)0)) {\nint a = ((int)40000);\n}\nreturn ((int)3);",
+    "line 11: { int a = ((int)1);\n}",
 ];
 
 #[test]

@@ -4,7 +4,7 @@ use std::alloc::Global;
 use std::process::Abort;
 use std::test::Fail;
 
-const SAMPLE: &str = "#include <stdint.h>
+pub const SAMPLE: &str = "#include <stdint.h>
 static int f(const int64_t *v) {
   int64_t t = (((int64_t)v[0]) * ((int64_t)2));
   if ((((int64_t)t) > ((int64_t)0))) { return ((int)1); }
@@ -72,20 +72,6 @@ fn is_file(rt: &impl Abort, alloc: Global, frame: Frame, text: &str) -> Result<b
     let mut all = Vec::new(alloc);
     put_framed(&mut all, frame, text)?;
     is_text(rt, alloc, all.as_slice())
-}
-
-/// In this frame each text of the table is a file, or none is.
-fn all_are(
-    rt: &impl Abort,
-    alloc: Global,
-    frame: Frame,
-    table: &[&str],
-    want: bool,
-) -> Result<(), Fail> {
-    for text in table {
-        assert!(rt; is_file(rt, alloc, frame, text)? == want, "{text}");
-    }
-    Ok(())
 }
 
 /// The statements begin on lines 3, 4 and 5.
@@ -161,13 +147,6 @@ const NO_WHOLES: &[&str] = &[
     "int g() { }",
 ];
 
-#[test]
-fn whole_texts(rt: HostRuntime) -> Result<(), Fail> {
-    let alloc = rt.alloc();
-    all_are(&rt, alloc, WHOLE, &["#include <stdint.h>\n"], true)?;
-    all_are(&rt, alloc, WHOLE, NO_WHOLES, false)
-}
-
 const FUNCTIONS: &[&str] = &[
     "int g(const int64_t *v) { }",
     "int g(const int64_t*v){}static int h(const int64_t*v){}",
@@ -206,59 +185,11 @@ const NO_FUNCTIONS: &[&str] = &[
     "int 9g(const int64_t*v){}",
 ];
 
-#[test]
-fn functions(rt: HostRuntime) -> Result<(), Fail> {
-    let alloc = rt.alloc();
-    all_are(&rt, alloc, FILE, FUNCTIONS, true)?;
-    all_are(&rt, alloc, FILE, NO_FUNCTIONS, false)
-}
-
-const RESERVED: &[&str] = &[
-    "auto",
-    "break",
-    "case",
-    "char",
-    "const",
-    "continue",
-    "default",
-    "do",
-    "double",
-    "else",
-    "enum",
-    "extern",
-    "float",
-    "for",
-    "goto",
-    "if",
-    "inline",
-    "int",
-    "long",
-    "register",
-    "restrict",
-    "return",
-    "short",
-    "signed",
-    "sizeof",
-    "static",
-    "struct",
-    "switch",
-    "typedef",
-    "union",
-    "unsigned",
-    "void",
-    "volatile",
-    "while",
-    "_Bool",
-    "_Complex",
-    "_Imaginary",
-    "int64_t",
-    "__int128",
-    "site",
-    "param",
-    "predicate",
-    "let",
-    "sign",
-];
+const RESERVED: &str =
+    "auto break case char const continue default do double else enum extern float for goto if \
+    inline int long register restrict return short signed sizeof static struct switch \
+    typedef union unsigned void volatile while _Bool _Complex _Imaginary int64_t __int128 \
+    site param predicate let sign";
 
 /// Places where a name is allowed, and no reserved word.
 const NAMES: &[Frame] = &[
@@ -285,11 +216,13 @@ const LONGER_NAMES: &[Frame] = &[
 
 #[test]
 fn words_that_are_no_names(rt: HostRuntime) -> Result<(), Fail> {
-    for frame in NAMES {
-        all_are(&rt, rt.alloc(), *frame, RESERVED, false)?;
-    }
-    for frame in LONGER_NAMES {
-        all_are(&rt, rt.alloc(), *frame, RESERVED, true)?;
+    for word in RESERVED.split_ascii_whitespace() {
+        for frame in NAMES {
+            assert!(rt; !is_file(&rt, rt.alloc(), *frame, word)?, "{word}");
+        }
+        for frame in LONGER_NAMES {
+            assert!(rt; is_file(&rt, rt.alloc(), *frame, word)?, "{word}");
+        }
     }
     Ok(())
 }
@@ -324,13 +257,6 @@ const NO_STATEMENTS: &[&str] = &[
     "{int a=((int)1);int a=((int)2);}",
     "if(((int)1)){int a=((int)1);int b=((int)2);int a=((int)2);}",
 ];
-
-#[test]
-fn statements(rt: HostRuntime) -> Result<(), Fail> {
-    let alloc = rt.alloc();
-    all_are(&rt, alloc, BODY, STATEMENTS, true)?;
-    all_are(&rt, alloc, BODY, NO_STATEMENTS, false)
-}
 
 const EXPRESSIONS: &[&str] = &[
     "((int)1)",
@@ -382,23 +308,33 @@ const NO_EXPRESSIONS: &[&str] = &[
     "(-((int)((((int)1)/((int)0))*((int)2))))",
 ];
 
-#[test]
-fn expressions(rt: HostRuntime) -> Result<(), Fail> {
-    let alloc = rt.alloc();
-    all_are(&rt, alloc, VALUE, EXPRESSIONS, true)?;
-    all_are(&rt, alloc, VALUE, NO_EXPRESSIONS, false)
-}
-
 const CALLS: &[&str] = &["((int)g(v))", "((int)v(v))", "(-(((int)1)*((int)h(v))))"];
 
 const NO_CALLS: &[&str] = &["((int)g(x))", "((int)g())", "((int)g(v,v))"];
 
+/// Frames and texts, and whether each of these is a file in its frame, or none is. Only functions of two parameters have calls.
+const TABLES: &[(Frame, &[&str], bool)] = &[
+    (WHOLE, &["#include <stdint.h>\n"], true),
+    (WHOLE, NO_WHOLES, false),
+    (FILE, FUNCTIONS, true),
+    (FILE, NO_FUNCTIONS, false),
+    (BODY, STATEMENTS, true),
+    (BODY, NO_STATEMENTS, false),
+    (VALUE, EXPRESSIONS, true),
+    (VALUE, NO_EXPRESSIONS, false),
+    (VALUE, CALLS, false),
+    (VALUE_OF_TWO, CALLS, true),
+    (VALUE_OF_TWO, NO_CALLS, false),
+];
+
 #[test]
-fn calls_stand_in_functions_of_two_parameters(rt: HostRuntime) -> Result<(), Fail> {
-    let alloc = rt.alloc();
-    all_are(&rt, alloc, VALUE, CALLS, false)?;
-    all_are(&rt, alloc, VALUE_OF_TWO, CALLS, true)?;
-    all_are(&rt, alloc, VALUE_OF_TWO, NO_CALLS, false)
+fn texts_of_each_rule_and_texts_of_none(rt: HostRuntime) -> Result<(), Fail> {
+    for (frame, texts, want) in TABLES {
+        for text in *texts {
+            assert!(rt; is_file(&rt, rt.alloc(), *frame, text)? == *want, "{text}");
+        }
+    }
+    Ok(())
 }
 
 /// A body: its beginning, what is repeated, how often it may be, the middle, what closes each, and the back.

@@ -7,6 +7,4 @@ mod cmean;
 #[cfg(test)]
 mod csyn;
 #[cfg(test)]
-mod emitted;
-#[cfg(test)]
 mod listings;

@@ -3,100 +3,10 @@ use ln_base::NoMemory;
 use ln_bound::Width;
 use ln_cert::{Entry, ListStop, Listing, Part, read_listing, write_listing};
 use ln_code::{Op, Programs};
-use ln_trial_programs::sample::compiled;
+use ln_trial_programs::sample::{BLOCKS, RANGES, compiled};
 use std::alloc::Global;
 use std::process::Abort;
 use std::test::Fail;
-
-// Of version 1: the sign of a.t^2 - b.t^2.
-const BLOCKS: &str = "predicate s
-filter
-input 0 0 10 0
-set 64
-get 64 0 10 0
-get 64 0 10 0
-mul 0 100 0
-input 1 0 10 0
-set 64
-get 64 0 10 0
-get 64 0 10 0
-mul 0 100 0
-sub 0 200 0
-decide
-block 0
-input 0 10
-input 0 10
-mul64 100
-input 1 10
-input 1 10
-mul64 100
-sub64 200
-end
-block 1 0^1
-push 2 2
-input 0 10
-mul64 20
-end
-block 2 0^2
-push 1 1
-end
-block 3 1^1
-push -2 2
-input 1 10
-mul64 20
-end
-block 4 1^2
-push -1 1
-end
-order 0 1 : 0 1 2
-order 1 0 : 0 3 4
-done
-";
-
-// The same of version 2.
-const RANGES: &str = "predicate s
-filter
-input 0 0 10 0
-set 64
-get 64 0 10 0
-get 64 0 10 0
-mul 0 100 0
-input 1 0 10 0
-set 64
-get 64 0 10 0
-get 64 0 10 0
-mul 0 100 0
-sub 0 200 0
-decide
-block 0
-input 0 -10 10
-input 0 -10 10
-mul64 -100 100
-input 1 -10 10
-input 1 -10 10
-mul64 -100 100
-sub64 -200 200
-end
-block 1 0^1
-push 2 2 2
-input 0 -10 10
-mul64 -20 20
-end
-block 2 0^2
-push 1 1 1
-end
-block 3 1^1
-push -2 -2 -2
-input 1 -10 10
-mul64 -20 20
-end
-block 4 1^2
-push -1 -1 -1
-end
-order 0 1 : 0 1 2
-order 1 0 : 0 3 4
-done
-";
 
 // After each prefix, lines and the line of the form fault.
 const FAULTS: &[(&str, &[(&str, u32)])] = &[

@@ -21,12 +21,12 @@ IsMade R tree n None (Some k) = IsSmall n (tree k) → ⊥
 IsMade R tree n (Some x) None = ⊥
 IsMade R tree n (Some x) (Some k) = R x k × IsSmall n (tree k)
 
--- a stack in code, whose last value is first here
-abbrev pub AreFor : {X K : Type 0} → (X → K → Type 0) → List X → List K → Type 0
-AreFor R [] [] = Unit {0}
-AreFor R [] (k ∷ ks) = ⊥
-AreFor R (x ∷ xs) [] = ⊥
-AreFor R (x ∷ xs) (k ∷ ks) = R x k × AreFor R xs ks
+-- two lists of one length, related place by place
+abbrev pub Paired : {X K : Type 0} → (X → K → Type 0) → List X → List K → Type 0
+Paired R [] [] = Unit {0}
+Paired R [] (k ∷ ks) = ⊥
+Paired R (x ∷ xs) [] = ⊥
+Paired R (x ∷ xs) (k ∷ ks) = R x k × Paired R xs ks
 
 -- a local in code is for what is known of it
 abbrev pub IsLocal : {X K : Type 0} → (X → K → Type 0) → Option X → Option K → Type 0
@@ -37,7 +37,7 @@ IsLocal R (Some x) (Some k) = R x k
 
 -- a stack and 256 locals in code are for a state
 pub record IsState {X K : Type 0} (R : X → K → Type 0) (xs : List X) (ls : List (Option X)) (s : State K (ℕ → Option K)) : Type 0 where
-  pub stack : AreFor R (reverse xs) s.stack
+  pub stack : Paired R (reverse xs) s.stack
   pub size : length ls ≡ 256
   pub locals : (j : ℕ) → j < 256 → IsLocal R (get_or ls j None) (s.locals j)
 

@@ -1,16 +1,14 @@
 -- Texts of several tokens, and a number in parts, appended part by part.
-use Rattle.std.proofs.Common.{◌≡◌, ℕ, suc, ◌/◌, ◌%◌, ◌^◌, List, [], ◌∷◌, ◌++◌, Bool, true, false, refl, sym, ap, ◌∙◌, append_assoc, subst, arith}
-use Rattle.std.specs.Prelude.{◌==◌, if◌then◌else◌, Some, codes, decimal}
+use Rattle.std.proofs.Common.{◌≡◌, ℕ, suc, ◌/◌, ◌%◌, ◌^◌, List, [], ◌∷◌, false, sym, subst, arith}
+use Rattle.std.specs.Prelude.{Some, codes, decimal}
 use Rattle.std.proofs.lemmas.Fmt.{decimal_digit}
-use Rattle.std.proofs.lemmas.Bool.{eqb-true}
 use Rattle.ln_csyn.specs.declared.tree.CType.TheVariants.{Int, Int128}
 use Rattle.ln_csyn.specs.declared.tree.COp.TheVariants as op
 use Rattle.ln_csyn.specs.Tree.{End, Number}
 use Rattle.ln_csyn.specs.Grammar.{Token}
-use Rattle.ln_csyn.specs.Spelling.{Puts, cast_before, lexeme, op_text, spell, spell_body, written}
+use Rattle.ln_csyn.specs.Spelling.{Puts, cast_before, lexeme, op_text, spell, spell_body, tokens_in}
 use Rattle.ln_cemit.specs.Emit.{in_parts, naming, touching, touching_index}
 use Rattle.ln_cemit.specs.Names.{answer_name, decl_name}
-use Rattle.ln_cemit.specs.Puts.{tokens_in}
 use Rattle.ln_cemit.specs.Walked.{attempt, says_nothing}
 
 -- a number in one part more: its quotient by 2^31 in the others, times 2^31, and the remainder
@@ -19,21 +17,6 @@ pub parts_step : {a b : List ℕ} (k n j m r : ℕ) → k ≡ suc j → m ≡ n 
     ∷ spell (Number Int128 (2 ^ 31)) (lexeme (codes ")") ∷ lexeme (op_text op.Add) ∷ spell (Number Int128 r) (lexeme (codes ")") ∷ z))))
     → Puts a b (spell (in_parts k n))
 parts_step k n j m r e f g p = rw (e, ← f, ← g) p
-
--- ---- texts
--- a text is written as its tokens are
-tokens_written : (w t : List ℕ) (r : List Token) → written (tokens_in w t r) ≡ w ++ (t ++ 32 ∷ written r)
-tokens_written w [] r = refl
-tokens_written w (c ∷ cs) r = by_case (c == 32) refl (tokens_written [] cs r) (tokens_written (w ++ c ∷ []) cs r) where
-  by_case : (b : Bool) → c == 32 ≡ b → written (tokens_in [] cs r) ≡ cs ++ 32 ∷ written r
-      → written (tokens_in (w ++ c ∷ []) cs r) ≡ (w ++ c ∷ []) ++ (cs ++ 32 ∷ written r)
-      → written (if b then lexeme w ∷ tokens_in [] cs r else tokens_in (w ++ c ∷ []) cs r) ≡ w ++ (c ∷ (cs ++ 32 ∷ written r))
-  by_case true e p q = let s : 32 ≡ c = sym (eqb-true c 32 e) in ap (λ z. w ++ 32 ∷ z) p ∙ ap (λ z. w ++ z ∷ (cs ++ 32 ∷ written r)) s
-  by_case false e p q = q ∙ append_assoc w (c ∷ []) (cs ++ 32 ∷ written r)
-
--- a text that was appended as one token is its tokens, which are parted by blanks
-pub tokens_put : {a b : List ℕ} (t : List ℕ) → Puts a b (λ r. lexeme t ∷ r) → Puts a b (tokens_in [] t)
-tokens_put {a} t p = record { is = λ r. p.is r ∙ ap (λ z. a ++ z) (sym (tokens_written [] t r)) }
 
 -- ---- texts with the constant 0
 zero_is : decimal 0 ≡ codes "0"

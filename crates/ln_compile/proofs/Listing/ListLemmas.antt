@@ -2,18 +2,20 @@
 use Rattle.std.proofs.Common.{◌≡◌, ℕ, ◌<◌, List, [], length, map, get_or, ◌∙◌, ap, arith, subst, sym}
 use Rattle.std.specs.Prelude.{All}
 use Rattle.std.proofs.lemmas.List.{get_or-map, get_or_default, length-map}
-use Rattle.ln_algebra.specs.Orders.{BySmallest}
+use Rattle.ln_algebra.specs.Orders.{Before, Rank}
+use Rattle.ln_algebra.specs.Stage.{IsMonomial, IsStageListBy}
 use Rattle.ln_algebra.specs.Terms.{IsNormalOf}
 use Rattle.ln_algebra.specs.Tree.{Tree}
+use Rattle.ln_algebra.proofs.Walking.Stages.{stage_list-to}
 use Rattle.ln_order.specs.Orders.{IsOrderOf, orders_of}
 use Rattle.ln_order.specs.Rows.{OrderStages}
 use Rattle.ln_order.specs.Sites.{sites_of}
 use Rattle.ln_order.proofs.Listing.OrdersLemmas.{is-member}
 use Rattle.ln_poly.specs.Sparse.{Sparse, terms_of}
-use Rattle.ln_stage.specs.StageList.{IsStageListOf}
-use Rattle.ln_stage.specs.Lists.{AreStageLists}
+use Rattle.ln_stage.specs.StageList.{IsMonomialOf}
+use Rattle.ln_stage.specs.Lists.{AreStageListsIn}
 use Rattle.ln_stage.specs.Staged.{Staged, block_vector, vectors_of}
-use Rattle.ln_stage.proofs.Monomials.LawLemmas.{lists-of-trees}
+use Rattle.ln_stage.proofs.Monomials.LawLemmas.{of_tree, to_tree}
 use Rattle.ln_code.specs.Carried.{vectors}
 use Rattle.ln_code.specs.Lists.{IsListOf, list_of, lists_of}
 use Rattle.ln_code.specs.Part.{Part}
@@ -43,11 +45,14 @@ abbrev pub staged : Part → Staged
 staged p = record { sites = p.shape.sites; exps = map (λ c. c.exps) p.blocks; segments = p.segments; lists = lists_of p }
 
 -- the list of an order
-pub order-stages : (p : Part) (e : Tree) (f : Sparse) (places list : List ℕ) → IsNormalOf (length p.shape.vars) e (terms_of (length p.shape.vars) f) →
-    AreStageLists p.shape.sites p.shape.vars f (vectors_of (length p.shape.vars) (staged p)) → IsListOf p places list →
-    OrderStages BySmallest p.shape.vars e places (vectors p list)
-order-stages p e f places list normal c l =
+pub order-stages : (rank : Rank) (p : Part) (e : Tree) (f : Sparse) (places list : List ℕ)
+    → IsNormalOf (length p.shape.vars) e (terms_of (length p.shape.vars) f)
+    → AreStageListsIn rank p.shape.sites p.shape.vars f (vectors_of (length p.shape.vars) (staged p)) → IsListOf p places list
+    → OrderStages rank p.shape.vars e places (vectors p list)
+order-stages rank p e f places list normal c l =
     let n : ℕ = length p.shape.vars in
+    let Here : List ℕ → List (List ℕ) → Type 0 =
+    λ q ls. IsStageListBy (Before rank (sites_of p.shape.vars q)) n (sites_of p.shape.vars q) (IsMonomialOf n f) ls in
     let g : List ℕ → List (List ℕ) = λ ks. map (block_vector n (map (λ b. b.exps) p.blocks)) ks in
     let i = place-of p.shape.sites places l.order in
     let b : i.number < length (lists_of p) = omega (arith, i.within, length-map (orders_of p.shape.sites) (list_of p)) in
@@ -55,7 +60,7 @@ order-stages p e f places list normal c l =
     get_or-map (list_of p) (orders_of p.shape.sites) i.number [] [] i.within ∙ ap (list_of p) i.here in
     let here : get_or (map g (lists_of p)) i.number [] ≡ g list = get_or-map g (lists_of p) i.number [] [] b ∙ ap g (own ∙ sym l.list_is) in
     let s = c.each i.number (omega (arith, b, length-map (lists_of p) g)) in
-    let t : IsStageListOf n (sites_of p.shape.vars places) f (get_or (map g (lists_of p)) i.number []) =
-    subst (λ (q : List ℕ). IsStageListOf n (sites_of p.shape.vars q) f (get_or (map g (lists_of p)) i.number [])) i.here s in
-    (lists-of-trees n (sites_of p.shape.vars places) e f (vectors p list) normal).0
-    (subst (λ (q : List (List ℕ)). IsStageListOf n (sites_of p.shape.vars places) f q) here t)
+    let t : Here places (get_or (map g (lists_of p)) i.number []) =
+    subst (λ (q : List ℕ). Here q (get_or (map g (lists_of p)) i.number [])) i.here s in
+    stage_list-to (Before rank (sites_of p.shape.vars places)) n (sites_of p.shape.vars places) (IsMonomialOf n f) (IsMonomial n e)
+    (to_tree n e f normal) (of_tree n e f normal) (vectors p list) (subst (λ (q : List (List ℕ)). Here places q) here t)

@@ -1,16 +1,17 @@
--- The blocks of a predicate, one after the other.
+-- The blocks of stages, one after the other.
 use Rattle.std.proofs.Common.{◌≡◌, ℕ, ◌+◌, ◌*◌, ◌<◌, ◌≤◌, List, [], ◌∷◌, ◌++◌, length, map, take, get_or, refl, sym, ◌∙◌, ap, subst, arith, Some}
 use Rattle.std.specs.Prelude.{slice_get}
 use Rattle.std.proofs.lemmas.List.{length-append, map-append, take_all, take_more}
 use Rattle.std.proofs.lemmas.List.Elements.{All-nil, All-push}
 use Rattle.ln_algebra.specs.Vector.{zeros}
 use Rattle.ln_tree.specs.Exps.{Pairs, vector}
-use Rattle.ln_tree.specs.Table.{PredOf}
+use Rattle.ln_tree.specs.declared.shape.VarInfo.{VarInfo}
 use Rattle.ln_poly.specs.Sparse.{Sparse}
 use Rattle.ln_stage.specs.Lists.{all_covering, covering}
 use Rattle.ln_code.specs.Part.{Code, ops_in_blocks}
-use Rattle.ln_compile.specs.Compiled.{IsOwn}
-use Rattle.ln_compile.specs.Made.{AreBlocksOf, IsBlockOf}
+use Rattle.ln_due.specs.Derivative.{IsDerivativeBlock}
+use Rattle.ln_compile.specs.Compiled.{IsFromExact}
+use Rattle.ln_compile.specs.Made.{AreBlocksOf}
 use Rattle.ln_poly.proofs.Expansions.Normals.{vector-none}
 
 ops-append : (xs ys : List Code) → ops_in_blocks (xs ++ ys) ≡ ops_in_blocks xs + ops_in_blocks ys
@@ -25,53 +26,51 @@ first-stays : (xs ys : List Code) (c : Code) → slice_get xs 0 ≡ Some c → s
 first-stays [] ys c h = cc
 first-stays (x ∷ xs) ys c h = h
 
--- the first block
-pub blocks-begin : (p : PredOf) (f : Sparse) (exps : List Pairs) (old blocks : List Code) (c : Code) → old ≡ [] → blocks ≡ old ++ c ∷ []
-    → 0 < length exps → vector (length p.vars) (get_or exps 0 []) ≡ zeros (length p.vars)
-    → IsOwn p c → IsBlockOf p.vars f c → length c.ops ≤ 524352 → AreBlocksOf p f (take 1 exps) blocks
-blocks-begin p f [] old blocks c a e l z o b s = absurd (omega arith)
-blocks-begin p f (x ∷ xs) old blocks c a e l z o b s =
-    let g : c ∷ [] ≡ blocks = sym (e ∙ ap (λ bs. bs ++ c ∷ []) a) in
-    let v : vector (length p.vars) c.exps ≡ vector (length p.vars) x = ap (vector (length p.vars)) o.plain ∙ vector-none 0 (length p.vars) ∙ sym z in
-    let one : AreBlocksOf p f (x ∷ []) (c ∷ []) = record {
-      own = c;
-      first = refl;
-      is_own = o;
-      small = s;
-      vectors = ap (λ y. y ∷ []) v;
-      each = All-push (IsBlockOf p.vars f) [] c (All-nil (IsBlockOf p.vars f)) b;
-      few = omega (arith, s);
-    } in
-    subst (λ (bs : List Code). AreBlocksOf p f (x ∷ []) bs) g one
+module _ (vars : List VarInfo) (f : Sparse) (own : Code) where
+  -- the first block
+  pub blocks-begin : (exps : List Pairs) (old blocks : List Code) → old ≡ [] → blocks ≡ old ++ own ∷ [] → 0 < length exps
+      → vector (length vars) (get_or exps 0 []) ≡ zeros (length vars) → own.exps ≡ [] → IsDerivativeBlock vars f own
+      → AreBlocksOf vars f own (take 1 exps) blocks
+  blocks-begin [] old blocks a e l z o b = absurd (omega arith)
+  blocks-begin (x ∷ xs) old blocks a e l z o b =
+      let g : own ∷ [] ≡ blocks = sym (e ∙ ap (λ bs. bs ++ own ∷ []) a) in
+      let v : vector (length vars) own.exps ≡ vector (length vars) x = ap (vector (length vars)) o ∙ vector-none 0 (length vars) ∙ sym z in
+      let one : AreBlocksOf vars f own (x ∷ []) (own ∷ []) = record {
+        first = refl;
+        vectors = ap (λ y. y ∷ []) v;
+        each = All-push (IsDerivativeBlock vars f) [] own (All-nil (IsDerivativeBlock vars f)) b;
+        exact = λ h. All-push (IsFromExact vars f) [] own (All-nil (IsFromExact vars f)) h;
+        few = omega arith;
+      } in
+      subst (λ (bs : List Code). AreBlocksOf vars f own (x ∷ []) bs) g one
 
--- one block more
-pub blocks-more : (p : PredOf) (f : Sparse) (exps : List Pairs) (i : ℕ) (old blocks : List Code) (c : Code) (a : Pairs) → i < length exps
-    → a ≡ get_or exps i [] → blocks ≡ old ++ c ∷ [] → c.exps ≡ a
-    → IsBlockOf p.vars f c → length c.ops ≤ 4096 * covering (length p.vars) f (vector (length p.vars) a) + 68
-    → AreBlocksOf p f (take i exps) old → AreBlocksOf p f (take (i + 1) exps) blocks
-blocks-more p f exps i old blocks c a l q e x b s h =
-    let t : take i exps ++ a ∷ [] ≡ take (i + 1) exps = sym (take_more exps i [] l ∙ ap (λ y. take i exps ++ y ∷ []) (sym q)) in
-    let n : ℕ = length p.vars in
-    let m : map (vector (length p.vars)) (take i exps ++ a ∷ []) ≡ map (vector (length p.vars)) (take i exps) ++ vector (length p.vars) a ∷ [] =
-    map-append (vector (length p.vars)) (take i exps) (a ∷ []) in
-    let k : map (λ (d : Code). vector (length p.vars) d.exps) (old ++ c ∷ []) ≡ map (λ (d : Code). vector (length p.vars) d.exps) old
-    ++ vector (length p.vars) c.exps ∷ [] = map-append (λ (d : Code). vector (length p.vars) d.exps) old (c ∷ []) in
-    let w : all_covering (length p.vars) f (map (vector (length p.vars)) (take i exps ++ a ∷ []))
-    ≡ all_covering (length p.vars) f (map (vector (length p.vars)) (take i exps)) + (covering (length p.vars) f (vector (length p.vars) a) + 0) =
-    ap (all_covering (length p.vars) f) m ∙ covering-append (length p.vars) f (map (vector (length p.vars)) (take i exps)) (vector (length p.vars) a ∷ []) in
-    let one : AreBlocksOf p f (take i exps ++ a ∷ []) (old ++ c ∷ []) = record {
-      own = h.own;
-      first = first-stays old (c ∷ []) h.own h.first;
-      is_own = h.is_own;
-      small = h.small;
-      vectors = k ∙ ap (λ y. map (λ (d : Code). vector (length p.vars) d.exps) old ++ vector (length p.vars) y ∷ []) x
-          ∙ ap (λ y. y ++ vector (length p.vars) a ∷ []) h.vectors ∙ sym m;
-      each = All-push (IsBlockOf p.vars f) old c h.each b;
-      few = omega (arith, h.few, s, w, ops-append old (c ∷ []), length-append (take i exps) (a ∷ []));
-    } in
-    subst (λ (ys : List Pairs). AreBlocksOf p f ys blocks) t (subst (λ (bs : List Code). AreBlocksOf p f (take i exps ++ a ∷ []) bs) (sym e) one)
+  -- one block more
+  pub blocks-more : (exps : List Pairs) (i : ℕ) (old blocks : List Code) (c : Code) (a : Pairs) → i < length exps → a ≡ get_or exps i []
+      → blocks ≡ old ++ c ∷ [] → c.exps ≡ a → IsDerivativeBlock vars f c → IsFromExact vars f c
+      → length c.ops ≤ 4096 * covering (length vars) f (vector (length vars) a) + 68
+      → AreBlocksOf vars f own (take i exps) old → AreBlocksOf vars f own (take (i + 1) exps) blocks
+  blocks-more exps i old blocks c a l q e x b w s h =
+      let t : take i exps ++ a ∷ [] ≡ take (i + 1) exps = sym (take_more exps i [] l ∙ ap (λ y. take i exps ++ y ∷ []) (sym q)) in
+      let m : map (vector (length vars)) (take i exps ++ a ∷ []) ≡ map (vector (length vars)) (take i exps) ++ vector (length vars) a ∷ [] =
+      map-append (vector (length vars)) (take i exps) (a ∷ []) in
+      let k : map (λ (d : Code). vector (length vars) d.exps) (old ++ c ∷ []) ≡ map (λ (d : Code). vector (length vars) d.exps) old
+      ++ vector (length vars) c.exps ∷ [] = map-append (λ (d : Code). vector (length vars) d.exps) old (c ∷ []) in
+      let n : all_covering (length vars) f (map (vector (length vars)) (take i exps ++ a ∷ []))
+      ≡ all_covering (length vars) f (map (vector (length vars)) (take i exps)) + (covering (length vars) f (vector (length vars) a) + 0) =
+      ap (all_covering (length vars) f) m
+      ∙ covering-append (length vars) f (map (vector (length vars)) (take i exps)) (vector (length vars) a ∷ []) in
+      let one : AreBlocksOf vars f own (take i exps ++ a ∷ []) (old ++ c ∷ []) = record {
+        first = first-stays old (c ∷ []) own h.first;
+        vectors = k ∙ ap (λ y. map (λ (d : Code). vector (length vars) d.exps) old ++ vector (length vars) y ∷ []) x
+            ∙ ap (λ y. y ++ vector (length vars) a ∷ []) h.vectors ∙ sym m;
+        each = All-push (IsDerivativeBlock vars f) old c h.each b;
+        exact = λ y. All-push (IsFromExact vars f) old c (h.exact y) w;
+        few = omega (arith, h.few, s, n, ops-append old (c ∷ []), length-append (take i exps) (a ∷ []));
+      } in
+      subst (λ (ys : List Pairs). AreBlocksOf vars f own ys blocks) t
+      (subst (λ (bs : List Code). AreBlocksOf vars f own (take i exps ++ a ∷ []) bs) (sym e) one)
 
--- the end of the loop in `blocks`: there is a block for each of the exponents
-pub blocks-end : (p : PredOf) (f : Sparse) (exps : List Pairs) (i : ℕ) (blocks : List Code) → length exps ≤ i
-    → AreBlocksOf p f (take i exps) blocks → AreBlocksOf p f exps blocks
-blocks-end p f exps i blocks l h = subst (λ (ys : List Pairs). AreBlocksOf p f ys blocks) (take_all i exps l) h
+  -- the end of the loop in `blocks_after`: there is a block for each of the exponents
+  pub blocks-end : (exps : List Pairs) (i : ℕ) (blocks : List Code) → length exps ≤ i
+      → AreBlocksOf vars f own (take i exps) blocks → AreBlocksOf vars f own exps blocks
+  blocks-end exps i blocks l h = subst (λ (ys : List Pairs). AreBlocksOf vars f own ys blocks) (take_all i exps l) h

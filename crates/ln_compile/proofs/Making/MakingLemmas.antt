@@ -16,44 +16,38 @@ use Rattle.ln_bound.specs.Exact.{AreExact, IsExact}
 use Rattle.ln_bound.specs.Typed.{Typed, polynomial, untyped}
 use Rattle.ln_bound.specs.View.{typed}
 use Rattle.ln_poly.specs.Expansion.{IsNormal}
-use Rattle.ln_poly.specs.Sparse.{Sparse, coefficient_at, terms_of}
+use Rattle.ln_poly.specs.Sparse.{Sparse, terms_of}
 use Rattle.ln_bound.proofs.Soundness.KeptLaws.{trees_of_formulas}
 use Rattle.ln_poly.proofs.TermLists.Products.{over-terms}
 use Rattle.ln_code.specs.Carried.{CarriesWhole}
 use Rattle.ln_code.specs.FilterRules.{FilterKnown}
-use Rattle.ln_code.specs.Kept.{AreOfSites, FollowsFilterRules, FollowsRules}
+use Rattle.ln_code.specs.Kept.{FollowsFilterRules, FollowsRules}
 use Rattle.ln_code.specs.Part.{Code, FilterCode, filter_known_of, filter_value, known_of, lines_of, ops_in_filter}
 use Rattle.ln_code.specs.Rules.{Known}
+use Rattle.ln_due.specs.Derivative.{IsDerivativeBlock}
 use Rattle.ln_due.specs.Small.{BlockPushesSmall}
-use Rattle.ln_due.proofs.Derivatives.Blocks.{carrying, derivative-block}
+use Rattle.ln_due.proofs.Derivatives.Blocks.{carrying}
 use Rattle.ln_lower.specs.StackCode.{IsCodeOf}
 use Rattle.ln_nest.specs.Nested.{nested_form}
 use Rattle.ln_filter.specs.Steady.{HasFilter}
 use Rattle.ln_filter.specs.Truncated.{root_number, root_triple}
 use Rattle.ln_compile.specs.Accepted.{lets_of, own_root, root_of}
-use Rattle.ln_compile.specs.Compiled.{IsFilterOf, IsOwn}
+use Rattle.ln_compile.specs.Compiled.{IsFilterOf, IsFromExact, IsOwn}
 use Rattle.ln_poly.specs.Derivative.{IsDerivative}
-use Rattle.ln_compile.specs.Made.{IsBlockOf}
 use Rattle.ln_poly.proofs.Expansions.Normals.{vector-none}
 
 -- ---- a derivative's block
--- a block with the polynomial of a derivative, whose code is that of its exact nested form, is a block of that derivative
-pub derivative-made : (vars : List VarInfo) (f h : Sparse) (a : Pairs) (lets : List Fitted) (t : Typed) (c : Code)
-    → IsDerivative (length vars) f a h → lets ≡ [] → c.exps ≡ a → AreOfSites vars a → FollowsRules vars c
-    → ((m : List ℕ) → length m ≡ length vars → polynomial [] t m ≡ coefficient_at (length vars) h m)
-    → ((k : Known) → known_of vars c ≡ Some k → (m : List ℕ) → normal_coefficient k.tree m ≡ polynomial (map typed lets) t m)
-    → BlockPushesSmall vars c → IsExact vars [] t → untyped t ≡ nested_form (length vars) (terms_of (length vars) h)
-    → IsCodeOf (map typed lets) t (lines_of c.ops c.pairs) → IsBlockOf vars f c
-derivative-made vars f h a lets t c d z e o r p q s x w ls = record {
-  block = derivative-block vars f h a lets t c d z e o r p q s;
-  exact = record {
-    lets = [];
-    root = t;
-    exact_lets = tt;
-    exact_root = x;
-    code = subst (λ (us : List Fitted). IsCodeOf (map typed us) t (lines_of c.ops c.pairs)) z ls;
-    nested = λ n. record { no_lets = refl; poly = h; derivative = subst (λ (b : Pairs). IsDerivative (length vars) f b h) (sym e) d; form = w };
-  };
+-- a block whose code is that of a derivative's exact nested form is made from an exact tree
+pub derivative-exact : (vars : List VarInfo) (f h : Sparse) (a : Pairs) (lets : List Fitted) (t : Typed) (c : Code)
+    → IsDerivative (length vars) f a h → lets ≡ [] → c.exps ≡ a → IsExact vars [] t → untyped t ≡ nested_form (length vars) (terms_of (length vars) h)
+    → IsCodeOf (map typed lets) t (lines_of c.ops c.pairs) → IsFromExact vars f c
+derivative-exact vars f h a lets t c d z e x w ls = record {
+  lets = [];
+  root = t;
+  exact_lets = tt;
+  exact_root = x;
+  code = subst (λ (us : List Fitted). IsCodeOf (map typed us) t (lines_of c.ops c.pairs)) z ls;
+  nested = λ n. record { no_lets = refl; poly = h; derivative = subst (λ (b : Pairs). IsDerivative (length vars) f b h) (sym e) d; form = w };
 }
 
 -- ---- the source's own block
@@ -73,15 +67,28 @@ own-made p lets root c a z e l r x y n = record {
   code = n;
 }
 
--- the source's own block is a block of the derivative by no exponents, made from an exact tree
+-- it is made from an exact tree
+pub own-exact : (p : PredOf) (f : Sparse) (c : Code) → IsOwn p c → IsFromExact p.vars f c
+own-exact p f c o = record {
+  lets = o.lets;
+  root = o.root;
+  exact_lets = o.exact_lets;
+  exact_root = o.exact_root;
+  code = o.code;
+  nested = λ n. absurd (n o.plain);
+}
+
+-- and is a block of the derivative by no exponents
 pub own-carries : (p : Pred) (lets : List Fitted) (root : Fitted) (c : Code) (a : Pairs) (f : Sparse) → a ≡ [] → c.exps ≡ a
     → map untyped (map typed lets) ≡ map (tree_of p.shape.vars) p.lets → untyped (typed root) ≡ tree_of p.shape.vars p.root
     → FollowsRules p.shape.vars c
     → ((k : Known) → known_of p.shape.vars c ≡ Some k → (m : List ℕ) → normal_coefficient k.tree m ≡ polynomial (map typed lets) (typed root) m)
-    → IsNormal (length p.shape.vars) (root_of (pred_of p)) f → BlockPushesSmall p.shape.vars c → IsOwn (pred_of p) c → IsBlockOf p.shape.vars f c
-own-carries p lets root c a f z e l r fr q h b o = record {
-  block = record { rules = fr; of_sites = rw (e ∙ z) tt; carries = carrying p.shape.vars f c fr normal; small = b };
-  exact = record { lets = o.lets; root = o.root; exact_lets = o.exact_lets; exact_root = o.exact_root; code = o.code; nested = λ n. absurd (n (e ∙ z)) };
+    → IsNormal (length p.shape.vars) (root_of (pred_of p)) f → BlockPushesSmall p.shape.vars c → IsDerivativeBlock p.shape.vars f c
+own-carries p lets root c a f z e l r fr q h b = record {
+  rules = fr;
+  of_sites = rw (e ∙ z) tt;
+  carries = carrying p.shape.vars f c fr normal;
+  small = b;
 } where
   whole : (m : List ℕ) → polynomial (map typed lets) (typed root) m ≡ normal_coefficient (root_of (pred_of p)) m
   whole m = ap (λ ts. normal_coefficient (inlined (inlined_after [] ts) (untyped (typed root))) m) (l ∙ sym (trees_of_formulas p.shape.vars p.lets))

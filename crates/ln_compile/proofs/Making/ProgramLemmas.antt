@@ -1,10 +1,12 @@
 -- The program of a predicate, from its blocks and its stages.
-use Rattle.std.proofs.Common.{◌≡◌, ℕ, ◌+◌, ◌*◌, ◌^◌, ◌<◌, ◌≤◌, zero, suc, List, [], ◌∷◌, length, map, refl, ap, sym, subst, ◌∙◌, arith, Option}
+use Rattle.std.proofs.Common.{◌≡◌, ℕ, ◌+◌, ◌*◌, ◌^◌, ◌<◌, ◌≤◌, List, [], ◌∷◌, length, map, get_or, refl, ap, sym, subst, ◌∙◌, arith, Option}
 use Rattle.std.specs.Prelude.{◌≢◌, All, IfSome}
+use Rattle.std.proofs.Math.ListN.{get_or-map}
 use Rattle.std.proofs.lemmas.List.{length-map}
+use Rattle.std.proofs.lemmas.Simd.{map-map}
+use Rattle.ln_algebra.specs.Orders.{BySmallest}
 use Rattle.ln_algebra.specs.Sizes.{two}
 use Rattle.ln_tree.specs.declared.pred.Pred.{Pred}
-use Rattle.ln_tree.specs.declared.shape.Shape.{Shape}
 use Rattle.ln_tree.specs.Exps.{Pairs, vector}
 use Rattle.ln_tree.specs.Formula.{formula, tree}
 use Rattle.ln_tree.specs.Table.{pred_of}
@@ -23,37 +25,32 @@ use Rattle.ln_code.specs.Lists.{list_of, lists_of}
 use Rattle.ln_code.specs.Part.{Code, FilterCode, Part, ops_in_blocks, ops_in_filter}
 use Rattle.ln_due.specs.Small.{FilterPushesSmall}
 use Rattle.ln_compile.specs.Accepted.{root_of, loaded_of}
-use Rattle.ln_compile.specs.Compiled.{IsFilterOf, IsProgramOf}
+use Rattle.ln_compile.specs.Compiled.{IsFilterOf, IsOwn, IsProgramOf}
 use Rattle.ln_compile.specs.Made.{AreBlocksOf}
 use Rattle.ln_compile.proofs.Listing.ListLemmas.{of-each, order-stages, staged}
 use Rattle.ln_compile.proofs.Listing.ListingLemmas.{lists-are, stages-few}
+use Rattle.ln_compile.proofs.Making.MakingLemmas.{own-exact}
 
 -- ---- exponents with the same vectors
 same-at : (n : ℕ) (blocks : List Code) (exps : List Pairs) → map (λ (c : Code). vector n c.exps) blocks ≡ map (vector n) exps → (i : ℕ)
     → block_vector n (map (λ (c : Code). c.exps) blocks) i ≡ block_vector n exps i
-same-at n [] [] e i = refl
-same-at n [] (x ∷ xs) e i = cc
-same-at n (c ∷ cs) [] e i = cc
-same-at n (c ∷ cs) (x ∷ xs) e zero = (heads (vector n c.exps) (vector n x) (map (λ (d : Code). vector n d.exps) cs) (map (vector n) xs) e).0 where
-  heads : (a b : List ℕ) (as' bs : List (List ℕ)) → a ∷ as' ≡ b ∷ bs → (a ≡ b) × (as' ≡ bs)
-  heads a b as' bs q = (cc, cc)
-same-at n (c ∷ cs) (x ∷ xs) e (suc i) = same-at n cs xs (tails (vector n c.exps) (vector n x) (map (λ (d : Code). vector n d.exps) cs) (map (vector n) xs) e) i
-  where
-    tails : (a b : List ℕ) (as' bs : List (List ℕ)) → a ∷ as' ≡ b ∷ bs → as' ≡ bs
-    tails a b as' bs q = cc
+same-at n blocks exps e i =
+    sym (get_or-map (vector n) (map (λ (c : Code). c.exps) blocks) i [])
+    ∙ ap (λ z. get_or z i (vector n [])) (map-map (vector n) (λ (c : Code). c.exps) blocks ∙ e) ∙ get_or-map (vector n) exps i []
 
 map-same : {A B : Type 0} (g h : A → B) (xs : List A) → ((x : A) → g x ≡ h x) → map g xs ≡ map h xs
 map-same g h [] e = refl
 map-same g h (x ∷ xs) e = let r : map g xs ≡ map h xs = map-same g h xs e in ap (λ z. z ∷ map g xs) (e x) ∙ ap (λ z. h x ∷ z) r
 
 -- the exponents of blocks with the vectors of the stages have the stages' lists
-same-vectors : (s : Shape) (st : Staged) (blocks : List Code) → map (λ (c : Code). vector (length s.vars) c.exps) blocks ≡ map (vector (length s.vars)) st.exps
-    → map (λ list. map (block_vector (length s.vars) (map (λ (c : Code). c.exps) blocks)) list) st.lists ≡ vectors_of (length s.vars) st
-same-vectors s st blocks e = map-same (λ list. map (block_vector (length s.vars) (map (λ (c : Code). c.exps) blocks)) list)
-    (λ list. map (block_vector (length s.vars) st.exps) list) st.lists (λ list. map-same (block_vector (length s.vars)
-    (map (λ (c : Code). c.exps) blocks)) (block_vector (length s.vars) st.exps) list (same-at (length s.vars) blocks st.exps e))
+pub same-vectors : (n : ℕ) (st : Staged) (blocks : List Code) → map (λ (c : Code). vector n c.exps) blocks ≡ map (vector n) st.exps
+    → map (λ list. map (block_vector n (map (λ (c : Code). c.exps) blocks)) list) st.lists ≡ vectors_of n st
+same-vectors n st blocks e =
+    map-same (λ list. map (block_vector n (map (λ (c : Code). c.exps) blocks)) list) (λ list. map (block_vector n st.exps) list) st.lists
+    (λ list. map-same (block_vector n (map (λ (c : Code). c.exps) blocks)) (block_vector n st.exps) list (same-at n blocks st.exps e))
 
-blocks-length : (n : ℕ) (blocks : List Code) (exps : List Pairs) → map (λ (c : Code). vector n c.exps) blocks ≡ map (vector n) exps
+-- and are as many
+pub blocks-length : (n : ℕ) (blocks : List Code) (exps : List Pairs) → map (λ (c : Code). vector n c.exps) blocks ≡ map (vector n) exps
     → length blocks ≡ length exps
 blocks-length n blocks exps e = omega (arith, ap length e, length-map blocks (λ (c : Code). vector n c.exps), length-map exps (vector n))
 
@@ -63,7 +60,8 @@ few-ops first ops cover len f h k l = omega (arith, f, h, k, l)
 module _ (p : Pred) (f : Sparse) (st : Staged) (blocks : List Code) (light : AreLight (loaded_of (pred_of p)))
     (normal : IsNormal (length p.shape.vars) (root_of (pred_of p)) f) (some : f ≢ []) (stages : AreStagesOf p.shape.sites p.shape.vars f st)
     (count : stage_count (vectors_of (length p.shape.vars) st) ≤ 65536) (heavy : stage_weight (length p.shape.vars) f
-    (vectors_of (length p.shape.vars) st) ≤ 131072) (made : AreBlocksOf (pred_of p) f st.exps blocks)
+    (vectors_of (length p.shape.vars) st) ≤ 131072) (first : Code)
+    (is_own : IsOwn (pred_of p) first) (small : length first.ops ≤ 524352) (made : AreBlocksOf p.shape.vars f first st.exps blocks)
     (filter : Option FilterCode) (own : IsFilterOf (pred_of p) filter) (rules : IfSome filter (FollowsFilterRules p.shape.vars))
     (whole : IfSome filter (CarriesWhole p.shape.vars (terms_of (length p.shape.vars) f))) (short : ops_in_filter filter ≤ 1048640)
     (pushes : IfSome filter (FilterPushesSmall p.shape.vars)) where
@@ -84,20 +82,20 @@ module _ (p : Pred) (f : Sparse) (st : Staged) (blocks : List Code) (light : Are
 
   own-vectors : vectors_of (length p.shape.vars) (staged part) ≡ vectors_of (length p.shape.vars) st
   own-vectors = ap (map (λ list. map (block_vector (length p.shape.vars) (map (λ (c : Code). c.exps) blocks)) list)) own-lists
-      ∙ same-vectors p.shape st blocks made.vectors
+      ∙ same-vectors (length p.shape.vars) st blocks made.vectors
 
   -- the program follows the rules, has fewer than 2^32 operations, and no list of it is empty or names a block twice
   pub is-program : IsProgram part
   is-program = record {
-    blocks = λ k d l. (made.each k d l).block.rules;
+    blocks = λ k d l. (made.each k d l).rules;
     filter = rules;
     few = omega (
       arith,
       few-ops (ops_in_filter filter) (ops_in_blocks blocks) (all_covering (length p.shape.vars) f (map (vector (length p.shape.vars)) st.exps))
-          (length st.exps) short made.few (omega (arith, heavy, ap (all_covering (length p.shape.vars) f) stages.first_sight))
+          (length st.exps) short (omega (arith, made.few, small)) (omega (arith, heavy, ap (all_covering (length p.shape.vars) f) stages.first_sight))
           (omega (arith, stages-few p.shape.sites p.shape.vars f st stages, count)),
     );
-    of_sites = λ k d l. (made.each k d l).block.of_sites;
+    of_sites = λ k d l. (made.each k d l).of_sites;
     prefixes = stages.segments.size;
     named = subst (λ n. All (λ segment. All (λ i. i < n) segment) st.segments) (sym as-many) stages.segments.numbers;
     lists = λ o h. of-each p.shape.sites (list_of part) st.lists (IsList (length blocks)) o (sym own-lists)
@@ -117,13 +115,13 @@ module _ (p : Pred) (f : Sparse) (st : Staged) (blocks : List Code) (light : Are
       inputs = (root-light (length p.shape.vars) two (closed_lets p.shape.vars (map formula p.lets)) (tree p.shape.vars (formula p.root))
           (pred-expands p.args p.shape.vars p.lets (length p.let_names) p.root p.kept light).1).inputs;
       normal = normal.normal;
-      lists = λ places list l. order-stages part (root_of (pred_of p)) f places list normal.normal
+      lists = λ places list l. order-stages BySmallest part (root_of (pred_of p)) f places list normal.normal
           (subst (AreStageLists p.shape.sites p.shape.vars f) (sym own-vectors) stages.lists) l;
-      blocks = λ k d l. (made.each k d l).block.carries;
+      blocks = λ k d l. (made.each k d l).carries;
       filter = whole;
     };
-    exact = λ k d l. (made.each k d l).exact;
+    exact = made.exact (own-exact (pred_of p) f first is_own);
     sight = made.vectors ∙ stages.first_sight ∙ ap first_seen (sym own-vectors);
-    small = record { blocks = λ k d l. (made.each k d l).block.small; filter = pushes };
-    begins = record { block = made.own; first = made.first; own = made.is_own; short = omega (arith, made.small, short) };
+    small = record { blocks = λ k d l. (made.each k d l).small; filter = pushes };
+    begins = record { block = first; first = made.first; own = is_own; short = omega (arith, small, short) };
   }

@@ -20,7 +20,7 @@ use Rattle.ln_frame.specs.Given.{Outcome, stops, missing, gives, most_file}
 use Rattle.ln_top.specs.Steps.{Then, stopped, lacks, goes, Each, Reads, there, long, absent, Finds, found, none, Compiles, Suits, suited, unsuited, Prepares}
 use Rattle.ln_top.specs.Steps.{most_source}
 use Rattle.ln_frame.specs.Carried.{Halts, tells, unread, short}
-use Rattle.ln_frame.specs.Ready.{AreNumbered}
+use Rattle.ln_compile.specs.Compiled.{AreNumbered}
 use Rattle.ln_frame.specs.Signature.{Refuses}
 use Rattle.ln_top.specs.Ready.{HasNumbers, IsReady}
 use Rattle.ln_top.proofs.Steps.Chain.{Behind, behind_at, behind_more, behind_all}

@@ -26,10 +26,10 @@ use Rattle.ln_code.specs.declared.verdict.By.{By}
 use Rattle.ln_code.specs.declared.verdict.By.TheVariants.{Filter, Stage, Nothing}
 use Rattle.ln_frame.specs.Source.{view}
 use Rattle.ln_frame.specs.Given.{Given}
-use Rattle.ln_frame.specs.Columns.{columns_of}
-use Rattle.ln_signs.specs.Line.{sign_text, decider_text, stop_text, said_text}
+use Rattle.ln_rows.specs.Header.{columns_of}
+use Rattle.ln_target.specs.Line.{sign_text, decider_text, stop_text, said_text}
 use Rattle.ln_top.specs.Headline.{NoFeed}
-use Rattle.ln_frame.proofs.Likeness.{columns_like}
+use Rattle.ln_rows.proofs.HeaderLaws.{columns_like}
 
 -- one text after another
 pub behind : (xs ys : List ℕ) → NoFeed xs → NoFeed ys → NoFeed (xs ++ ys)

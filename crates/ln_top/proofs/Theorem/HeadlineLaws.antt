@@ -50,7 +50,7 @@ use Rattle.ln_due.proofs.Verdicts.UniqueLemmas.{due-sign, all-sites, sign-nonzer
 use Rattle.ln_frame.specs.declared.status.Status.{Status}
 use Rattle.ln_frame.specs.Said.{Said, line, put_both}
 use Rattle.ln_frame.specs.Given.{Given}
-use Rattle.ln_signs.specs.Line.{said_text, Says, due, refused_}
+use Rattle.ln_target.specs.Line.{said_text, Says, due, refused_}
 use Rattle.ln_frame.specs.Lines as l
 use Rattle.ln_frame.specs.Lines.{Lines}
 

@@ -36,15 +36,15 @@ use Rattle.ln_watch.specs.Panel.{State}
 use Rattle.ln_frame.specs.declared.status.Status.{Status}
 use Rattle.ln_frame.specs.Said.{Said, line, put_both}
 use Rattle.ln_frame.specs.Given.{Given}
-use Rattle.ln_signs.specs.Alike.{are_alike}
-use Rattle.ln_signs.specs.Line.{decider_text, due, refused_, sign_text}
+use Rattle.ln_target.specs.Alike.{are_alike}
+use Rattle.ln_target.specs.Line.{decider_text, due, refused_, sign_text}
 use Rattle.ln_signs.specs.Product.{AreDue, IsMultiplied, Multiplied, ProductSaid, SaysProduct, ProductLine}
 use Rattle.ln_signs.specs.Product.{deciders_after, product_text}
 use Rattle.ln_top.specs.Products.{HasProductSign, HasSummedFirsts, HaveProductSigns, OneIsZeroOn, PutProducts}
 use Rattle.ln_top.specs.Products.{none, more, product_of}
 use Rattle.ln_signs.specs.Run.{HasRecords}
 use Rattle.ln_top.specs.declared.words.Command.TheVariants.{Product}
-use Rattle.ln_signs.proofs.FactorsLaws.{IsOver}
+use Rattle.ln_target.proofs.FactorsLaws.{IsOver}
 use Rattle.ln_signs.proofs.ProductLaws.{all_over}
 use Rattle.ln_top.proofs.Theorem.Feeds.{HaveNoFeed, behind, columns_no_feed, decider_feed, other, sign_feed, stop_feed}
 use Rattle.ln_top.proofs.Steps.TopLaws.{Worked}

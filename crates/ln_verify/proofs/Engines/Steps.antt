@@ -18,11 +18,11 @@ use Rattle.ln_code.specs.Numbers.{with_local}
 use Rattle.ln_code.proofs.Engines.Follow.{when_some}
 use Rattle.ln_due.specs.Small.{IsSmall}
 use Rattle.ln_verify.specs.Line.{PushedSmall}
-use Rattle.ln_verify.specs.Values.{AreFor, Came, IsLocal, IsMade, IsState, PushedOnto}
+use Rattle.ln_verify.specs.Values.{Paired, Came, IsLocal, IsMade, IsState, PushedOnto}
 
 module _ {X K : Type 0} (R : X → K → Type 0) where
   -- a stack in code has as many values as the stack that it is for
-  pub for-length : (xs : List X) (ks : List K) → AreFor R xs ks → length xs ≡ length ks
+  pub for-length : (xs : List X) (ks : List K) → Paired R xs ks → length xs ≡ length ks
   for-length [] [] h = refl
   for-length (x ∷ xs) (k ∷ ks) h = ap suc (for-length xs ks h.1)
   for-length xs ks h = absurd h
@@ -33,13 +33,13 @@ module _ {X K : Type 0} (R : X → K → Type 0) where
     pub rest : List K
     pub is : ks ≡ top ∷ rest
     pub for_it : R x top
-    pub below : AreFor R (reverse ys) rest
+    pub below : Paired R (reverse ys) rest
 
   -- a value on top of a stack in code is for the top of the stack that this one is for, and the values below are for those below
-  pub popped : (xs ys : List X) (x : X) (ks : List K) → xs ≡ ys ++ x ∷ [] → AreFor R (reverse xs) ks → OnTop ys x ks
-  popped xs ys x ks e h = go ks (subst (λ (z : List X). AreFor R z ks) (ap reverse e ∙ reverse-append ys (x ∷ [])) h)
+  pub popped : (xs ys : List X) (x : X) (ks : List K) → xs ≡ ys ++ x ∷ [] → Paired R (reverse xs) ks → OnTop ys x ks
+  popped xs ys x ks e h = go ks (subst (λ (z : List X). Paired R z ks) (ap reverse e ∙ reverse-append ys (x ∷ [])) h)
     where
-      go : (ks : List K) → AreFor R (x ∷ reverse ys) ks → OnTop ys x ks
+      go : (ks : List K) → Paired R (x ∷ reverse ys) ks → OnTop ys x ks
       go [] h = absurd h
       go (k ∷ rest) h = record { top = k; rest = rest; is = refl; for_it = h.0; below = h.1 }
 
@@ -70,7 +70,7 @@ module _ {B X K : Type 0} (R : X → K → Type 0) (tree : K → Tree) (n : ℕ)
   nothing l ks k t none q h = let w = (when_some _ _ _ q).1 in none (subst (λ (z : State K (ℕ → Option K)). PushedSmall tree n false z.stack) (sym w) h)
 
   -- there is no room
-  full : (l : ℕ → Option K) (xs : List X) (ks : List K) (k : K) (t : State K (ℕ → Option K)) → 2048 ≤ length xs → AreFor R (reverse xs) ks
+  full : (l : ℕ → Option K) (xs : List X) (ks : List K) (k : K) (t : State K (ℕ → Option K)) → 2048 ≤ length xs → Paired R (reverse xs) ks
       → Goes l ks (Some k) ≡ Some t → ⊥
   full l xs ks k t h f q =
       let w : nat_le (suc (length ks)) 2048 ≡ true = sym (room (suc (length ks))) ∙ (when_some _ _ _ q).0 in
@@ -78,14 +78,14 @@ module _ {B X K : Type 0} (R : X → K → Type 0) (tree : K → Tree) (n : ℕ)
       omega (arith, a, h, for-length R (reverse xs) ks f, length-reverse xs)
 
   -- there is
-  there-is : (l : ℕ → Option K) (xs : List X) (ks : List K) (k : K) → length xs < 2048 → AreFor R (reverse xs) ks
+  there-is : (l : ℕ → Option K) (xs : List X) (ks : List K) (k : K) → length xs < 2048 → Paired R (reverse xs) ks
       → Goes l ks (Some k) ≡ Some (record { stack = k ∷ ks; locals = l })
   there-is l xs ks k h f =
       let a : nat_le (suc (length ks)) 2048 ≡ true = le-leb _ _ (omega (arith, h, for-length R (reverse xs) ks f, length-reverse xs)) in
       let b : e.room (suc (length ks)) ≡ true = room (suc (length ks)) ∙ a in
       rw b refl
 
-  module _ (s : State K (ℕ → Option K)) (op : Op) (b : B) (t : stores op ≡ false) (ks : List K) (mid : List X) (f : AreFor R (reverse mid) ks)
+  module _ (s : State K (ℕ → Option K)) (op : Op) (b : B) (t : stores op ≡ false) (ks : List K) (mid : List X) (f : Paired R (reverse mid) ks)
       (ls : List (Option X)) (size : length ls ≡ 256) (locals : (j : ℕ) → j < 256 → IsLocal R (get_or ls j None) (s.locals j)) where
     -- what is made is pushed
     pub pushed-came : (o : Option X) (r : Option K) (xs : List X) (ok : Bool) → step e op b s.locals s.stack ≡ Goes s.locals ks r
@@ -98,7 +98,7 @@ module _ {B X K : Type 0} (R : X → K → Type 0) (tree : K → Tree) (n : ℕ)
       record { stack = k ∷ ks; locals = s.locals },
       (g ∙ there-is s.locals mid ks k h.0 f, subst (λ (z : Bool). PushedSmall tree n z (k ∷ ks)) (sym t) m.1),
       record {
-        stack = subst (λ (z : List X). AreFor R z (k ∷ ks)) (sym (ap reverse h.1 ∙ reverse-append mid (x ∷ []))) (m.0, f);
+        stack = subst (λ (z : List X). Paired R z (k ∷ ks)) (sym (ap reverse h.1 ∙ reverse-append mid (x ∷ []))) (m.0, f);
         size = size;
         locals = locals;
       },

@@ -1,16 +1,16 @@
 -- Lines at their places, and the loop.
-use Rattle.std.proofs.Common.{◌≡◌, ℕ, ◌<◌, ◌+◌, zero, suc, Bool, true, false, List, [], ◌∷◌, ◌++◌, length, take, get_or, refl, sym, ap, arith, subst, ◌∙◌}
-use Rattle.std.proofs.Common.{drop-cons, length-append}
+use Rattle.std.proofs.Common.{◌≡◌, ℕ, ◌+◌, Bool, true, false, List, [], ◌∷◌, ◌++◌, length, refl, sym, ap, arith, subst, ◌∙◌, length-append}
 use Rattle.std.proofs.lemmas.Option.{get_or_from_slice_get, none-some, same_Some, slice_get-map, slice_get_within}
 use Rattle.std.specs.Option.{option_map}
 use Rattle.std.specs.Prelude.{All, None, Some, slice_get}
-use Rattle.std.proofs.lemmas.List.{drop_all, length-map, take_all}
+use Rattle.std.proofs.lemmas.List.{length-map}
+use Rattle.ln_lines.proofs.Judging.{Reached, reached_all}
 use Rattle.ln_tree.specs.Names.{name_bytes}
 use Rattle.ln_order.specs.Orders.{orders_of}
 use Rattle.ln_order.specs.Places.{order_places}
 use Rattle.ln_verify.specs.BlockRules.{Version}
-use Rattle.ln_verify.specs.Judge.{FailsAt, Go, IsFirstFault, IsValid}
-use Rattle.ln_verify.specs.Line.{LineRule, Named, Ordering, Outside, PartRule, Place, Rule, Spot, Subject, Within, Written}
+use Rattle.ln_verify.specs.Judge.{Go, IsValid, Lacks, judge_of}
+use Rattle.ln_verify.specs.Line.{LineRule, Named, Ordering, Outside, PartRule, Place, Spot, Subject, Within, Written}
 use Rattle.ln_cert.specs.declared.part.Part.{Part}
 use Rattle.ln_cert.specs.declared.part.Part.TheVariants.{Predicate, Done}
 use Rattle.ln_verify.specs.declared.progress.At.TheVariants.{Away, AtName, AtOrder}
@@ -147,63 +147,17 @@ done-part v cs old new c false (Within parts s) a g h i =
     (subst (λ (p : Subject). PartRule v p parts s Done q) (same_Some k.0 i.1 (sym k.1 ∙ i.2)) k.2))
 
 -- ---- the loop
--- what the loop keeps: the lines so far lead to a place that the state of the judge stands for
-abbrev pub Come : Version → List Subject → List Part → Progress → Type 0
-Come v ps lines d = (here : Place) × Go v ps (Outside []) lines here × IsHere ps d here
-
-module _ (v : Version) (ps : List Subject) where
-  go-more : (lines : List Part) (i : ℕ) (x : Part) (a p q : Place) → i < length lines → Go v ps a (take i lines) p
-      → Rule v ps p (get_or lines i x) q → Go v ps a (take (suc i) lines) q
-  go-more [] i x a p q l g r = absurd (omega arith)
-  go-more (y ∷ ys) zero x a p q l g r = (q, subst (λ (z : Place). Rule v ps z y q) g r, refl)
-  go-more (y ∷ ys) (suc i) x a p q l g r = (g.0, g.1, go-more ys i x g.0 p q (omega arith) g.2 r)
-
 module _ (v : Version) (ps : List Subject) (d : Progress) where
-  -- before the first line, the state outside of parts and after none of them is where a listing begins
-  pub come-first : d.at ≡ Away → d.parts ≡ 0 → Come v ps [] d
-  come-first e h = (Outside [], refl, (e, h))
-
-  lacks : (here : Place) → ((d.at ≡ Away) × (d.parts ≡ length ps) → ⊥) → IsHere ps d here → FailsAt v ps here []
-  lacks (Outside parts) a i = λ e. a (i.0, i.1 ∙ e)
-  lacks (Within parts s) a i = tt
-
-  -- at the end of the file, within a part or where a predicate lacks its part, the first fault is one past the last line
-  pub come-lacks : (lines : List Part) (i n : ℕ) → i ≡ length lines → n ≡ length lines + 2 → Come v ps (take i lines) d
-      → ((d.at ≡ Away) × (d.parts ≡ length ps) → ⊥) → IsFirstFault v ps lines n
-  come-lacks lines i n e m c a = record {
-    at = i;
-    line = omega (arith, m, e);
-    within = omega (arith, e);
-    here = c.0;
-    good = c.1;
-    fails = subst (FailsAt v ps c.0) (sym (drop_all i lines (omega (arith, e)))) (lacks c.0 a c.2);
-  }
-
-  whole : (lines : List Part) (here : Place) → Go v ps (Outside []) lines here → IsHere ps d here → d.at ≡ Away → d.parts ≡ length ps → IsValid v ps lines
-  whole lines (Outside parts) g h a e = record { parts = parts; good = g; all = sym h.1 ∙ e }
-  whole lines (Within parts s) g h a e = absurd (away-none (length h.1.vars) d s a h.3)
+  -- within a part, or where a predicate lacks its part, the lines may not end
+  pub here-lacks : ((d.at ≡ Away) × (d.parts ≡ length ps) → ⊥) → (here : Place) → IsHere ps d here → Lacks ps here
+  here-lacks a (Outside parts) i = λ e. a (i.0, i.1 ∙ e)
+  here-lacks a (Within parts s) i = tt
 
   -- at the end of the file, outside of parts and after those of all predicates, the lines are valid
-  pub come-whole : (lines : List Part) (i : ℕ) → i ≡ length lines → Come v ps (take i lines) d → d.at ≡ Away → d.parts ≡ length ps → IsValid v ps lines
-  come-whole lines i e c a h = whole lines c.0 (subst (λ (xs : List Part). Go v ps (Outside []) xs c.0) (take_all i lines (omega (arith, e))) c.1) c.2 a h
-
-  -- where the line at hand leads nowhere it is the first that fails, and its number is 2 more than the count of those before it
-  pub come-stops : (lines : List Part) (i n : ℕ) (x : Part) (e : Progress) → i < length lines → x ≡ get_or lines i x → n ≡ i + 2
-      → Come v ps (take i lines) d → ((here : Place) → IsHere ps d here → PlaceStep v ps here x false e) → IsFirstFault v ps lines n
-  come-stops lines i n x e l y m c h = record {
-    at = i;
-    line = m;
-    within = omega (arith, l);
-    here = c.0;
-    good = c.1;
-    fails = subst (FailsAt v ps c.0) (sym (drop-cons lines i x l)) (subst (λ (z : Part). (q : Place) → Rule v ps c.0 z q → ⊥) y (h c.0 c.2));
-  }
-
-  -- where the line at hand leads on, the lines up to it lead to the place of the new state
-  pub come-more : (lines : List Part) (i : ℕ) (x : Part) (e : Progress) → i < length lines → x ≡ get_or lines i x → Come v ps (take i lines) d
-      → ((here : Place) → IsHere ps d here → PlaceStep v ps here x true e) → Come v ps (take (i + 1) lines) e
-  come-more lines i x e l y c h =
-      let r = h c.0 c.2 in
-      let w : suc i ≡ i + 1 = omega arith in
-      let g = go-more v ps lines i x (Outside []) c.0 r.0 l c.1 (subst (λ (z : Part). Rule v ps c.0 z r.0) y r.1) in
-      (r.0, subst (λ (k : ℕ). Go v ps (Outside []) (take k lines) r.0) w g, r.2)
+  pub here-whole : (lines rest : List Part) (n : ℕ) → Reached (judge_of v ps) (Outside []) (IsHere ps d) lines rest n → rest ≡ []
+      → (d.at ≡ Away) × (d.parts ≡ length ps) → IsValid v ps lines
+  here-whole lines rest n r z o = let a = reached_all (judge_of v ps) (Outside []) (IsHere ps d) lines rest n r z in go a.0 a.1 a.2
+    where
+      go : (here : Place) → Go v ps (Outside []) lines here → IsHere ps d here → IsValid v ps lines
+      go (Outside parts) g h = record { parts = parts; good = g; all = sym h.1 ∙ o.1 }
+      go (Within parts s) g h = absurd (away-none (length h.1.vars) d s o.0 h.3)

@@ -11,13 +11,14 @@ use Rattle.ln_code.specs.Engine.{Engine, Line, State, next, run, step}
 use Rattle.ln_code.specs.FilterRules.{FilterKnown}
 use Rattle.ln_code.specs.Kept.{stores}
 use Rattle.ln_code.specs.Pushes.{Pushed, after, newest, pushes}
+use Rattle.ln_lines.proofs.Judging.{go_append}
 use Rattle.ln_interval.specs.Range.{Range}
 use Rattle.ln_code.specs.Rules.{Known}
 use Rattle.ln_due.specs.Small.{AreSmall}
-use Rattle.ln_verify.specs.BlockRules.{Version, block_rules, triple_rules, version_2}
+use Rattle.ln_verify.specs.BlockRules.{block_rules, triple_rules, version_2}
 use Rattle.ln_verify.specs.Good.{AllLead, AreGood, AreGoodParts, AreNext, IsGoodFilter, IsGoodPart, all_lines, block_lines, filter_lines}
 use Rattle.ln_verify.specs.Good.{order_lines, part_lines, range_line, triple_line}
-use Rattle.ln_verify.specs.Judge.{Go}
+use Rattle.ln_verify.specs.Judge.{Go, judge_of}
 use Rattle.ln_verify.specs.Law.{GoodPartsAreValid}
 use Rattle.ln_verify.specs.Line.{Between, InBlock, InFilter, IsNextList, Named, Ordering, Outside, Piece, Place, PushedSmall, Subject}
 use Rattle.ln_verify.specs.Line.{Within, Written, exps_of, filter_tree_of, fresh, tree_of}
@@ -43,11 +44,6 @@ small-leads {K = K} tree n e (x ∷ xs) s t h k = go (step e x.op x.bound s.loca
     go None i q r f = cc
     go (Some u) i q r f = let p = pushed-small tree n x.op (stores x.op) u.stack (pushes e xs u) r in (u, (i, p.0), f u q p.1)
 
--- ---- lines one after the other
-go-append : (v : Version) (ps : List Subject) (xs ys : List Part) (a b c : Place) → Go v ps a xs b → Go v ps b ys c → Go v ps a (xs ++ ys) c
-go-append v ps [] ys a b c g h = subst (λ (z : Place). Go v ps z ys c) g h
-go-append v ps (x ∷ xs) ys a b c g h = (g.0, g.1, go-append v ps xs ys g.0 b c g.2 h)
-
 module _ (ps : List Subject) (p : Subject) (parts : List Written) (there : slice_get ps (length parts) ≡ Some p) where
   -- ---- a filter
   triples-go : (done lines : List (Line Triple)) (s t : State FilterKnown (ℕ → Option FilterKnown)) →
@@ -69,8 +65,8 @@ module _ (ps : List Subject) (p : Subject) (parts : List Written) (there : slice
   filter-go (Some lines) h = (
     Within parts (InFilter [] fresh),
     (p, there, (InFilter [] fresh, refl, refl)),
-    go-append version_2 ps (map triple_line lines) (Decide ∷ []) (Within parts (InFilter [] fresh)) (Within parts (InFilter lines h.end))
-        (Within parts (Between (Some lines) []))
+    go_append (judge_of version_2 ps) (Within parts (InFilter [] fresh)) (Within parts (InFilter lines h.end))
+        (Within parts (Between (Some lines) [])) (map triple_line lines) (Decide ∷ [])
         (triples-go [] lines fresh h.end h.leads) (
           Within parts (Between (Some lines) []),
           (p, there, (Between (Some lines) [], record { left = h.left; one = h.one; whole = h.whole; narrow = h.narrow; to = refl }, refl)),
@@ -100,8 +96,8 @@ module _ (ps : List Subject) (p : Subject) (parts : List Written) (there : slice
       let q = append_assoc done (b ∷ []) bs in (
         Within parts (InBlock f done b.exps [] fresh),
         (p, there, (InBlock f done b.exps [] fresh, record { number = e; rising = g.rising; of_sites = g.of_sites; to = refl }, refl)),
-        go-append version_2 ps (map range_line b.lines) (End ∷ block_lines (suc k) bs) (Within parts (InBlock f done b.exps [] fresh))
-            (Within parts (InBlock f done b.exps b.lines g.end)) (Within parts (Between f (done ++ b ∷ bs)))
+        go_append (judge_of version_2 ps) (Within parts (InBlock f done b.exps [] fresh)) (Within parts (InBlock f done b.exps b.lines g.end))
+            (Within parts (Between f (done ++ b ∷ bs))) (map range_line b.lines) (End ∷ block_lines (suc k) bs)
             (ranges-go f done b.exps [] b.lines fresh g.end g.leads) (
               Within parts (Between f (done ++ b ∷ [])),
               (p, there, (Between f (done ++ b ∷ []), record { left = g.left; one = g.one; derivative = g.derivative; to = refl }, refl)),
@@ -135,8 +131,8 @@ module _ (ps : List Subject) (p : Subject) (parts : List Written) (there : slice
       let r = orders-go f bs (l ∷ []) os ls 1 refl hs in (
         Within parts (Ordering (record { filter = f; blocks = bs; lists = l ∷ [] })),
         (p, there, (Ordering (record { filter = f; blocks = bs; lists = l ∷ [] }), record { next = h; to = refl }, refl)),
-        go-append version_2 ps (order_lines os ls) ys (Within parts (Ordering (record { filter = f; blocks = bs; lists = l ∷ [] })))
-            (Within parts (Ordering (record { filter = f; blocks = bs; lists = l ∷ ls }))) c r g,
+        go_append (judge_of version_2 ps) (Within parts (Ordering (record { filter = f; blocks = bs; lists = l ∷ [] })))
+            (Within parts (Ordering (record { filter = f; blocks = bs; lists = l ∷ ls }))) c (order_lines os ls) ys r g,
       )
 
   as-many : (bs : List Piece) (os ls : List (List ℕ)) (k : ℕ) → AreNext p bs k os ls → length ls ≡ length os
@@ -149,11 +145,11 @@ module _ (ps : List Subject) (p : Subject) (parts : List Written) (there : slice
   part-go w h some = (
     Within parts Named,
     record { subject = p; there = there; named = refl; to = refl },
-    go-append version_2 ps (filter_lines w.filter) (block_lines 0 w.blocks ++ (order_lines (orders_of p.sites) w.lists ++ Done ∷ []))
-        (Within parts Named) (Within parts (Between w.filter [])) (Outside (parts ++ w ∷ []))
+    go_append (judge_of version_2 ps) (Within parts Named) (Within parts (Between w.filter [])) (Outside (parts ++ w ∷ [])) (filter_lines w.filter)
+        (block_lines 0 w.blocks ++ (order_lines (orders_of p.sites) w.lists ++ Done ∷ []))
         (filter-go w.filter h.filter)
-        (go-append version_2 ps (block_lines 0 w.blocks) (order_lines (orders_of p.sites) w.lists ++ Done ∷ [])
-        (Within parts (Between w.filter [])) (Within parts (Between w.filter w.blocks)) (Outside (parts ++ w ∷ []))
+        (go_append (judge_of version_2 ps) (Within parts (Between w.filter [])) (Within parts (Between w.filter w.blocks))
+        (Outside (parts ++ w ∷ [])) (block_lines 0 w.blocks) (order_lines (orders_of p.sites) w.lists ++ Done ∷ [])
         (blocks-go w.filter [] w.blocks 0 refl h.blocks)
         (first-order w.filter w.blocks (orders_of p.sites) w.lists (Outside (parts ++ w ∷ [])) (Done ∷ []) some h.lists
         (Outside (parts ++ w ∷ []), (p, there, record { all = as-many w.blocks (orders_of p.sites) w.lists 0 h.lists; to = refl }), refl))),
@@ -191,8 +187,8 @@ parts-go before (p ∷ ps) parts (w ∷ ws) e (h, hs) =
     (append_assoc before (p ∷ []) ps) r in
     let b = subst (λ (z : List Written). Go version_2 (before ++ p ∷ ps) (Outside (parts ++ w ∷ [])) (all_lines ps ws) (Outside z))
     (append_assoc parts (w ∷ []) ws) a in
-    go-append version_2 (before ++ p ∷ ps) (part_lines p w) (all_lines ps ws) (Outside parts) (Outside (parts ++ w ∷ []))
-    (Outside (parts ++ w ∷ ws)) (part-go (before ++ p ∷ ps) p parts there w h (some-orders p.sites)) b
+    go_append (judge_of version_2 (before ++ p ∷ ps)) (Outside parts) (Outside (parts ++ w ∷ [])) (Outside (parts ++ w ∷ ws)) (part_lines p w)
+    (all_lines ps ws) (part-go (before ++ p ∷ ps) p parts there w h (some-orders p.sites)) b
 parts-go before ps parts ws e h = absurd h
 
 -- there are as many good parts as predicates

@@ -1,7 +1,6 @@
--- Lines that are judged as they are read, and the results on bytes.
-use Rattle.std.proofs.Common.{◌≡◌, ◌↔◌, ℕ, ◌<◌, ◌+◌, ◌≤◌, suc, true, false, List, [], ◌∷◌, length, map, take, drop, get_or, refl, sym}
-use Rattle.std.proofs.Common.{◌∙◌, ap, arith, drop-cons, length-drop, subst}
-use Rattle.std.specs.Prelude.{Err, IfErr, None, Ok, Option, Result}
+-- The results on bytes.
+use Rattle.std.proofs.Common.{◌≡◌, ◌↔◌, ℕ, List, [], ◌∷◌, map, refl, sym, ap, subst}
+use Rattle.std.specs.Prelude.{Err, IfErr, Ok, Option, Result}
 use Rattle.ln_tree.specs.Table.{PredOf}
 use Rattle.ln_cert.specs.declared.part.Entry.{Entry}
 use Rattle.ln_cert.specs.declared.part.Part.{Part}
@@ -9,85 +8,17 @@ use Rattle.ln_cert.specs.Listing.{IsFormFault, ListText, Listed, parts_of}
 use Rattle.ln_lines.specs.declared.stop.TextStop.{TextStop as ListStop}
 use Rattle.ln_lines.specs.declared.stop.TextStop.TheVariants.{Form}
 use Rattle.ln_cert.specs.Stop.{Stops}
-use Rattle.ln_cert.specs.Unread.{AreLeft, IsOpened, IsTaken, Takes, Unread}
+use Rattle.ln_cert.specs.Unread.{AreLeft, IsOpened, Unread}
 use Rattle.ln_cert.proofs.Reading.Whole.{no_text, one_fault, one_text}
 use Rattle.ln_verify.specs.BlockRules.{Version}
-use Rattle.ln_verify.specs.Here.{PlaceStep, IsAnswer, IsHere, subjects_of}
+use Rattle.ln_verify.specs.Here.{IsAnswer, subjects_of}
 use Rattle.ln_verify.specs.Judge.{IsFirstFault, IsValid}
-use Rattle.ln_verify.specs.Line.{Place, Subject}
 use Rattle.ln_verify.specs.Verified.{AreSubjectsOf, IsFaultFor, IsTextFaultFor, IsValidFor, IsValidTextFor, form, judged_of, rule, rules_of}
 use Rattle.ln_verify.specs.declared.case.Case.{Case}
-use Rattle.ln_verify.specs.declared.progress.Progress.{Progress}
-use Rattle.ln_verify.specs.declared.progress.At.TheVariants.{Away}
 use Rattle.ln_verify.specs.declared.listings.Judged.{Judged}
 use Rattle.ln_verify.specs.declared.listings.Judged.TheVariants.{Valid, Invalid}
-use Rattle.ln_verify.proofs.Judging.Places.{Come, come-first, come-more, come-stops, come-whole, come-lacks}
 use Rattle.ln_verify.proofs.Judging.Subjects.{IsRight, verified}
 
--- the first of the rest
-record Front (xs : List Part) (i : ℕ) (p : Part) (ys : List Part) : Type 0 where
-  less : i < length xs
-  here : p ≡ get_or xs i p
-  behind : ys ≡ drop (suc i) xs
-
-front : (xs : List Part) (i : ℕ) (p : Part) (ys : List Part) → drop i xs ≡ p ∷ ys → Front xs i p ys
-front xs i p ys e =
-    let l : i < length xs = omega (arith, ap length e, length-drop i xs) in
-    let d = sym (drop-cons xs i p l) ∙ e in
-    record { less = l; here = cc; behind = cc }
-
--- ---- the loop
--- what it keeps: this many of the lines lead to a place that the state of the judge stands for, and the others remain
-pub record Midway (v : Version) (ss : List Subject) (ps : List Part) (d : Progress) (u : Unread) : Type 0 where
-  pub at : ℕ
-  pub number : u.line ≡ at + 2
-  pub within : at ≤ length ps
-  pub left : AreLeft u (drop at ps)
-  pub come : Come v ss (take at ps) d
-
-module _ (v : Version) (ss : List Subject) (ps : List Part) (d : Progress) (u : Unread) where
-  -- before line 2, outside of parts, none of the lines has been judged and all of them remain
-  pub midway-first : u.line ≡ 2 → d.at ≡ Away → d.parts ≡ 0 → AreLeft u ps → Midway v ss ps d u
-  midway-first n a b h = record { at = 0; number = n; within = omega arith; left = h; come = come-first v ss d a b }
-
-  -- the line at hand leads on
-  pub midway-more : (e : Entry) (w : Unread) (new : Progress) → Midway v ss ps d u → IsTaken u e w
-      → ((here : Place) → IsHere ss d here → PlaceStep v ss here e.part true new) → Midway v ss ps new w
-  midway-more e w new m t h =
-      let g = t.goes_on (drop m.at ps) m.left in
-      let f = front ps m.at e.part g.behind g.first in
-      let s : suc m.at ≡ m.at + 1 = omega arith in
-      record {
-        at = m.at + 1;
-        number = omega (arith, t.next, m.number);
-        within = omega (arith, f.less);
-        left = subst (AreLeft w) (f.behind ∙ ap (λ (k : ℕ). drop k ps) s) g.left;
-        come = come-more v ss d ps m.at e.part new f.less f.here m.come h;
-      }
-
-  -- or it fails: it is the first that does, by its own number
-  pub midway-stops : (e : Entry) (w : Unread) (new : Progress) → Midway v ss ps d u → IsTaken u e w
-      → ((here : Place) → IsHere ss d here → PlaceStep v ss here e.part false new) → IsFirstFault v ss ps e.line
-  midway-stops e w new m t h =
-      let g = t.goes_on (drop m.at ps) m.left in
-      let f = front ps m.at e.part g.behind g.first in
-      come-stops v ss d ps m.at e.line e.part new f.less f.here (t.number ∙ m.number) m.come h
-
-  ended : (w : Unread) (m : Midway v ss ps d u) → Takes u None w → m.at ≡ length ps
-  ended w m t = omega (arith, ap length (t.0 (drop m.at ps) m.left), length-drop m.at ps, m.within)
-
-  -- the end of the file, within a part or where a predicate lacks its part
-  pub midway-lacks : (w : Unread) → Midway v ss ps d u → Takes u None w → ((d.at ≡ Away) × (d.parts ≡ length ss) → ⊥) → IsFirstFault v ss ps w.line
-  midway-lacks w m t a =
-      let e = ended w m t in
-      let n : w.line ≡ u.line = ap (λ (x : Unread). x.line) t.1 in
-      come-lacks v ss d ps m.at w.line e (omega (arith, e, n, m.number)) m.come a
-
-  -- at the end of the file, outside of parts and after those of all predicates, the lines are valid
-  pub midway-whole : (w : Unread) → Midway v ss ps d u → Takes u None w → d.at ≡ Away → d.parts ≡ length ss → IsValid v ss ps
-  midway-whole w m t a b = come-whole v ss d ps m.at (ended w m t) m.come a b
-
--- ---- the results on bytes
 -- the result is right about bytes for these predicates
 abbrev pub IsRightText : List PredOf → List ℕ → Judged → Type 0
 IsRightText ps bs j = ((j ≡ Valid) ↔ IsValidTextFor ps bs) × ((n : ℕ) → (j ≡ Invalid n) ↔ IsTextFaultFor ps bs n)

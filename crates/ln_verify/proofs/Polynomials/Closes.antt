@@ -13,7 +13,7 @@ use Rattle.ln_code.specs.Engine.{State}
 use Rattle.ln_code.specs.FilterRules.{FilterKnown}
 use Rattle.ln_code.specs.Rules.{Known}
 use Rattle.ln_verify.specs.Line.{Subject}
-use Rattle.ln_verify.specs.Values.{AreFor, IsFor}
+use Rattle.ln_verify.specs.Values.{Paired, IsFor}
 use Rattle.ln_verify.specs.declared.value.Value.{Value}
 use Rattle.ln_verify.specs.Here.{AreAbove, BlockEnds, FilterDecides}
 use Rattle.ln_verify.specs.Rules.{in_range, in_triple}
@@ -37,7 +37,7 @@ heads-same : {K : Type 0} (j k : K) (xs : List K) → xs ≡ j ∷ [] → xs ≡
 heads-same j k xs e f = cc
 
 -- ---- one value
-module _ {L K : Type 0} (known : L → Tree → ℕ → K) (n : ℕ) (xs : List (Value L)) (ks : List K) (i : AreFor (IsFor known n) (reverse xs) ks) where
+module _ {L K : Type 0} (known : L → Tree → ℕ → K) (n : ℕ) (xs : List (Value L)) (ks : List K) (i : Paired (IsFor known n) (reverse xs) ks) where
   -- without just one value on a stack in code, the stack that it is for hasn't just one
   pub not-one : (length xs ≡ 1 → ⊥) → (k : K) → ks ≡ k ∷ [] → ⊥
   not-one l k e = l (sym (length-reverse xs) ∙ for-length (IsFor known n) (reverse xs) ks i ∙ ap length e)
@@ -45,7 +45,7 @@ module _ {L K : Type 0} (known : L → Tree → ℕ → K) (n : ℕ) (xs : List 
   one-value : (x : Value L) → length xs ≡ 1 → x ≡ get_or xs 0 x → (k : K) × (ks ≡ k ∷ []) × IsFor known n x k
   one-value x l e = go xs ks l e i
     where
-      go : (xs : List (Value L)) (ks : List K) → length xs ≡ 1 → x ≡ get_or xs 0 x → AreFor (IsFor known n) (reverse xs) ks
+      go : (xs : List (Value L)) (ks : List K) → length xs ≡ 1 → x ≡ get_or xs 0 x → Paired (IsFor known n) (reverse xs) ks
           → (k : K) × (ks ≡ k ∷ []) × IsFor known n x k
       go (y ∷ []) (k ∷ []) l e h = (k, refl, subst (λ (z : Value L). IsFor known n z k) (sym e) h.0)
       go (y ∷ []) (k ∷ (j ∷ ks)) l e h = absurd h.1

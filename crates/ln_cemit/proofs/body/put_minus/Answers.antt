@@ -3,4 +3,4 @@ use Rattle.ln_csyn.proofs.Writing.PutLemmas.{puts_last, puts_then}
 use Rattle.ln_cemit.proofs.body.put_minus.Goals as goal
 
 pub returns : goal.returns
-returns c = puts_last c.right.result _ _ (puts_then c.in_ok-put_tokens.ensures c.in_ok-put_number_of.ensures) c.right.ensures
+returns c = puts_last c.put.result _ _ (puts_then c.in_ok-put_tokens.ensures c.in_ok-put_number_of.ensures) c.put.ensures

@@ -9,6 +9,6 @@ pub returns : goal.returns
 returns t c =
     let e : c.args.k ≡ suc (c.args.k - 1) = omega (arith, c.if-k-eq0.false) in
     let r : c.args.n % 2147483648 ≡ c.args.n % 2 ^ 31 = refl in
-    IfOk-weaker c.right.result _ _ (λ _ p. parts_step c.args.k c.args.n (c.args.k - 1) (c.args.n / 2147483648) (c.args.n % 2147483648) e refl refl
+    IfOk-weaker c.put.result _ _ (λ _ p. parts_step c.args.k c.args.n (c.args.k - 1) (c.args.n / 2147483648) (c.args.n % 2147483648) e refl refl
     (puts_then c.in_ok-put_tokens.ensures (puts_then c.in_ok-put_parts.ensures (puts_then c.in_ok-put_op.ensures (puts_then c.in_ok-put_constant.ensures
-    (puts_then c.in_ok-put_tokens-2.ensures (puts_then c.in_ok-put_constant-2.ensures p))))))) c.right.ensures
+    (puts_then c.in_ok-put_tokens-2.ensures (puts_then c.in_ok-put_constant-2.ensures p))))))) c.put.ensures

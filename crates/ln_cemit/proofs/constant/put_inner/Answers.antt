@@ -12,5 +12,5 @@ use Rattle.ln_cemit.proofs.constant.put_inner.Goals as goal
 pub returns : goal.returns
 returns c =
     let f : FitsSigned w128 c.args.z = search rules in
-    IfOk-weaker c.right.result _ _ (λ _ p. subst (λ (z : ℤ). Puts c.args.out.now.items c.right.new.out.items (spell (Inner c.args.kind (constant z))))
-    (to_z-of_z w128 c.args.z f) (puts_then c.in_ok-put_cast.ensures (puts_then c.in_ok-put_whole.ensures p))) c.right.ensures
+    IfOk-weaker c.put.result _ _ (λ _ p. subst (λ (z : ℤ). Puts c.args.out.now.items c.put.new.out.items (spell (Inner c.args.kind (constant z))))
+    (to_z-of_z w128 c.args.z f) (puts_then c.in_ok-put_cast.ensures (puts_then c.in_ok-put_whole.ensures p))) c.put.ensures

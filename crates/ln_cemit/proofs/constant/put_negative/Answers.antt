@@ -3,4 +3,4 @@ use Rattle.ln_csyn.proofs.Writing.PutLemmas.{puts_last, puts_then}
 use Rattle.ln_cemit.proofs.constant.put_negative.Goals as goal
 
 pub returns : goal.returns
-returns c = puts_last c.right.result _ _ (puts_then c.in_ok-put_tokens.ensures c.in_ok-put_natural.ensures) c.right.ensures
+returns c = puts_last c.put.result _ _ (puts_then c.in_ok-put_tokens.ensures c.in_ok-put_natural.ensures) c.put.ensures

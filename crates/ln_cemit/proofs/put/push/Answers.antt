@@ -9,4 +9,4 @@ pub returns : goal.returns
 returns c =
     let f : FitsSigned w128 c.args.z = search rules in
     pushed c.args.n c.args.width _ c.args.z c.args.stack.now.items c.push.new.self.items
-    (to_z-of_z w128 c.args.z f) c.in_ok-push.ensures.items c.in_ok-put_pushed_decl.ensures
+    (to_z-of_z w128 c.args.z f) c.in_ok-push.ensures.items c.in_ok-put_decl.ensures

@@ -3,4 +3,4 @@ use Rattle.ln_csyn.proofs.Writing.PutLemmas.{puts_last, puts_then}
 use Rattle.ln_cemit.proofs.put.put_decl_head.Goals as goal
 
 pub returns : goal.returns
-returns c = puts_last c.equals.result _ _ (puts_then c.in_ok-put_width.ensures c.in_ok-put_decl_name.ensures) c.equals.ensures
+returns c = puts_last c.put.result _ _ (puts_then c.in_ok-put_width.ensures c.in_ok-put_decl_name.ensures) c.put.ensures

@@ -3,5 +3,5 @@ use Rattle.ln_csyn.proofs.Writing.PutLemmas.{puts_last, puts_then}
 use Rattle.ln_cemit.proofs.put.put_division.Goals as goal
 
 pub returns : goal.returns
-returns c = puts_last c.right.result _ _
-    (puts_then c.in_ok-left.ensures (puts_then c.in_ok-put_operand.ensures (puts_then c.in_ok-put_op.ensures c.in_ok-put_constant.ensures))) c.right.ensures
+returns c = puts_last c.put-2.result _ _
+    (puts_then c.in_ok-put.ensures (puts_then c.in_ok-put_operand.ensures (puts_then c.in_ok-put_op.ensures c.in_ok-put_constant.ensures))) c.put-2.ensures

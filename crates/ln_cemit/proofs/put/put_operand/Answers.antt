@@ -3,4 +3,4 @@ use Rattle.ln_csyn.proofs.Writing.PutLemmas.{puts_last, puts_then}
 use Rattle.ln_cemit.proofs.put.put_operand.Goals as goal
 
 pub returns : goal.returns
-returns c = puts_last c.right.result _ _ (puts_then c.in_ok-put_cast_of.ensures c.in_ok-put_decl_name.ensures) c.right.ensures
+returns c = puts_last c.put.result _ _ (puts_then c.in_ok-put_cast_of.ensures c.in_ok-put_decl_name.ensures) c.put.ensures

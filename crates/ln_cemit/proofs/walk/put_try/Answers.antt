@@ -6,5 +6,5 @@ use Rattle.ln_cemit.specs.Walked.{attempt}
 use Rattle.ln_cemit.proofs.walk.put_try.Goals as goal
 
 pub returns : goal.returns
-returns c = IfOk-weaker c.brace_right.result _ _ (λ _ p. goes_group 2 (attempt answer_name c.args.title.now)
-    (puts_then c.in_ok-brace_left.ensures (puts_then c.in_ok-put_attempt.ensures p))) c.brace_right.ensures
+returns c = IfOk-weaker c.put-2.result _ _ (λ _ p. goes_group 2 (attempt answer_name c.args.title.now)
+    (puts_then c.in_ok-put.ensures (puts_then c.in_ok-put_attempt.ensures p))) c.put-2.ensures

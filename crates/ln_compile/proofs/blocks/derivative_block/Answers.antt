@@ -4,8 +4,8 @@ use Rattle.ln_bound.specs.View.{typed}
 use Rattle.ln_tree.specs.Exps.{vector}
 use Rattle.ln_stage.specs.Lists.{covering}
 use Rattle.ln_due.proofs.Derivatives.Deriving.{derivative-degrees, derivative-few, derivative-light}
-use Rattle.ln_due.proofs.Derivatives.Blocks.{derivative-ops, derivative-pushes, no-costs, of-sites}
-use Rattle.ln_compile.proofs.Making.MakingLemmas.{derivative-made}
+use Rattle.ln_due.proofs.Derivatives.Blocks.{derivative-block, derivative-ops, derivative-pushes, no-costs, of-sites}
+use Rattle.ln_compile.proofs.Making.MakingLemmas.{derivative-exact}
 use Rattle.ln_compile.proofs.blocks.derivative_block.Goals as goal
 
 pub nest-requires-clause-degrees : goal.nest-requires-clause-degrees
@@ -23,11 +23,16 @@ pub returns-clause-block : goal.returns-clause-block
 returns-clause-block c =
     let b = c.in_ok-block.ensures in
     let o = of-sites c.args.s.now.vars c.args.a.now c.in_ok-h.ensures.rising c.requires.exps c.requires.sites in
-    derivative-made c.args.s.now.vars c.args.f.now c.in_ok-h.h c.args.a.now _
+    derivative-block c.args.s.now.vars c.args.f.now c.in_ok-h.h c.args.a.now _
     (typed c.in_ok-t.t) c.in_ok-block.block c.in_ok-h.ensures.derivative c.new.ensures b.exps o b.rules c.in_ok-t.ensures.same b.root
     (derivative-pushes c.args.s.now.vars c.args.f.now c.in_ok-h.h c.args.a.now _
     (typed c.in_ok-t.t) c.in_ok-block.block c.in_ok-h.ensures.derivative c.requires.terms c.new.ensures c.in_ok-t.ensures.lean b.nodes)
-    c.in_ok-t.ensures.exact c.in_ok-t.ensures.form b.code
+
+pub returns-clause-exact : goal.returns-clause-exact
+returns-clause-exact c =
+    let t = c.in_ok-t.ensures in
+    derivative-exact c.args.s.now.vars c.args.f.now c.in_ok-h.h c.args.a.now _ (typed c.in_ok-t.t) c.in_ok-block.block c.in_ok-h.ensures.derivative
+    c.new.ensures c.in_ok-block.ensures.exps t.exact t.form c.in_ok-block.ensures.code
 
 pub returns-clause-few : goal.returns-clause-few
 returns-clause-few c =

@@ -32,4 +32,3 @@ returns-clause-block c = λ f h few.
     let b = c.in_ok-block.ensures in
     own-carries c.args.p.now s.lets s.root c.in_ok-block.block _ f c.new.ensures b.exps e.lets e.root b.rules b.root h
     (own-pushes c.args.p.now s.lets s.root e.lets e.root c.requires.light few c.in_ok-block.block b.nodes)
-    (own-made c.args.p.now s.lets s.root c.in_ok-block.block _ c.new.ensures b.exps e.lets e.root e.exact_lets e.exact_root b.code)

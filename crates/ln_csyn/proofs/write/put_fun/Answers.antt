@@ -4,5 +4,5 @@ use Rattle.ln_csyn.proofs.write.put_fun.Goals as goal
 
 pub returns : goal.returns
 returns c = puts_last c.put_fun_body.result _ _ (puts_then c.in_ok-put_static.ensures (puts_then c.in_ok-put_type.ensures
-    (puts_then c.in_ok-put_own_name.ensures (puts_then c.in_ok-left.ensures (puts_then c.in_ok-put_parameters.ensures c.in_ok-right.ensures)))))
+    (puts_then c.in_ok-put_own_name.ensures (puts_then c.in_ok-put.ensures (puts_then c.in_ok-put_parameters.ensures c.in_ok-put-2.ensures)))))
     c.put_fun_body.ensures

@@ -2,7 +2,7 @@ use Rattle.std.proofs.Common.{subst}
 use Rattle.ln_rows.specs.Left.{Records}
 use Rattle.ln_tree.specs.Table.{pred_of}
 use Rattle.ln_judges.specs.Audit.{HasTrace}
-use Rattle.ln_frame.specs.Columns.{names_of}
+use Rattle.ln_rows.specs.Header.{names_of}
 use Rattle.ln_judges.proofs.AuditLaws.{header_carried}
 use Rattle.ln_judges.proofs.audit.audit_records.Goals as goal
 

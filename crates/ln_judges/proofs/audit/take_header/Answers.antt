@@ -1,4 +1,4 @@
-use Rattle.ln_frame.proofs.HeaderLaws.{header_is}
+use Rattle.ln_rows.proofs.HeaderLaws.{header_is}
 use Rattle.ln_judges.proofs.audit.take_header.Goals as goal
 
 pub returns : goal.returns

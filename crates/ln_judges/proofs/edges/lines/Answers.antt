@@ -1,8 +1,10 @@
 use Rattle.std.proofs.Common.{map, refl}
+use Rattle.std.proofs.lemmas.Result.{IfOk-weaker}
 use Rattle.ln_tree.specs.Table.{pred_of}
 use Rattle.ln_compile.proofs.Listing.FilteredLemmas.{answers_for}
 use Rattle.ln_judges.proofs.EdgesLaws.{edges_said, one_given, points_for}
-use Rattle.ln_frame.proofs.ReadyLaws.{one_name, one_within}
+use Rattle.ln_compile.proofs.Numbers.{one_within}
+use Rattle.ln_frame.proofs.ReadyLaws.{one_name}
 use Rattle.ln_judges.proofs.edges.lines.Goals as goal
 
 pub program-requires : goal.program-requires
@@ -18,8 +20,8 @@ edge_lines-requires-clause-points c =
     (answers_for _ _ (rw c.as_slice.ensures.value at c.in_ok-program.ensures.program one.0 one.2)) (c.requires.points s.given s.stands)
 
 pub returns : goal.returns
-returns c = λ given s.
+returns c = IfOk-weaker c.edge_lines.result _ _ (λ v h given s.
     let one = one_given (map pred_of c.args.ready.now.compiled.table.preds) given.preds _ s.numbered (one_name _ _ _ c.requires.ready.fit refl refl) in
     edges_said c.args.ready.now given one.0 _ _ c.args.points.now s one.1 one.2 c.blocks-blocks.ensures.kept
-    (answers_for _ _ (rw c.as_slice.ensures.value at c.in_ok-program.ensures.program one.0 one.2)) (c.requires.points given s) _
-    c.in_ok-text.ensures
+    (answers_for _ _ (rw c.as_slice.ensures.value at c.in_ok-program.ensures.program one.0 one.2)) (c.requires.points given s) _ h)
+    c.edge_lines.ensures

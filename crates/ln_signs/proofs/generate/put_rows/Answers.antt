@@ -1,5 +1,5 @@
 use Rattle.std.proofs.Common.{rules}
-use Rattle.ln_signs.specs.Target.{pred_in}
+use Rattle.ln_target.specs.Target.{pred_in}
 use Rattle.ln_frame.proofs.LinesLaws.{running_puts, running_tears, running_done}
 use Rattle.ln_signs.proofs.GenLaws.{none_made, draws_more, draws_none}
 use Rattle.ln_signs.proofs.generate.put_rows.Goals as goal

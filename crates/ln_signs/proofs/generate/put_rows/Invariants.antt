@@ -1,5 +1,5 @@
 use Rattle.std.proofs.Common.{◌≤◌, ◌-◌}
-use Rattle.ln_signs.specs.Target.{pred_in}
+use Rattle.ln_target.specs.Target.{pred_in}
 use Rattle.ln_code.specs.Memory.{MadeFor}
 use Rattle.ln_watch.specs.Panel.{states_of}
 use Rattle.ln_signs.specs.Gen.{GenStep, draws}

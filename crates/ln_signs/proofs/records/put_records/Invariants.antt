@@ -1,6 +1,6 @@
 use Rattle.std.proofs.Common.{length, List, ◌≡◌, ◌+◌}
 use Rattle.std.specs.Prelude.{vec_capacity}
-use Rattle.ln_signs.specs.Line.{is_row}
+use Rattle.ln_target.specs.Line.{is_row}
 use Rattle.ln_signs.specs.Watching.{watching}
 use Rattle.ln_watch.specs.Panel.{states_of}
 use Rattle.ln_frame.proofs.LinesLaws.{Running}

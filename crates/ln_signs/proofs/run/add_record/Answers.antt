@@ -1,5 +1,5 @@
 use Rattle.std.proofs.Common.{◌∙◌, sym, true≢false}
-use Rattle.ln_signs.specs.Target.{pred_in}
+use Rattle.ln_target.specs.Target.{pred_in}
 use Rattle.ln_signs.proofs.OneLine.{bare_same}
 use Rattle.ln_signs.proofs.run.add_record.Goals as goal
 

@@ -1,4 +1,4 @@
-use Rattle.ln_signs.specs.Line.{due, refused_}
+use Rattle.ln_target.specs.Line.{due, refused_}
 use Rattle.ln_signs.proofs.run.verdict_of.Goals as goal
 
 pub returns-in-Ok-clause-says : goal.returns-in-Ok-clause-says

@@ -1,11 +1,11 @@
 use Rattle.std.proofs.Common.{rules}
 use Rattle.ln_signs.proofs.ExplainedRows.{blocks_say, refused_says}
-use Rattle.ln_signs.proofs.TargetLaws.{row_for}
+use Rattle.ln_target.proofs.TargetLaws.{row_for}
 use Rattle.ln_signs.proofs.explain.ExplainerRecordWriter.add.Goals as goal
 
 pub explain_row-requires-clause-row : goal.explain_row-requires-clause-row
 explain_row-requires-clause-row c =
-    rw c.program.ensures (row_for _ c.args.self.now.target.pred c.args.self.now.target.program c.args.row.now c.requires.fits.1 (search rules))
+    rw c.program.ensures (row_for _ c.args.self.now.target.pred c.args.self.now.target.program c.args.record.row.now c.requires.fits.1 (search rules))
 
 pub returns-in_ok-explain_row-in-Ok-clause-line : goal.returns-in_ok-explain_row-in-Ok-clause-line
 returns-in_ok-explain_row-in-Ok-clause-line c = λ fields r ps k.

@@ -1,0 +1,2 @@
+pub mod FactorsLaws
+pub mod TargetLaws

@@ -1,0 +1,15 @@
+use Rattle.ln_target.specs.Factors.{IsMadeOf}
+use Rattle.ln_target.proofs.FactorsLaws.{new_made, new_name, paired_more}
+use Rattle.ln_target.proofs.factors.add.Goals as goal
+
+pub push-requires-clause-name : goal.push-requires-clause-name
+push-requires-clause-name c =
+    new_name c.args.c.now.table c.args.numbers.now.items c.args.programs.now c.args.i c.in_ok-program.program c.requires.made
+    c.requires.new
+    (new_made c.args.c.now.table.preds c.args.i _ c.requires.within c.in_ok-program.ensures.program c.blocks-blocks.ensures.kept)
+
+pub returns-clause-made : goal.returns-clause-made
+returns-clause-made c =
+    rw (c.in_ok-push-2.ensures.items, c.in_ok-push.ensures.ok) (paired_more (IsMadeOf _) c.args.numbers.now.items c.args.programs.now c.args.i
+    c.in_ok-program.program c.requires.made
+    (new_made c.args.c.now.table.preds c.args.i _ c.requires.within c.in_ok-program.ensures.program c.blocks-blocks.ensures.kept))

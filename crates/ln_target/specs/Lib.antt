@@ -1,0 +1,4 @@
+pub mod Alike
+pub mod Line
+pub mod Target
+pub mod Factors

@@ -1,0 +1,24 @@
+use Rattle.ln_top.specs.Plan.{with_bytes}
+use Rattle.ln_top.proofs.Steps.Prepared.{names_stop, suits_stop, files_stop}
+use Rattle.ln_compile.proofs.Numbers.{numbers_within}
+use Rattle.ln_top.proofs.prepare.later.Goals as goal
+
+pub returns-in-Err-clause-err : goal.returns-in-Err-clause-err
+returns-in-Err-clause-err g c =
+    names_stop (with_bytes c.args.plan) (g.F.Files.told c.args.files.now) _ _ _ _ c.requires.read c.requires.compiles c.in-Err.ensures.err
+
+pub suited-requires-clause-within : goal.suited-requires-clause-within
+suited-requires-clause-within g c =
+    rw c.deref.ensures.value (numbers_within c.args.c.now.table.preds _ _ c.in-Ok.ensures.ok.numbered)
+
+pub returns-in-Err-suited-clause-err : goal.returns-in-Err-suited-clause-err
+returns-in-Err-suited-clause-err g c =
+    let n = c.in-Ok.ensures.ok in
+    suits_stop (with_bytes c.args.plan) (g.F.Files.told c.args.files.now) _ _ n.preds _ _ c.requires.read c.requires.compiles n.found
+    ((rw c.deref.ensures.value at c.in-Err-suited.ensures.err) n.preds n.numbered)
+
+pub returns-in-Err-texts-clause-err : goal.returns-in-Err-texts-clause-err
+returns-in-Err-texts-clause-err g c =
+    let n = c.in-Ok.ensures.ok in
+    files_stop (with_bytes c.args.plan) (g.F.Files.told c.args.files.now) _ _ n.preds _ _ c.requires.read c.requires.compiles n.found
+    ((rw c.deref.ensures.value at c.in-Ok-suited.ensures.ok) n.preds n.numbered) c.in-Err-texts.ensures.err
