@@ -1,5 +1,5 @@
-"""The table of crates in docs/MAP.md, made from crates.txt. Usage, at the top of the repository:
-crates.py compare   prints where the table isn't the one of crates.txt, or a crate has no line that says what it does
+"""The list of crates in docs/MAP.md, made from crates.txt. Usage, at the top of the repository:
+crates.py compare   prints where the list isn't the one of crates.txt, or a crate has no line that says what it does
 crates.py write     writes it anew, between the two comments that mark it"""
 import re
 import sys
@@ -29,18 +29,18 @@ def read():
     return groups
 
 
-def contracts(groups):
+def works(groups):
     for title, crates in groups:
-        yield from [f"### {title}", "", "| crate | what it does | its contract |", "|---|---|---|"]
-        yield from (f"| {name} | {said['does']} | {said['proved'] or 'none'} |" for name, said, _ in crates)
+        yield from [f"**{title}**", ""]
+        yield from (f"- {name}: {said['does']}" for name, said, _ in crates)
         yield ""
 
 
-TABLES = [("docs/MAP.md", "contracts", contracts)]
+TABLES = [("docs/MAP.md", "what each crate does", works)]
 
 
 def renew(path, begin, lines, write):
-    """Writes the lines of a table anew, between its comment and the next that ends one, or prints where they differ."""
+    """Writes the lines of a list anew, between its comment and the next that ends one, or prints where they differ."""
     text = Path(path).read_text()
     if begin not in text:
         print(f"{path}: no line {begin}")
@@ -52,7 +52,7 @@ def renew(path, begin, lines, write):
         Path(path).write_text(head + begin + new + END + tail)
     elif old != new:
         wrong = [line for line in old.splitlines() if line not in new.splitlines()] + ["(a line is missing)"]
-        print(f"{path}: {begin}: the table isn't the one that is made: {wrong[0]}")
+        print(f"{path}: {begin}: the list isn't the one that is made: {wrong[0]}")
 
 
 def main():

@@ -1,9 +1,9 @@
 # shellcheck shell=bash disable=SC2154  # examples/check, which reads this file, gives the names that stand for nothing here
-# the documents beside the repository: tables that are made from crates.txt; links, names and files that the documents speak of; the table of
+# the documents beside the repository: the list that is made from crates.txt; links, names and files that the documents speak of; the table of
 # README.md's first run, which has the sample's rows with their lines; the version of the toolchain, where it is installed. Of the proofs, that
 # each public lemma and definition has a line of its own, and that each is named somewhere. Of docs/THEOREM.md, that it names each law and
 # each clause of `lnc`, and says how much there is to read. Of README.md, that it says how many promises have a wrong body that was refused
-case_ 'the tables of crates are those of crates.txt' 0 '' '' 'python3 examples/checks/crates.py compare'
+case_ 'the list of crates is that of crates.txt' 0 '' '' 'python3 examples/checks/crates.py compare'
 case_ 'links, names and files of the documents are there, and no line is too long' 0 '' '' 'python3 examples/checks/docs.py'
 case_ 'the rows of the first run' 0 "$(sed 1d "$rows" | paste -d' ' - <("$lnc" run "$orient" orient "$rows"))" '' \
   "sed -n 's/^| .\\([0-9,-]*\\). | .\\([-+] [F0-9]*\\). | .*/\\1 \\2/p' README.md"

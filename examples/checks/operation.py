@@ -14,7 +14,7 @@ COMMENT = re.compile(r"(?:--|//).*")
 OF_TREES = re.compile(r"(?<!\bOp::)(?<!\bVerb::)(?<!\bop\.)(?<!\bverb\.)(?<![\w'])(?:[TFW]?Neg'?)(?![\w'(])|\b(?:Node|FitOp)::Neg\b|\bNeg\(Box|\bFNeg\b")
 OF_MACHINE = re.compile(r"\b(?:Op::|Verb::|op\.|verb\.)Neg\b|\bNegOp\b|\bNeg\(Width\)")
 OP_IMPORTED = re.compile(r"\b(?:Op|Verb)\.TheVariants\.\{[^}]*\bNeg\b(?! as)")
-TOKENS, MACHINE = {"ln_lex", "ln_syntax", "ln_names", "ln_parse"}, {"ln_code", "ln_cemit", "ln_cert", "ln_verify"}
+TOKENS, MACHINE = {"ln_syntax", "ln_names", "ln_parse"}, {"ln_code", "ln_cemit", "ln_cert", "ln_verify"}
 
 
 def arms(crate, path):
@@ -34,7 +34,7 @@ def arms(crate, path):
 def rows(groups, which):
     yield from ["| crate | `src` | `specs` |", "|---|---|---|"]
     for crate in [name for _, crates in groups for name, _, _ in crates if not name.startswith("ln_trial")]:
-        found = [" ".join(path.stem for path in sorted(Path("crates", crate, part).rglob("*.*")) if path.suffix in (".rt", ".antt") and arms(crate, path)[which])
+        found = [" ".join(str(path.relative_to(Path("crates", crate, part)).with_suffix("")) for path in sorted(Path("crates", crate, part).rglob("*.*")) if path.suffix in (".rt", ".antt") and arms(crate, path)[which])
                  for part in ("src", "specs")]
         if any(found):
             yield f"| {crate} | {found[0]} | {found[1]} |"

@@ -1,6 +1,8 @@
 -- What files and streams in memory hold, and when their calls fail.
-use Rattle.std.specs.Prelude.{◌≡◌, ℕ, ◌-◌, ◌<◌, min, List, length}
-use Rattle.ln_base.specs.Outside.{Shelf, Shown, port_bytes}
+use Rattle.std.specs.Prelude.{◌≡◌, ◌⊎◌, ◌↔◌, ℕ, ◌-◌, ◌<◌, min, List, length, Bool, IsTrue, Option, None, Result, IfOk, IfSome, IsErr, OnErr, OnOk}
+use Rattle.std.specs.Io.{ReadsAtMost}
+use Rattle.ln_base.specs.Outside.{Gives, HasCause, Shelf, Shown, counted, port_bytes}
+use Rattle.ln_base.specs.declared.outside.Failed.{Failed}
 use Rattle.ln_base.specs.declared.outside.Port.{Port}
 
 -- files in memory: names with their bytes, the numbers of the calls that fail, and how many calls and faults there were
@@ -24,6 +26,17 @@ pub record PortsHeld : Type 0 where
 -- as many bytes of a file from a place on as there are and as there is room for
 abbrev pub handed : List ℕ → ℕ → ℕ → ℕ
 handed content at room = min room (length content - at)
+
+-- how bytes of a file that may be missing were read: each field is the clause of `read_at` with that name
+pub record HandedOver (content : Option (List ℕ)) (at : ℕ) (listed : Bool) (before count : ℕ) (r : Result ℕ Failed) (buf : List ℕ) : Type 0 where
+  pub bound : ReadsAtMost r buf
+  pub bytes : IfOk r (λ n. IfSome content (λ bs. Gives bs at n buf))
+  pub absent : content ≡ None → IsErr r × (count ≡ before)
+  pub cause : HasCause before count r (content ≡ None)
+  pub step : OnErr r ((count ≡ counted before) ⊎ (content ≡ None))
+  pub fine : OnOk r (count ≡ before)
+  pub exact : IsErr r ↔ (IsTrue listed ⊎ (content ≡ None))
+  pub handed : IfOk r (λ n. IfSome content (λ bs. n ≡ handed bs at (length buf)))
 
 -- the bytes that were written to a stream
 abbrev pub held : Port → PortsHeld → List ℕ

@@ -20,8 +20,7 @@ pub fn put_word(out: &mut Vec<u8>, text: &[u8]) -> Result<(), NoMemory>
     ensures { IfOk result (λ x. Puts out.old.items out.new.items (λ r. text.now ∷ r)) }
 {
     out.push(b' ')?;
-    out.extend_from_slice(text)?;
-    Ok(())
+    put(out, text)
 }
 
 /// Appends a space and a number.

@@ -1,3 +1,4 @@
 pub mod Soundness
 pub mod Measures
 pub mod Trees
+pub mod Intervals

@@ -12,3 +12,4 @@ pub mod Ranges
 pub mod Loads
 pub mod Measures
 pub mod Weighed
+pub mod Intervals

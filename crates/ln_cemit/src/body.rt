@@ -4,7 +4,7 @@ ghost use Rattle.ln_csyn.specs.Spelling.{Goes, Puts, lexeme, spell, spell_body, 
 ghost use Rattle.ln_csyn.specs.Tree.{Body, End, Inner, Minus, Number, Two};
 ghost use Rattle.ln_csyn.specs.declared.tree.CType.TheVariants.{Int};
 ghost use Rattle.ln_csyn.specs.declared.tree.COp.TheVariants.{Less, More};
-ghost use Rattle.ln_interval.specs.View.{range};
+ghost use Rattle.ln_bound.specs.Intervals.View.{range};
 ghost use Rattle.ln_code.specs.Numbers.{no_locals};
 ghost use Rattle.ln_code.specs.Part.{lines_of};
 ghost use Rattle.ln_code.specs.declared.op.Op.TheVariants.{Set};
@@ -20,10 +20,10 @@ use crate::put::{put_decl_name, put_number_of, put_operand, put_operation};
 use crate::slot::{Slot, Way};
 use ln_base::NoMemory;
 use ln_bound::Width;
+use ln_bound::interval::Pair;
 use ln_code::{Block, FilterBlock, Op, Triple};
 use ln_csyn::COp;
 use ln_csyn::spell::{put, put_op, put_tokens};
-use ln_interval::Pair;
 use std::alloc::Global;
 
 fn put_minus(out: &mut Vec<u8>, width: Width, e: u64) -> Result<(), NoMemory>
@@ -191,8 +191,7 @@ fn put_name(out: &mut Vec<u8>, n: usize) -> Result<(), NoMemory>
 {
     put_tokens(out, b"if ( ( ( int ) 0 ) ) { return ( ( int )")?;
     put_decl_name(out, n)?;
-    put_tokens(out, b") ; }")?;
-    Ok(())
+    put_tokens(out, b") ; }")
 }
 
 // The statement that names a declaration, if there is one.
@@ -200,10 +199,7 @@ fn put_may_name(out: &mut Vec<u8>, n: Option<usize>) -> Result<(), NoMemory>
     ensures { IfOk result (λ x. (b : Body) → Goes out.old.items out.new.items (spell_body b) (spell_body (naming decl_name n b))) }
 {
     match n {
-        Some(i) => {
-            put_name(out, i)?;
-            Ok(())
-        }
+        Some(i) => put_name(out, i),
         None => Ok(()),
     }
 }
@@ -230,8 +226,7 @@ fn put_lines(
         }
         put_may_name(out, idle)?;
     }
-    let last = put_sign(out, e, stack.as_slice())?;
-    Ok(last)
+    put_sign(out, e, stack.as_slice())
 }
 
 fn is_input(op: &Op) -> bool
@@ -269,8 +264,7 @@ fn put_touch(out: &mut Vec<u8>) -> Result<(), NoMemory>
     put_tokens(
         out,
         b"if ( ( ( int ) 0 ) ) { return ( ( int ) v [ 0 ] ) ; }",
-    )?;
-    Ok(())
+    )
 }
 
 // The same for the indices.
@@ -280,8 +274,7 @@ fn put_touch_index(out: &mut Vec<u8>) -> Result<(), NoMemory>
     put_tokens(
         out,
         b"if ( ( ( int ) 0 ) ) { return ( ( int ) x [ 0 ] ) ; }",
-    )?;
-    Ok(())
+    )
 }
 
 // The statement that names the values, where nothing else does.

@@ -76,10 +76,7 @@ fn put_filter_of(alloc: Global, out: &mut Vec<u8>, p: &Program) -> Result<(), No
 {
     let name = name_of(p);
     match p.filter() {
-        Some(filter) => {
-            put_filter(alloc, out, name, filter)?;
-            Ok(())
-        }
+        Some(filter) => put_filter(alloc, out, name, filter),
         None => Ok(()),
     }
 }
@@ -107,10 +104,7 @@ fn put_may_filter(alloc: Global, out: &mut Vec<u8>, p: &Program) -> Result<(), N
 {
     let name = name_of(p);
     match p.filter() {
-        Some(_) => {
-            put_filter_try(alloc, out, name)?;
-            Ok(())
-        }
+        Some(_) => put_filter_try(alloc, out, name),
         None => Ok(()),
     }
 }

@@ -1,11 +1,10 @@
 //! The declaration of each operation, appended to the text without a tree.
 ghost use Rattle.std.specs.Prelude.{◌≡◌, ◌≤◌, ◌<◌, ◌^◌, ◌∷◌, true, IfOk, codes, length, reverse};
 ghost use Rattle.ln_csyn.specs.Spelling.{Puts, cast_before, lexeme, spell, type_text};
-ghost use Rattle.ln_csyn.specs.Tree.{Inner, Minus, Number, Two, Value};
-ghost use Rattle.ln_cemit.specs.Emit.{constant, cut_expr, operand, pushing, type_of, put_cut, put_get, put_neg, put_op, put_set, put_two};
+ghost use Rattle.ln_csyn.specs.Tree.{Minus, Number, Two};
+ghost use Rattle.ln_cemit.specs.Emit.{cut_expr, operand, pushing, type_of, put_cut, put_get, put_neg, put_op, put_set, put_two};
 ghost use Rattle.ln_cemit.specs.Names.{decl_name};
 ghost use Rattle.ln_cemit.specs.Puts.{decl_before, locals_of, side_expr, Does, MayMove, Moves, Stores};
-ghost use Rattle.ln_bound.specs.Widths.{wider};
 ghost use Rattle.ln_bound.specs.declared.fitted.Width.TheVariants.{W64};
 ghost use Rattle.ln_csyn.specs.declared.tree.CType.TheVariants.{Int64};
 ghost use Rattle.ln_csyn.specs.declared.tree.COp.TheVariants.{Div};
@@ -145,49 +144,18 @@ fn put_decl(out: &mut Vec<u8>, n: usize, width: Width, side: Side) -> Result<(),
     put(out, b";")
 }
 
-// Appends the declaration of the opposite of the last value, which takes its place on the stack.
-fn negate(out: &mut Vec<u8>, n: usize, width: Width, stack: &mut Vec<Slot>) -> Result<(), NoMemory>
-    requires { 1 ≤ length stack.now.items }
-    ensures { IfOk result (λ x. Moves out.old.items out.new.items stack.new.items
-        (λ ls go. put_neg decl_name width n (reverse stack.old.items) ls go)) }
-{
-    let slot = stack.pop().unwrap();
-    put_decl(out, n, width, Side::Opposite(slot))?;
-    stack.push(Slot { at: n, width })?;
-    Ok(())
-}
-
-// Appends the declaration of an operation on the last two values, which takes their place on the stack.
-fn combine(
-    out: &mut Vec<u8>,
-    n: usize,
-    op: COp,
-    width: Width,
-    stack: &mut Vec<Slot>,
-) -> Result<(), NoMemory>
-    requires { 2 ≤ length stack.now.items }
-    ensures { IfOk result (λ x. Moves out.old.items out.new.items stack.new.items
-        (λ ls go. put_two decl_name op width n (reverse stack.old.items) ls go)) }
-{
-    let y = stack.pop().unwrap();
-    let x = stack.pop().unwrap();
-    put_decl(out, n, width, Side::Both(op, x, y))?;
-    stack.push(Slot { at: n, width })?;
-    Ok(())
-}
-
-// Appends the declaration of a value of the row, and pushes it.
-fn read(
+// Appends a declaration, and pushes its value.
+fn declare(
     out: &mut Vec<u8>,
     n: usize,
     width: Width,
-    v: u64,
+    side: Side,
     stack: &mut Vec<Slot>,
 ) -> Result<(), NoMemory>
     ensures { IfOk result (λ x. Moves out.old.items out.new.items stack.new.items
-        (λ ls go. pushing decl_name n width (Value (type_of width) v) (reverse stack.old.items) ls go)) }
+        (λ ls go. pushing decl_name n width (side_expr width side) (reverse stack.old.items) ls go)) }
 {
-    put_decl(out, n, width, Side::Value(v))?;
+    put_decl(out, n, width, side)?;
     stack.push(Slot { at: n, width })?;
     Ok(())
 }
@@ -213,56 +181,8 @@ fn store(
     Ok(())
 }
 
-// Appends the declaration of a local, and pushes it.
-fn load(
-    out: &mut Vec<u8>,
-    n: usize,
-    width: Width,
-    slot: Slot,
-    stack: &mut Vec<Slot>,
-) -> Result<(), NoMemory>
-    ensures { IfOk result (λ x. Moves out.old.items out.new.items stack.new.items
-        (λ ls go. pushing decl_name n (wider slot.width width) (operand decl_name (wider slot.width width) slot)
-        (reverse stack.old.items) ls go)) }
-{
-    let wide = slot.width.wider(width);
-    put_decl(out, n, wide, Side::Same(slot))?;
-    stack.push(Slot { at: n, width: wide })?;
-    Ok(())
-}
-
-// Appends the declaration of a number, and pushes it.
-fn push(
-    out: &mut Vec<u8>,
-    n: usize,
-    width: Width,
-    z: i128,
-    stack: &mut Vec<Slot>,
-) -> Result<(), NoMemory>
-    ensures { IfOk result (λ x. Moves out.old.items out.new.items stack.new.items
-        (λ ls go. pushing decl_name n width (Inner (type_of width) (constant z)) (reverse stack.old.items) ls go)) }
-{
-    put_decl(out, n, width, Side::Number(z))?;
-    stack.push(Slot { at: n, width })?;
-    Ok(())
-}
-
-// Appends the declaration of a quotient by 2^m of the last value, which takes its place on the stack.
-fn divide(out: &mut Vec<u8>, n: usize, m: u8, stack: &mut Vec<Slot>) -> Result<(), NoMemory>
-    requires { 1 ≤ length stack.now.items }
-    ensures { IfOk result (λ x. Moves out.old.items out.new.items stack.new.items
-        (λ ls go. put_cut decl_name m n (reverse stack.old.items) ls go)) }
-{
-    let slot = stack.pop().unwrap();
-    put_decl(out, n, Width::W64, Side::Quotient(m, slot))?;
-    stack.push(Slot {
-        at: n,
-        width: Width::W64,
-    })?;
-    Ok(())
-}
-
-// The last value's opposite, if there is one; false where there is none, and nothing was appended.
+// Appends the declaration of the last value's opposite, which takes its place on the stack; false where there is none, and nothing was
+// appended.
 fn may_negate(
     out: &mut Vec<u8>,
     n: usize,
@@ -275,10 +195,12 @@ fn may_negate(
     if stack.len() < 1 {
         return Ok(false);
     }
-    negate(out, n, width, stack)?;
+    let slot = stack.pop().unwrap();
+    declare(out, n, width, Side::Opposite(slot), stack)?;
     Ok(true)
 }
 
+// The same for its quotient by 2^m.
 fn may_divide(out: &mut Vec<u8>, n: usize, m: u8, stack: &mut Vec<Slot>) -> Result<bool, NoMemory>
     ensures { IfOk result (λ more. MayMove more out.old.items out.new.items stack.new.items
         (λ ls go. put_cut decl_name m n (reverse stack.old.items) ls go)) }
@@ -286,10 +208,12 @@ fn may_divide(out: &mut Vec<u8>, n: usize, m: u8, stack: &mut Vec<Slot>) -> Resu
     if stack.len() < 1 {
         return Ok(false);
     }
-    divide(out, n, m, stack)?;
+    let slot = stack.pop().unwrap();
+    declare(out, n, Width::W64, Side::Quotient(m, slot), stack)?;
     Ok(true)
 }
 
+// The same for an operation on the last two values.
 fn may_combine(
     out: &mut Vec<u8>,
     n: usize,
@@ -303,7 +227,9 @@ fn may_combine(
     if stack.len() < 2 {
         return Ok(false);
     }
-    combine(out, n, op, width, stack)?;
+    let y = stack.pop().unwrap();
+    let x = stack.pop().unwrap();
+    declare(out, n, width, Side::Both(op, x, y), stack)?;
     Ok(true)
 }
 
@@ -334,6 +260,7 @@ fn slot_at(locals: &[Option<Slot>], j: u8) -> Option<Slot>
     locals[usize::from(j)]
 }
 
+// Appends the declaration of a local, if it is set, and pushes it.
 fn may_load(
     out: &mut Vec<u8>,
     n: usize,
@@ -346,7 +273,8 @@ fn may_load(
 {
     match slot {
         Some(slot) => {
-            load(out, n, way.width, slot, stack)?;
+            let width = slot.width.wider(way.width);
+            declare(out, n, width, Side::Same(slot), stack)?;
             Ok(true)
         }
         None => Ok(false),
@@ -370,17 +298,16 @@ pub(crate) fn put_operation(
 {
     match op {
         Op::Push(z) => {
-            push(out, n, way.width, cut(z, way.shift), stack)?;
+            declare(out, n, way.width, Side::Number(cut(z, way.shift)), stack)?;
             Ok(true)
         }
         Op::Input(v) => {
-            read(out, n, way.width, u64::from(v), stack)?;
+            declare(out, n, way.width, Side::Value(u64::from(v)), stack)?;
             Ok(true)
         }
         Op::Get(j) => {
             let slot = slot_at(locals, j);
-            let more = may_load(out, n, way, slot, stack)?;
-            Ok(more)
+            may_load(out, n, way, slot, stack)
         }
         Op::Set(j) => may_store(out, n, j, stack, locals),
         Op::Add(width) => may_combine(out, n, COp::Add, width, stack),

@@ -1,19 +1,24 @@
 //! Makes the names of the emitted functions from the name of a predicate.
-ghost use Rattle.std.specs.Prelude.{◌≡◌, IfOk};
+ghost use Rattle.std.specs.Prelude.{◌≡◌, ◌++◌, IfOk};
 ghost use Rattle.ln_cemit.specs.Names.{block_name, call_name, filter_name};
 
 use itoa::Buffer;
 use ln_base::NoMemory;
 use std::alloc::Global;
 
+fn joined(alloc: Global, front: &[u8], name: &[u8]) -> Result<Vec<u8>, NoMemory>
+    ensures { IfOk result (λ v. v.items ≡ front.now ++ name.now) }
+{
+    let mut title = front.to_vec(alloc)?;
+    title.extend_from_slice(name)?;
+    Ok(title)
+}
+
 /// `lf_NAME`.
 pub(crate) fn filter_title(alloc: Global, name: &[u8]) -> Result<Vec<u8>, NoMemory>
     ensures { IfOk result (λ v. v.items ≡ filter_name name.now) }
 {
-    let mut title = Vec::new(alloc);
-    title.extend_from_slice(b"lf_".as_slice())?;
-    title.extend_from_slice(name)?;
-    Ok(title)
+    joined(alloc, b"lf_", name)
 }
 
 /// `lbN_NAME`.
@@ -33,8 +38,5 @@ pub(crate) fn block_title(alloc: Global, name: &[u8], number: usize) -> Result<V
 pub(crate) fn call_title(alloc: Global, name: &[u8]) -> Result<Vec<u8>, NoMemory>
     ensures { IfOk result (λ v. v.items ≡ call_name name.now) }
 {
-    let mut title = Vec::new(alloc);
-    title.extend_from_slice(b"ln_".as_slice())?;
-    title.extend_from_slice(name)?;
-    Ok(title)
+    joined(alloc, b"ln_", name)
 }

@@ -28,8 +28,7 @@ fn put_attempt(out: &mut Vec<u8>, title: &[u8]) -> Result<(), NoMemory>
     put_tokens(
         out,
         b"( v ) ) ; if ( ( ( ( int ) answer ) != ( ( int ) 0 ) ) ) { return ( ( int ) answer ) ; }",
-    )?;
-    Ok(())
+    )
 }
 
 /// Appends the call of a function, and the return of its result where that isn't 0.
@@ -69,8 +68,7 @@ fn put_tries(alloc: Global, out: &mut Vec<u8>, name: &[u8], numbers: &[u32]) -> 
 fn put_nothing(out: &mut Vec<u8>) -> Result<(), NoMemory>
     ensures { IfOk result (λ x. Puts out.old.items out.new.items (spell_body says_nothing)) }
 {
-    put_tokens(out, b"return ( ( int ) 0 ) ;")?;
-    Ok(())
+    put_tokens(out, b"return ( ( int ) 0 ) ;")
 }
 
 fn put_index_at(out: &mut Vec<u8>, i: u8) -> Result<(), NoMemory>
@@ -88,8 +86,7 @@ fn put_guard(out: &mut Vec<u8>, i: u8, j: u8) -> Result<(), NoMemory>
     put_index_at(out, i)?;
     put_op(out, COp::Less)?;
     put_index_at(out, j)?;
-    put_tokens(out, b") ) {")?;
-    Ok(())
+    put_tokens(out, b") ) {")
 }
 
 fn put_guards(out: &mut Vec<u8>, i: u8, others: &[u8]) -> Result<(), NoMemory>
@@ -108,8 +105,7 @@ fn put_ends(out: &mut Vec<u8>, n: usize) -> Result<(), NoMemory>
         return Ok(());
     }
     put(out, b"}")?;
-    put_ends(out, n - 1)?;
-    Ok(())
+    put_ends(out, n - 1)
 }
 
 /// The name of a program.
@@ -204,11 +200,9 @@ pub(crate) fn put_walked(
     let segment = segment_at(at.program, at.orders, at.front);
     put_tries(alloc, out, name, segment)?;
     if d == 0 {
-        put_nothing(out)?;
-        return Ok(());
+        return put_nothing(out);
     }
-    put_picks(alloc, out, at, d - 1)?;
-    Ok(())
+    put_picks(alloc, out, at, d - 1)
 }
 
 // The places after the one at k.
@@ -251,6 +245,7 @@ fn put_pick(
         (spell_body (walked (block_name (part_name at.now.program.now)) answer_name (segment_of at.now.program.now) d (at.now.front.now ++ place ∷ [])
         (without place at.now.left.now)) (close_braces (length others.now) r)))) }
 {
+    put_guards(out, place, others)?;
     let front = longer(alloc, at.front, place)?;
     let left = without(alloc, place, at.left)?;
     let next = Prefix {
@@ -259,8 +254,9 @@ fn put_pick(
         front: front.as_slice(),
         left: left.as_slice(),
     };
-    put_guards(out, place, others)?;
-    put_walked(alloc, out, &next, d)?;
-    put_ends(out, others.len())?;
-    Ok(())
+    let done = put_walked(alloc, out, &next, d);
+    drop(left);
+    drop(front);
+    done?;
+    put_ends(out, others.len())
 }

@@ -8,7 +8,7 @@ use Rattle.ln_cert.specs.declared.part.Part.{Part}
 use Rattle.ln_cert.specs.declared.part.Part.TheVariants.{Predicate, NoFilter, Filter, FilterOp, Decide}
 use Rattle.ln_cert.specs.declared.part.Part.TheVariants.{Block, BlockOp, RangeOp, End, Order, Done}
 use Rattle.ln_base.specs.Lines.{joined}
-use Rattle.ln_lines.specs.Fault.{IsFaultOf}
+use Rattle.ln_base.specs.Forms.Fault.{IsFaultOf}
 use Rattle.ln_cert.specs.Text.{Each, IsLine, text_of}
 use Rattle.std.specs.Prelude.{ℤ}
 

@@ -11,8 +11,8 @@ use Rattle.ln_cert.specs.declared.part.State.{State}
 use Rattle.ln_cert.specs.declared.part.State.TheVariants.{Top, Opened, InFilter, Planned, InBlock, Blocks, Orders}
 use Rattle.ln_cert.specs.declared.part.Verb.{Verb}
 use Rattle.ln_cert.specs.declared.part.Verb.TheVariants as verb
-use Rattle.ln_lines.specs.Form.{Rules}
-use Rattle.ln_lines.specs.Form as form
+use Rattle.ln_base.specs.Forms.Form.{Rules}
+use Rattle.ln_base.specs.Forms.Form as form
 use Rattle.ln_cert.specs.Listing.{first_line}
 use Rattle.ln_cert.specs.Text.{IsLine, IsOp, args_of, block_word, filter_word, kind_of}
 use Rattle.ln_cert.specs.Text.{number_words, of_block, of_filter, verb_of, words_of}

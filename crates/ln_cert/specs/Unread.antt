@@ -1,6 +1,6 @@
 -- Defines a listing that is read line by line: the rest after some lines.
 use Rattle.std.specs.Prelude.{◌≡◌, ℕ, ◌+◌, ◌<◌, List, [], length, Option, Some, None}
-use Rattle.ln_lines.specs.Unread as rest
+use Rattle.ln_base.specs.Forms.Unread as rest
 use Rattle.ln_cert.specs.declared.part.Entry.{Entry}
 use Rattle.ln_cert.specs.declared.part.Part.{Part}
 use Rattle.ln_cert.specs.declared.part.State.{State}

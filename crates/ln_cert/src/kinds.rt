@@ -5,8 +5,8 @@ ghost use Rattle.ln_cert.specs.Reading.{after, block_kind, block_verbs, filter_v
 ghost use Rattle.ln_cert.specs.declared.part.State.TheVariants.{Top, InFilter, InBlock};
 
 use crate::part::{Kind, State, Verb};
+use ln_base::lines::{either, only};
 use ln_bound::Width;
-use ln_lines::{either, only};
 
 /// The word of an operation in a filter, where all are 64 bits wide.
 pub fn filter_word(verb: Verb) -> &'static [u8]

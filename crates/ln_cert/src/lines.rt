@@ -6,7 +6,7 @@ use crate::kinds::is_end;
 use crate::line::line;
 use crate::part::{Entry, Part, State};
 use ln_base::NoMemory;
-use ln_lines::{Grammar, Rest, next};
+use ln_base::lines::{Grammar, Rest, next};
 use std::alloc::Global;
 use std::marker::Model;
 

@@ -8,12 +8,12 @@ ghost use Rattle.ln_cert.specs.declared.part.Part.{Part as AnyPart};
 use crate::lines::{Lines, Listings};
 use crate::listing::Listing;
 use crate::part::Entry;
+use ln_base::lines::{first_line, opened};
 use ln_base::{NoMemory, Seq};
-use ln_lines::{first_line, opened};
 use std::alloc::Global;
 
 /// Why bytes are no listing.
-pub use ln_lines::TextStop as ListStop;
+pub use ln_base::lines::TextStop as ListStop;
 
 fn version(first: &[u8]) -> Option<u8>
     ensures { MatchOption result ((v : ℕ) → (v ≡ 1) ⊎ (v ≡ 2) → first.now ≡ first_line v → ⊥)

@@ -5,3 +5,4 @@ pub mod Places
 pub mod Within
 pub mod Named
 pub mod Runs
+pub mod Carrying

@@ -4,3 +4,4 @@ pub mod Places
 pub mod Room
 pub mod Scene
 pub mod Slots
+pub mod Carrying

@@ -3,3 +3,4 @@ pub mod Refusing
 pub mod Smallness
 pub mod Listing
 pub mod Numbers
+pub mod Grading

@@ -7,7 +7,7 @@ use Rattle.ln_poly.specs.Sparse.{Sparse}
 use Rattle.ln_stage.specs.Lists.{all_covering}
 use Rattle.ln_code.specs.Part.{Code, ops_in_blocks}
 use Rattle.ln_due.specs.Derivative.{IsDerivativeBlock}
-use Rattle.ln_compile.specs.Compiled.{AreStageCounts, IsFromExact}
+use Rattle.ln_compile.specs.Compiled.{AreStageCounts, IsFromExact, IsOwn}
 use Rattle.ln_compile.specs.Accepted.{AreSound}
 
 -- blocks for these exponents, of which the first is this one, with at most 4,096 operations in each other for each term that covers
@@ -18,6 +18,13 @@ pub record AreBlocksOf (vars : List VarInfo) (f : Sparse) (own : Code) (exps : L
   pub each : All (IsDerivativeBlock vars f) blocks
   pub exact : IsFromExact vars f own → All (IsFromExact vars f) blocks
   pub few : ops_in_blocks blocks ≤ length own.ops + 4096 * all_covering (length vars) f (map (vector (length vars)) exps) + 68 * length exps
+
+-- blocks for these exponents, of which the first is the predicate's own
+pub record AreOwnBlocks (p : PredOf) (f : Sparse) (exps : List Pairs) (blocks : List Code) : Type 0 where
+  pub first : Code
+  pub own : IsOwn p first
+  pub small : length first.ops ≤ 524352
+  pub made : AreBlocksOf p.vars f first exps blocks
 
 -- these predicates have no fault, and these are their stage counts
 pub record AreCounted (ps : List PredOf) (ns : List ℕ) : Type 0 where

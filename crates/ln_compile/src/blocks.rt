@@ -40,9 +40,12 @@ fn derivative_block(alloc: Global, f: &Poly, s: &Shape, a: &Exps) -> Result<Bloc
     ensures few { IfOk result (λ b. length b.ops ≤ 4096 * covering (length s.now.vars) f.now (vector (length s.now.vars) a.now) + 68) }
 {
     let h = derive_by(alloc, f, s, a)?;
-    let t = nest(alloc, &h, s)?;
-    let block = lower(alloc, a, s, &t, &Seq::new(alloc))?;
-    Ok(block)
+    let nested = nest(alloc, &h, s);
+    drop(h);
+    let t = nested?;
+    let made = lower(alloc, a, s, &t, &Seq::new(alloc));
+    drop(t);
+    made
 }
 
 /// The block of the source's own tree with its lets.
@@ -54,8 +57,9 @@ pub(crate) fn first_block(alloc: Global, p: &Pred) -> Result<Block, NoMemory>
     ensures small { IfOk result (λ b. length b.ops ≤ 524352) }
 {
     let sized = size(alloc, p)?;
-    let block = lower(alloc, &Exps::new(alloc), &p.shape, &sized.root, &sized.lets)?;
-    Ok(block)
+    let made = lower(alloc, &Exps::new(alloc), &p.shape, &sized.root, &sized.lets);
+    drop(sized);
+    made
 }
 
 /// The blocks of these stages: this first one, which has no exponents, and after it for each other stage the block of its scaled derivative

@@ -87,8 +87,7 @@ impl Checked {
         ensures program { IfOk result (IsProgramAt (map pred_of self.now.table.preds) i) }
         ensures small { IfOk result (λ c. length c.blocks ≤ 65536) }
     {
-        let program = program_of(alloc, &self.table.preds.as_slice()[i])?;
-        Ok(program)
+        program_of(alloc, &self.table.preds.as_slice()[i])
     }
 
     /// The normal polynomial of a predicate, by its number: that of its sign expression with the lets in place of their names. It is
@@ -97,8 +96,7 @@ impl Checked {
         requires { i < length self.now.table.preds }
         ensures { IfOk result (IsPolynomialAt (map pred_of self.now.table.preds) i) }
     {
-        let f = polynomial_of(alloc, &self.table.preds.as_slice()[i])?;
-        Ok(f)
+        polynomial_of(alloc, &self.table.preds.as_slice()[i])
     }
 
     /// The programs of all predicates, in order.

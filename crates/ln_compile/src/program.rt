@@ -16,12 +16,13 @@ ghost use Rattle.ln_code.specs.Kept.{FollowsFilterRules};
 ghost use Rattle.ln_code.specs.Part.{ops_in_filter};
 ghost use Rattle.ln_code.specs.Carried.{CarriesWhole};
 ghost use Rattle.ln_compile.specs.Compiled.{IsFilterOf, IsProgramOf};
+ghost use Rattle.ln_compile.specs.Made.{AreOwnBlocks};
 
 use crate::blocks::{blocks_after, first_block};
-use ln_base::NoMemory;
+use ln_base::{NoMemory, Seq};
 use ln_bound::size::size;
-use ln_code::{FilterBlock, Program};
-use ln_filter::plan;
+use ln_code::{Block, FilterBlock, Program};
+use ln_lower::filter::plan;
 use ln_poly::Poly;
 use ln_stage::Stages;
 use ln_tree::Pred;
@@ -39,8 +40,24 @@ fn filter(alloc: Global, p: &Pred) -> Result<Option<FilterBlock>, NoMemory>
     ensures small { IfOk result (λ o. ops_in_filter o ≤ 1048640) }
 {
     let sized = size(alloc, p)?;
-    let filter = plan(alloc, &sized)?;
-    Ok(filter)
+    let planned = plan(alloc, &sized);
+    drop(sized);
+    planned
+}
+
+// The blocks of a predicate with this normal polynomial and these stages.
+fn blocks_of(alloc: Global, p: &Pred, f: &Poly, st: &Stages) -> Result<Seq<Block>, NoMemory>
+    requires light { AreLight (loaded_of (pred_of p.now)) }
+    requires terms { HaveFewTerms (length p.now.shape.vars) (expanded_of (pred_of p.now)) }
+    requires normal { IsNormal (length p.now.shape.vars) (root_of (pred_of p.now)) f.now }
+    requires weight { weighted_sum (weights p.now.shape.vars) (terms_of (length p.now.shape.vars) f.now) ≤ most }
+    requires degrees { All (λ t. total_degree (vector (length p.now.shape.vars) t.0) ≤ 126) f.now }
+    requires some { f.now ≢ [] }
+    requires stages { AreStagesOf p.now.shape.sites p.now.shape.vars f.now st.now }
+    ensures { IfOk result (AreOwnBlocks (pred_of p.now) f.now st.now.exps) }
+{
+    let first = first_block(alloc, p)?;
+    blocks_after(alloc, f, &p.shape, first, st)
 }
 
 /// The program of a predicate with this normal polynomial and these stages.
@@ -58,9 +75,10 @@ pub(crate) fn program(alloc: Global, p: &Pred, f: &Poly, st: Stages) -> Result<P
     ensures name { IfOk result (λ c. c.shape.name ≡ p.now.shape.name) }
     ensures small { IfOk result (λ c. length c.blocks ≤ 65536) }
 {
-    let filter = filter(alloc, p)?;
-    let first = first_block(alloc, p)?;
-    let blocks = blocks_after(alloc, f, &p.shape, first, &st)?;
+    let made = blocks_of(alloc, p, f, &st);
+    let segments = st.into_segments();
+    let blocks = made?;
     let shape = p.shape.copy(alloc)?;
-    Ok(Program::join(shape, filter, blocks, st.into_segments()))
+    let filter = filter(alloc, p)?;
+    Ok(Program::join(shape, filter, blocks, segments))
 }

@@ -116,8 +116,7 @@ fn put_indent(out: &mut Vec<u8>, depth: u8) -> Result<(), NoMemory>
         return Ok(());
     }
     out.extend_from_slice(b"  ".as_slice())?;
-    put_indent(out, depth - 1)?;
-    Ok(())
+    put_indent(out, depth - 1)
 }
 
 // Writes what comes before a token: a new line, a blank or nothing.
@@ -129,8 +128,7 @@ fn put_gap(out: &mut Vec<u8>, spot: Spot, b: u8) -> Result<(), NoMemory>
     }
     if ends_line(spot.last) {
         out.push(b'\n')?;
-        put_indent(out, gap_depth(spot.depth, b))?;
-        return Ok(());
+        return put_indent(out, gap_depth(spot.depth, b));
     }
     if apart(spot, b) {
         out.push(b' ')?;

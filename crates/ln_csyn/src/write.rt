@@ -112,23 +112,13 @@ fn put_stmt(out: &mut Vec<u8>, s: &CStmt) -> Result<(), NoMemory>
     ensures { IfOk result (λ x. (b : Body) → Goes out.old.items out.new.items (spell_body b) (spell_body (stmt_front s.now b))) }
 {
     match &s.form {
-        CForm::Decl(kind, name, e) => {
-            put_decl(out, *kind, name.as_slice(), e)?;
-            Ok(())
-        }
-        CForm::Group(body) => {
-            put_block(out, body.as_slice())?;
-            Ok(())
-        }
+        CForm::Decl(kind, name, e) => put_decl(out, *kind, name.as_slice(), e),
+        CForm::Group(body) => put_block(out, body.as_slice()),
         CForm::If(e, body) => {
             put_test(out, e)?;
-            put_block(out, body.as_slice())?;
-            Ok(())
+            put_block(out, body.as_slice())
         }
-        CForm::Return(e) => {
-            put_return(out, e)?;
-            Ok(())
-        }
+        CForm::Return(e) => put_return(out, e),
     }
 }
 

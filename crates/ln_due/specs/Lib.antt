@@ -7,3 +7,4 @@ pub mod Plain
 pub mod Run
 pub mod Several
 pub mod Small
+pub mod Products

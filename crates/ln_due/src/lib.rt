@@ -7,10 +7,11 @@
 //! of a listing that are judged valid both come here.
 //!
 //! The laws hold in either order of infinitesimals, by the smallest one that differs and by total degree first; `run` has those of
-//! the first under names of their own. Nothing runs.
+//! the first under names of their own. Nothing runs but the factors of a product (`factors`).
 #![tactic(auto)]
 
 pub mod due;
+pub mod factors;
 pub mod run;
 pub mod steps;
 

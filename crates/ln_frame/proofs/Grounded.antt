@@ -41,7 +41,7 @@ each_found Q table (p ∷ ps) h f = (found_has Q f.0.0 table p h f.0.1, each_fou
 
 -- a predicate of it is in memory
 by_named : (p : PredOf) (o : Option Pred) → option_map pred_of o ≡ Some p → (q : Pred) × (pred_of q ≡ p)
-by_named p None e = cc
+by_named p None e = absurd (none-some p e)
 by_named p (Some q) e = (q, same_Some (pred_of q) p e)
 
 -- the first of the given predicates is in memory

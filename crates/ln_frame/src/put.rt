@@ -18,13 +18,21 @@ pub fn add_number(text: &mut Vec<u8>, front: &[u8], n: u64) -> Result<(), NoMemo
     Ok(())
 }
 
+// Adds bytes, the digits of a number and a line feed.
+pub(crate) fn add_line(text: &mut Vec<u8>, front: &[u8], n: u32) -> Result<(), NoMemory>
+    ensures { IfOk result (λ x. text.new.items ≡ text.old.items ++ line (front.now ++ decimal n)) }
+{
+    add_number(text, front, u64::from(n))?;
+    text.push(b'\n')?;
+    Ok(())
+}
+
 /// Returns the line of a word and a number.
 pub fn numbered(alloc: Global, word: &[u8], n: u32) -> Result<Vec<u8>, NoMemory>
     ensures { IfOk result (λ v. v.items ≡ line (word.now ++ decimal n)) }
 {
     let mut text = Vec::new(alloc);
-    add_number(&mut text, word, u64::from(n))?;
-    text.push(b'\n')?;
+    add_line(&mut text, word, n)?;
     Ok(text)
 }
 

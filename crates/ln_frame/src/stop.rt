@@ -5,7 +5,7 @@ ghost use Rattle.ln_frame.specs.Said.{count, line};
 ghost use Rattle.ln_frame.specs.Stop.{placed_text, why_end};
 ghost use Rattle.ln_frame.specs.Carried.{PutsText, Says, stop_line, stop_result};
 
-use crate::put::{add_number, numbered};
+use crate::put::{add_line, add_number, numbered};
 use crate::status::{Early, End};
 use ln_base::{Console, NoMemory, Port, put_all};
 use ln_compile::Refusal;
@@ -100,9 +100,7 @@ fn add_placed(text: &mut Vec<u8>, word: &str, place: Place) -> Result<(), NoMemo
     text.extend_from_slice(b"error ")?;
     text.extend_from_slice(word.as_bytes())?;
     add_number(text, b" ", u64::from(place.line))?;
-    add_number(text, b":", u64::from(place.col))?;
-    text.push(b'\n')?;
-    Ok(())
+    add_line(text, b":", place.col)
 }
 
 fn placed_line(alloc: Global, word: &str, place: Place) -> Result<Vec<u8>, NoMemory>
@@ -137,20 +135,19 @@ fn put_line<C: Console>(con: &mut C, stop: Stop, text: &[u8]) -> Result<End, Ear
     }
 }
 
-// Writes the line of a stop with a place.
-fn say_placed<C: Console>(
-    alloc: Global,
+// Writes the line of a stop where it could be made.
+fn put_made<C: Console>(
     con: &mut C,
     stop: Stop,
-    word: &str,
-    place: Place,
+    made: Result<Vec<u8>, NoMemory>,
 ) -> Result<End, Early>
-    requires line { stop_line stop ≡ line (placed_text word.now place) }
+    requires line { IfOk made (λ v. v.items ≡ stop_line stop) }
     requires some { stop ≢ Stop.Memory refused }
+    requires read { stop ≢ Stop.Read }
     ensures { Says stop
         (count (C.faults con.old) (C.faults con.new)) result (C.shown con.old) (C.shown con.new) }
 {
-    match placed_line(alloc, word, place) {
+    match made {
         Ok(text) => put_line(con, stop, &text),
         Err(e) => Err(Early::Memory(e)),
     }
@@ -161,22 +158,26 @@ pub fn say<C: Console>(alloc: Global, con: &mut C, stop: Stop) -> Result<End, Ea
     ensures { Says stop
         (count (C.faults con.old) (C.faults con.new)) result (C.shown con.old) (C.shown con.new) }
 {
-    match stop {
-        Stop::Read => put_line(con, stop, b"error read\n"),
-        Stop::Memory(e) => Err(Early::Memory(e)),
-        Stop::Tell(Why::Usage) => put_line(con, stop, b"error usage\n"),
-        Stop::Tell(Why::TooLong) => put_line(con, stop, b"error long\n"),
-        Stop::Tell(Why::NoPredicate) => put_line(con, stop, b"error predicate\n"),
-        Stop::Tell(Why::Header) => put_line(con, stop, b"error header\n"),
-        Stop::Tell(Why::Shape) => put_line(con, stop, b"error shape\n"),
-        Stop::Tell(Why::Many) => put_line(con, stop, b"error many\n"),
-        Stop::Tell(Why::Point(n)) => match numbered(alloc, b"error point ", n) {
-            Ok(text) => put_line(con, stop, &text),
-            Err(e) => Err(Early::Memory(e)),
-        },
-        Stop::Tell(Why::Refused(r, place)) => say_placed(alloc, con, stop, r.word(), place),
-        Stop::Tell(Why::Stages(place)) => say_placed(alloc, con, stop, "stages", place),
-    }
+    let text: &[u8] = match stop {
+        Stop::Read => b"error read\n",
+        Stop::Memory(e) => return Err(Early::Memory(e)),
+        Stop::Tell(Why::Usage) => b"error usage\n",
+        Stop::Tell(Why::TooLong) => b"error long\n",
+        Stop::Tell(Why::NoPredicate) => b"error predicate\n",
+        Stop::Tell(Why::Header) => b"error header\n",
+        Stop::Tell(Why::Shape) => b"error shape\n",
+        Stop::Tell(Why::Many) => b"error many\n",
+        Stop::Tell(Why::Point(n)) => {
+            return put_made(con, stop, numbered(alloc, b"error point ", n));
+        }
+        Stop::Tell(Why::Refused(r, place)) => {
+            return put_made(con, stop, placed_line(alloc, r.word(), place));
+        }
+        Stop::Tell(Why::Stages(place)) => {
+            return put_made(con, stop, placed_line(alloc, "stages", place));
+        }
+    };
+    put_line(con, stop, text)
 }
 
 /// Writes a whole text to Out.

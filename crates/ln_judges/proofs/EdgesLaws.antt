@@ -1,5 +1,5 @@
 -- `edges`: its points file comes to one thing; what it requires is one and is carried out by a whole text, and where it ends.
-use Rattle.std.proofs.Common.{◌≡◌, ℕ, ◌<◌, ◌≤◌, true, false, List, [], ◌∷◌, length, map, Some, Option}
+use Rattle.std.proofs.Common.{◌≡◌, ℕ, ◌<◌, ◌≤◌, true, false, List, [], ◌∷◌, length, map, Some, None, Option}
 use Rattle.std.proofs.Common.{refl, ap, sym, ◌∙◌, subst, arith, true≢false, get_or, option_map}
 use Rattle.std.specs.Prelude.{Result, slice_get, slice_index_or, nat_eq, nat_lt}
 use Rattle.std.specs.List.{list_all}
@@ -300,6 +300,17 @@ number_is args x t h i e =
     let p = three_args (map arg_of args) h in
     let same : p.kind ≡ t = some_same p.kind t (sym p.of ∙ ap type_of (sym (first_is args x p.first p.rest p.is i)) ∙ sym e) in
     subst (λ (m : ℕ). AreOfType m (map arg_of args)) same p.are
+
+-- three arguments have a first
+pub first_there : (args : List Arg) → is_three (map arg_of args) ≡ true → 0 < length args
+first_there args h = omega (arith, length-map args arg_of, ap length (three_args (map arg_of args) h).is)
+
+-- and it has a type
+pub first_typed : (args : List Arg) (x : Arg) → is_three (map arg_of args) ≡ true → x ≡ get_or args 0 x → None ≡ type_of (arg_of x) → ⊥
+first_typed args x h i e =
+    let p = three_args (map arg_of args) h in
+    let never : None ≡ Some p.kind = e ∙ ap type_of (first_is args x p.first p.rest p.is i) ∙ p.of in
+    cc
 
 -- a command's one predicate in memory has what the command asked
 pub asked_three : (ps : List Pred) (numbers : List ℕ) (preds : List PredOf) (p : Pred) → AreNumbered (map pred_of ps) numbers preds

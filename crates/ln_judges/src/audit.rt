@@ -32,7 +32,9 @@ fn judged(
     ensures { IfOk result (λ j. AreJudged (pred_of p.now) rows.old lines.old j) }
 {
     let case = case_of(alloc, p)?;
-    judge_lines(alloc, p, &case.poly, &case.stages, rows, lines)
+    let judged = judge_lines(alloc, p, &case.poly, &case.stages, rows, lines);
+    drop(case);
+    judged
 }
 
 // Returns what is judged of a trace: a form fault comes first.
@@ -122,12 +124,8 @@ pub fn work<C: Console>(alloc: Global, con: &mut C, ready: &Ready) -> Result<End
 {
     let (table, trace) = two_texts(ready);
     let mut rows = Rows::new(alloc, table);
-    audit_records(
-        alloc,
-        con,
-        ready.compiled.table(),
-        named(ready),
-        &mut rows,
-        trace,
-    )
+    let t = ready.compiled.table();
+    let ended = audit_records(alloc, con, t, named(ready), &mut rows, trace);
+    drop(rows);
+    ended
 }

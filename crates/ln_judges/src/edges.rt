@@ -74,11 +74,13 @@ fn points(alloc: Global, ready: &Ready) -> Result<Vec<Point>, Stop>
 {
     let site = point_type(ready);
     let mut rows = Rows::new(alloc, one_text(ready));
-    match rows.point_header(site) {
+    let points = match rows.point_header(site) {
         Ok(true) => points_after(alloc, site, &mut rows),
         Ok(false) => Err(Stop::Tell(Why::Header)),
         Err(e) => Err(Stop::Memory(e)),
-    }
+    };
+    drop(rows);
+    points
 }
 
 // The lines of the edges, by the program of the named predicate, which is made here.
@@ -90,8 +92,12 @@ fn lines(alloc: Global, ready: &Ready, points: &[Point]) -> Result<Vec<u8>, NoMe
     let program = ready.compiled.program(alloc, ready.numbers.as_slice()[0])?;
     // The contract of `blocks` states that the program follows the rules.
     let _blocks = program.blocks();
-    let mut scratch = Scratch::new(alloc, &program)?;
-    edge_lines(alloc, &program, &mut scratch, points)
+    let lines = match Scratch::new(alloc, &program) {
+        Ok(mut scratch) => edge_lines(alloc, &program, &mut scratch, points),
+        Err(e) => Err(e),
+    };
+    drop(program);
+    lines
 }
 
 // Writes the lines of the edges.

@@ -1,2 +1,3 @@
 pub mod Subtrees
 pub mod Operations
+pub mod Filters

@@ -4,3 +4,4 @@ pub mod Distinct
 pub mod Written
 pub mod StackCode
 pub mod Wrote
+pub mod Filters

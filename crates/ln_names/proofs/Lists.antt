@@ -1,6 +1,6 @@
 -- Lists of items, and digits.
 use Rattle.std.proofs.Common.{◌≡◌, ℕ, zero, suc, ◌+◌, ◌-◌, ◌*◌, ◌<◌, ◌≤◌, min, Bool, true, false, cond, ◌||◌, ◌⊎◌, inl, inr, List, [], ◌∷◌}
-use Rattle.std.proofs.Common.{length, get_or, take, drop, Some, refl, ap, sym, ◌∙◌, arith, drop-cons, add-one}
+use Rattle.std.proofs.Common.{length, get_or, take, drop, Some, refl, ap, sym, ◌∙◌, arith, drop-cons, add-one, is_some}
 use Rattle.std.specs.Prelude.{option_map}
 use Rattle.std.specs.List.{list_any, find, position_from, count_by}
 use Rattle.std.specs.Int.{from_bool}
@@ -8,8 +8,8 @@ use Rattle.std.proofs.Math.ListN.{get_or-map}
 use Rattle.std.proofs.lemmas.List.{take_all, drop_all}
 use Rattle.ln_base.proofs.Counting.{counted_more, counted_fits}
 use Rattle.ln_syntax.specs.declared.raw.RawItem.{RawItem}
-use Rattle.ln_lex.specs.declared.token.Kind.{Kind}
-use Rattle.ln_lex.specs.declared.token.Token.{Token}
+use Rattle.ln_syntax.specs.declared.lex.token.Kind.{Kind}
+use Rattle.ln_syntax.specs.declared.lex.token.Token.{Token}
 use Rattle.ln_syntax.specs.Raw.{Item, item, items, kind_at}
 use Rattle.ln_names.specs.Numbers.{decimal}
 
@@ -56,6 +56,16 @@ below_by false p i xs n h on = let q = on h in omega arith
 pub place_below : {A : Type 0} (p : A → Bool) (i : ℕ) (xs : List A) (n : ℕ) → position_from p i xs ≡ Some n → n < i + length xs
 place_below p i [] n h = absurd (cc)
 place_below p i (x ∷ xs) n h = below_by (p x) p i xs n h (place_below p (i + 1) xs n)
+
+-- there is a place where some element passes the test
+pub place_is_some : {A : Type 0} (p : A → Bool) (i : ℕ) (xs : List A) → is_some (position_from p i xs) ≡ list_any p xs
+place_is_some p i [] = refl
+place_is_some p i (x ∷ xs) =
+    let rest = place_is_some p (i + 1) xs in
+    elim (p x) as (λ b. is_some (cond b (Some i) (position_from p (i + 1) xs)) ≡ (b || list_any p xs)) [
+      | true ↦ refl
+      | false ↦ rest
+    ]
 
 item_at : (is : List RawItem) (i : ℕ) (x : RawItem) → i < length is → x ≡ get_or is i x → get_or (items is) i (item x) ≡ item x
 item_at is i x l e = get_or-map item is i x ∙ ap item (sym e)

@@ -9,7 +9,7 @@ ghost use Rattle.ln_names.specs.Rules.{ArgParam, LetName, NumberNode, NameNode, 
 ghost use Rattle.ln_names.specs.Resolve.{visible};
 
 use crate::faults::{Fault, LimitWhat, NameWhat};
-use crate::resolve::{Visible, arg_coords};
+use crate::resolve::{Visible, arg_coords, coord_at, let_place, param_at, site_at};
 use crate::spans::{number, same, text};
 use ln_base::Span;
 use ln_syntax::{RawArg, RawCoord, RawItem, RawLet, RawRange};
@@ -104,12 +104,7 @@ fn known_param(bytes: &[u8], before: &[RawItem], at: Span) -> bool
 fn coord_twice(bytes: &[u8], before: &[RawCoord], at: Span) -> bool
     ensures { result ≡ list_any (λ c. same bytes.now c.name at) before.now }
 {
-    'each: for c in before {
-        if same(bytes, c.name, at) {
-            return true;
-        }
-    }
-    false
+    coord_at(bytes, before, at).is_some()
 }
 
 /// The fault of a site type's name after the items `before`: over 32 letters, a seventeenth site type, or the name of an item before.
@@ -324,12 +319,7 @@ pub fn arg_param(
 fn known_let(bytes: &[u8], before: &[RawLet], at: Span) -> bool
     ensures { result ≡ has_let bytes.now before.now at }
 {
-    'each: for l in before {
-        if same(bytes, l.name, at) {
-            return true;
-        }
-    }
-    false
+    let_place(bytes, before, at).is_some()
 }
 
 /// The fault of a let's name after the lets `before`: over 32 letters, a sixty-fifth let, or the name of an argument or a let before.
@@ -350,23 +340,13 @@ pub fn let_name(bytes: &[u8], args: &[RawArg], before: &[RawLet], at: Span) -> O
 fn known_site_arg(bytes: &[u8], args: &[RawArg], at: Span) -> bool
     ensures { result ≡ has_site_arg bytes.now args.now at }
 {
-    'each: for a in args {
-        if !a.is_param && same(bytes, a.name, at) {
-            return true;
-        }
-    }
-    false
+    site_at(bytes, args, at).is_some()
 }
 
 fn known_param_arg(bytes: &[u8], args: &[RawArg], at: Span) -> bool
     ensures { result ≡ has_param_arg bytes.now args.now at }
 {
-    'each: for a in args {
-        if a.is_param && same(bytes, a.name, at) {
-            return true;
-        }
-    }
-    false
+    param_at(bytes, args, at).is_some()
 }
 
 /// The fault of a number in an expression after `before` nodes: 2^127 or more, or one node too many (2,048).

@@ -2,7 +2,7 @@
 ghost use Rattle.std.specs.Prelude.{◌≡◌, ℕ, List, ◌+◌, ◌-◌, ◌*◌, ◌<◌, ◌≤◌, max, [], All, IfOk, length};
 ghost use Rattle.ln_algebra.specs.Vector.{degree};
 ghost use Rattle.ln_algebra.specs.Weights.{weighted_sum};
-ghost use Rattle.ln_interval.specs.Range.{IsOrdered, magnitude, product};
+ghost use Rattle.ln_bound.specs.Intervals.Range.{IsOrdered, magnitude, product};
 ghost use Rattle.ln_tree.specs.Exps.{vector};
 ghost use Rattle.ln_bound.specs.Light.{most};
 ghost use Rattle.ln_bound.specs.Exact.{AreWithinPairs, IsExact};
@@ -43,11 +43,9 @@ fn times(alloc: Global, x: Fitted, y: Fitted) -> Result<Fitted, NoMemory>
         return Ok(x);
     }
     if is_number(&y, -1) {
-        let opposite = negated(alloc, x)?;
-        return Ok(opposite);
+        return negated(alloc, x);
     }
-    let product = two(alloc, Two::Times, x, y)?;
-    Ok(product)
+    two(alloc, Two::Times, x, y)
 }
 
 // The tree of terms in the variables from v on, by powers up to d.
@@ -69,8 +67,7 @@ fn nest_from(
     if v == vars.len() {
         return Ok(number(constant(terms.as_slice())));
     }
-    let whole = by_powers(alloc, vars, d, v, d, terms)?;
-    Ok(whole)
+    by_powers(alloc, vars, d, v, d, terms)
 }
 
 // The tree of terms by powers of v, of which there are at most b.
@@ -92,13 +89,11 @@ fn by_powers(
         (weighted_sum (scale vars.now) (terms_in terms.items))) }
 {
     if b == 0 {
-        let same = nest_from(alloc, vars, d, v + 1, terms)?;
-        return Ok(same);
+        return nest_from(alloc, vars, d, v + 1, terms);
     }
     let (with, without) = parted(alloc, v, terms)?;
     if with.is_empty() {
-        let rest = nest_from(alloc, vars, d, v + 1, without)?;
-        return Ok(rest);
+        return nest_from(alloc, vars, d, v + 1, without);
     }
     let h = by_powers(alloc, vars, d, v, b - 1, with)?;
     let product = times(alloc, input(vars, v), h)?;
@@ -106,8 +101,7 @@ fn by_powers(
         return Ok(product);
     }
     let i = nest_from(alloc, vars, d, v + 1, without)?;
-    let sum = two(alloc, Two::Plus, product, i)?;
-    Ok(sum)
+    two(alloc, Two::Plus, product, i)
 }
 
 /// The nested form of the polynomial f, whose terms have a degree of at most 126, as a tree: by powers of the first variable,

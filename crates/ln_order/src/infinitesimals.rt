@@ -76,10 +76,10 @@ fn put_vars(out: &mut Vec<u8>, vars: &[VarInfo], site: u8) -> Result<(), NoMemor
 }
 
 // The variables of the sites at these places, those of the last one first.
-fn ranked(alloc: Global, places: &[u8], vars: &[VarInfo]) -> Result<Seq<u8>, NoMemory>
-    requires { length vars.now ≤ 168 }
-    ensures { IfOk result (λ vs. vs ≡ ranking_of vars.now places.now) }
+fn ranked(alloc: Global, places: &[u8], s: &Shape) -> Result<Seq<u8>, NoMemory>
+    ensures { IfOk result (λ vs. vs ≡ ranking_of s.now.vars places.now) }
 {
+    let vars = s.vars.as_slice();
     let n = places.len();
     let mut out = Vec::new(alloc);
     'sites: for k in 0..n {
@@ -94,25 +94,21 @@ pub fn ranking(alloc: Global, o: &Order, s: &Shape) -> Result<Seq<u8>, NoMemory>
     ensures ranked { IfOk result (λ vs. IsRanking (length s.now.vars) (sites_of s.now.vars (order_places o.now)) vs) }
     ensures value { IfOk result (λ vs. vs ≡ ranking_of s.now.vars (order_places o.now)) }
 {
-    let vars = ranked(alloc, o.places(), s.vars.as_slice())?;
-    Ok(vars)
+    ranked(alloc, o.places(), s)
 }
 
 /// The variables of the sites of a prefix, by rising infinitesimal in it.
 pub fn front_ranking(alloc: Global, p: &Front, s: &Shape) -> Result<Seq<u8>, NoMemory>
     ensures { IfOk result (λ vs. vs ≡ ranking_of s.now.vars (front_places p.now)) }
 {
-    let vars = ranked(alloc, p.places(), s.vars.as_slice())?;
-    Ok(vars)
+    ranked(alloc, p.places(), s)
 }
 
 /// The variables of a site.
 pub fn vars_of_site(alloc: Global, s: &Shape, site: u8) -> Result<Seq<u8>, NoMemory>
     ensures { IfOk result (λ vs. vs ≡ vars_of site s.now.vars 0) }
 {
-    let mut vars = Vec::new(alloc);
-    put_vars(&mut vars, s.vars.as_slice(), site)?;
-    Ok(Seq::from_vec(vars))
+    ranked(alloc, &[site], s)
 }
 
 /// The order of a row's sites implies the same order of exponents as the row's own indices.

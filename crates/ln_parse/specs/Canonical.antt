@@ -1,8 +1,8 @@
 -- The canonical text of a table.
 use Rattle.std.specs.Prelude.{ℕ, Bool, true, false, if◌then◌else◌, List, [], ◌∷◌, codes, slice_get}
-use Rattle.ln_lex.specs.declared.token.Kind.TheVariants.{Site, Param, Predicate, Let, Sign, BraceL, BraceR, ParL, ParR}
-use Rattle.ln_lex.specs.declared.token.Kind.TheVariants.{Colon, Semi, Comma, Dot, Dots, Plus, Minus, Star, Caret, Equals}
-use Rattle.ln_tree.specs.Formula.{Formula}
+use Rattle.ln_syntax.specs.declared.lex.token.Kind.TheVariants.{Site, Param, Predicate, Let, Sign, BraceL, BraceR, ParL, ParR}
+use Rattle.ln_syntax.specs.declared.lex.token.Kind.TheVariants.{Colon, Semi, Comma, Dot, Dots, Plus, Minus, Star, Caret, Equals}
+use Rattle.ln_tree.specs.Formula.{Formula, FAdd, FSub, FMul}
 use Rattle.ln_tree.specs.Table.{CoordOf, SiteOf, ArgOf, SiteArg, ParamArg, PredOf, TableOf}
 use Rattle.ln_parse.specs.declared.printer.Room.{Room}
 use Rattle.ln_parse.specs.declared.printer.Room.TheVariants.{OfSum, OfProduct, OfUnary, OfAtom}
@@ -43,6 +43,22 @@ inside (WAdd e f) rest = wrap OfSum e (inside e) (gap ∷ word Plus (codes "+") 
 inside (WSub e f) rest = wrap OfSum e (inside e) (gap ∷ word Minus (codes "-") ∷ gap ∷ wrap OfProduct f (inside f) rest)
 inside (WMul e f) rest = wrap OfProduct e (inside e) (word Star (codes "*") ∷ wrap OfUnary f (inside f) rest)
 inside (WPow e n) rest = wrap OfAtom e (inside e) (word Caret (codes "^") ∷ number n rest)
+
+-- what stands between the operands of a sum, difference or product
+abbrev pub between : Formula → List ℕ
+between (FAdd at e f) = codes " + "
+between (FSub at e f) = codes " - "
+between e = codes "*"
+
+-- the room of its left operand
+abbrev pub left_room : Formula → Room
+left_room (FMul at e f) = OfProduct
+left_room e = OfSum
+
+-- the room of its right operand
+abbrev pub right_room : Formula → Room
+right_room (FMul at e f) = OfUnary
+right_room e = OfProduct
 
 -- a whole expression
 abbrev pub whole : Written → List Lexeme → List Lexeme

@@ -12,8 +12,8 @@ use crate::expression::Scene;
 use crate::name::name_at;
 use crate::predicate::predicate;
 use ln_base::{NoMemory, Seq, Span};
-use ln_lex::Token;
 use ln_names::resolve::end_of;
+use ln_syntax::lex::Token;
 use ln_syntax::{RawCoord, RawItem, RawRange};
 use ln_tree::{Coord, Param, Pred, Site, Table};
 use std::alloc::Global;
@@ -41,16 +41,13 @@ fn sites(alloc: Global, bytes: &[u8], its: &[RawItem]) -> Result<Seq<Site>, NoMe
 {
     let mut sites = Seq::new(alloc);
     'items: for it in its {
-        match it {
-            RawItem::Site(name, coords) => sites.push(site(alloc, bytes, *name, coords)?)?,
-            RawItem::Param(_, _) => {}
-            RawItem::Pred(_, _, _, _) => {}
+        if let RawItem::Site(name, coords) = it {
+            sites.push(site(alloc, bytes, *name, coords)?)?;
         }
     }
     Ok(sites)
 }
 
-#[tactic(auto, using(crate::proofs::Building::Turns::one_mapped, crate::proofs::Building::Turns::all_mapped, crate::proofs::Building::Turns::same_site_of))]
 fn site(alloc: Global, bytes: &[u8], name: Span, raw: &[RawCoord]) -> Result<Site, NoMemory>
     requires { ReadySite bytes.now name raw.now }
     ensures { IfOk result (λ s. site_of s
@@ -82,10 +79,8 @@ fn params(alloc: Global, bytes: &[u8], its: &[RawItem]) -> Result<Seq<Param>, No
 {
     let mut params = Seq::new(alloc);
     'items: for it in its {
-        match it {
-            RawItem::Site(_, _) => {}
-            RawItem::Param(name, range) => params.push(param(bytes, *name, *range))?,
-            RawItem::Pred(_, _, _, _) => {}
+        if let RawItem::Param(name, range) = it {
+            params.push(param(bytes, *name, *range))?;
         }
     }
     Ok(params)
@@ -120,19 +115,15 @@ fn preds(
 {
     let mut preds = Seq::new(alloc);
     'items: for (i, it) in its.iter().enumerate() {
-        match it {
-            RawItem::Site(_, _) => {}
-            RawItem::Param(_, _) => {}
-            RawItem::Pred(name, args, lets, root) => {
-                let s = Scene {
-                    bytes,
-                    ts,
-                    items: &its[..i],
-                    args,
-                    lets,
-                };
-                preds.push(predicate(alloc, &s, sites, params, *name, *root)?)?;
-            }
+        if let RawItem::Pred(name, args, lets, root) = it {
+            let s = Scene {
+                bytes,
+                ts,
+                items: &its[..i],
+                args,
+                lets,
+            };
+            preds.push(predicate(alloc, &s, sites, params, *name, *root)?)?;
         }
     }
     Ok(preds)

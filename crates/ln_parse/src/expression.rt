@@ -10,10 +10,10 @@ ghost use Rattle.ln_parse.specs.Ready.{HasTree, ReadyValue, IsNarrow};
 ghost use Rattle.ln_parse.specs.Reading.{Reads};
 
 use ln_base::{NoMemory, Span};
-use ln_lex::{Kind, Token};
 use ln_names::resolve::{arg_coords, coord_at, let_place, literal, param_at, site_at};
 use ln_names::spans::number;
 use ln_syntax::items::{is, span_of};
+use ln_syntax::lex::{Kind, Token};
 use ln_syntax::{Places, RawArg, RawItem, RawLet};
 use ln_tree::{Expr, Node, Var};
 use std::alloc::Global;
@@ -99,8 +99,7 @@ fn unary(alloc: Global, s: &Scene, at: usize) -> Result<Read, NoMemory>
         return power(alloc, s, at);
     }
     let of = unary(alloc, s, at + 1)?;
-    let read = opposite(alloc, s.ts, at, of)?;
-    Ok(read)
+    opposite(alloc, s.ts, at, of)
 }
 
 #[cycle(expression)]
@@ -116,8 +115,7 @@ fn power(alloc: Global, s: &Scene, at: usize) -> Result<Read, NoMemory>
     if !is(s.ts, base.end, Kind::Caret) {
         return Ok(base);
     }
-    let read = to_power(alloc, s.bytes, s.ts, base)?;
-    Ok(read)
+    to_power(alloc, s.bytes, s.ts, base)
 }
 
 #[cycle(expression)]
@@ -155,16 +153,14 @@ fn joined(alloc: Global, ts: &[Token], left: Read, right: Read) -> Result<Read, 
         formula x.expr ≡ FSub (span_at ts.now left.end) (formula left.expr) (formula right.expr)) }
 {
     let at = span_of(ts, left.end);
-    if is(ts, left.end, Kind::Plus) {
-        let expr = added(alloc, at, left.expr, right.expr)?;
-        return Ok(Read {
-            expr,
-            end: right.end,
-        });
-    }
-    let expr = taken_off(alloc, at, left.expr, right.expr)?;
+    let (x, y) = boxes(alloc, left.expr, right.expr)?;
+    let node = if is(ts, left.end, Kind::Plus) {
+        Node::Add(x, y)
+    } else {
+        Node::Sub(x, y)
+    };
     Ok(Read {
-        expr,
+        expr: Expr { at, node },
         end: right.end,
     })
 }
@@ -175,9 +171,12 @@ fn product(alloc: Global, ts: &[Token], left: Read, right: Read) -> Result<Read,
     ensures value { IfOk result (λ x. formula x.expr ≡ FMul (span_at ts.now left.end) (formula left.expr) (formula right.expr)) }
 {
     let at = span_of(ts, left.end);
-    let node = Node::Mul(Box::new(alloc, left.expr)?, Box::new(alloc, right.expr)?);
+    let (x, y) = boxes(alloc, left.expr, right.expr)?;
     Ok(Read {
-        expr: Expr { at, node },
+        expr: Expr {
+            at,
+            node: Node::Mul(x, y),
+        },
         end: right.end,
     })
 }
@@ -327,20 +326,10 @@ pub fn or_zero(place: Option<usize>) -> u8
     }
 }
 
-fn added(alloc: Global, at: Span, left: Expr, right: Expr) -> Result<Expr, NoMemory>
-    ensures { IfOk result (λ e. formula e ≡ FAdd at (formula left) (formula right)) }
+// Both operands, each in a box.
+fn boxes(alloc: Global, left: Expr, right: Expr) -> Result<(Box<Expr>, Box<Expr>), NoMemory>
+    ensures left { IfOk result (λ b. b.0.value ≡ left) }
+    ensures right { IfOk result (λ b. b.1.value ≡ right) }
 {
-    Ok(Expr {
-        at,
-        node: Node::Add(Box::new(alloc, left)?, Box::new(alloc, right)?),
-    })
-}
-
-fn taken_off(alloc: Global, at: Span, left: Expr, right: Expr) -> Result<Expr, NoMemory>
-    ensures { IfOk result (λ e. formula e ≡ FSub at (formula left) (formula right)) }
-{
-    Ok(Expr {
-        at,
-        node: Node::Sub(Box::new(alloc, left)?, Box::new(alloc, right)?),
-    })
+    Ok((Box::new(alloc, left)?, Box::new(alloc, right)?))
 }

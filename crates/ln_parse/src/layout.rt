@@ -54,7 +54,6 @@ fn arg(bytes: &[u8], before: &[RawItem], a: RawArg) -> Arg
 }
 
 // The number of the param of this name, or of the site type.
-#[tactic(auto, using(crate::proofs::Building::Places::number_found, crate::proofs::Building::Places::number_on, crate::proofs::Building::Places::number_skip))]
 fn number_of(bytes: &[u8], before: &[RawItem], is_param: bool, at: Span) -> Option<usize>
     ensures { result ≡ position_from (λ n. same bytes.now n at) 0 (filter_map (λ i. name_if is_param (item i)) before.now) }
 {
@@ -83,7 +82,6 @@ fn name_if(it: &RawItem, is_param: bool) -> Option<Span>
 }
 
 /// The variables of arguments, in order of the arguments, for a site its coordinates in declared order.
-#[tactic(auto, using(crate::proofs::Building::Turns::arguments))]
 pub fn laid_out(
     alloc: Global,
     sites: &[Site],
@@ -105,7 +103,6 @@ pub fn laid_out(
 }
 
 // Appends the variables of one argument, and returns how many sites there are with it.
-#[tactic(auto, using(crate::proofs::Building::Turns::site_arg, crate::proofs::Building::Turns::param_arg))]
 fn arg_vars(
     vars: &mut Seq<VarInfo>,
     sites: &[Site],
@@ -146,7 +143,6 @@ fn coords_of(sites: &[Site], t: u8) -> &[Coord]
     }
 }
 
-#[tactic(auto, using(crate::proofs::Building::Turns::one_coord))]
 fn coords_vars(vars: &mut Seq<VarInfo>, k: u8, s: u8, coords: &[Coord]) -> Result<(), NoMemory>
     requires { length coords.now ≤ 32 }
     ensures { OnOk result (vars.new ≡ vars.old ++ site_vars k s 0 (map coord_of coords.now)) }
@@ -163,7 +159,6 @@ fn coords_vars(vars: &mut Seq<VarInfo>, k: u8, s: u8, coords: &[Coord]) -> Resul
     Ok(())
 }
 
-#[tactic(auto, using(crate::proofs::Texts::Putting::found))]
 fn param_var(vars: &mut Seq<VarInfo>, k: u8, params: &[Param], p: u8) -> Result<(), NoMemory>
     ensures { OnOk result (vars.new ≡ vars.old ++ param_vars k (slice_get (map param_of params.now) p)) }
 {

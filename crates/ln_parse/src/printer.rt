@@ -5,7 +5,7 @@ ghost use Rattle.ln_tree.specs.Formula.{formula};
 ghost use Rattle.ln_tree.specs.Table.{TableOf, table_of, site_of, coord_of, param_of, arg_of, pred_of};
 ghost use Rattle.ln_parse.specs.Lexemes.{Puts, opening, closing, signed, each};
 ghost use Rattle.ln_parse.specs.Written.{Naming, naming, written, input, range_name, site_name, coord_name};
-ghost use Rattle.ln_parse.specs.Canonical.{fits, wrap, inside, ranged, coord, site, param, arg};
+ghost use Rattle.ln_parse.specs.Canonical.{fits, wrap, inside, between, left_room, right_room, ranged, coord, site, param, arg};
 ghost use Rattle.ln_parse.specs.Canonical.{further, args, let_of, lets, root, pred, canonical};
 ghost use Rattle.ln_parse.specs.ReadsBack.{TableNamed, ReadsBack};
 ghost use Rattle.ln_parse.specs.Spanless.{IsTextUpToSpans, table_spanless};
@@ -33,8 +33,7 @@ pub fn print(alloc: Global, t: &Table) -> Result<Vec<u8>, NoMemory>
     ensures exact { IfOk result (λ v. v.items ≡ canonical (table_of t.now.sites t.now.params t.now.preds)) }
     ensures table { IfOk result (λ v. IsTextUpToSpans v.items (table_of t.now.sites t.now.params t.now.preds)) }
 {
-    let text = canonical_text(alloc, t)?;
-    Ok(text)
+    canonical_text(alloc, t)
 }
 
 fn canonical_text(alloc: Global, t: &Table) -> Result<Vec<u8>, NoMemory>
@@ -73,7 +72,6 @@ fn put_signed(out: &mut Vec<u8>, z: i64) -> Result<(), NoMemory>
     put_digits(out, u128::from(z.unsigned_abs()))
 }
 
-#[tactic(auto, using(crate::proofs::Texts::Putting::each_more, crate::proofs::Texts::Putting::each_done))]
 fn put_sites(out: &mut Vec<u8>, sites: &[Site]) -> Result<(), NoMemory>
     ensures { IfOk result (λ x. Puts out.old.items out.new.items (each site (map site_of sites.now))) }
 {
@@ -93,7 +91,6 @@ fn put_site(out: &mut Vec<u8>, s: &Site) -> Result<(), NoMemory>
     put(out, b"}\n")
 }
 
-#[tactic(auto, using(crate::proofs::Texts::Putting::each_more, crate::proofs::Texts::Putting::each_done))]
 fn put_coords(out: &mut Vec<u8>, coords: &[Coord]) -> Result<(), NoMemory>
     ensures { IfOk result (λ x. Puts out.old.items out.new.items (each coord (map coord_of coords.now))) }
 {
@@ -121,7 +118,6 @@ fn put_range(out: &mut Vec<u8>, name: &Name, lo: i64, hi: i64) -> Result<(), NoM
     put(out, b";")
 }
 
-#[tactic(auto, using(crate::proofs::Texts::Putting::each_more, crate::proofs::Texts::Putting::each_done))]
 fn put_params(out: &mut Vec<u8>, params: &[Param]) -> Result<(), NoMemory>
     ensures { IfOk result (λ x. Puts out.old.items out.new.items (each param (map param_of params.now))) }
 {
@@ -139,7 +135,6 @@ fn put_param(out: &mut Vec<u8>, p: &Param) -> Result<(), NoMemory>
     put(out, b"\n")
 }
 
-#[tactic(auto, using(crate::proofs::Texts::Putting::each_more, crate::proofs::Texts::Putting::each_done))]
 fn put_preds(out: &mut Vec<u8>, t: &Table) -> Result<(), NoMemory>
     ensures { IfOk result (λ x. Puts out.old.items out.new.items (each (pred (table_of t.now.sites t.now.params t.now.preds))
         (map pred_of t.now.preds))) }
@@ -237,7 +232,6 @@ fn coord_of_site(s: &Site, c: u8) -> &[u8]
 }
 
 // The name of coordinate c of the site type of this number.
-#[tactic(auto, using(crate::proofs::Texts::Putting::found, crate::proofs::Texts::Putting::missing))]
 fn coord_name(t: &Table, s: u8, c: u8) -> &[u8]
     ensures { result.now ≡ coord_name (slice_get (map site_of t.now.sites) s) c }
 {
@@ -248,7 +242,6 @@ fn coord_name(t: &Table, s: u8, c: u8) -> &[u8]
 }
 
 // The name of the let of this number.
-#[tactic(auto, using(crate::proofs::Texts::Putting::found, crate::proofs::Texts::Putting::missing))]
 fn let_name(p: &Pred, j: u8) -> &[u8]
     ensures { result.now ≡ unwrap_or (slice_get (map name_bytes p.now.let_names) j) [] }
 {
@@ -331,6 +324,37 @@ fn close(out: &mut Vec<u8>, plain: bool) -> Result<(), NoMemory>
     if plain { Ok(()) } else { put(out, b")") }
 }
 
+// The room of the left operand of a sum, difference or product.
+fn left_room(e: &Expr) -> Room
+    ensures { result ≡ left_room (formula e.now) }
+{
+    match &e.node {
+        Node::Mul(_, _) => Room::OfProduct,
+        _ => Room::OfSum,
+    }
+}
+
+// The room of its right operand.
+fn right_room(e: &Expr) -> Room
+    ensures { result ≡ right_room (formula e.now) }
+{
+    match &e.node {
+        Node::Mul(_, _) => Room::OfUnary,
+        _ => Room::OfProduct,
+    }
+}
+
+// Appends what stands between the two.
+fn put_between(out: &mut Vec<u8>, e: &Expr) -> Result<(), NoMemory>
+    ensures { IfOk result (λ x. out.new.items ≡ out.old.items ++ between (formula e.now)) }
+{
+    match &e.node {
+        Node::Add(_, _) => put(out, b" + "),
+        Node::Sub(_, _) => put(out, b" - "),
+        _ => put(out, b"*"),
+    }
+}
+
 fn put_expr(out: &mut Vec<u8>, t: &Table, p: &Pred, room: Room, e: &Expr) -> Result<(), NoMemory>
     ensures { IfOk result (λ x. Puts out.old.items out.new.items
         (wrap room (written (naming (table_of t.now.sites t.now.params t.now.preds) (pred_of p.now)) (formula e.now))
@@ -338,34 +362,25 @@ fn put_expr(out: &mut Vec<u8>, t: &Table, p: &Pred, room: Room, e: &Expr) -> Res
 {
     let plain = stands(room, e);
     open(out, plain)?;
-    match &e.node {
-        Node::Num(c) => put_digits(out, c.unsigned_abs())?,
-        Node::Input(v) => put_input(out, t, p, *v)?,
-        Node::Name(j) => put(out, let_name(p, *j))?,
+    let inside = match &e.node {
+        Node::Num(c) => put_digits(out, c.unsigned_abs()),
+        Node::Input(v) => put_input(out, t, p, *v),
+        Node::Name(j) => put(out, let_name(p, *j)),
         Node::Neg(x) => {
             put(out, b"-")?;
-            put_expr(out, t, p, Room::OfUnary, x)?;
+            put_expr(out, t, p, Room::OfUnary, x)
         }
-        Node::Add(x, y) => {
-            put_expr(out, t, p, Room::OfSum, x)?;
-            put(out, b" + ")?;
-            put_expr(out, t, p, Room::OfProduct, y)?;
-        }
-        Node::Sub(x, y) => {
-            put_expr(out, t, p, Room::OfSum, x)?;
-            put(out, b" - ")?;
-            put_expr(out, t, p, Room::OfProduct, y)?;
-        }
-        Node::Mul(x, y) => {
-            put_expr(out, t, p, Room::OfProduct, x)?;
-            put(out, b"*")?;
-            put_expr(out, t, p, Room::OfUnary, y)?;
+        Node::Add(x, y) | Node::Sub(x, y) | Node::Mul(x, y) => {
+            put_expr(out, t, p, left_room(e), x)?;
+            put_between(out, e)?;
+            put_expr(out, t, p, right_room(e), y)
         }
         Node::Pow(x, n) => {
             put_expr(out, t, p, Room::OfAtom, x)?;
             put(out, b"^")?;
-            put_digits(out, u128::from(*n))?;
+            put_digits(out, u128::from(*n))
         }
-    }
+    };
+    inside?;
     close(out, plain)
 }

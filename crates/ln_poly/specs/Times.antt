@@ -50,3 +50,7 @@ pub record IsMerged (out a b : Pairs) (i j : ℕ) : Type 0 where
   pub low_left : AreLow out (drop i a)
   pub low_right : AreLow out (drop j b)
   pub rising : IsRising out
+
+-- out has the exponents of the product of the monomials a and b
+abbrev pub IsTimes : Pairs → Pairs → Pairs → Type 0
+IsTimes out a b = ((v : ℕ) → exponent v out ≡ exponent v a + exponent v b) × IsRising out

@@ -52,8 +52,7 @@ pub fn add(alloc: Global, f: &Poly, g: &Poly) -> Result<Poly, NoMemory>
     ensures below { IfOk result (λ h. (n : ℕ) → AreBelow n f.now → AreBelow n g.now → AreBelow n h) }
 {
     let own = f.copy(alloc)?;
-    let h = sum(alloc, own, g)?;
-    Ok(h)
+    sum(alloc, own, g)
 }
 
 /// The difference of two polynomials.
@@ -65,12 +64,16 @@ pub fn sub(alloc: Global, f: &Poly, g: &Poly) -> Result<Poly, NoMemory>
     ensures below { IfOk result (λ h. (n : ℕ) → AreBelow n f.now → AreBelow n g.now → AreBelow n h) }
 {
     let minus = negated(alloc, g)?;
-    let h = sum(alloc, minus, f)?;
-    Ok(h)
+    sum(alloc, minus, f)
 }
 
 // Appends a term, with a product as its factor.
-fn push_product(out: &mut Vec<(Exps, i128)>, exps: Exps, a: i128, b: i128) -> Result<(), NoMemory>
+pub(crate) fn push_product(
+    out: &mut Vec<(Exps, i128)>,
+    exps: Exps,
+    a: i128,
+    b: i128,
+) -> Result<(), NoMemory>
     requires { unsigned_abs (a *ℤ b) < 2 ^ 127 }
     ensures { OnOk result (out.new.items ≡ out.old.items ++ (exps, a *ℤ b) ∷ []) }
 {
@@ -91,8 +94,7 @@ fn put_product(
 {
     let k = out.len();
     push_product(out, Exps::new(alloc), s.1, t.1)?;
-    put_times(&mut out[k].0, &s.0, &t.0)?;
-    Ok(())
+    put_times(&mut out[k].0, &s.0, &t.0)
 }
 
 // Appends the products of s with the terms of g.

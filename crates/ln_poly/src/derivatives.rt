@@ -8,6 +8,7 @@ ghost use Rattle.ln_tree.specs.Exps.{IsAbove, IsRising, exponent};
 ghost use Rattle.ln_poly.specs.Sparse.{AreBelow, IsPoly, coefficient_at, terms_of};
 ghost use Rattle.ln_poly.specs.Derivative.{IsColumn, IsDerivative, IsDerivedPut, IsLowered, derivative};
 
+use crate::arithmetic::push_product;
 use crate::binomials::column;
 use crate::poly::Poly;
 use crate::terms::nonzero;
@@ -51,9 +52,7 @@ fn push_times(
     requires room { unsigned_abs (factor *ℤ pos times) < 2 ^ 127 }
     ensures { OnOk result (out.new.items ≡ out.old.items ++ (exps, factor *ℤ pos times) ∷ []) }
 {
-    let times = times as i128;
-    out.push((exps, factor * times))?;
-    Ok(())
+    push_product(out, exps, factor, times as i128)
 }
 
 // Appends the derivative of a term, where it has one.
@@ -76,8 +75,7 @@ fn put_derived(
         return Ok(());
     }
     let exps = lowered(alloc, &t.0, v, n)?;
-    push_times(out, exps, t.1, column[usize::from(e)])?;
-    Ok(())
+    push_times(out, exps, t.1, column[usize::from(e)])
 }
 
 /// The scaled derivative by variable v, n times: the partial derivative divided by the factorial of n.
@@ -111,8 +109,7 @@ pub fn derive_by(alloc: Global, f: &Poly, s: &Shape, a: &Exps) -> Result<Poly, N
 {
     let pairs = a.pairs();
     if pairs.is_empty() {
-        let h = f.copy(alloc)?;
-        return Ok(h);
+        return f.copy(alloc);
     }
     let (v, n) = pairs[0];
     let mut h = derive(alloc, f, s, v, n)?;

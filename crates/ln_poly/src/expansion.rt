@@ -142,6 +142,28 @@ fn product(alloc: Global, room: &mut Room, at: Span, f: &Poly, g: &Poly) -> Resu
 }
 
 // The sum, the difference or the product of two polynomials, at the place of its node.
+fn of_kind(
+    alloc: Global,
+    room: &mut Room,
+    at: Span,
+    kind: Two,
+    f: &Poly,
+    g: &Poly,
+) -> Result<Poly, PolyStop>
+    requires { HaveRoom kind f.now g.now }
+    ensures ok { IfOk result (λ h. (n : ℕ) (d e : Tree) → IsNormal n d f.now → IsNormal n e g.now →
+        Expands n ((at, two_of kind d e) ∷ []) (two_of kind d e) h) }
+    ensures err { IfErr result (λ s. (n : ℕ) (d e : Tree) → IsNormal n d f.now → IsNormal n e g.now →
+        StopsExpanding n ((at, two_of kind d e) ∷ []) s) }
+{
+    match kind {
+        Two::Plus => sum(alloc, at, f, g),
+        Two::Minus => difference(alloc, at, f, g),
+        Two::Times => product(alloc, room, at, f, g),
+    }
+}
+
+// The same, of polynomials that aren't needed any more.
 fn both(
     alloc: Global,
     room: &mut Room,
@@ -156,22 +178,15 @@ fn both(
     ensures err { IfErr result (λ s. (n : ℕ) (d e : Tree) → IsNormal n d f → IsNormal n e g →
         StopsExpanding n ((at, two_of kind d e) ∷ []) s) }
 {
-    match kind {
-        Two::Plus => sum(alloc, at, &f, &g),
-        Two::Minus => difference(alloc, at, &f, &g),
-        Two::Times => product(alloc, room, at, &f, &g),
-    }
+    of_kind(alloc, room, at, kind, &f, &g)
 }
 
 // The polynomial with the other sign.
-fn negation(alloc: Global, at: Span, f: &Poly) -> Result<Poly, PolyStop>
-    requires { size_of f.now < 2 ^ 127 }
-    ensures ok { IfOk result (λ h. (n : ℕ) (e : Tree) → IsNormal n e f.now → Expands n ((at, Neg e) ∷ []) (Neg e) h) }
-    ensures err { IfErr result (λ s. (n : ℕ) (e : Tree) → IsNormal n e f.now → StopsExpanding n ((at, Neg e) ∷ []) s) }
+fn negation(at: Span, f: Poly) -> Result<Poly, PolyStop>
+    ensures ok { IfOk result (λ h. (n : ℕ) (e : Tree) → IsNormal n e f → Expands n ((at, Neg e) ∷ []) (Neg e) h) }
+    ensures err { IfErr result (λ s. (n : ℕ) (e : Tree) → IsNormal n e f → StopsExpanding n ((at, Neg e) ∷ []) s) }
 {
-    let none = number(alloc, 0)?;
-    let h = sub(alloc, &none, f)?;
-    counted(at, h)
+    counted(at, f.negated())
 }
 
 // The k-th power, by all lower ones.
@@ -212,7 +227,7 @@ fn expand(
         Node::Name(j) => let_named(alloc, e.at, polys, *j),
         Node::Neg(x) => {
             let f = expand(alloc, room, x, vars, lets, polys)?;
-            negation(alloc, e.at, &f)
+            negation(e.at, f)
         }
         Node::Add(x, y) | Node::Sub(x, y) | Node::Mul(x, y) => {
             let f = expand(alloc, room, x, vars, lets, polys)?;

@@ -12,7 +12,7 @@ use ln_tree::Exps;
 use std::alloc::Global;
 
 /// Where the exponent of each variable begins in the number of a monomial, a lower variable higher, each in one word of N.
-#[derive(Drop)]
+#[derive(Clone, Copy)]
 pub struct Fields<const N: usize> {
     shifts: [u16; 256],
     ghost places: { All (IsPlace N) shifts },
@@ -175,6 +175,5 @@ fn put_exponent(out: &mut Exps, v: u8, e: u8) -> Result<(), NoMemory>
     if e == 0 {
         return Ok(());
     }
-    out.push(v, e)?;
-    Ok(())
+    out.push(v, e)
 }

@@ -1,11 +1,10 @@
 //! Products of polynomials by the numbers of their monomials, in memory that is kept from product to product.
 ghost use Rattle.std.specs.Prelude.{◌≡◌, ◌+◌, ◌-◌, ◌*◌, ◌/◌, ◌<◌, ◌≤◌, ◌^◌, ◌++◌, ◌+ℤ◌, ◌*ℤ◌, take, drop, length, min, All, unsigned_abs};
-ghost use Rattle.std.specs.Prelude.{IfNone, IfOk, IfSome, OnOk};
+ghost use Rattle.std.specs.Prelude.{IfOk, MatchOption, OnOk};
 ghost use Rattle.ln_poly.specs.Keyed.{AreAllProducts, IsGivenUp, IsMerge, Keyed, ProductsFit, row, weight_of};
 ghost use Rattle.ln_poly.specs.Packed.{ArePackable, weights};
-ghost use Rattle.ln_poly.specs.Rows.{IsRows};
-ghost use Rattle.ln_poly.specs.Sparse.{IsPoly, size_of};
-ghost use Rattle.ln_poly.specs.Within.{TakesMore};
+ghost use Rattle.ln_poly.specs.Sparse.{size_of};
+ghost use Rattle.ln_poly.specs.Within.{IsWithin};
 ghost use Rattle.ln_poly.specs.Words.{half};
 
 use crate::fields::Fields;
@@ -38,8 +37,7 @@ impl<const N: usize> Buffers<N> {
         ensures aside { OnOk result (times * length g.now ≤ length self.new.aside.items) }
     {
         grow(alloc, &mut self.out, times * g.len())?;
-        grow(alloc, &mut self.aside, times * g.len())?;
-        Ok(())
+        grow(alloc, &mut self.aside, times * g.len())
     }
 }
 
@@ -272,9 +270,7 @@ fn parts_of<const N: usize>(
 ) -> Result<Option<Vec<(Key<N>, i128)>>, NoMemory>
     requires short { length g.now * 32 < 2 ^ 63 }
     requires fit { ProductsFit (half N) f.now g.now }
-    ensures products { IfOk result (λ o. IfSome o (λ h. AreAllProducts h.items f.now g.now)) }
-    ensures few { IfOk result (λ o. IfSome o (λ h. length h.items ≤ most)) }
-    ensures none { IfOk result (λ o. IfNone o (IsGivenUp f.now g.now most)) }
+    ensures { IfOk result (λ o. MatchOption o (IsGivenUp f.now g.now most) (λ h. AreAllProducts h.items f.now g.now × (length h.items ≤ most))) }
 {
     room.grow(alloc, f.len().min(ROWS), g)?;
     let mut done = Vec::new(alloc);
@@ -302,10 +298,7 @@ pub(crate) fn product<const N: usize>(
 ) -> Result<Option<Poly>, NoMemory>
     requires room { size_of f.now * size_of g.now < 2 ^ 127 }
     requires fields { ArePackable (weights fields.now.shifts) (half N) f.now g.now }
-    ensures rows { IfOk result (λ o. IfSome o (λ h. IsRows h f.now g.now (length f.now))) }
-    ensures form { IfOk result (λ o. IfSome o IsPoly) }
-    ensures few { IfOk result (λ o. IfSome o (λ h. length h ≤ most)) }
-    ensures none { IfOk result (λ o. IfNone o (TakesMore f.now g.now most)) }
+    ensures { IfOk result (IsWithin f.now g.now most) }
 {
     let left = fields.pack(alloc, f.terms())?;
     let right = fields.pack(alloc, g.terms())?;

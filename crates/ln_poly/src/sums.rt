@@ -106,8 +106,7 @@ fn joined(alloc: Global, f: Vec<(Exps, i128)>, more: Vec<(Exps, i128)>) -> Resul
     if more.is_empty() {
         return Ok(nonzero(f));
     }
-    let h = merge(alloc, f, more)?;
-    Ok(h)
+    merge(alloc, f, more)
 }
 
 /// The sum of two polynomials, in place of the first: only terms with exponents that it doesn't have are copied.
@@ -121,6 +120,5 @@ pub fn sum(alloc: Global, f: Poly, g: &Poly) -> Result<Poly, NoMemory>
 {
     let mut terms = f.into_terms();
     let more = spread(alloc, &mut terms, g.terms())?;
-    let h = joined(alloc, terms, more)?;
-    Ok(h)
+    joined(alloc, terms, more)
 }

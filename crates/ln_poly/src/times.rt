@@ -1,7 +1,7 @@
 //! Computes the exponents of the product of two monomials.
 ghost use Rattle.std.specs.Prelude.{◌≡◌, ℕ, ◌+◌, ◌++◌, ◌<◌, [], OnOk, length, slice_index_or, true};
 ghost use Rattle.ln_tree.specs.Exps.{IsRising, exponent};
-ghost use Rattle.ln_poly.specs.Times.{AreLow, IsPicked, MayPick};
+ghost use Rattle.ln_poly.specs.Times.{AreLow, IsPicked, IsTimes, MayPick};
 
 use ln_base::NoMemory;
 use ln_tree::Exps;
@@ -80,8 +80,7 @@ fn behind(out: &mut Exps, a: &Exps, b: &[(u8, u8)]) -> Result<(), NoMemory>
     requires empty { out.old ≡ [] }
     requires low { AreLow a.now b.now }
     requires rising { IsRising b.now }
-    ensures pairs { OnOk result (out.new ≡ a.now ++ b.now) }
-    ensures rising { OnOk result (IsRising out.new) }
+    ensures { OnOk result ((out.new ≡ a.now ++ b.now) × IsRising out.new) }
 {
     out.append(a.pairs())?;
     'pairs: for p in b {
@@ -98,8 +97,7 @@ fn merged(out: &mut Exps, a: &[(u8, u8)], b: &[(u8, u8)]) -> Result<(), NoMemory
     requires left { IsRising a.now }
     requires right { IsRising b.now }
     requires small { (v : ℕ) → exponent v a.now + exponent v b.now < 128 }
-    ensures exponents { OnOk result ((v : ℕ) → exponent v out.new ≡ exponent v a.now + exponent v b.now) }
-    ensures rising { OnOk result (IsRising out.new) }
+    ensures { OnOk result (IsTimes out.new a.now b.now) }
 {
     let mut i = 0;
     let mut j = 0;
@@ -117,18 +115,15 @@ fn merged(out: &mut Exps, a: &[(u8, u8)], b: &[(u8, u8)]) -> Result<(), NoMemory
 pub fn put_times(out: &mut Exps, a: &Exps, b: &Exps) -> Result<(), NoMemory>
     requires empty { out.old ≡ [] }
     requires small { (v : ℕ) → exponent v a.now + exponent v b.now < 128 }
-    ensures exponents { OnOk result ((v : ℕ) → exponent v out.new ≡ exponent v a.now + exponent v b.now) }
-    ensures rising { OnOk result (IsRising out.new) }
+    ensures { OnOk result (IsTimes out.new a.now b.now) }
 {
     let first = a.pairs();
     let second = b.pairs();
     if are_low(first, second) {
-        behind(out, a, second)?;
-        return Ok(());
+        return behind(out, a, second);
     }
     if are_low(second, first) {
-        behind(out, b, first)?;
-        return Ok(());
+        return behind(out, b, first);
     }
     merged(out, first, second)
 }

@@ -3,8 +3,8 @@ ghost use Rattle.std.specs.Prelude.{◌≡◌, ℕ, List, ◌+◌, ◌-◌, ◌*
 ghost use Rattle.std.specs.Prelude.{All, IfOk, IfSome, IfNone, IsTrue, length};
 ghost use Rattle.ln_algebra.specs.Coefficient.{product};
 ghost use Rattle.ln_poly.specs.Sparse.{IsPoly, AreBelow, coefficient_at, size_of};
-ghost use Rattle.ln_poly.specs.Rows.{IsRows, PowersFit};
-ghost use Rattle.ln_poly.specs.Within.{TakesMore};
+ghost use Rattle.ln_poly.specs.Rows.{PowersFit};
+ghost use Rattle.ln_poly.specs.Within.{IsWithin, TakesMore};
 
 use crate::arithmetic::walk;
 use crate::fields::{Fields, largest};
@@ -41,10 +41,7 @@ fn row_within(alloc: Global, f: &Poly, g: &Poly, most: usize) -> Result<Option<P
     requires one { length f.now ≡ 1 }
     requires room { size_of f.now * size_of g.now < 2 ^ 127 }
     requires powers { All (λ s. PowersFit s g.now) f.now }
-    ensures rows { IfOk result (λ o. IfSome o (λ h. IsRows h f.now g.now (length f.now))) }
-    ensures form { IfOk result (λ o. IfSome o IsPoly) }
-    ensures few { IfOk result (λ o. IfSome o (λ h. length h ≤ most)) }
-    ensures none { IfOk result (λ o. IfNone o (TakesMore f.now g.now most)) }
+    ensures { IfOk result (IsWithin f.now g.now most) }
 {
     let h = walk(alloc, &f.terms()[0], g.terms())?;
     if h.terms().len() > most {
@@ -64,10 +61,7 @@ fn rows_within(
 ) -> Result<Option<Poly>, NoMemory>
     requires room { size_of f.now * size_of g.now < 2 ^ 127 }
     requires powers { All (λ s. PowersFit s g.now) f.now }
-    ensures rows { IfOk result (λ o. IfSome o (λ h. IsRows h f.now g.now (length f.now))) }
-    ensures form { IfOk result (λ o. IfSome o IsPoly) }
-    ensures few { IfOk result (λ o. IfSome o (λ h. length h ≤ most)) }
-    ensures none { IfOk result (λ o. IfNone o (TakesMore f.now g.now most)) }
+    ensures { IfOk result (IsWithin f.now g.now most) }
 {
     if f.terms().len() == 1 {
         return row_within(alloc, f, g, most);
@@ -99,17 +93,12 @@ fn fewer_rows(
 ) -> Result<Option<Poly>, NoMemory>
     requires room { size_of f.now * size_of g.now < 2 ^ 127 }
     requires powers { All (λ s. PowersFit s g.now) f.now }
-    ensures rows { IfOk result (λ o. IfSome o (λ h. IsRows h f.now g.now (length f.now))) }
-    ensures form { IfOk result (λ o. IfSome o IsPoly) }
-    ensures few { IfOk result (λ o. IfSome o (λ h. length h ≤ most)) }
-    ensures none { IfOk result (λ o. IfNone o (TakesMore f.now g.now most)) }
+    ensures { IfOk result (IsWithin f.now g.now most) }
 {
     if g.terms().len() < f.terms().len() {
-        let h = rows_within(alloc, room, g, f, most)?;
-        return Ok(h);
+        return rows_within(alloc, room, g, f, most);
     }
-    let h = rows_within(alloc, room, f, g, most)?;
-    Ok(h)
+    rows_within(alloc, room, f, g, most)
 }
 
 // The product of two polynomials, as `mul_within`, in memory that is kept for the next one.
@@ -130,8 +119,7 @@ pub(crate) fn mul_in(
     ensures few { IfOk result (λ o. IfSome o (λ h. length h ≤ most)) }
     ensures none { IfOk result (λ o. IfNone o (TakesMore f.now g.now most)) }
 {
-    let h = fewer_rows(alloc, room, f, g, most)?;
-    Ok(h)
+    fewer_rows(alloc, room, f, g, most)
 }
 
 /// The product of two polynomials, where it has at most `most` terms; None where it has more.
@@ -152,6 +140,5 @@ pub fn mul_within(alloc: Global, f: &Poly, g: &Poly, most: usize) -> Result<Opti
     ensures none { IfOk result (λ o. IfNone o (TakesMore f.now g.now most)) }
 {
     let mut room = Room::new(alloc);
-    let h = mul_in(alloc, &mut room, f, g, most)?;
-    Ok(h)
+    mul_in(alloc, &mut room, f, g, most)
 }

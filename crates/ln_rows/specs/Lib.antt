@@ -5,3 +5,4 @@ pub mod Line
 pub mod Plain
 pub mod Columns
 pub mod Header
+pub mod Making

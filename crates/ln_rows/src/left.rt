@@ -96,10 +96,8 @@ impl<'a> Left<'a> {
             self.rest = rest;
             return Ok(true);
         }
-        let mut quoted = Quoted::new(self.alloc, text)?;
-        let found = quoted.next(most, into)?;
-        self.quoted = Some(quoted);
-        Ok(found)
+        let quoted = self.quoted.insert(Quoted::new(self.alloc, text)?);
+        quoted.next(most, into)
     }
 
     // Leaves no record.

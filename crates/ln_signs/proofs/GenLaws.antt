@@ -24,7 +24,7 @@ use Rattle.ln_frame.specs.Said.{Said, Count, whole}
 use Rattle.ln_frame.specs.Given.{Given}
 use Rattle.ln_frame.specs.Carried as c
 use Rattle.ln_frame.specs.Carried.{CarriesOut, NoPart}
-use Rattle.ln_gen.specs.GenRow.{words, past}
+use Rattle.ln_rows.specs.Making.GenRow.{words, past}
 use Rattle.ln_signs.specs.Gen.{Draw, draw, drawn, draws, seeded, GenStep, GenSaid, made, GenEnds, done, gen_work}
 use Rattle.ln_frame.specs.Lines as l
 use Rattle.ln_frame.specs.Lines.{Lines, PutsOne, Wrote}
@@ -35,7 +35,7 @@ use Rattle.ln_target.proofs.TargetLaws.{owed_there}
 use Rattle.ln_frame.proofs.Loops.{Written, StepTo, Streams, faults_in, each_good}
 use Rattle.ln_frame.proofs.LinesLaws.{Writing, running_none, no_last, SameLines, one_lines}
 use Rattle.ln_frame.proofs.LinesCarry.{Task, IsByLines}
-use Rattle.ln_gen.proofs.MadeRangeLemmas.{words_in_range, words_length}
+use Rattle.ln_rows.proofs.Making.MadeRangeLemmas.{words_in_range, words_length}
 use Rattle.ln_signs.proofs.WatchingLaws.{lines_alike, left_alike}
 use Rattle.ln_frame.proofs.Laws.{IsLawful, shape_objects}
 use Rattle.ln_frame.proofs.Grounded.{IsGrounded, in_memory}

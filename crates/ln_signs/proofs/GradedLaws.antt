@@ -1,8 +1,9 @@
 -- `graded`: a predicate with few stages by total degree has a program in that order, with its verdicts.
 use Rattle.std.proofs.Common.{◌≡◌, inl, inr, ℕ, ◌≤◌, ◌<◌, List, [], ◌∷◌, length, map, option_map, refl, ap, sym, ◌∙◌, subst, arith}
 use Rattle.std.proofs.Common.{Some, Ok, Err, Result}
-use Rattle.std.specs.Prelude.{IfErr, IfOk, IfSome, IsSomeAnd, Option, slice_get, slice_index_or}
+use Rattle.std.specs.Prelude.{IfErr, IfOk, IfSome, IsErrAnd, IsSomeAnd, Option, slice_get, slice_index_or}
 use Rattle.std.proofs.lemmas.Option.{slice_get-map}
+use Rattle.ln_base.specs.Outside.{refused}
 use Rattle.ln_algebra.specs.Orders.{ByDegree}
 use Rattle.ln_algebra.specs.Terms.{IsNormalOf}
 use Rattle.ln_tree.specs.declared.pred.Pred.{Pred}
@@ -17,15 +18,15 @@ use Rattle.ln_code.specs.Carried.{Carries, CarriesDerivative, CarriesWhole, vect
 use Rattle.ln_code.specs.Lists.{lists_of}
 use Rattle.ln_code.specs.Part.{Part}
 use Rattle.ln_compile.specs.Accepted.{root_of}
-use Rattle.ln_compile.specs.Compiled.{IsFilterOf, IsProgramAt, IsProgramOf}
+use Rattle.ln_compile.specs.Compiled.{AreNumbered, IsFilterOf, IsProgramAt, IsProgramOf}
 use Rattle.ln_compile.specs.Filtered.{AnswersFor}
 use Rattle.ln_compile.specs.Polynomial.{IsPolynomialAt, IsPolynomialOf}
-use Rattle.ln_graded.specs.Graded.{Begins, IsGradable, IsGraded, IsWithin, StopsFor}
-use Rattle.ln_graded.specs.declared.stop.GradedStop.{GradedStop}
-use Rattle.ln_graded.specs.declared.stop.GradedStop.TheVariants.{NoMemory, Stages}
-use Rattle.ln_graded.proofs.Joining.{all-at}
-use Rattle.ln_verify.proofs.Polynomials.SamePoly.{one-normal}
-use Rattle.ln_signs.specs.Graded.{HasFewGraded, KeepsGraded}
+use Rattle.ln_compile.specs.Grading.Graded.{Begins, IsGradable, IsGraded, IsWithin, StopsFor}
+use Rattle.ln_compile.specs.declared.graded.stop.GradedStop.{GradedStop}
+use Rattle.ln_compile.specs.declared.graded.stop.GradedStop.TheVariants.{NoMemory, Stages}
+use Rattle.ln_compile.proofs.Grading.Joining.{all-at}
+use Rattle.ln_stage.proofs.Results.SamePoly.{one-normal}
+use Rattle.ln_signs.specs.Graded.{FirstHasFew, HasFewGraded, KeepsGraded}
 
 -- ---- the first of the named predicates
 -- a predicate by its number has few stages, and this program by total degree
@@ -41,6 +42,13 @@ pub first_kept : (table : List PredOf) (numbers : List ℕ) (q : Part) → IsFew
     → KeepsGraded table numbers (Some q)
 first_kept table [] q h = tt
 first_kept table (i ∷ is) q h = λ p a. (h p a).1
+
+-- the first named predicate has few stages
+pub first_few : (table : List PredOf) (numbers : List ℕ) (preds : List PredOf) {q : Part} → 1 ≤ length numbers
+    → IsFewBy table (slice_index_or numbers 0 0) q → AreNumbered table numbers preds → FirstHasFew preds
+first_few table [] preds l h a = absurd (omega (arith, l))
+first_few table (i ∷ is) [] l h a = absurd a
+first_few table (i ∷ is) (p ∷ ps) l h a = (h p a.0).0
 
 -- where a predicate is named, a program of that of the first number is kept
 pub kept_first : (table : List PredOf) (numbers : List ℕ) (kept : Option Part) → 1 ≤ length numbers → KeepsGraded table numbers kept
@@ -123,6 +131,11 @@ module _ (p : PredOf) (f : Sparse) (part : Part) (poly : IsPolynomialOf p f) (o 
         (g.carries (root_of p) o.carries.inputs
         (subst (λ (vs : List VarInfo). IsNormalOf (length vs) (root_of p) (terms_of (length vs) f)) (sym o.vars) poly.normal.normal));
   }
+
+-- where memory runs out it isn't said that there are too many stages
+pub short_stops : {T : Type 0} (r : Result T GradedStop) (P : Type 0) → IsErrAnd r (λ s. s ≡ NoMemory refused) → IfErr r (λ s. s ≡ Stages → P)
+short_stops (Ok q) P h = tt
+short_stops (Err s) P h = λ k. let e : NoMemory refused ≡ Stages = sym h ∙ k in cc
 
 -- of a predicate by its number
 module _ (preds : List Pred) (i : ℕ) (l : i < length preds) (f : Sparse) (part : Part) (poly : IsPolynomialAt (map pred_of preds) i f)

@@ -14,7 +14,7 @@ use Rattle.ln_frame.specs.declared.status.End.{End}
 use Rattle.ln_frame.specs.declared.status.End.TheVariants.{Done}
 use Rattle.ln_frame.specs.Said.{Said, whole}
 use Rattle.ln_frame.specs.Given.{Given}
-use Rattle.ln_gen.specs.GenRow.{words, past, row_by}
+use Rattle.ln_rows.specs.Making.GenRow.{words, past, row_by}
 use Rattle.ln_frame.specs.Lines.{Lines}
 use Rattle.ln_frame.specs.Carried.{NoPart}
 use Rattle.ln_frame.specs.Work.{Work}

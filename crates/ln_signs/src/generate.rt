@@ -5,7 +5,7 @@ ghost use Rattle.ln_code.specs.Memory.{MadeFor};
 ghost use Rattle.ln_rows.specs.Record.{columns};
 ghost use Rattle.ln_frame.specs.Carried.{CarriesOut, NoPart};
 ghost use Rattle.ln_signs.specs.Gen.{GenSaid, GenStep, draw, draws, gen_signature};
-ghost use Rattle.ln_gen.specs.GenRow.{past};
+ghost use Rattle.ln_rows.specs.Making.GenRow.{past};
 ghost use Rattle.ln_frame.specs.Lines.{PutsAll, PutsOne};
 ghost use Rattle.ln_frame.specs.Ready.{IsReadyFor, StandsFor};
 ghost use Rattle.ln_frame.specs.Said.{count};
@@ -15,12 +15,12 @@ ghost use Rattle.ln_watch.specs.Panel.{states_of};
 
 use crate::named::one_target;
 use crate::panel::Panel;
-use crate::watching::{close, show};
+use crate::watching::show;
 use ln_base::{Console, Port};
 use ln_code::Scratch;
 use ln_frame::ready::Ready;
 use ln_frame::status::{Early, End};
-use ln_gen::gen_row::gen_row;
+use ln_rows::gen_row::gen_row;
 use ln_target::target::Target;
 use ln_watch::Watch;
 use rand_core::SeedableRng;
@@ -97,10 +97,10 @@ fn put_made<C: Console>(
     if !put_rows(con, target, s, &mut g, rows, &mut panel) {
         return Err(Early::Write);
     }
-    if !close(con, Port::Out, panel) {
-        return Err(Early::Write);
+    match panel.close(con, Port::Out) {
+        Ok(()) => Ok(End::Done),
+        Err(_) => Err(Early::Write),
     }
-    Ok(End::Done)
 }
 
 // The same with memory to run the program in.

@@ -19,11 +19,11 @@ use crate::watching::no_watchers;
 use ln_base::{Console, Span};
 use ln_code::Program;
 use ln_compile::Checked;
+use ln_compile::graded::{GradedStop, graded};
 use ln_frame::place::place_at;
 use ln_frame::ready::{Ready, short_text};
 use ln_frame::status::{Early, End};
 use ln_frame::stop::{Stop, Why};
-use ln_graded::{GradedStop, graded};
 use std::alloc::Global;
 
 /// The most stages that the lists of all orders of the sites have together by total degree.
@@ -50,7 +50,7 @@ fn name_at(c: &Checked, i: usize) -> Span
     requires { i < length c.now.table.preds }
     ensures { (p : PredOf) → slice_get (map pred_of c.now.table.preds) i ≡ Some p → result ≡ p.at }
 {
-    c.table().preds.as_slice()[i].at
+    c.pred(i).at
 }
 
 /// Returns the program by total degree of the first of the named predicates; or stops where it has too many stages in that order, at its

@@ -80,7 +80,13 @@ impl<'a> RecordWriter for Factors<'a> {
         text: &mut Vec<u8>,
     ) -> Result<Option<Verdict>, NoMemory> {
         let said = sign_of(self, room, record);
-        add_product_line(*text.allocator(), self, said, room.verdicts(), text)?;
+        add_product_line(
+            *text.allocator(),
+            self,
+            said,
+            room.verdicts.as_slice(),
+            text,
+        )?;
         Ok(None)
     }
 }

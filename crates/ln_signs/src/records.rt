@@ -19,7 +19,7 @@ ghost use Rattle.std.specs.Prelude.{◌<◌, ◌^◌, length};
 
 use crate::gather::{PIECE, end_of, put_piece};
 use crate::panel::Panel;
-use crate::watching::{Viewers, close, view};
+use crate::watching::{Viewers, view};
 use ln_base::{Console, NoMemory, Port};
 use ln_code::{Row, Verdict};
 use ln_frame::put::{put_out, put_rest};
@@ -191,10 +191,10 @@ fn close_after<C: Console>(con: &mut C, panel: Panel, good: bool) -> Result<End,
     ensures { Closes (last_lines (states_of kind_of tally_of panel.watchers.items)) (end_of good)
         (count (C.faults con.old) (C.faults con.new)) result (C.shown con.old) (C.shown con.new) }
 {
-    if !close(con, Port::Err, panel) {
-        return Err(Early::Write);
+    match panel.close(con, Port::Err) {
+        Ok(()) => Ok(end_of(good)),
+        Err(_) => Err(Early::Write),
     }
-    Ok(end_of(good))
 }
 
 // The work on the records after the header.

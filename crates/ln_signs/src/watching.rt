@@ -3,7 +3,7 @@ ghost use Rattle.std.specs.Prelude.{◌≡◌, [], true, ◌<◌, ◌+◌, ◌^�
 ghost use Rattle.ln_frame.specs.Lines.{Wrote, WroteOn};
 ghost use Rattle.ln_frame.specs.Said.{count};
 ghost use Rattle.ln_signs.specs.Watching.{next, next_lines, watching};
-ghost use Rattle.ln_watch.specs.Panel.{last_lines, left_after, lines_at, states_of};
+ghost use Rattle.ln_watch.specs.Panel.{left_after, lines_at, states_of};
 
 use crate::panel::Panel;
 use ln_base::{Console, Port};
@@ -58,16 +58,5 @@ pub(crate) fn view<C: Console>(con: &mut C, viewers: &mut Viewers, shown: Option
     match shown {
         Some(v) => show(con, Port::Err, &mut viewers.panel, viewers.seen, &v),
         None => true,
-    }
-}
-
-/// Writes the lines of the remaining watchers, and returns whether all of it was written.
-pub(crate) fn close<C: Console>(con: &mut C, port: Port, panel: Panel) -> bool
-    ensures { WroteOn port (last_lines (states_of kind_of tally_of panel.watchers.items))
-        (count (C.faults con.old) (C.faults con.new)) result (C.shown con.old) (C.shown con.new) }
-{
-    match panel.close(con, port) {
-        Ok(()) => true,
-        Err(_) => false,
     }
 }

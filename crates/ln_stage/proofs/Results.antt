@@ -5,3 +5,4 @@ pub mod ResultLemmas
 pub mod TallyLemmas
 pub mod SegmentLemmas
 pub mod ListedLemmas
+pub mod SamePoly

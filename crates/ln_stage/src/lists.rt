@@ -119,9 +119,10 @@ fn listed(
     'prefixes: for p in prefixes {
         let list = segment(f, s, p, by_degree, &mut cuts, tally)?;
         let left = s.sites - p.places().len() as u8;
-        let more = with_segment(count, list.len(), orders(left), most)?;
-        count = more;
+        let stages = list.len();
         segments.push(list)?;
+        let more = with_segment(count, stages, orders(left), most)?;
+        count = more;
     }
     Ok((segments, count))
 }
@@ -151,7 +152,7 @@ fn stages_by(
     let mut tally = Tally::new(alloc, most, heavy);
     let found = listed(terms, s, prefixes.as_slice(), most, by_degree, &mut tally)?;
     let (segments, count) = found;
-    let (_, blocks) = tally.into_blocks();
+    let blocks = tally.into_blocks();
     Ok(Stages::of(s.sites, blocks, segments, count))
 }
 

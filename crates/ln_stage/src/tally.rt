@@ -77,10 +77,12 @@ impl Tally {
             else self.old.weight))) }
     {
         if let Some(i) = self.blocks.get_index_of(&a) {
+            drop(a);
             return Ok(i as u32);
         }
         let cover = cover as u64;
         if cover > self.heavy - self.weight {
+            drop(a);
             return Err(StageStop::Stages);
         }
         let (i, _) = self.blocks.insert_full(a, ())?;
@@ -95,6 +97,7 @@ impl Tally {
         ensures err { IfErr result (λ e. IsStoppedBy e (IsOver (see cover self.old a))) }
     {
         if self.count == self.most {
+            drop(a);
             return Err(StageStop::Stages);
         }
         let number = self.number(a, cover)?;
@@ -103,13 +106,12 @@ impl Tally {
         Ok(())
     }
 
-    // How many stages there are so far in all lists, and the blocks.
-    pub(crate) fn into_blocks(self) -> (u64, IndexMap<Exps, ()>)
-        ensures count { result.0 ≡ self.count }
-        ensures within { (self.count ≤ self.most) × (self.weight ≤ self.heavy) }
-        ensures blocks { keys result.1 ≡ self.exps }
+    // The blocks; their weight is within its limit.
+    pub(crate) fn into_blocks(self) -> IndexMap<Exps, ()>
+        ensures within { self.weight ≤ self.heavy }
+        ensures blocks { keys result ≡ self.exps }
     {
-        (self.count, self.blocks)
+        self.blocks
     }
 
     // Where memory comes from.

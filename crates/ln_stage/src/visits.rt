@@ -1,12 +1,12 @@
 //! What is listed at one prefix of the orders of the sites.
-ghost use Rattle.std.specs.Prelude.{◌≡◌, ◌<◌, IfOk, IfErr, length, replicate, [], false};
+ghost use Rattle.std.specs.Prelude.{◌≡◌, ◌<◌, ◌||◌, ◌&&◌, IfOk, IfErr, length, nat_lt, replicate, [], false};
 ghost use Rattle.std.specs.List.{range_with_len};
 ghost use Rattle.ln_order.specs.Fronts.{front_places};
 ghost use Rattle.ln_order.specs.Prefixes.{IsPrefixOf};
 ghost use Rattle.ln_poly.specs.Sparse.{AreBelow, AreRising};
-ghost use Rattle.ln_stage.specs.Graded.{cut_by, found_at, graded_at, segment_by};
+ghost use Rattle.ln_stage.specs.Graded.{cut_by, found_at, segment_by};
 ghost use Rattle.ln_stage.specs.Tally.{EndsAs, IsOver, IsStoppedBy, see_all};
-ghost use Rattle.ln_stage.specs.Visit.{IsStart, cut_before, is_cut_at, segment_at};
+ghost use Rattle.ln_stage.specs.Visit.{IsStart, cut_before};
 
 use crate::layers::layers;
 use crate::stop::StageStop;
@@ -56,82 +56,49 @@ fn start(alloc: Global, f: &[(Exps, i128)], s: &Shape, p: &Front) -> Result<Walk
     Ok(WalkStart { vars, kept, exps })
 }
 
-// The stages at a prefix of the orders, in order: those that need its last site and none after it. Nothing is listed where the cut is before;
-// returns whether the cut is here or before.
-fn visit(
-    f: &[(Exps, i128)],
-    s: &Shape,
-    p: &Front,
-    cut: bool,
-    tally: &mut Tally,
-) -> Result<bool, StageStop>
-    requires prefix { IsPrefixOf s.now.sites (front_places p.now) }
-    requires below { AreBelow (length s.now.vars) f.now }
-    requires rising { AreRising f.now }
-    requires some { 0 < length f.now }
-    requires before { cut ≡ cut_before (is_cut_at s.now.vars f.now) (front_places p.now) }
-    ensures ok { IfOk result (λ c. EndsAs (length s.now.vars) f.now tally.new ([], c) tally.old
-        (segment_at s.now.vars f.now (front_places p.now), is_cut_at s.now.vars f.now (front_places p.now))) }
-    ensures err { IfErr result (λ e. IsStoppedBy e (IsOver (see_all (length s.now.vars) f.now tally.old
-        (segment_at s.now.vars f.now (front_places p.now))))) }
+// Is nothing listed at a prefix? So it is after the cut, and by degree at any prefix but a whole order.
+fn is_left_out(s: &Shape, p: &Front, by_degree: bool, cut: bool) -> bool
+    ensures { result ≡ (cut || (by_degree && nat_lt (length (front_places p.now)) s.now.sites)) }
 {
-    if cut {
-        return Ok(true);
-    }
-    let w = start(tally.alloc(), f, s, p)?;
-    let sites = p.places();
-    if sites.is_empty() {
-        return walk(
-            f,
-            w.vars.as_slice(),
-            w.kept.as_slice(),
-            w.exps.as_slice(),
-            0,
-            tally,
-        );
-    }
-    let last = vars_of_site(tally.alloc(), s, sites[sites.len() - 1])?;
-    walk_site(
-        f,
-        w.vars.as_slice(),
-        last.len(),
-        w.kept.as_slice(),
-        w.exps.as_slice(),
-        tally,
-    )
+    cut || by_degree && p.places().len() < usize::from(s.sites)
 }
 
-// The stages at a prefix by total degree first: at a whole order its list, at any other nothing. There is no cut before.
-fn graded_visit(
+// Lists a prefix that isn't left out, from the start of a walk there: by degree the whole list of an order, else the stages that need the
+// prefix's last site and none after it. Returns whether the cut is here.
+fn visit_from(
     f: &[(Exps, i128)],
     s: &Shape,
     p: &Front,
+    by_degree: bool,
+    w: &WalkStart,
     tally: &mut Tally,
 ) -> Result<bool, StageStop>
     requires prefix { IsPrefixOf s.now.sites (front_places p.now) }
-    requires below { AreBelow (length s.now.vars) f.now }
-    requires rising { AreRising f.now }
-    requires some { 0 < length f.now }
+    requires start { IsStart s.now.vars f.now (front_places p.now) w.now.vars w.now.kept.items w.now.exps.items }
+    requires before { cut_before (cut_by by_degree s.now.sites s.now.vars f.now) (front_places p.now) ≡ false }
+    requires whole { (by_degree && nat_lt (length (front_places p.now)) s.now.sites) ≡ false }
     ensures ok { IfOk result (λ c. EndsAs (length s.now.vars) f.now tally.new ([], c) tally.old
-        (graded_at s.now.sites s.now.vars f.now (front_places p.now), false)) }
+        (found_at by_degree s.now.sites s.now.vars f.now (front_places p.now))) }
     ensures err { IfErr result (λ e. IsStoppedBy e (IsOver (see_all (length s.now.vars) f.now tally.old
-        (graded_at s.now.sites s.now.vars f.now (front_places p.now))))) }
+        (segment_by by_degree s.now.sites s.now.vars f.now (front_places p.now))))) }
 {
-    if p.places().len() < usize::from(s.sites) {
+    let vars = w.vars.as_slice();
+    let kept = w.kept.as_slice();
+    let exps = w.exps.as_slice();
+    if by_degree {
+        layers(f, vars, kept, exps, tally)?;
         return Ok(false);
     }
-    let w = start(tally.alloc(), f, s, p)?;
-    layers(
-        f,
-        w.vars.as_slice(),
-        w.kept.as_slice(),
-        w.exps.as_slice(),
-        tally,
-    )?;
-    Ok(false)
+    let sites = p.places();
+    if sites.is_empty() {
+        return walk(f, vars, kept, exps, 0, tally);
+    }
+    let last = vars_of_site(tally.alloc(), s, sites[sites.len() - 1])?;
+    walk_site(f, vars, last.len(), kept, exps, tally)
 }
 
-// The stages at a prefix, by one order of infinitesimals or the other.
+// The stages at a prefix, by one order of infinitesimals or the other. Nothing is listed where the cut is before; returns whether it is here
+// or before. By total degree there is no cut before, and nothing is listed but at a whole order.
 pub(crate) fn visit_by(
     f: &[(Exps, i128)],
     s: &Shape,
@@ -150,9 +117,9 @@ pub(crate) fn visit_by(
     ensures err { IfErr result (λ e. IsStoppedBy e (IsOver (see_all (length s.now.vars) f.now tally.old
         (segment_by by_degree s.now.sites s.now.vars f.now (front_places p.now))))) }
 {
-    if by_degree {
-        graded_visit(f, s, p, tally)
-    } else {
-        visit(f, s, p, cut, tally)
+    if is_left_out(s, p, by_degree, cut) {
+        return Ok(cut);
     }
+    let w = start(tally.alloc(), f, s, p)?;
+    visit_from(f, s, p, by_degree, &w, tally)
 }

@@ -6,3 +6,4 @@ pub mod Reading
 pub mod Within
 pub mod Automaton
 pub mod Stops
+pub mod Lexing

@@ -8,6 +8,8 @@ use Rattle.std.proofs.lemmas.List.{length-map, take_more}
 use Rattle.std.proofs.lemmas.List.Elements.{All-nil, All-cons, All-head, All-tail}
 use Rattle.std.proofs.lemmas.Option.{none-some, same_Some, slice_get_within}
 use Rattle.std.proofs.lemmas.Slice.Eq.{bytes_eq-Decides}
+use Rattle.std.proofs.lemmas.Slice.Zip.{AllZip-long, all_zipped_more}
+use Rattle.std.specs.List.{AllZip}
 use Rattle.ln_tree.specs.declared.pred.Pred.{Pred}
 use Rattle.ln_tree.specs.declared.shape.VarInfo.{VarInfo}
 use Rattle.ln_tree.specs.declared.table.Table.{Table}
@@ -29,35 +31,19 @@ use Rattle.ln_code.specs.Verdict.{IsVerdict}
 use Rattle.ln_code.specs.declared.row.Row as code
 use Rattle.ln_code.specs.declared.verdict.Verdict.{Verdict}
 use Rattle.ln_code.proofs.Verdicts.Machine.{programs-run, rows-have}
-use Rattle.ln_compile.specs.Compiled.{IsProgramAt, IsProgramOf}
+use Rattle.ln_compile.specs.Compiled.{AreNumbered, IsProgramAt, IsProgramOf}
 use Rattle.ln_compile.proofs.Making.BuildingLemmas.{names-differ}
 use Rattle.ln_compile.proofs.Listing.FilteredLemmas.{programs_answer}
 use Rattle.ln_compile.proofs.Numbers.{same_at}
-use Rattle.ln_factor.specs.Factors.{AreMadeFor, AreOver, AreVerdicts, IsFactor, IsRowOfFactors}
+use Rattle.ln_due.specs.Products.Factors.{AreMadeFor, AreOver, AreVerdicts, IsFactor, IsRowOfFactors}
 use Rattle.ln_target.specs.Alike.{are_alike, same_arg, same_args}
 use Rattle.ln_target.specs.Factors.{AreDue, AreFactors, AreMade, AreMadeAt, AreProgramsAt}
-use Rattle.ln_target.specs.Factors.{FactorsOf, Grows, HaveOneShape, IsInRangeOf, IsMadeOf, StandAt, factors_of}
-use Rattle.ln_verify.specs.Values.{Paired}
-use Rattle.ln_compile.specs.Compiled.{AreNumbered}
+use Rattle.ln_target.specs.Factors.{FactorsOf, Grows, HaveOneShape, IsInRangeOf, IsMadeOf, IsRoomFor, StandAt, factors_of}
 
 -- ---- lists that are related place by place
 module _ {A B : Type 0} (R : A → B → Type 0) where
-  -- lists that are related place by place have one length
-  pub paired_length : (xs : List A) (ys : List B) → Paired R xs ys → length xs ≡ length ys
-  paired_length [] [] h = refl
-  paired_length [] (y ∷ ys) h = absurd h
-  paired_length (x ∷ xs) [] h = absurd h
-  paired_length (x ∷ xs) (y ∷ ys) h = ap (λ (n : ℕ). suc n) (paired_length xs ys h.1)
-
-  -- one pair more at the end
-  pub paired_more : (xs : List A) (ys : List B) (x : A) (y : B) → Paired R xs ys → R x y → Paired R (xs ++ x ∷ []) (ys ++ y ∷ [])
-  paired_more [] [] x y h r = (r, tt)
-  paired_more [] (z ∷ ys) x y h r = absurd h
-  paired_more (z ∷ xs) [] x y h r = absurd h
-  paired_more (z ∷ xs) (w ∷ ys) x y h r = (h.0, paired_more xs ys x y h.1 r)
-
   -- what an element of the second list is related to
-  pub paired_there : (xs : List A) (ys : List B) (k : ℕ) (y : B) → Paired R xs ys → slice_get ys k ≡ Some y
+  pub paired_there : (xs : List A) (ys : List B) (k : ℕ) (y : B) → AllZip R xs ys → slice_get ys k ≡ Some y
       → (x : A) × (slice_get xs k ≡ Some x) × R x y
   paired_there [] [] k y h e = absurd (none-some y e)
   paired_there [] (z ∷ ys) k y h e = absurd h
@@ -77,7 +63,7 @@ stand_grown ns ms (l ∷ ks) (j ∷ is) s = (get_longer ns ms l j s.0, stand_gro
 pub stand_next : (old new ks more wanted : List ℕ) (n k : ℕ) → StandAt old ks (take n wanted) → Grows old new
     → slice_get new k ≡ Some (slice_index_or wanted n 0) → n < length wanted → more ≡ ks ++ k ∷ [] → StandAt new more (take (n + 1) wanted)
 stand_next old new ks more wanted n k s g t l m =
-    rw (m, take_more wanted n 0 l) (paired_more (λ k i. slice_get new k ≡ Some i) ks (take n wanted) k (slice_index_or wanted n 0)
+    rw (m, take_more wanted n 0 l) (all_zipped_more (λ k i. slice_get new k ≡ Some i) ks (take n wanted) k (slice_index_or wanted n 0)
     (rw g.is (stand_grown old g.more ks (take n wanted) s)) t)
 
 -- ---- programs that were made
@@ -94,7 +80,7 @@ places_within table ns cs [] [] a s = All-nil (λ k. k < length cs)
 places_within table ns cs [] (i ∷ is) a s = absurd s
 places_within table ns cs (k ∷ ks) [] a s = absurd s
 places_within table ns cs (k ∷ ks) (i ∷ is) a s =
-    All-cons (λ (n : ℕ). n < length cs) k ks (subst (λ (n : ℕ). k < n) (paired_length (IsMadeOf table) ns cs a) (slice_get_within ns k i s.0))
+    All-cons (λ (n : ℕ). n < length cs) k ks (subst (λ (n : ℕ). k < n) (sym (AllZip-long (IsMadeOf table) ns cs a)) (slice_get_within ns k i s.0))
     (places_within table ns cs ks is a s.1)
 
 -- they are those of the predicates with these numbers
@@ -245,7 +231,7 @@ module _ (t : Table) (numbers : List ℕ) (pred : Pred) where
         places = places_within (map pred_of t.preds) m.numbers programs which numbers m.made m.stand;
         kept = λ i part there. (paired_there (IsMadeOf (map pred_of t.preds)) m.numbers programs i part m.made there).2.kept;
         over = over_programs pred.shape.sites pred.shape.vars programs which (pred_of pred ∷ first.0) at over;
-        few = rw (paired_length (λ k i. slice_get m.numbers k ≡ Some i) which numbers m.stand) few;
+        few = rw (← AllZip-long (λ k i. slice_get m.numbers k ≡ Some i) which numbers m.stand) few;
       }
 
 -- ---- scratches
@@ -254,9 +240,9 @@ abbrev pub IsMadeAt : List Part → ℕ → Scratch → Type 0
 IsMadeAt programs i s = (p : Part) → slice_get programs i ≡ Some p → MadeFor p s
 
 -- scratches for the programs at the factors' places are those of the factors
-pub made_for : (programs : List Part) (which : List ℕ) (ss : List Scratch) → Paired (IsMadeAt programs) which ss → AreMadeFor programs which ss
+pub made_for : (programs : List Part) (which : List ℕ) (ss : List Scratch) → AllZip (IsMadeAt programs) which ss → AreMadeFor programs which ss
 made_for programs which ss h = record {
-  size = sym (paired_length (IsMadeAt programs) which ss h);
+  size = AllZip-long (IsMadeAt programs) which ss h;
   made = λ k p s f e.
       let r = paired_there (IsMadeAt programs) which ss k s h e in
       let same : r.0 ≡ f.place = cc (r.1, f.named) in
@@ -322,11 +308,22 @@ row_of_factors t programs which r f e w range =
     record { sites = t.pred.shape.sites; vars = t.pred.shape.vars; alike = rw (e, w) f.over; range = range }
 
 -- a slice that was filled in is in its vector
-pub take_front : (n : ℕ) (xs ys : List Verdict) → n ≡ length xs → take n (xs ++ ys) ≡ xs
+pub take_front : {A : Type 0} (n : ℕ) (xs ys : List A) → n ≡ length xs → take n (xs ++ ys) ≡ xs
 take_front zero [] ys e = refl
 take_front zero (x ∷ xs) ys e = absurd (omega (arith, e))
 take_front (suc n) [] ys e = absurd (omega (arith, e))
-take_front (suc n) (x ∷ xs) ys e = ap (λ (zs : List Verdict). x ∷ zs) (take_front n xs ys (omega (arith, e)))
+take_front {A = A} (suc n) (x ∷ xs) ys e = ap (λ (zs : List A). x ∷ zs) (take_front n xs ys (omega (arith, e)))
+
+-- slices that were filled in leave room for the factors in their vectors
+pub room_kept : (t : FactorsOf) (which : List ℕ) (n m : ℕ) (ss more : List Scratch) (vs rest : List Verdict) → AreFactors t
+    → which ≡ t.which → n ≡ length ss → m ≡ length vs → AreMadeFor t.programs which ss → length vs ≡ length which
+    → IsRoomFor t (take n (ss ++ more)) (take m (vs ++ rest))
+room_kept t which n m ss more vs rest f w a b made size =
+    rw (take_front n ss more a, take_front m vs rest b) (record {
+      made = rw w at made;
+      size = rw w at size;
+      few = rw (size, w) f.few;
+    })
 
 -- the verdicts of the factors' programs on a row in range are those that it requires of the factors
 pub due_for : (t : FactorsOf) (which : List ℕ) (r : code.Row) (vs shown : List Verdict) → AreFactors t → which ≡ t.which

@@ -1,5 +1,6 @@
 -- The predicates of a product as they are run: the first, and the programs of all, each made once.
 use Rattle.std.specs.Prelude.{◌≡◌, true, ℕ, ◌≤◌, ◌<◌, All, List, ◌∷◌, ◌++◌, length, slice_get, Some, Result}
+use Rattle.std.specs.List.{AllZip}
 use Rattle.ln_tree.specs.declared.pred.Pred.{Pred}
 use Rattle.ln_tree.specs.Table.{PredOf, pred_of}
 use Rattle.ln_tree.specs.Row.{InRange, Row}
@@ -11,8 +12,7 @@ use Rattle.ln_code.specs.Part.{Part}
 use Rattle.ln_code.specs.RowOf.{row_of}
 use Rattle.ln_compile.specs.Compiled.{AreNumbered, IsProgramOf}
 use Rattle.ln_compile.specs.Filtered.{IsDue}
-use Rattle.ln_factor.specs.Factors.{AreMadeFor, AreOver}
-use Rattle.ln_verify.specs.Values.{Paired}
+use Rattle.ln_due.specs.Products.Factors.{AreMadeFor, AreOver}
 use Rattle.ln_rows.specs.Record.{IsReadAs}
 use Rattle.ln_rows.specs.declared.record.RowStop.{RowStop}
 use Rattle.ln_target.specs.Alike.{are_alike}
@@ -37,11 +37,11 @@ pub record AreFactors (t : FactorsOf) : Type 0 where
 
 -- the program at each of these places is that of the predicate at the same place of the list
 abbrev pub AreProgramsAt : List Part → List ℕ → List PredOf → Type 0
-AreProgramsAt programs = Paired (λ i p. (part : Part) → slice_get programs i ≡ Some part → IsProgramOf p part)
+AreProgramsAt programs = AllZip (λ i p. (part : Part) → slice_get programs i ≡ Some part → IsProgramOf p part)
 
 -- each factor has a verdict that the row requires of it
 abbrev pub AreDue : List PredOf → Row → List Verdict → Type 0
-AreDue ps row = Paired (λ p. IsDue p row) ps
+AreDue ps row = AllZip (λ p. IsDue p row) ps
 
 -- for each factor there are a scratch, made for its program, and a verdict
 pub record IsRoomFor (t : FactorsOf) (scratches : List Scratch) (verdicts : List Verdict) : Type 0 where
@@ -72,11 +72,11 @@ pub record IsMadeOf (table : List PredOf) (number : ℕ) (part : Part) : Type 0 
 
 -- programs that were made for the predicates with these numbers
 abbrev pub AreMade : List PredOf → List ℕ → List Part → Type 0
-AreMade table = Paired (IsMadeOf table)
+AreMade table = AllZip (IsMadeOf table)
 
 -- each of these numbers is at its place
 abbrev pub StandAt : List ℕ → List ℕ → List ℕ → Type 0
-StandAt numbers = Paired (λ k i. slice_get numbers k ≡ Some i)
+StandAt numbers = AllZip (λ k i. slice_get numbers k ≡ Some i)
 
 -- more were added at the end
 pub record Grows (old new : List ℕ) : Type 0 where

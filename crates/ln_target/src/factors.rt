@@ -5,16 +5,15 @@ ghost use Rattle.ln_algebra.specs.Product.{multiplied_numbers};
 ghost use Rattle.ln_tree.specs.Table.{PredOf, pred_of};
 ghost use Rattle.ln_code.specs.RowOf.{row_of};
 ghost use Rattle.ln_due.specs.Due.{sign_number};
-ghost use Rattle.ln_factor.specs.Factors.{AreMadeFor, numbers_of};
+ghost use Rattle.ln_due.specs.Products.Factors.{AreMadeFor, numbers_of};
 ghost use Rattle.ln_rows.specs.Header.{names_of, HeaderIs};
-ghost use Rattle.ln_target.specs.Factors.{AreDue, AreFactors, AreMade, AreMadeAt, AreProgramsAt, Grows, HaveOneShape, IsInRangeOf};
-ghost use Rattle.ln_target.specs.Factors.{IsRoomFor};
+ghost use Rattle.ln_target.specs.Factors.{AreDue, AreFactors, AreMade, AreMadeAt, AreProgramsAt, Grows, HaveOneShape, IsInRangeOf, IsRoomFor};
 ghost use Rattle.ln_compile.specs.Compiled.{AreNumbered};
 
 use ln_base::{NoMemory, Sign};
 use ln_code::{By, Program, Programs, Row, Scratch, Verdict};
 use ln_compile::Checked;
-use ln_factor::product_row;
+use ln_due::factors::product_row;
 use ln_rows::Rows;
 use ln_tree::{Pred, Table};
 use std::alloc::Global;
@@ -41,17 +40,10 @@ const BLANK: Verdict = Verdict {
 /// The memory in which the factors run: a scratch and a verdict for each.
 #[derive(Drop)]
 pub struct Room {
-    scratches: Vec<Scratch>,
-    verdicts: Vec<Verdict>,
-}
-
-impl Room {
-    /// Returns the verdicts of the factors, in order.
-    pub fn verdicts(&self) -> &[Verdict]
-        ensures { result.now ≡ self.now.verdicts.items }
-    {
-        self.verdicts.as_slice()
-    }
+    /// A scratch for each factor, made for its program.
+    pub scratches: Vec<Scratch>,
+    /// The verdicts of the factors for the row that was run last, in order.
+    pub verdicts: Vec<Verdict>,
 }
 
 impl<'a> Model for Factors<'a> {
@@ -207,8 +199,7 @@ impl<'a> Factors<'a> {
     pub fn take_header(&self, rows: &mut Rows<'_>) -> Result<bool, NoMemory>
         ensures { IfOk result (λ right. HeaderIs self.now.names rows.old rows.new right) }
     {
-        let right = rows.header(self.table, self.pred)?;
-        Ok(right)
+        rows.header(self.table, self.pred)
     }
 
     /// Makes the memory in which the factors run.

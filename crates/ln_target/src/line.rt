@@ -1,6 +1,5 @@
 //! The line of a record, of one predicate or of a product. The product isn't formed.
-ghost use Rattle.std.specs.Prelude.{◌≡◌, ◌≤◌, ◌+◌, ◌++◌, ◌∷◌, [], length, slice_index_or};
-ghost use Rattle.std.specs.Prelude.{vec_len, vec_capacity, IsOk, OnOk, OnErr, true};
+ghost use Rattle.std.specs.Prelude.{◌≡◌, ◌≤◌, ◌+◌, ◌++◌, ◌∷◌, [], length, slice_index_or, vec_len, vec_capacity, IsOk, OnOk, OnErr, true};
 ghost use Rattle.ln_rows.specs.Header.{names_of};
 ghost use Rattle.ln_target.specs.Line.{line_room, sign_text, decider_text, said_text, stop_text, is_bare, is_bare_stop};
 ghost use Rattle.ln_target.specs.Line.{deciders_after, deciders_room, product_text, row_room, with_verdicts};
@@ -132,12 +131,14 @@ pub fn add_stop(
     ensures steady { is_bare_stop stop ≡ true → IsOk result }
 {
     match stop {
-        RowStop::Fields => add_within(text, b"! fields\n"),
-        RowStop::Number(k) => add_column(alloc, text, b"! number ", table, pred, k)?,
-        RowStop::Range(k) => add_column(alloc, text, b"! range ", table, pred, k)?,
-        RowStop::Index(k) => add_column(alloc, text, b"! index ", table, pred, k)?,
+        RowStop::Fields => {
+            add_within(text, b"! fields\n");
+            Ok(())
+        }
+        RowStop::Number(k) => add_column(alloc, text, b"! number ", table, pred, k),
+        RowStop::Range(k) => add_column(alloc, text, b"! range ", table, pred, k),
+        RowStop::Index(k) => add_column(alloc, text, b"! index ", table, pred, k),
     }
-    Ok(())
 }
 
 /// Adds the line of what is said of a record. Only one that names a column allocates.
@@ -154,10 +155,12 @@ pub fn add_line(
     ensures steady { is_bare said ≡ true → IsOk result }
 {
     match said {
-        Ok(v) => add_verdict(text, v),
-        Err(stop) => add_stop(alloc, text, target.table(), target.pred(), stop)?,
+        Ok(v) => {
+            add_verdict(text, v);
+            Ok(())
+        }
+        Err(stop) => add_stop(alloc, text, target.table(), target.pred(), stop),
     }
-    Ok(())
 }
 
 // Adds the deciders of verdicts: a space before the first, a comma before each further one.
@@ -205,7 +208,7 @@ pub fn add_product_line(
 {
     match said {
         Ok(sign) => add_product(text, sign, verdicts),
-        Err(stop) => add_stop(alloc, text, factors.table(), factors.pred(), stop)?,
+        Err(stop) => return add_stop(alloc, text, factors.table(), factors.pred(), stop),
     }
     Ok(())
 }

@@ -1,6 +1,5 @@
 //! A predicate of a source as it is run: with the names of its columns and its program.
-ghost use Rattle.std.specs.Prelude.{◌≡◌, ◌<◌, length, map, slice_get, Some, IfOk};
-ghost use Rattle.std.specs.Prelude.{Ok};
+ghost use Rattle.std.specs.Prelude.{◌≡◌, ◌<◌, length, map, slice_get, Some, IfOk, Ok};
 ghost use Rattle.ln_code.specs.Memory.{MadeFor};
 ghost use Rattle.ln_algebra.specs.Orders.{ByDegree, BySmallest};
 ghost use Rattle.ln_compile.specs.Filtered.{AnswersFor, IsDueIn};
@@ -120,8 +119,7 @@ impl<'a> Target<'a> {
     pub fn take_header(&self, rows: &mut Rows<'_>) -> Result<bool, NoMemory>
         ensures { IfOk result (λ right. HeaderIs self.now.names rows.old rows.new right) }
     {
-        let right = rows.header(self.table, self.pred)?;
-        Ok(right)
+        rows.header(self.table, self.pred)
     }
 
     /// Memory in which the program is run.
@@ -129,8 +127,7 @@ impl<'a> Target<'a> {
         ensures made { IfOk result (λ s. MadeFor self.now.program s) }
         ensures belongs { Belongs self.now.rank self.now.pred self.now.program }
     {
-        let scratch = Scratch::new(alloc, &self.program)?;
-        Ok(scratch)
+        Scratch::new(alloc, &self.program)
     }
 
     /// Returns the verdict that a row in range requires in its order. Allocates nothing and refuses nothing.

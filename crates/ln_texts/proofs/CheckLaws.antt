@@ -1,8 +1,8 @@
 -- `check`: its lines one after the other, and its laws.
-use Rattle.std.proofs.Common.{◌≡◌, ℕ, ◌+◌, ◌<◌, List, [], ◌∷◌, ◌++◌, map, length, option_map, take}
+use Rattle.std.proofs.Common.{◌≡◌, ℕ, ◌+◌, ◌<◌, ◌≤◌, List, [], ◌∷◌, ◌++◌, map, length, option_map, take}
 use Rattle.std.proofs.Common.{get_or, refl, ap, sym, ◌∙◌, subst, append_assoc, Some}
 use Rattle.std.specs.Prelude.{slice_get}
-use Rattle.std.proofs.lemmas.List.{append-nil, map-append, take_more}
+use Rattle.std.proofs.lemmas.List.{append-nil, map-append, take_all, take_more}
 use Rattle.std.proofs.lemmas.Option.{slice_get-map, slice_get_read}
 use Rattle.ln_tree.specs.declared.pred.Pred.{Pred}
 use Rattle.ln_tree.specs.Table.{PredOf, pred_of, TableOf}
@@ -39,6 +39,23 @@ counts_more ps i p n texts new h e a at q =
     let behind : map pred_of (take (i + 1) ps) ≡ map pred_of (take i ps) ++ pred_of p ∷ [] = ap (map pred_of) front
     ∙ map-append pred_of (take i ps) (p ∷ []) in
     rw (behind, q) (count_behind (map pred_of (take i ps)) (pred_of p) n a (at (pred_of p) there))
+
+-- behind the last predicate
+pub counts_end : (ps : List Pred) (i : ℕ) (texts : List ℕ) → length ps ≤ i → AreCounts (map pred_of (take i ps)) texts
+    → AreCounts (map pred_of ps) texts
+counts_end ps i texts h a = rw (take_all i ps h) at a
+
+-- a front and a number are appended to a text
+and_number : (old a b d : List ℕ) {t u : List ℕ} → t ≡ old ++ a → u ≡ t ++ (b ++ d) → u ≡ old ++ (a ++ b ++ d)
+and_number old a b d p q =
+    q ∙ ap (λ z. z ++ (b ++ d)) p ∙ append_assoc old a (b ++ d) ∙ ap (λ z. old ++ z) (sym (append_assoc a b d))
+
+-- `add_count`: a name, two numbers with their fronts, and the end of the line
+pub count_appended : (old name b d e f end : List ℕ) {t u v new : List ℕ} → t ≡ old ++ name → u ≡ t ++ (b ++ d) → v ≡ u ++ (e ++ f)
+    → new ≡ v ++ end → new ≡ old ++ (name ++ b ++ d ++ e ++ f ++ end)
+count_appended old name b d e f end p q r s =
+    s ∙ ap (λ z. z ++ end) (and_number old (name ++ b ++ d) e f (and_number old name b d p q) r)
+    ∙ append_assoc old (name ++ b ++ d ++ e ++ f) end
 
 -- the laws of a work hold for `check`
 pub lawful : IsLawful asks_nothing check_work

@@ -17,3 +17,4 @@ pub mod Works
 pub mod Answer
 pub mod Causes
 pub mod Call
+pub mod Agree

@@ -1,9 +1,11 @@
-//! Laws: words and files whose bytes are known end in one way, and require one output; and what decides a row whose value isn't 0.
+//! Laws: words and files whose bytes are known end in one way, and require one output; what decides a row whose value isn't 0; and of the C that
+//! `emit` puts lnc_c says what the headline does.
 ghost use Rattle.std.specs.Prelude.{◌≡◌, ℕ, List, Some};
 ghost use Rattle.ln_base.specs.Outside.{Shelf};
 ghost use Rattle.ln_watch.specs.Panel.{State};
 ghost use Rattle.ln_frame.specs.declared.status.End.{End};
 ghost use Rattle.ln_frame.specs.Said.{Said};
+ghost use Rattle.ln_top.specs.Agree.{MeaningsAgree, ProgramsAgree};
 ghost use Rattle.ln_top.specs.Answer.{Answer};
 ghost use Rattle.ln_top.specs.ByValue.{ValuesDecide};
 ghost use Rattle.ln_top.specs.Causes.{Ends};
@@ -35,4 +37,13 @@ pub fn one_answer()
 /// is a filter.
 pub fn values_decide()
     ensures { ValuesDecide }
+{}
+
+/// A law: where a line of a text of calls is the call of a predicate on a row in its declared ranges, the line that lnc_c writes for it, from the C
+/// that `emit` put, is the perturbed sign and two counts.
+///
+/// On it rests that whoever doubts a compiler of C can ask lnc_c for the same rows.
+pub fn emitted_calls_agree()
+    ensures meanings { MeaningsAgree }
+    ensures programs { ProgramsAgree }
 {}

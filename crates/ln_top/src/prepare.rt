@@ -156,7 +156,10 @@ fn later<F: Files>(
     };
     match texts(alloc, files, plan.files) {
         Ok(texts) => Ok((numbers, kept, texts)),
-        Err(stop) => Err(stop),
+        Err(stop) => {
+            drop(kept);
+            Err(stop)
+        }
     }
 }
 
@@ -185,6 +188,9 @@ pub fn prepare<F: Files>(alloc: Global, files: &mut F, plan: Plan<'_>) -> Result
             kept,
             texts,
         }),
-        Err(stop) => Err(stop),
+        Err(stop) => {
+            drop(compiled);
+            Err(stop)
+        }
     }
 }

@@ -82,7 +82,11 @@ fn carry_plan<F: Files, C: Console>(
     ensures quiet { result ≢ Err Early.Read → result ≢ Err Early.Write → F.faults files.new ≡ F.faults files.old }
 {
     match prepare(alloc, files, plan) {
-        Ok(ready) => work(alloc, con, plan.command, &ready, watchers),
+        Ok(ready) => {
+            let ended = work(alloc, con, plan.command, &ready, watchers);
+            drop(ready);
+            ended
+        }
         Err(stop) => say(alloc, con, stop),
     }
 }

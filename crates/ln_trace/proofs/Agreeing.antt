@@ -16,7 +16,7 @@ use Rattle.ln_rows.specs.Record.{read_row}
 use Rattle.ln_trace.specs.declared.line.TraceLine.{TraceLine}
 use Rattle.ln_trace.specs.declared.line.TraceLine.TheVariants as line
 use Rattle.ln_trace.specs.Told.{AreTold, IsNext, IsSigned, Leads, Stood}
-use Rattle.ln_lines.proofs.Judging.{go_append}
+use Rattle.ln_base.proofs.Forms.Judging.{go_append}
 use Rattle.ln_trace.specs.Trace.{Between, Place, Subject, Within}
 use Rattle.ln_trace.specs.Judge.{Go, IsAgreed, judge_of}
 use Rattle.ln_trace.specs.Signs.{AreExplained, AreOf, AreRight, Explains, HaveStages, RowsDiffer, a_row, at_lines, no_row, signs_in}

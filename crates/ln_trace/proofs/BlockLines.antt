@@ -1,15 +1,15 @@
 -- Proves what was appended of the lines that blocks tell, one block and one segment after the other.
 use Rattle.std.proofs.Common.{◌≡◌, ◌≢◌, ℕ, ◌+◌, ◌<◌, ◌≤◌, suc, List, [], ◌∷◌, ◌++◌, length, drop, take, refl, sym, ◌∙◌, ap, subst, arith}
 use Rattle.std.proofs.Common.{get_or, append_assoc, append-nil, drop-cons}
-use Rattle.std.specs.Prelude.{AllPairs, Contains, Some}
+use Rattle.std.specs.Prelude.{Contains, Some}
 use Rattle.std.proofs.Math.IntN.{ℤ, pos}
-use Rattle.std.proofs.lemmas.List.{drop_all, get_or-take, get_or_default, length-take-le}
+use Rattle.std.proofs.lemmas.List.{drop_all}
 use Rattle.std.proofs.lemmas.Option.{slice_get-get_or}
 use Rattle.ln_base.specs.declared.sign.Sign.TheVariants.{Zero}
 use Rattle.ln_tree.specs.Exps.{IsRising, Pairs}
 use Rattle.ln_tree.specs.Row.{Row}
 use Rattle.ln_order.proofs.Signs.RowsLemmas.{order-places}
-use Rattle.ln_order.specs.Order.{IsFirstEqual, IsOrder}
+use Rattle.ln_order.specs.Order.{IsOrder}
 use Rattle.ln_order.specs.Orders.{IsOrderOf}
 use Rattle.ln_code.proofs.Verdicts.Prefixed.{list_ends, list_goes}
 use Rattle.ln_code.specs.Kept.{AreOfSites, IsProgram}
@@ -128,16 +128,6 @@ list-end p zs o list old now new j h f q = on-told p zs list [] old now new (sub
   tell = none_left;
   put = q ∙ ap (λ y. now ++ y) (sym (append-nil (text_of_line (line.Sign Zero))));
 })
-
--- ---- the order of a row
--- where all values differ, no place is the first whose value is that of an earlier one
-pub no_equal : (zs : List ℤ) (k : ℕ) → AllPairs (λ y z. y ≢ z) zs → IsFirstEqual zs k → ⊥
-no_equal zs k d e =
-    let x : ℤ = get_or zs k (pos 0) in
-    let j : ℕ = e.earlier.0 in
-    let l : j < k = omega (arith, e.earlier.1, length-take-le k zs (omega (arith, e.within))) in
-    let a : get_or zs j x ≡ x = sym (get_or-take k zs j x l) ∙ e.earlier.2 in
-    d j k x l e.within (a ∙ get_or_default zs k (pos 0) x e.within)
 
 -- ---- a row
 -- the `row` line, and then the lines of the blocks in the list of the row's order, are the lines of that row

@@ -1,7 +1,7 @@
 -- Lines that are judged one after the other, and what the result means.
 use Rattle.std.proofs.Common.{◌≡◌, ℕ, false, List, [], length, sym, ◌∙◌, subst, true≢false}
 use Rattle.ln_algebra.specs.Tree.{Tree}
-use Rattle.ln_lines.proofs.Judging.{Reached, reached_all}
+use Rattle.ln_base.proofs.Forms.Judging.{Reached, reached_all}
 use Rattle.ln_tree.specs.declared.shape.Shape.{Shape}
 use Rattle.ln_order.proofs.Signs.RowSigns.{rows-differ}
 use Rattle.ln_poly.specs.Sparse.{Sparse}

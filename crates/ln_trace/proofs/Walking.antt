@@ -1,7 +1,7 @@
 -- The loop over the lines of a trace.
 use Rattle.std.proofs.Common.{◌≡◌, ℕ, ◌+◌, suc, refl, sym, ◌∙◌, ap, subst, arith, List, [], ◌∷◌, length}
 use Rattle.std.specs.Prelude.{Result, Ok}
-use Rattle.ln_lines.proofs.Judging.{not_both, one_fault}
+use Rattle.ln_base.proofs.Forms.Judging.{not_both, one_fault}
 use Rattle.ln_tree.specs.Row.{Row}
 use Rattle.ln_rows.specs.Left.{Records}
 use Rattle.ln_rows.specs.Record.{read_row}

@@ -4,7 +4,7 @@ use Rattle.std.specs.Prelude.{None, Option}
 use Rattle.ln_algebra.specs.Tree.{Tree}
 use Rattle.ln_tree.specs.declared.shape.Shape.{Shape}
 use Rattle.ln_poly.specs.Sparse.{Sparse}
-use Rattle.ln_lines.proofs.Walk.{few_lines}
+use Rattle.ln_base.proofs.Forms.Walk.{few_lines}
 use Rattle.ln_rows.specs.Left.{Records}
 use Rattle.ln_trace.specs.declared.judged.Judged.{Judged}
 use Rattle.ln_trace.specs.declared.judged.Judged.TheVariants.{Agreed, Wrong}

@@ -3,7 +3,7 @@ use Rattle.std.specs.Prelude.{◌≡◌, ℕ, ℤ, ◌≤◌, List, [], ◌∷�
 use Rattle.ln_base.specs.Exponents.{Each}
 use Rattle.ln_base.specs.Lines.{joined}
 use Rattle.ln_base.specs.declared.sign.Sign.{Sign}
-use Rattle.ln_lines.specs.Fault.{IsFaultOf}
+use Rattle.ln_base.specs.Forms.Fault.{IsFaultOf}
 use Rattle.ln_trace.specs.declared.line.TraceLine.{TraceLine}
 use Rattle.ln_trace.specs.declared.line.TraceLine.TheVariants.{Refused, Row, At}
 use Rattle.ln_trace.specs.declared.line.TraceLine.TheVariants as line

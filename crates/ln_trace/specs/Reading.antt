@@ -1,8 +1,8 @@
 -- Defines which line is allowed where, and what its words say: for the reader, which goes line by line.
 -- The lemmas of proofs/Reading/Walk prove that this is the grammar.
 use Rattle.std.specs.Prelude.{◌≡◌, ℕ, Bool, true, false, if◌then◌else◌, List, ◌∷◌, Option, Some, None, bytes_eq, codes}
-use Rattle.ln_lines.specs.Form.{Rules}
-use Rattle.ln_lines.specs.Form as form
+use Rattle.ln_base.specs.Forms.Form.{Rules}
+use Rattle.ln_base.specs.Forms.Form as form
 use Rattle.ln_trace.specs.declared.line.TraceLine.{TraceLine}
 use Rattle.ln_trace.specs.declared.line.TraceLine.TheVariants as line
 use Rattle.ln_trace.specs.declared.state.Kind.{Kind}

@@ -1,7 +1,7 @@
 -- Why no trace is read.
 use Rattle.std.specs.Prelude.{ℕ, List}
-use Rattle.ln_lines.specs.declared.stop.TextStop.{TextStop}
-use Rattle.ln_lines.specs.declared.stop.TextStop.TheVariants.{Form, NoMemory}
+use Rattle.ln_base.specs.declared.lines.stop.TextStop.{TextStop}
+use Rattle.ln_base.specs.declared.lines.stop.TextStop.TheVariants.{Form, NoMemory}
 use Rattle.ln_trace.specs.declared.line.TraceLine.{TraceLine}
 use Rattle.ln_trace.specs.Form.{IsFormFault, TraceText}
 

@@ -1,6 +1,6 @@
 -- Defines a trace that is read line by line: what remains after some lines.
 use Rattle.std.specs.Prelude.{◌≡◌, ℕ, List, Option}
-use Rattle.ln_lines.specs.Unread as rest
+use Rattle.ln_base.specs.Forms.Unread as rest
 use Rattle.ln_trace.specs.declared.line.TraceLine.{TraceLine}
 use Rattle.ln_trace.specs.declared.state.State.{State}
 use Rattle.ln_trace.specs.Form.{TraceText}

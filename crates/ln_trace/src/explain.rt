@@ -1,7 +1,6 @@
 //! The lines of a trace that the blocks of a program tell of a row.
 ghost use Rattle.std.specs.Prelude.{◌≡◌, ◌<◌, ◌≤◌, ◌++◌, ◌∷◌, ◌^◌, [], ℕ, List, true, false, length, IfOk, OnOk, OnErr, All};
 ghost use Rattle.ln_tree.specs.Row.{InRange};
-ghost use Rattle.ln_order.specs.Order.{IsOrder};
 ghost use Rattle.ln_order.specs.Places.{order_places};
 ghost use Rattle.ln_code.specs.Lists.{list_of};
 ghost use Rattle.ln_code.specs.Memory.{MadeFor};
@@ -9,9 +8,10 @@ ghost use Rattle.ln_code.specs.RowOf.{row_of};
 ghost use Rattle.ln_trace.specs.Explain.{BlocksAreExplained, IsTold, IsToldBehind, TellOn};
 
 use crate::put::{put_at, put_row, put_sign};
+use crate::rules::order_at;
 use ln_base::{NoMemory, Sign};
 use ln_code::{Program, Row, Scratch, block_value, decided};
-use ln_order::{Order, order_of};
+use ln_order::Order;
 use std::alloc::Global;
 
 // Room for the lines of a row that its first block decides, in bytes.
@@ -92,20 +92,7 @@ fn tell_list(
             return Ok(());
         }
     }
-    put_sign(out, Sign::Zero)?;
-    Ok(())
-}
-
-// The order of the sites of a row.
-#[tactic(auto, using(crate::proofs::BlockLines::no_equal))]
-fn order_of_row(p: &Program, r: &Row) -> Order
-    requires row { InRange p.now.shape.sites p.now.shape.vars (row_of p.now.shape.sites p.now.shape.vars r.now) }
-    ensures { IsOrder (row_of p.now.shape.sites p.now.shape.vars r.now).index (order_places result) }
-{
-    match order_of(&r.index[..usize::from(p.shape().sites)]) {
-        Ok(order) => order,
-        Err(_) => unreachable!(),
-    }
+    put_sign(out, Sign::Zero)
 }
 
 // The lines of a row as a text.
@@ -122,7 +109,7 @@ fn row_text(
     ensures told { IfOk result (λ t. IsToldBehind p.now (row_of p.now.shape.sites p.now.shape.vars r.now) n [] t.items) }
     ensures made { MadeFor p.now s.new }
 {
-    let order = order_of_row(p, r);
+    let order = order_at(p.shape(), r);
     let mut text = Vec::with_capacity(alloc, ROW_ROOM)?;
     put_row(&mut text, n as u32)?;
     tell_list(p, &order, s, r, &mut text)?;

@@ -1,6 +1,7 @@
 //! The judge: a line at its place, and the loop over the lines.
-ghost use Rattle.std.specs.Prelude.{◌≡◌, ◌↔◌, ◌<◌, [], ℕ, List, None, false, length, IfOk, IsTrue};
+ghost use Rattle.std.specs.Prelude.{◌≡◌, ◌↔◌, ◌<◌, [], ℕ, List, None, Ok, false, length, IfOk, IsTrue};
 ghost use Rattle.ln_algebra.specs.Tree.{Tree};
+ghost use Rattle.ln_trace.specs.declared.judged.Judged.{Judged as AnyJudged};
 ghost use Rattle.ln_trace.specs.declared.judged.Judged.TheVariants.{Agreed};
 ghost use Rattle.ln_trace.specs.declared.line.TraceLine.{TraceLine as AnyLine};
 ghost use Rattle.ln_trace.specs.Here.{HasPoly, Holds, IsCase, Step, subject_of};
@@ -112,8 +113,7 @@ pub fn judge_lines(
         binomials: &b,
     };
     let mut state = fresh_progress();
-    let j = over_lines(alloc, &case, rows, lines, &mut state)?;
-    Ok(j)
+    over_lines(alloc, &case, rows, lines, &mut state)
 }
 
 // Returns what these lines are judged, where none has stood.
@@ -143,12 +143,12 @@ fn over_trace(
 }
 
 // The first line that fails, if there is one.
-fn fault_of(j: Judged) -> Option<u32>
-    ensures { result ≡ fault_of j }
+fn fault_of(found: Result<Judged, NoMemory>) -> Result<Option<u32>, NoMemory>
+    ensures { IfOk result (λ o. (j : AnyJudged) × (found ≡ Ok j) × (o ≡ fault_of j)) }
 {
-    match j {
-        Judged::Agreed(_n) => None,
-        Judged::Wrong(n) => Some(n),
+    match found? {
+        Judged::Agreed(_n) => Ok(None),
+        Judged::Wrong(n) => Ok(Some(n)),
     }
 }
 
@@ -176,6 +176,5 @@ pub fn judge(
         binomials: &b,
     };
     let mut state = fresh_progress();
-    let j = over_trace(alloc, &case, rows, t.lines(), &mut state)?;
-    Ok(fault_of(j))
+    fault_of(over_trace(alloc, &case, rows, t.lines(), &mut state))
 }

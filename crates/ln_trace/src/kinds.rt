@@ -4,7 +4,7 @@ ghost use Rattle.ln_trace.specs.Reading.{after, kind_in};
 ghost use Rattle.ln_trace.specs.declared.state.State.TheVariants.{Between};
 
 use crate::state::{Kind, State};
-use ln_lines::{either, only};
+use ln_base::lines::{either, only};
 
 /// The kind of the line that begins with this word, where the lines so far end in this.
 pub fn kind(state: State, w: &[u8]) -> Option<Kind>

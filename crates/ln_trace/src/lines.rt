@@ -7,7 +7,7 @@ use crate::line::TraceLine;
 use crate::state::State;
 use crate::words::line;
 use ln_base::NoMemory;
-use ln_lines::{Grammar, Rest, next};
+use ln_base::lines::{Grammar, Rest, next};
 use std::alloc::Global;
 use std::marker::Model;
 

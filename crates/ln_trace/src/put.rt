@@ -24,8 +24,7 @@ fn numbered(text: &mut Vec<u8>, word: &[u8], n: u32) -> Result<(), NoMemory>
 {
     put(text, word)?;
     put_number(text, u128::from(n))?;
-    text.push(b'\n')?;
-    Ok(())
+    put(text, b"\n".as_slice())
 }
 
 /// Appends an `at` line of these exponents, as variable and exponent, and this value.
@@ -36,8 +35,7 @@ pub(crate) fn put_at(out: &mut Vec<u8>, exps: &[(u8, u8)], value: i128) -> Resul
     put_exponents(out, exps)?;
     put_word(out, b":".as_slice())?;
     put_signed(out, value)?;
-    out.push(b'\n')?;
-    Ok(())
+    put(out, b"\n".as_slice())
 }
 
 /// Appends a `sign` line.

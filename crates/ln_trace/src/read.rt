@@ -9,12 +9,12 @@ ghost use Rattle.ln_trace.specs.Unread.{AreLeft, IsOpened};
 use crate::line::TraceLine;
 use crate::lines::{TraceLines, Traces};
 use crate::trace::Trace;
+use ln_base::lines::{first_line, opened};
 use ln_base::{NoMemory, Seq};
-use ln_lines::{first_line, opened};
 use std::alloc::Global;
 
 /// Why bytes are no trace.
-pub use ln_lines::TextStop as TraceStop;
+pub use ln_base::lines::TextStop as TraceStop;
 
 fn is_first(first: &[u8]) -> bool
     ensures { IsTrue result ↔ (first.now ≡ first_line) }

@@ -52,11 +52,11 @@ pub fn refused(
 }
 
 // The order of the sites of a row in range.
-fn order_at(p: &Pred, row: &Row) -> Order
-    requires { InRange p.now.shape.sites p.now.shape.vars (row_of p.now.shape.sites p.now.shape.vars row.now) }
-    ensures { IsOrder (take p.now.shape.sites row.now.index) (order_places result) }
+pub(crate) fn order_at(shape: &Shape, row: &Row) -> Order
+    requires { InRange shape.now.sites shape.now.vars (row_of shape.now.sites shape.now.vars row.now) }
+    ensures { IsOrder (take shape.now.sites row.now.index) (order_places result) }
 {
-    match order_of(&row.index[..usize::from(p.shape.sites)]) {
+    match order_of(&row.index[..usize::from(shape.sites)]) {
         Ok(o) => o,
         Err(_) => unreachable!(),
     }
@@ -96,7 +96,7 @@ pub fn row(p: &Pred, rows: &mut Rows<'_>, state: &mut Progress, n: u32) -> Resul
     if !is(next, Next::Read) {
         return Ok(false);
     }
-    let o = order_at(p, &state.row);
+    let o = order_at(&p.shape, &state.row);
     open(state, o, n);
     Ok(true)
 }

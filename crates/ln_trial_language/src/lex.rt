@@ -1,5 +1,5 @@
 //! Tests the tokens of sources, their first faults and the limit of their number.
-use ln_lex::{Kind, LexStop, Token, tokens};
+use ln_syntax::lex::{Kind, LexStop, Token, tokens};
 use std::alloc::Global;
 use std::test::Fail;
 

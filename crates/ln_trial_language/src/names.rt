@@ -1,9 +1,9 @@
 //! The first fault of names and limits, and the numbers of a source.
 ghost use Rattle.std.specs.Prelude.{◌≤◌, length};
 
-use ln_lex::{Token, tokens};
 use ln_names::{Fault, LimitWhat, check_names};
 use ln_parse::parse;
+use ln_syntax::lex::{Token, tokens};
 use ln_syntax::{RawItem, read_items, syntax_fault};
 use ln_tree::Table;
 use std::alloc::Global;

@@ -2,7 +2,7 @@
 ghost use Rattle.std.specs.Prelude.{◌≤◌, length};
 
 use ln_base::{NoMemory, Span};
-use ln_lex::{Token, tokens};
+use ln_syntax::lex::{Token, tokens};
 use ln_syntax::{RawArg, RawCoord, RawItem, RawLet, nesting_fault, read_items, syntax_fault};
 use std::alloc::Global;
 use std::test::Fail;

@@ -6,6 +6,5 @@ pub mod Domain
 pub mod Fitting
 pub mod Joins
 pub mod Negations
-pub mod SamePoly
 pub mod Signs
 pub mod Small

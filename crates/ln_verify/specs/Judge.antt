@@ -1,7 +1,7 @@
 -- The first line of a listing whose rule fails, and valid listings.
 use Rattle.std.specs.Prelude.{◌≡◌, ℕ, List, [], length}
-use Rattle.ln_lines.specs.Judge.{Judge}
-use Rattle.ln_lines.specs.Judge as judge
+use Rattle.ln_base.specs.Forms.Judge.{Judge}
+use Rattle.ln_base.specs.Forms.Judge as judge
 use Rattle.ln_verify.specs.BlockRules.{Version}
 use Rattle.ln_verify.specs.Line.{Outside, Place, Rule, Subject, Within, Written}
 use Rattle.ln_cert.specs.declared.part.Part.{Part}

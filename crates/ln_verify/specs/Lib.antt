@@ -14,7 +14,6 @@ pub mod Values
 pub mod Works
 pub mod Orders
 pub mod Here
-pub mod Cases
 pub mod AsPart
 pub mod Verified
 pub mod Law

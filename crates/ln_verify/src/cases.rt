@@ -8,12 +8,11 @@ ghost use Rattle.ln_poly.specs.Sparse.{AreBelow};
 ghost use Rattle.ln_stage.specs.Lists.{AreStageLists, Passes};
 ghost use Rattle.ln_stage.specs.Sound.{IsSound};
 ghost use Rattle.ln_stage.specs.Staged.{AreStagesOf};
-ghost use Rattle.ln_verify.specs.Cases.{IsOf, IsOrderedOf};
 ghost use Rattle.ln_verify.specs.Here.{IsCase};
 
 use crate::case::Case;
-use ln_base::{NoMemory, Seq};
-use ln_order::{Order, all_orders};
+use ln_base::NoMemory;
+use ln_order::all_orders;
 use ln_poly::{Poly, PolyStop, normal};
 use ln_stage::{StageStop, Stages, stages};
 use ln_tree::{Pred, Shape};
@@ -51,34 +50,6 @@ fn staged(alloc: Global, f: &Poly, s: &Shape) -> Result<Stages, NoMemory>
     }
 }
 
-// A case of these parts, with a copy of the shape.
-fn with_shape(
-    alloc: Global,
-    s: &Shape,
-    poly: Poly,
-    stages: Stages,
-    orders: Seq<Order>,
-) -> Result<Case, NoMemory>
-    ensures { IfOk result (λ c. IsOf s.now poly stages orders c) }
-{
-    let shape = s.copy(alloc)?;
-    Ok(Case {
-        shape,
-        poly,
-        stages,
-        orders,
-    })
-}
-
-// A case of these parts, with all orders of the sites.
-fn with_orders(alloc: Global, s: &Shape, poly: Poly, stages: Stages) -> Result<Case, NoMemory>
-    ensures { IfOk result (λ c. IsOrderedOf s.now poly stages c) }
-{
-    let orders = all_orders(alloc, s.sites)?;
-    let case = with_shape(alloc, s, poly, stages, orders)?;
-    Ok(case)
-}
-
 /// A predicate, with what its part is judged by. It is one without a fault: no range and no size of a node exceeds `2^127 - 1`, no
 /// node has too many terms, its normal polynomial isn't too large and isn't 0, and it hasn't too many stages.
 pub fn case_of(alloc: Global, p: &Pred) -> Result<Case, NoMemory>
@@ -88,7 +59,13 @@ pub fn case_of(alloc: Global, p: &Pred) -> Result<Case, NoMemory>
     ensures case { IfOk result IsCase }
 {
     let poly = expanded(alloc, p)?;
+    let orders = all_orders(alloc, p.shape.sites)?;
+    let shape = p.shape.copy(alloc)?;
     let stages = staged(alloc, &poly, &p.shape)?;
-    let case = with_orders(alloc, &p.shape, poly, stages)?;
-    Ok(case)
+    Ok(Case {
+        shape,
+        poly,
+        stages,
+        orders,
+    })
 }

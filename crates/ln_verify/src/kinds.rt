@@ -63,8 +63,7 @@ pub fn filter_op(
     if !is_at(state.at, At::AtFilter) {
         return Ok(false);
     }
-    let ok = operate(alloc, case, form, &mut state.filter_stack, op, a)?;
-    Ok(ok)
+    operate(alloc, case, form, &mut state.filter_stack, op, a)
 }
 
 /// A line of a block, in version 1.
@@ -85,8 +84,7 @@ pub fn block_op(
         return Ok(false);
     }
     let said = pair_of_bound(b);
-    let ok = operate(alloc, case, form, &mut state.block_stack, op, said)?;
-    Ok(ok)
+    operate(alloc, case, form, &mut state.block_stack, op, said)
 }
 
 /// A line of a block, in version 2.
@@ -107,8 +105,7 @@ pub fn range_op(
         return Ok(false);
     }
     let said = pair_of_ends(ends);
-    let ok = operate(alloc, case, form, &mut state.block_stack, op, said)?;
-    Ok(ok)
+    operate(alloc, case, form, &mut state.block_stack, op, said)
 }
 
 /// `order`.
@@ -188,8 +185,7 @@ fn ends(
         return Ok(false);
     }
     let f = block_stack.values[0].poly.settled(alloc)?;
-    let ok = is_derivative(alloc, case, &exps[exps.len() - 1], &f)?;
-    Ok(ok)
+    is_derivative(alloc, case, &exps[exps.len() - 1], &f)
 }
 
 /// `end`.
@@ -229,8 +225,8 @@ pub fn block(
     let Some(e) = exps_of(alloc, a)? else {
         return Ok(false);
     };
-    state.block_stack = empty(alloc)?;
     state.exps.push(e)?;
+    state.block_stack = empty(alloc)?;
     state.at = At::AtBlock;
     Ok(true)
 }

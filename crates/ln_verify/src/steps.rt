@@ -1,6 +1,6 @@
 //! One operation of a block or a filter, on a stack of values. A value is moved off the stack, and a local gets one more owner by
 //! `get`.
-ghost use Rattle.std.specs.Prelude.{List, IfOk};
+ghost use Rattle.std.specs.Prelude.{◌≡◌, List, IfOk, MatchOption, None, Some, get_or};
 ghost use Rattle.ln_bound.specs.declared.fitted.Two.TheVariants.{Plus, Minus, Times};
 ghost use Rattle.ln_tree.specs.declared.shape.VarInfo.{VarInfo as Info};
 ghost use Rattle.ln_code.specs.declared.op.Op.TheVariants.{Push, Input, Get, Set, Neg, Cut};
@@ -31,8 +31,7 @@ fn push_number<L: Limits>(
         StackStep L.known L.tree L.rules v vars on.old (Push c) b ok on.new) }
 {
     let v = number(alloc, c, s)?;
-    let ok = push(&mut on.values, v)?;
-    Ok(ok)
+    push(&mut on.values, v)
 }
 
 // A variable onto the stack.
@@ -48,8 +47,7 @@ fn push_input<L: Limits>(
         StackStep L.known L.tree L.rules (version_of form) case.now.shape.vars on.old (Input k) b ok on.new) }
 {
     let v = input(alloc, form, case.shape.vars.as_slice(), k, s)?;
-    let ok = push(&mut on.values, v)?;
-    Ok(ok)
+    push(&mut on.values, v)
 }
 
 // Takes two values off the stack, and pushes their result.
@@ -70,8 +68,7 @@ fn with_two<L: Limits>(
         return Ok(false);
     };
     let v = two(alloc, t, w, s, x, y)?;
-    let ok = push(&mut on.values, v)?;
-    Ok(ok)
+    push(&mut on.values, v)
 }
 
 // One value off the stack, and minus it onto it.
@@ -83,8 +80,7 @@ fn with_one<L: Limits>(on: &mut Stack<Value<L>>, w: Width, s: L::Said) -> Result
         return Ok(false);
     };
     let v = minus(w, s, x);
-    let ok = push(&mut on.values, v)?;
-    Ok(ok)
+    push(&mut on.values, v)
 }
 
 // One value off the stack, and it, divided by 2^n, onto it.
@@ -96,8 +92,7 @@ fn with_cut<L: Limits>(on: &mut Stack<Value<L>>, n: u8, s: L::Said) -> Result<bo
         return Ok(false);
     };
     let v = cut(n, s, x);
-    let ok = push(&mut on.values, v)?;
-    Ok(ok)
+    push(&mut on.values, v)
 }
 
 // A value off the stack into a local.
@@ -115,21 +110,27 @@ fn set<L: Limits>(on: &mut Stack<Value<L>>, j: u8) -> bool
     true
 }
 
+// The value of a local, if there is that local and it is set.
+fn local_at<T>(locals: &[Option<T>], j: usize) -> Option<&T>
+    ensures { MatchOption result (get_or locals.now j None ≡ None) (λ x. get_or locals.now j None ≡ Some x.now) }
+{
+    if j >= locals.len() {
+        return None;
+    }
+    local(locals, j)
+}
+
 // A local, onto the stack once more.
 fn get<L: Limits>(on: &mut Stack<Value<L>>, j: u8, s: L::Said) -> Result<bool, NoMemory>
     ensures { IfOk result (λ ok. (v : Version) (vars : List Info) (b : L.Bound) → L.tells s b →
         StackStep L.known L.tree L.rules v vars on.old (Get j) b ok on.new) }
 {
     let j = usize::from(j);
-    if j >= on.locals.len() {
-        return Ok(false);
-    }
-    let Some(x) = local(on.locals.as_slice(), j) else {
+    let Some(x) = local_at(on.locals.as_slice(), j) else {
         return Ok(false);
     };
     let v = again(x, s)?;
-    let ok = push(&mut on.values, v)?;
-    Ok(ok)
+    push(&mut on.values, v)
 }
 
 /// One operation over the variables of a predicate, with what its line says.

@@ -6,11 +6,11 @@
 //! the call has no meaning, the line of FILE at which it has none; or `none`, where FILE has no such function. It writes nothing on standard
 //! output unless every line of CALLS is a call.
 //!
-//! Where it stops, it writes one line on standard error and ends with a status that isn't 0, which `ln_calls::Stop` lists.
+//! Where it stops, it writes one line on standard error and ends with a status that isn't 0, which `ln_cmean::Stop` lists.
 #![tactic(auto)]
 
 use ln_base::Console;
-use ln_calls::{Stop, carry_out, exit_code};
+use ln_cmean::{Stop, carry_out, exit_code};
 use ln_disk::{DiskFiles, StdConsole, words_of};
 use std::process::ExitCode;
 

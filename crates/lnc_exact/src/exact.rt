@@ -31,7 +31,9 @@ fn put_exact(alloc: Global, text: &mut Vec<u8>, source: &Checked, i: usize) -> R
         → BeginsExact (map pred_of source.now.table.preds) (i + 1) text.new.items) }
 {
     let program = source.program(alloc, i)?.without_filter();
-    put_program(alloc, text, &program)
+    let done = put_program(alloc, text, &program);
+    drop(program);
+    done
 }
 
 // C without filters for the predicates of a source.
@@ -47,12 +49,14 @@ fn written(alloc: Global, source: &Checked) -> Result<Vec<u8>, NoMemory>
 }
 
 // Writes the C; all of it is made before the first byte is written.
-fn work<C: Console>(alloc: Global, con: &mut C, ready: &Ready) -> Result<End, Early>
-    requires { HasStanding ready.now }
-    ensures { (g : Given) → StandsFor ready.now g → CarriesOut (ExactSaid g) NoPart ⊥ ⊥
+fn work<C: Console>(alloc: Global, con: &mut C, ready: Ready) -> Result<End, Early>
+    requires { HasStanding ready }
+    ensures { (g : Given) → StandsFor ready g → CarriesOut (ExactSaid g) NoPart ⊥ ⊥
         (count (C.faults con.old) (C.faults con.new)) result (C.shown con.old) (C.shown con.new) }
 {
-    let text = written(alloc, &ready.compiled)?;
+    let made = written(alloc, &ready.compiled);
+    drop(ready);
+    let text = made?;
     put_text(con, &text, End::Done)
 }
 
@@ -87,7 +91,7 @@ fn carry_plan<F: Files, C: Console>(
     ensures quiet { result ≢ Err Early.Read → result ≢ Err Early.Write → F.faults files.new ≡ F.faults files.old }
 {
     match prepare(alloc, files, plan) {
-        Ok(ready) => work(alloc, con, &ready),
+        Ok(ready) => work(alloc, con, ready),
         Err(stop) => say(alloc, con, stop),
     }
 }

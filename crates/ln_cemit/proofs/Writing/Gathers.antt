@@ -6,12 +6,13 @@ use Rattle.std.proofs.lemmas.List.{drop_all, drop_more}
 use Rattle.std.proofs.lemmas.List.Elements.{filter-append}
 use Rattle.ln_code.specs.Part.{FilterCode}
 use Rattle.ln_csyn.specs.Layout.{Lays}
-use Rattle.ln_csyn.specs.Spelling.{Goes, Puts, lexeme, spell, written}
+use Rattle.ln_csyn.specs.Spelling.{Goes, Puts, lexeme, spell, spell_body, written}
+use Rattle.ln_csyn.specs.Tree.{Body, Group}
 use Rattle.ln_csyn.proofs.Writing.Lays.{lays_none}
 use Rattle.ln_cemit.specs.File.{one_fun}
-use Rattle.ln_cemit.specs.Names.{filter_name}
-use Rattle.ln_cemit.specs.Puts.{filter_funs, open_guards}
-use Rattle.ln_cemit.specs.Walked.{less, without}
+use Rattle.ln_cemit.specs.Names.{answer_name, filter_name}
+use Rattle.ln_cemit.specs.Puts.{filter_funs, filter_tried, open_guards}
+use Rattle.ln_cemit.specs.Walked.{attempt, less, without}
 use Rattle.ln_cemit.specs.Whole.{filter_body}
 
 -- one more was made of an element
@@ -56,6 +57,12 @@ guards_all {start} {now} i js k h g = record { is = λ r. ap (λ z. now ++ writt
 pub filter_some : {a b : List ℕ} (name x : List ℕ) (o : Option FilterCode) (f : FilterCode) → name ≡ x → o ≡ Some f
     → Lays a b (one_fun (filter_name name) (filter_body f) ∷ []) → Lays a b (filter_funs x o)
 filter_some {a} {b} name x o f e g p = rw g (subst (λ y. Lays a b (one_fun (filter_name y) (filter_body f) ∷ [])) e p)
+
+-- where there is a filter, its call was appended
+pub tried_some : {a b : List ℕ} (name x : List ℕ) (o : Option FilterCode) (f : FilterCode) → name ≡ x → o ≡ Some f
+    → ((t : Body) → Goes a b (spell_body t) (spell_body (Group 2 (attempt answer_name (filter_name name)) t)))
+    → (t : Body) → Goes a b (spell_body t) (spell_body (filter_tried x o t))
+tried_some name x o f e g p t = rw (g, ← e) (p t)
 
 -- where there is no filter, nothing was laid out
 pub filter_none : {a : List ℕ} (x : List ℕ) (o : Option FilterCode) → o ≡ None → Lays a a (filter_funs x o)

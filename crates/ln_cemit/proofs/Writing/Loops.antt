@@ -5,12 +5,11 @@ use Rattle.std.specs.Prelude.{◌==◌, Option, Some, None, Contains, codes, rev
 use Rattle.std.specs.List.{range_with_len}
 use Rattle.std.proofs.Math.ListN.{replicate}
 use Rattle.std.proofs.Math.Path.{fun_ext}
-use Rattle.std.proofs.lemmas.List.{drop_all, drop_more, length-map, get_or-map, get_or_default, reverse-append, length-take-le}
+use Rattle.std.proofs.lemmas.List.{drop_all, drop_more, length-map, get_or-map, get_or_default, length-take-le}
 use Rattle.std.proofs.lemmas.Option.{slice_get-get_or}
 use Rattle.std.proofs.lemmas.Bool.{cases_lt}
 use Rattle.ln_algebra.specs.Vector.{same_vector}
 use Rattle.ln_algebra.proofs.Expanded.Normal.{same_vector-is}
-use Rattle.ln_bound.specs.declared.fitted.Width.{Width}
 use Rattle.ln_code.specs.declared.op.Op.{Op}
 use Rattle.ln_code.specs.declared.op.Op.TheVariants.{Get, Push}
 use Rattle.ln_code.specs.Engine.{Line, next}
@@ -31,30 +30,15 @@ use Rattle.ln_order.proofs.Listing.OrdersLemmas.{is-member}
 use Rattle.ln_order.proofs.Listing.PrefixLemmas.{prefix-is}
 use Rattle.ln_cemit.specs.declared.slot.Slot.{Slot}
 use Rattle.ln_cemit.specs.declared.slot.Way.{Way}
-use Rattle.ln_cemit.specs.Emit.{body_of, constant, emitted, touching_index, pushing, put_get, slot, type_of, put_op, put_sign, naming}
+use Rattle.ln_cemit.specs.Emit.{body_of, constant, emitted, touching_index, pushing, put_get, type_of, put_op, put_sign, naming}
 use Rattle.ln_cemit.specs.Emit.{ops_of, unread, reads, reads_row, touching}
 use Rattle.ln_cemit.specs.File.{one_fun, one_funs, two_fun}
 use Rattle.ln_cemit.specs.Names.{answer_name, block_name, call_name, decl_name, filter_name}
-use Rattle.ln_cemit.specs.Puts.{Does, MayMove, Moves, any_reads, decl_before, filter_funs, filter_tried, close_braces, locals_of}
+use Rattle.ln_cemit.specs.Puts.{Does, MayMove, Moves, any_reads, filter_funs, filter_tried, close_braces, locals_of}
 use Rattle.ln_cemit.specs.Puts.{open_guards, picks_on, rest_or}
 use Rattle.ln_cemit.specs.Walked.{attempt, body_for, guarded, less, picks, says_nothing, tries, walked, without}
 use Rattle.ln_cemit.specs.Ways.{ways}
 use Rattle.ln_cemit.specs.Whole.{block_body, bodies_of, call_body, filter_body, first_of, funs_before, moved, numbered, part_name}
-
--- ---- one operation
--- a constant is pushed
-pub pushed : {a b : List ℕ} (n : ℕ) (wd : Width) (y z : ℤ) (st su : List Slot) → y ≡ z
-    → su ≡ st ++ slot n wd ∷ [] → Puts a b (decl_before n wd (c.Inner (type_of wd) (constant y)))
-    → Moves a b su (λ ls go. pushing decl_name n wd (c.Inner (type_of wd) (constant z)) (reverse st) ls go)
-pushed {a} {b} n wd y z st su e f p =
-    let r : reverse su ≡ slot n wd ∷ reverse st = ap reverse f ∙ reverse-append st (slot n wd ∷ []) in
-    let q : Puts a b (decl_before n wd (c.Inner (type_of wd) (constant z))) =
-    subst (λ x. Puts a b (decl_before n wd (c.Inner (type_of wd) (constant x)))) e p in
-    record {
-      goes =
-          λ ls go. subst (λ sv. Goes a b (spell_body (go sv ls)) (spell_body (pushing decl_name n wd (c.Inner (type_of wd) (constant z)) (reverse st) ls go)))
-          (sym r) (record { is = λ t. q.is (spell_body (go (slot n wd ∷ reverse st) ls) t) });
-    }
 
 -- ---- the cases of `put_operation`
 module _ {a b : List ℕ} (o : Op) (way : Way) (n : ℕ) (st su : List Slot) (os : List (Option Slot)) where

@@ -2,7 +2,7 @@
 use Rattle.std.proofs.Common.{◌≡◌, ℕ, ◌==◌, not, Bool, true, false, List, [], ◌∷◌, Option, Some, None, refl, sym, ap, ◌∙◌, subst}
 use Rattle.std.specs.Prelude.{if◌then◌else◌, bytes_eq, codes, option_map}
 use Rattle.ln_base.proofs.Texts.Lists.{equal_bytes}
-use Rattle.ln_lines.proofs.Picked.{none, pick, some}
+use Rattle.ln_base.proofs.Forms.Picked.{none, pick, some}
 use Rattle.ln_bound.specs.declared.fitted.Width.TheVariants.{W64, W128}
 use Rattle.ln_cert.specs.declared.part.Kind.{Kind}
 use Rattle.ln_cert.specs.declared.part.Kind.TheVariants as kind

@@ -1,6 +1,6 @@
 -- The loop over all lines of a listing.
 use Rattle.std.proofs.Common.{◌≡◌, ℕ, ◌+◌, List, [], ◌∷◌, ◌++◌, length, refl, sym, ap, ◌∙◌, subst, arith, length-append}
-use Rattle.ln_lines.proofs.Left as left
+use Rattle.ln_base.proofs.Forms.Left as left
 use Rattle.ln_cert.specs.declared.part.Entry.{Entry}
 use Rattle.ln_cert.specs.Listing.{AreNumbered, parts_of}
 use Rattle.ln_cert.specs.Reading.{list_rules}

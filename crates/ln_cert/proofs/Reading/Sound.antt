@@ -1,7 +1,7 @@
 -- The form of listings is sound.
 use Rattle.std.proofs.Common.{ℕ, [], ◌∷◌, refl, arith}
 use Rattle.ln_base.proofs.Texts.Lines.{words_line_end}
-use Rattle.ln_lines.specs.Form.{AreSound, Finish}
+use Rattle.ln_base.specs.Forms.Form.{AreSound, Finish}
 use Rattle.ln_cert.specs.declared.part.Part.TheVariants.{NoFilter, Decide, Block, End, Order, Done}
 use Rattle.ln_cert.specs.declared.part.State.{State}
 use Rattle.ln_cert.specs.declared.part.State.TheVariants.{Top, Opened, InFilter, Planned, InBlock, Blocks, Orders}

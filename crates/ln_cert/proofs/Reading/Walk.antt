@@ -11,7 +11,7 @@ use Rattle.ln_cert.specs.Listing.{FilterOps, BlockOps, AFilter, SomeBlocks, Some
 use Rattle.ln_cert.specs.Listing as form
 use Rattle.ln_cert.specs.Reading.{list_rules, next_of}
 pub use Rattle.ln_cert.specs.Reading.{goes}
-use Rattle.ln_lines.proofs.Walk.{goes_none}
+use Rattle.ln_base.proofs.Forms.Walk.{goes_none}
 
 -- the state in which the lines of a listing start
 abbrev pub start : Option State

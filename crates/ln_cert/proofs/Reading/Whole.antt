@@ -4,15 +4,15 @@ use Rattle.std.specs.Prelude.{codes}
 use Rattle.ln_base.specs.Lines.{joined, lines}
 use Rattle.ln_base.proofs.Texts.Lines.{joined_lines}
 use Rattle.ln_base.proofs.Texts.Lists.{head, rest}
-use Rattle.ln_lines.specs.declared.stop.TextStop.{TextStop}
-use Rattle.ln_lines.specs.declared.stop.TextStop.TheVariants.{Form, NoMemory}
-use Rattle.ln_lines.specs.Form as form
-use Rattle.ln_lines.specs.Unread.{IsFirst, NoFirst}
-use Rattle.ln_lines.specs.Unread as left
-use Rattle.ln_lines.proofs.Fault.{one_whole}
-use Rattle.ln_lines.proofs.OneFault.{fault_first, fault_of, no_whole}
-use Rattle.ln_lines.proofs.OneFault as fault
-use Rattle.ln_lines.proofs.Walk.{lines_of_text}
+use Rattle.ln_base.specs.declared.lines.stop.TextStop.{TextStop}
+use Rattle.ln_base.specs.declared.lines.stop.TextStop.TheVariants.{Form, NoMemory}
+use Rattle.ln_base.specs.Forms.Form as form
+use Rattle.ln_base.specs.Forms.Unread.{IsFirst, NoFirst}
+use Rattle.ln_base.specs.Forms.Unread as left
+use Rattle.ln_base.proofs.Forms.Fault.{one_whole}
+use Rattle.ln_base.proofs.Forms.OneFault.{fault_first, fault_of, no_whole}
+use Rattle.ln_base.proofs.Forms.OneFault as fault
+use Rattle.ln_base.proofs.Forms.Walk.{lines_of_text}
 use Rattle.ln_cert.specs.declared.part.Part.{Part}
 use Rattle.ln_cert.specs.declared.part.State.{State}
 use Rattle.ln_cert.specs.Listing.{IsFormFault, IsWhole, ListText, first_line, texts_of}

@@ -3,7 +3,7 @@ use Rattle.std.proofs.Common.{◌≡◌, ℕ, ◌≤◌, List, [], ◌∷◌, �
 use Rattle.std.specs.Prelude.{decimal, codes}
 use Rattle.ln_cert.specs.Text.{Each, IsPlace}
 use Rattle.ln_base.proofs.Texts.Numbers.{decimal_injective, no_byte}
-use Rattle.ln_lines.proofs.Colon.{same_before}
+use Rattle.ln_base.proofs.Forms.Colon.{same_before}
 
 -- ---- up to a colon
 

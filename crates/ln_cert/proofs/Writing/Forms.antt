@@ -1,7 +1,7 @@
 -- The listing of programs has the form of a listing.
 use Rattle.std.proofs.Common.{◌≡◌, ℕ, suc, ◌+◌, ◌<◌, List, [], ◌∷◌, ◌++◌, length, length-append, map, zero, Option, Some, None, inr, refl, ap, ◌∙◌, arith}
 use Rattle.std.proofs.lemmas.List.{length-map}
-use Rattle.ln_interval.specs.Range.{Range}
+use Rattle.ln_bound.specs.Intervals.Range.{Range}
 use Rattle.ln_code.specs.declared.op.Triple.{Triple}
 use Rattle.ln_code.specs.Engine.{Line}
 use Rattle.ln_code.specs.Part.{Code, FilterCode, lines_of}
@@ -15,7 +15,7 @@ use Rattle.ln_cert.specs.Listing.{Predicates}
 use Rattle.ln_cert.specs.Written.{block_lines, blocks_lines, filter_line, filter_lines, order_lines, program_lines, range_line}
 use Rattle.ln_cert.proofs.Reading.Walk.{goes, is_form, whole}
 use Rattle.ln_cert.specs.Reading.{list_rules}
-use Rattle.ln_lines.proofs.Walk.{goes_append}
+use Rattle.ln_base.proofs.Forms.Walk.{goes_append}
 
 join : (o p q : Option State) (xs ys : List Part) → goes 2 o xs ≡ p → goes 2 p ys ≡ q → goes 2 o (xs ++ ys) ≡ q
 join o p q xs ys e f = goes_append (list_rules 2) o xs ys ∙ ap (λ (z : Option State). goes 2 z ys) e ∙ f

@@ -25,8 +25,8 @@ use Rattle.ln_code.specs.Lists.{list_of, lists_of}
 use Rattle.ln_code.specs.Part.{Code, FilterCode, Part, ops_in_blocks, ops_in_filter}
 use Rattle.ln_due.specs.Small.{FilterPushesSmall}
 use Rattle.ln_compile.specs.Accepted.{root_of, loaded_of}
-use Rattle.ln_compile.specs.Compiled.{IsFilterOf, IsOwn, IsProgramOf}
-use Rattle.ln_compile.specs.Made.{AreBlocksOf}
+use Rattle.ln_compile.specs.Compiled.{IsFilterOf, IsProgramOf}
+use Rattle.ln_compile.specs.Made.{AreOwnBlocks}
 use Rattle.ln_compile.proofs.Listing.ListLemmas.{of-each, order-stages, staged}
 use Rattle.ln_compile.proofs.Listing.ListingLemmas.{lists-are, stages-few}
 use Rattle.ln_compile.proofs.Making.MakingLemmas.{own-exact}
@@ -60,8 +60,7 @@ few-ops first ops cover len f h k l = omega (arith, f, h, k, l)
 module _ (p : Pred) (f : Sparse) (st : Staged) (blocks : List Code) (light : AreLight (loaded_of (pred_of p)))
     (normal : IsNormal (length p.shape.vars) (root_of (pred_of p)) f) (some : f ≢ []) (stages : AreStagesOf p.shape.sites p.shape.vars f st)
     (count : stage_count (vectors_of (length p.shape.vars) st) ≤ 65536) (heavy : stage_weight (length p.shape.vars) f
-    (vectors_of (length p.shape.vars) st) ≤ 131072) (first : Code)
-    (is_own : IsOwn (pred_of p) first) (small : length first.ops ≤ 524352) (made : AreBlocksOf p.shape.vars f first st.exps blocks)
+    (vectors_of (length p.shape.vars) st) ≤ 131072) (ours : AreOwnBlocks (pred_of p) f st.exps blocks)
     (filter : Option FilterCode) (own : IsFilterOf (pred_of p) filter) (rules : IfSome filter (FollowsFilterRules p.shape.vars))
     (whole : IfSome filter (CarriesWhole p.shape.vars (terms_of (length p.shape.vars) f))) (short : ops_in_filter filter ≤ 1048640)
     (pushes : IfSome filter (FilterPushesSmall p.shape.vars)) where
@@ -70,7 +69,7 @@ module _ (p : Pred) (f : Sparse) (st : Staged) (blocks : List Code) (light : Are
   part = record { shape = p.shape; filter = filter; blocks = blocks; segments = st.segments }
 
   as-many : length blocks ≡ length st.exps
-  as-many = blocks-length (length p.shape.vars) blocks st.exps made.vectors
+  as-many = blocks-length (length p.shape.vars) blocks st.exps ours.made.vectors
 
   -- the program has at most 65,536 blocks
   pub few-blocks : length blocks ≤ 65536
@@ -82,20 +81,20 @@ module _ (p : Pred) (f : Sparse) (st : Staged) (blocks : List Code) (light : Are
 
   own-vectors : vectors_of (length p.shape.vars) (staged part) ≡ vectors_of (length p.shape.vars) st
   own-vectors = ap (map (λ list. map (block_vector (length p.shape.vars) (map (λ (c : Code). c.exps) blocks)) list)) own-lists
-      ∙ same-vectors (length p.shape.vars) st blocks made.vectors
+      ∙ same-vectors (length p.shape.vars) st blocks ours.made.vectors
 
   -- the program follows the rules, has fewer than 2^32 operations, and no list of it is empty or names a block twice
   pub is-program : IsProgram part
   is-program = record {
-    blocks = λ k d l. (made.each k d l).rules;
+    blocks = λ k d l. (ours.made.each k d l).rules;
     filter = rules;
     few = omega (
       arith,
       few-ops (ops_in_filter filter) (ops_in_blocks blocks) (all_covering (length p.shape.vars) f (map (vector (length p.shape.vars)) st.exps))
-          (length st.exps) short (omega (arith, made.few, small)) (omega (arith, heavy, ap (all_covering (length p.shape.vars) f) stages.first_sight))
+          (length st.exps) short (omega (arith, ours.made.few, ours.small)) (omega (arith, heavy, ap (all_covering (length p.shape.vars) f) stages.first_sight))
           (omega (arith, stages-few p.shape.sites p.shape.vars f st stages, count)),
     );
-    of_sites = λ k d l. (made.each k d l).of_sites;
+    of_sites = λ k d l. (ours.made.each k d l).of_sites;
     prefixes = stages.segments.size;
     named = subst (λ n. All (λ segment. All (λ i. i < n) segment) st.segments) (sym as-many) stages.segments.numbers;
     lists = λ o h. of-each p.shape.sites (list_of part) st.lists (IsList (length blocks)) o (sym own-lists)
@@ -117,11 +116,11 @@ module _ (p : Pred) (f : Sparse) (st : Staged) (blocks : List Code) (light : Are
       normal = normal.normal;
       lists = λ places list l. order-stages BySmallest part (root_of (pred_of p)) f places list normal.normal
           (subst (AreStageLists p.shape.sites p.shape.vars f) (sym own-vectors) stages.lists) l;
-      blocks = λ k d l. (made.each k d l).carries;
+      blocks = λ k d l. (ours.made.each k d l).carries;
       filter = whole;
     };
-    exact = made.exact (own-exact (pred_of p) f first is_own);
-    sight = made.vectors ∙ stages.first_sight ∙ ap first_seen (sym own-vectors);
-    small = record { blocks = λ k d l. (made.each k d l).small; filter = pushes };
-    begins = record { block = first; first = made.first; own = is_own; short = omega (arith, small, short) };
+    exact = ours.made.exact (own-exact (pred_of p) f ours.first ours.own);
+    sight = ours.made.vectors ∙ stages.first_sight ∙ ap first_seen (sym own-vectors);
+    small = record { blocks = λ k d l. (ours.made.each k d l).small; filter = pushes };
+    begins = record { block = ours.first; first = ours.made.first; own = ours.own; short = omega (arith, ours.small, short) };
   }

@@ -1,6 +1,6 @@
 -- The steps of the nested form, with their ranges.
 use Rattle.std.proofs.Common.{◌≡◌, ℕ, ℤ, ◌+◌, ◌-◌, ◌*◌, ◌^◌, ◌≤◌, ◌<◌, max, true, false, List, [], ◌∷◌, length, refl, zero, suc, ap, arith}
-use Rattle.std.proofs.Common.{pos, ◌+ℤ◌, ◌∙◌, sym, unsigned_abs, slice_index_or, take}
+use Rattle.std.proofs.Common.{pos, ◌+ℤ◌, ◌∙◌, sym, subst, unsigned_abs, slice_index_or, take}
 use Rattle.std.specs.Prelude.{FitsSigned, Option, Some, None, negsuc, slice_get, ◌==◌}
 use mir.Syntax.{w128}
 use Rattle.std.proofs.Math.Nat.{mul-le-mul_left}
@@ -10,8 +10,8 @@ use Rattle.std.proofs.lemmas.List.{nil_from_length}
 use Rattle.ln_algebra.specs.Terms.{Term}
 use Rattle.ln_algebra.specs.Tree.{Tree, Num, Input, Neg, Add, Mul}
 use Rattle.ln_algebra.specs.Weights.{weighted_sum}
-use Rattle.ln_interval.specs.Range.{Range, point, magnitude, product, sum}
-use Rattle.ln_interval.proofs.Magnitudes.{sum_magnitude, opposite_magnitude, product_magnitude}
+use Rattle.ln_bound.specs.Intervals.Range.{Range, point, magnitude, product, sum}
+use Rattle.ln_bound.proofs.Intervals.Magnitudes.{sum_magnitude, opposite_magnitude, product_magnitude}
 use Rattle.ln_tree.specs.declared.shape.VarInfo.{VarInfo}
 use Rattle.ln_bound.specs.Light.{most}
 use Rattle.ln_bound.specs.Exact.{IsExact}
@@ -101,6 +101,15 @@ plus_has vars x y e g a b h i =
 -- the same tree under another name and a larger bound
 pub has_as : (vars : List VarInfo) (t : Typed) (e g : Tree) (a b : ℕ) → e ≡ g → a ≤ b → Has vars t e a → Has vars t g b
 has_as vars t e g a b q l h = record { same = h.same ∙ q; exact = h.exact; small = let s = h.small in omega (arith, s, l) }
+
+-- where a variable is left, the nested form is by its powers
+pub by_powers : (vars : List VarInfo) (t : Typed) (d n v b : ℕ) (f : List Term) → v < n
+    → Has vars t (horner (nested d (n - (v + 1)) (v + 1)) v d f) b → Has vars t (nested d (n - v) v f) b
+by_powers vars t d n v b f l h =
+    let e : n - v ≡ suc (n - (v + 1)) = omega (arith, l) in
+    let m : v + 1 ≡ suc v = omega arith in
+    let k : Has vars t (horner (nested d (n - (v + 1)) (suc v)) v d f) b = subst (λ z. Has vars t (horner (nested d (n - (v + 1)) z) v d f) b) m h in
+    rw e k
 
 -- where an exact tree is the number 1 or -1 the magnitude of its range is 1
 unit_magnitude : (vars : List VarInfo) (y : Typed) (z : ℤ) → IsExact vars [] y → untyped y ≡ Num z → unsigned_abs z ≡ 1 → magnitude (pair y) ≡ 1

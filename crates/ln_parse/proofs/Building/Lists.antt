@@ -1,6 +1,6 @@
 -- Lists read from the beginning on.
-use Rattle.std.proofs.Common.{◌≡◌, ℕ, ◌+◌, ◌<◌, List, [], ◌∷◌, ◌++◌, length, map, get_or, take, drop, ap, sym, ◌∙◌}
-use Rattle.std.proofs.lemmas.List.{drop_more, take_more, map_push, get_or_default}
+use Rattle.std.proofs.Common.{◌≡◌, ℕ, ◌+◌, ◌-◌, ◌<◌, ◌≤◌, arith, List, [], ◌∷◌, ◌++◌, length, map, get_or, take, drop, ap, sym, ◌∙◌}
+use Rattle.std.proofs.lemmas.List.{drop_more, take_more, take_all, map_push, get_or_default}
 
 -- an element is the one at place i of a list
 pub record IsAt {A : Type 0} (xs : List A) (i : ℕ) (x : A) : Type 0 where
@@ -12,6 +12,11 @@ pub record SeenAt {A B : Type 0} (f : A → B) (xs : List A) (i : ℕ) (y : B) :
   pub element : A
   pub at : IsAt xs i element
   pub seen : f element ≡ y
+
+-- the first element of a list, and the slice behind it
+pub first_rest : {A : Type 0} (xs : List A) (x : A) → 1 ≤ length xs → x ≡ get_or xs 0 x → x ∷ take (length xs - 1) (drop 1 xs) ≡ xs
+first_rest [] x l e = absurd (omega arith)
+first_rest (y ∷ ys) x l e = ap (λ w. x ∷ w) (take_all (length (y ∷ ys) - 1) ys (omega arith)) ∙ ap (λ w. w ∷ ys) e
 
 -- the remaining list at an item
 pub drop_item : {A : Type 0} (xs : List A) (i : ℕ) (x : A) → IsAt xs i x → drop i xs ≡ x ∷ drop (i + 1) xs

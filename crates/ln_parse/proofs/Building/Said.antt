@@ -1,18 +1,22 @@
 -- What has been said so far, and what remains to be said.
 use Rattle.std.proofs.Common.{◌≡◌, ℕ, ◌<◌, get_or, false, ◌+◌, ◌≤◌, List, [], ◌∷◌, ◌++◌, length, take, drop, map, refl, ap, sym, subst, ◌∙◌}
-use Rattle.std.proofs.Common.{append-nil, append_assoc}
+use Rattle.std.proofs.Common.{Global, Vec, append-nil, append_assoc}
 use Rattle.std.specs.Prelude.{filter_map, Option, Some, None}
 use Rattle.std.specs.List.{cons_option}
 use Rattle.std.proofs.lemmas.List.{drop_all, map_push}
-use Rattle.ln_lex.specs.declared.token.Token.{Token}
+use Rattle.ln_base.specs.declared.span.Span.{Span}
+use Rattle.ln_syntax.specs.declared.lex.token.Token.{Token}
+use Rattle.ln_syntax.specs.declared.raw.Places.{Places}
 use Rattle.ln_syntax.specs.declared.raw.RawArg.{RawArg}
+use Rattle.ln_syntax.specs.declared.raw.RawCoord.{RawCoord}
 use Rattle.ln_syntax.specs.declared.raw.RawLet.{RawLet}
 use Rattle.ln_syntax.specs.declared.raw.RawItem.{RawItem}
+use Rattle.ln_syntax.specs.declared.raw.RawItem.TheVariants.{Site, Param, Pred}
 use Rattle.ln_syntax.specs.Raw.{Item, SiteItem, ParamItem, PredItem, item, items, is_pred}
 use Rattle.ln_names.specs.Rules.{Scope, scope}
 use Rattle.ln_tree.specs.Formula.{Formula}
 use Rattle.ln_tree.specs.Table.{TableOf, PredOf}
-use Rattle.ln_parse.specs.Says.{Says, LetsSay, PredsSay}
+use Rattle.ln_parse.specs.Says.{Says, LetsSay, PredsSay, site_said}
 use Rattle.ln_parse.proofs.Building.Lists.{IsAt, SeenAt, drop_item, take_item, drop_seen, take_seen}
 
 -- the lets from place i on, after these formulas
@@ -92,6 +96,19 @@ none_said : (bytes : List ℕ) (ts : List Token) (before : List Item) (t : Table
 none_said bytes ts before t (SiteItem name coords) is ps h g = g
 none_said bytes ts before t (ParamItem name range) is ps h g = g
 none_said bytes ts before t (PredItem name args ls root) is ps h g = absurd (cc)
+
+-- an item of another variant
+pub no_site : (bytes : List ℕ) (x : RawItem) → ((n : Span) (cs : Vec RawCoord Global) → x ≡ Site n cs → ⊥) → site_said bytes (item x) ≡ None
+no_site bytes (Site n cs) h = absurd (h n cs refl)
+no_site bytes (Param n r) h = refl
+no_site bytes (Pred n args ls root) h = refl
+
+-- an item that isn't a predicate says none
+pub no_pred : (x : RawItem) → ((n : Span) (args : Vec RawArg Global) (ls : Vec RawLet Global) (root : Places) → x ≡ Pred n args ls root → ⊥)
+    → is_pred (item x) ≡ false
+no_pred (Site n cs) h = refl
+no_pred (Param n r) h = refl
+no_pred (Pred n args ls root) h = absurd (h n args ls root refl)
 
 -- an item that is no predicate adds none
 pub preds_skip : (bytes : List ℕ) (ts : List Token) (t : TableOf) (its : List RawItem) (i : ℕ) (y : Item) (done : List PredOf)

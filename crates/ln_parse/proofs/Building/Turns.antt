@@ -62,9 +62,6 @@ module _ (args : List Arg) (k : ℕ) where
   pub all_seen : (s all : ℕ) → length args ≤ k → s + count_by is_site_said (map arg_of (drop k args)) ≡ all → s ≡ all
   all_seen s all l inv = let e : s + count_by is_site_said [] ≡ all = rw (drop_all k args l) at inv in omega (arith, e)
 
--- what a turn of the loop over arguments keeps, and what it has at its end
-pub ruleset arguments = (one_arg, one_seen, all_args, all_seen)
-
 -- the variables of a site are those of its coordinates
 pub site_arg : (sites : List SiteOf) (params : List CoordOf) (k s t : ℕ) (cs : List CoordOf) (vars now : List VarInfo)
     → now ≡ vars ++ site_vars k s 0 cs → cs ≡ coords_or (slice_get sites t)

@@ -1,10 +1,10 @@
 -- What each step of the reader of expressions keeps.
 use Rattle.std.proofs.Common.{◌≡◌, ◌⊎◌, inl, inr, ℕ, suc, ◌+◌, ◌≤◌, ◌<◌, ◌^◌, List, length, refl, ap, sym, ◌∙◌, subst, arith}
-use Rattle.std.specs.Prelude.{pos}
+use Rattle.std.specs.Prelude.{IfOk, Result, Ok, Err, pos}
 use Rattle.ln_base.specs.declared.span.Span.{Span}
-use Rattle.ln_lex.specs.declared.token.Token.{Token}
-use Rattle.ln_lex.specs.declared.token.Kind.{Kind}
-use Rattle.ln_lex.specs.declared.token.Kind.TheVariants.{Name, Number, ParL, ParR, Dot, Plus, Minus, Star, Caret, Semi}
+use Rattle.ln_syntax.specs.declared.lex.token.Token.{Token}
+use Rattle.ln_syntax.specs.declared.lex.token.Kind.{Kind}
+use Rattle.ln_syntax.specs.declared.lex.token.Kind.TheVariants.{Name, Number, ParL, ParR, Dot, Plus, Minus, Star, Caret, Semi}
 use Rattle.ln_syntax.specs.declared.raw.Places.{Places}
 use Rattle.ln_syntax.specs.Raw.{Is, span_at}
 use Rattle.ln_syntax.specs.Expression.{Tree, TNum, TName, TInput, TAdd, TSub, TMul, Sort, Atom, Power, Unary, Term, Sum, Factors, Terms}
@@ -20,6 +20,11 @@ use Rattle.ln_tree.specs.Formula.{Formula, FNum, FNeg, FAdd, FSub, FMul, FPow}
 use Rattle.ln_parse.specs.Says.{resolved, Says}
 use Rattle.ln_parse.specs.Ready.{Fit, HasTree, ReadyValue}
 use Rattle.ln_parse.specs.Reading.{Reads}
+
+-- what both say of a result
+pub both_ok : {T E : Type 0} (r : Result T E) (P Q : T → Type 0) → IfOk r P → IfOk r Q → IfOk r (λ x. P x × Q x)
+both_ok (Ok x) P Q p q = (p, q)
+both_ok (Err e) P Q p q = tt
 
 -- a token at a place as the code has it
 there : (ts : List Token) (i j : ℕ) (k : Kind) → Is ts i k → i ≡ j → Is ts j k

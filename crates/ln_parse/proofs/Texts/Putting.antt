@@ -4,17 +4,20 @@ use Rattle.std.proofs.Common.{append_assoc, subst, codes, decimal, Some, None, �
 use Rattle.std.specs.Prelude.{slice_get, option_map}
 use Rattle.std.proofs.lemmas.Option.{slice_get-map}
 use Rattle.std.proofs.lemmas.List.{append-nil, drop_all}
-use Rattle.ln_lex.specs.declared.token.Kind.{Kind}
-use Rattle.ln_lex.specs.declared.token.Kind.TheVariants.{ParR}
+use Rattle.ln_syntax.specs.declared.lex.token.Kind.{Kind}
+use Rattle.ln_base.specs.declared.span.Span.{Span}
+use Rattle.ln_syntax.specs.declared.lex.token.Kind.TheVariants.{ParR, Plus, Minus, Star}
 use Rattle.ln_tree.specs.declared.expr.Expr.{Expr}
+use Rattle.ln_tree.specs.declared.expr.Node.{Node}
 use Rattle.ln_tree.specs.declared.name.Name.{Name}
 use Rattle.ln_tree.specs.Names.{name_bytes}
-use Rattle.ln_tree.specs.Formula.{formula}
+use Rattle.ln_tree.specs.Formula.{Formula, FAdd, FSub, FMul, formula, node_formula}
 use Rattle.ln_parse.proofs.Building.Lists.{drop_item}
 use Rattle.ln_parse.specs.declared.printer.Room.{Room}
+use Rattle.ln_parse.specs.declared.printer.Room.TheVariants.{OfSum, OfProduct, OfUnary}
 use Rattle.ln_parse.specs.Lexemes.{Lexeme, gap, word, text_of, each, name, number, Puts, opening, closing}
-use Rattle.ln_parse.specs.Written.{Written, Naming}
-use Rattle.ln_parse.specs.Canonical.{fits, wrap, inside, lets}
+use Rattle.ln_parse.specs.Written.{Written, Naming, written}
+use Rattle.ln_parse.specs.Canonical.{fits, wrap, inside, between, left_room, right_room, lets}
 
 -- a text is appended
 pub puts_text : {a b : List ℕ} (t u : List ℕ) (f : List Lexeme → List Lexeme) → ((rest : List Lexeme) → text_of (f rest) ≡ t ++ text_of rest)
@@ -85,6 +88,18 @@ spaced v w o l r p q t = then p
 pub tight : {a b c d : List ℕ} (v w : Room) (o : Operator) (l r : Written) → Puts a b (wrap v l (inside l)) → c ≡ b ++ (o.char ∷ [])
     → Puts c d (wrap w r (inside r)) → Puts a d (λ rest. wrap v l (inside l) (word o.kind (o.char ∷ []) ∷ wrap w r (inside r) rest))
 tight v w o l r p q t = then p (then (puts_fixed (o.char ∷ []) (λ (rest : List Lexeme). word o.kind (o.char ∷ []) ∷ rest) (λ rest. refl) q) t)
+
+-- a sum, difference or product is appended, as its left operand, its sign and its right operand
+pub two_put : {a b c d : List ℕ} (n : Naming) (at : Span) (m x y z : Node) (f g : Formula) → (m ≡ x) ⊎ ((m ≡ y) ⊎ (m ≡ z))
+    → node_formula at x ≡ FAdd at f g → node_formula at y ≡ FSub at f g → node_formula at z ≡ FMul at f g
+    → Puts a b (wrap (left_room (node_formula at m)) (written n f) (inside (written n f))) → c ≡ b ++ between (node_formula at m)
+    → Puts c d (wrap (right_room (node_formula at m)) (written n g) (inside (written n g))) → Puts a d (inside (written n (node_formula at m)))
+two_put n at m x y z f g (inl e) h i j p q r =
+    rw (e, h) (spaced OfSum OfProduct (record { kind = Plus; char = 43 }) (written n f) (written n g) (rw (e, h) at p) (rw (e, h) at q) (rw (e, h) at r))
+two_put n at m x y z f g (inr (inl e)) h i j p q r =
+    rw (e, i) (spaced OfSum OfProduct (record { kind = Minus; char = 45 }) (written n f) (written n g) (rw (e, i) at p) (rw (e, i) at q) (rw (e, i) at r))
+two_put n at m x y z f g (inr (inr e)) h i j p q r =
+    rw (e, j) (tight OfProduct OfUnary (record { kind = Star; char = 42 }) (written n f) (written n g) (rw (e, j) at p) (rw (e, j) at q) (rw (e, j) at r))
 
 -- an element that was found at a place, seen through f
 pub found : {A B : Type 0} (f : A → B) (xs : List A) (i k : ℕ) {x : A} → k ≡ i → Some x ≡ slice_get xs k → slice_get (map f xs) i ≡ Some (f x)

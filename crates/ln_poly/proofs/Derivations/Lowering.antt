@@ -1,6 +1,7 @@
 -- The exponent of one variable, lowered.
-use Rattle.std.proofs.Common.{◌≡◌, ℕ, ◌+◌, ◌-◌, ◌<◌, ◌≤◌, ◌^◌, zero, suc, sym, ◌∙◌, ap, arith, [], ◌∷◌, ◌++◌, length, take, get_or}
+use Rattle.std.proofs.Common.{◌≡◌, ℕ, ◌+◌, ◌-◌, ◌<◌, ◌≤◌, ◌^◌, zero, suc, sym, ◌∙◌, ap, subst, arith, List, [], ◌∷◌, ◌++◌, length, take, get_or}
 use Rattle.std.proofs.lemmas.Bool.{cases_eq}
+use Rattle.std.proofs.lemmas.List.{get_or_append_left, get_or_at}
 use mathlib.Core.Logic.{◌⊎◌, inl, inr}
 use Rattle.std.proofs.Math.Nat.{pow-zero, pow-suc, pow-le-pow_right}
 use Rattle.std.proofs.lemmas.Nat.{pow_pos}
@@ -9,7 +10,7 @@ use Rattle.ln_tree.specs.Exps.{IsAbove, IsRising, Pairs, exponent}
 use Rattle.ln_tree.proofs.Pairs.{rising-push}
 use Rattle.ln_tree.proofs.Powers.{exponent-more, power-apart, power-here, small-at, above-take}
 use Rattle.ln_poly.specs.Times.{power_at}
-use Rattle.ln_poly.specs.Derivative.{IsLowering}
+use Rattle.ln_poly.specs.Derivative.{IsColumn, IsLowering}
 use Rattle.ln_poly.proofs.Sorting.Merging.{above-none, exponent-push, none-above}
 use Rattle.ln_poly.proofs.Derivations.Combined.{binomial-none}
 
@@ -86,3 +87,12 @@ binomial-small (suc e) (suc n) h =
     let l : e ≤ 126 = omega arith in
     let z : 2 ^ e ≤ 2 ^ 126 = pow-le-pow_right (omega arith) l in
     omega (arith, z, binomial-pair e n)
+
+-- a further column of binomials
+pub column-pushed : (cs new : List (List ℕ)) (c : List ℕ) (k : ℕ) → new ≡ cs ++ (c ∷ []) → length cs ≡ k → IsColumn c k
+    → ((j : ℕ) (d : List ℕ) → j < k → IsColumn (get_or cs j d) j) → (j : ℕ) (d : List ℕ) → j < k + 1 → IsColumn (get_or new j d) j
+column-pushed cs new c k p l h a j d b = subst (λ z. IsColumn (get_or z j d) j) (sym p) (by_case (cases_eq j k)) where
+  by_case : (j ≡ k) ⊎ (j ≡ k → ⊥) → IsColumn (get_or (cs ++ (c ∷ [])) j d) j
+  by_case (inl e) = subst (λ z. IsColumn (get_or (cs ++ (c ∷ [])) z d) z) (sym e) (subst (λ z. IsColumn z k) (sym (get_or_at cs c [] d k l)) h)
+  by_case (inr n) =
+      subst (λ z. IsColumn z j) (sym (get_or_append_left cs (c ∷ []) d j (omega (arith, b, n, l)))) (a j d (omega (arith, b, n)))

@@ -4,7 +4,7 @@ use Rattle.std.specs.Prelude.{IfErr, IfOk}
 use Rattle.std.specs.declared.result.Result.{Result}
 use Rattle.std.proofs.lemmas.Result.{IfOk-weaker, MatchResult-weaker}
 use Rattle.ln_base.specs.declared.span.Span.{Span}
-use Rattle.ln_algebra.specs.Tree.{Add, Mul, Neg, Pow, Sub, Tree, inlined}
+use Rattle.ln_algebra.specs.Tree.{Add, Mul, Pow, Sub, Tree, inlined}
 use Rattle.ln_algebra.specs.Sizes.{two}
 use Rattle.ln_tree.specs.declared.shape.VarInfo.{VarInfo}
 use Rattle.ln_tree.specs.Fits.{is_fit}
@@ -20,7 +20,7 @@ use Rattle.ln_poly.specs.Expansion.{HaveFewTerms, IsNormal, expanded}
 use Rattle.ln_poly.specs.Ready.{AreLight, Expands, HasPower, HaveRoom}
 use Rattle.ln_poly.specs.Stop.{StopsExpanding}
 use Rattle.ln_poly.proofs.Expansions.Expanding.{Nodes, few-both, one-expands, stop-before, stop-behind, two-expand}
-use Rattle.ln_poly.proofs.Loads.Room.{normal-size, product-powers, product-room, sum-room, two-sizes}
+use Rattle.ln_poly.proofs.Loads.Room.{product-powers, product-room, sum-room, two-sizes}
 
 module _ (vars : List VarInfo) (ls : List Tree) (F : Formula) where
   -- a node over one operand is expanded where the operand is and then the rest of its nodes are
@@ -66,10 +66,6 @@ module _ (vars : List VarInfo) (ls : List Tree) (F : Formula) where
 
 -- ---- room
 module _ (vars : List VarInfo) (ls : List Tree) where
-  -- where no node of a negation weighs too much, the absolute factors of its operand's polynomial sum up to less than 2^127
-  pub neg-room : (d : Tree) (f : Sparse) → AreLight (length vars) two ls (Neg d) → IsNormal (length vars) (inlined ls d) f → size_of f < 2 ^ 127
-  neg-room d f l p = omega (arith, l.1.light, normal-size (length vars) two (inlined ls d) f (two-sizes (length vars)) l.1.inputs p)
-
   add-room : (d e : Tree) (f g : Sparse) → AreLight (length vars) two ls (Add d e) → IsNormal (length vars) (inlined ls d) f
       → IsNormal (length vars) (inlined ls e) g → size_of f + size_of g < 2 ^ 127
   add-room d e f g l p q = sum-room (length vars) two (inlined ls d) (inlined ls e) f g (two-sizes (length vars)) l.2 p q

@@ -10,15 +10,16 @@ use Rattle.ln_algebra.proofs.Expanded.Expansion.{zeros, unit_vector}
 use Rattle.ln_algebra.proofs.Expanded.Normal.{normal_is, zero_cases}
 use Rattle.ln_algebra.proofs.Expanded.Shift.{product-same, product_is}
 use Rattle.ln_algebra.specs.Coefficient.{normal_coefficient, product}
-use Rattle.ln_algebra.specs.Vector.{is_zero, same_vector}
+use Rattle.ln_algebra.specs.Vector.{same_vector}
 use Rattle.ln_algebra.specs.Terms.{factor_at}
 use Rattle.ln_algebra.specs.Tree.{Add, Input, Mul, Neg, Num, Pow, Sub, Tree}
 use Rattle.ln_tree.specs.Exps.{IsAbove, Pairs, exponents_from, vector}
-use Rattle.ln_poly.specs.Sparse.{AreBelow, IsPoly, Sparse, coefficient_at}
+use Rattle.ln_poly.specs.Sparse.{AreBelow, IsPoly, Sparse, coefficient_at, negated}
 use Rattle.ln_poly.specs.Expansion.{HasTooManyTerms, IsNormal}
 use Rattle.ln_poly.specs.Ready.{AreNormal}
 use Rattle.ln_poly.specs.Within.{TakesMore}
 use Rattle.ln_poly.proofs.TermLists.Leaves.{no-terms, one-term}
+use Rattle.ln_poly.proofs.TermLists.Negating.{below-negated, coefficient-negated, poly-negated}
 use Rattle.ln_poly.proofs.TermLists.Products.{over-terms}
 use Rattle.ln_poly.proofs.TermLists.Vectors.{exponents-behind}
 
@@ -79,15 +80,10 @@ module _ (n : ℕ) where
       (λ m h. some-coefficient ((v, 1) ∷ []) (unit_vector n v) (pos 1) m (vector-unit 0 n v v (omega arith)) ∙ sym (normal_is n (Input v) l m h))
 
   -- ---- operations
-  -- a polynomial with the coefficients of 0 less those of the operand is the normal polynomial of the operand's opposite
-  pub neg-normal : (e : Tree) (f z h : Sparse) → IsNormal n e f → IsNormal n (Num (pos 0)) z → IsPoly h → AreBelow n h
-      → ((m : List ℕ) → coefficient_at n h m ≡ coefficient_at n z m -ℤ coefficient_at n f m) → IsNormal n (Neg e) h
-  neg-normal e f z h p q r b c = normal-of (Neg e) h r b (λ m l. omega (arith, ints, c m, coefficients-of e f p m l, zero-coefficient m l)) where
-    zero-coefficient : (m : List ℕ) → length m ≡ n → coefficient_at n z m ≡ pos 0
-    zero-coefficient m l = coefficients-of (Num (pos 0)) z q m l ∙ by_case (is_zero m) where
-      by_case : (t : Bool) → (if t then pos 0 else pos 0) ≡ pos 0
-      by_case true = refl
-      by_case false = refl
+  -- the terms with the other sign are the normal polynomial of the operand's opposite
+  pub neg-normal : (e : Tree) (f h : Sparse) → IsNormal n e f → h ≡ negated f → IsNormal n (Neg e) h
+  neg-normal e f h p q = subst (IsNormal n (Neg e)) (sym q) (normal-of (Neg e) (negated f) (poly-negated f p.form) (below-negated n f p.below)
+      (λ m l. omega (arith, ints, coefficient-negated n m f, coefficients-of e f p m l)))
 
   -- a polynomial with the sums of two operands' coefficients is the normal polynomial of their sum
   pub add-normal : (d e : Tree) (f g h : Sparse) → IsNormal n d f → IsNormal n e g → IsPoly h → AreBelow n h

@@ -1,11 +1,12 @@
 -- The steps of the loops over terms whose monomials are numbers.
 use Rattle.std.proofs.Common.{◌≡◌, ℕ, ◌+◌, ◌*◌, ◌<◌, ◌≤◌, ◌^◌, zero, suc, [], ◌∷◌, ◌++◌, append_assoc, append-nil, length, get_or, set, ◌-◌, ◌/◌, refl, sym}
-use Rattle.std.proofs.Common.{◌∙◌, ap, arith, subst, take, drop, unsigned_abs, Bool, false, IsTrue, ◌↔◌, ◌≢◌}
+use Rattle.std.proofs.Common.{◌∙◌, ap, arith, subst, take, drop, unsigned_abs, Bool, false, Fits, IsTrue, ◌↔◌, ◌≢◌}
+use mir.Syntax.{w64}
 use Rattle.std.proofs.lemmas.Bool.{iff_false}
 use Rattle.std.proofs.Math.IntN.{ℤ, pos, ◌+ℤ◌, ◌*ℤ◌}
 use Rattle.std.proofs.Math.Nat.{add-mul, mul-le-mul_left, mul-le-mul_right}
 use Rattle.std.proofs.lemmas.Int.{unsigned_abs-mul}
-use Rattle.std.proofs.lemmas.List.{length-append, length-drop, length-set, length-take-le, take-append-drop, take_more_set}
+use Rattle.std.proofs.lemmas.List.{length-append, length-drop, length-set, length-take-le, map-append, take-append-drop, take_all, take_more, take_more_set}
 use Rattle.ln_poly.specs.Keyed.{AreAllProducts, AreAscending, HaveFactors, IsMerge, Keyed, ProductsFit, both, first, left_over}
 use Rattle.ln_poly.specs.Keyed.{neither, right_over, row, second, weight_of}
 use Rattle.std.proofs.lemmas.List.Elements.{All-drop, All-from_recursion, All-take, recursion_from_All}
@@ -128,6 +129,10 @@ pub factors-room : (f g : Keyed) (i j : ℕ) (s t : ℕ × ℤ) → s ≡ get_or
 factors-room f g i j s t a b l k room =
     omega (arith, factor-low f i s l, factor-low g j t k, ap (λ z. unsigned_abs z.1) a, ap (λ z. unsigned_abs z.1) b, room)
 
+-- a place in a list that has memory is in memory
+pub place-fits : (k n s : ℕ) → k ≤ n → n * s < 2 ^ 63 → Fits w64 (k * s)
+place-fits k n s l room = omega (arith, mul-le-mul_right s l, room)
+
 -- ---- a row
 -- the products so far
 abbrev pub IsRowPut : Keyed → Keyed → ℕ × ℤ → Keyed → ℕ → Type 0
@@ -143,6 +148,20 @@ product-room g i s t e l room = omega (
   ap (λ z. unsigned_abs s.1 * unsigned_abs z.1) e,
   room,
 )
+
+-- a further product
+pub row-next : (old out g : Keyed) (s t x : ℕ × ℤ) (i : ℕ) → IsRowPut old out s g i → t ≡ get_or g i t → i < length g → length g ≤ length old
+    → x ≡ (s.0 + t.0, s.1 *ℤ t.1) → IsRowPut old (set out i x) s g (i + 1)
+row-next old out g s t x i p e l k q = (
+  take_more_set out i x (omega (arith, l, k, p.1)) ∙ ap (λ z. z ++ (x ∷ [])) p.0 ∙ ap (λ z. row s (take i g) ++ (z ∷ [])) q
+      ∙ sym (ap (row s) (take_more g i t l ∙ ap (λ z. take i g ++ (z ∷ [])) (sym e))
+      ∙ map-append (λ (z : ℕ × ℤ). (s.0 + z.0, s.1 *ℤ z.1)) (take i g) (t ∷ [])),
+  length-set out i x ∙ p.1,
+)
+
+-- the whole row
+pub row-end : (out g : Keyed) (s : ℕ × ℤ) (i : ℕ) → take i out ≡ row s (take i g) → i ≡ length g → take (length g) out ≡ row s g
+row-end out g s i e q = ap (λ z. take z out) (sym q) ∙ e ∙ ap (row s) (take_all i g (omega (arith, q)))
 
 -- ---- halves
 -- the size of the products of a list in two parts

@@ -3,9 +3,11 @@ use Rattle.std.proofs.Common.{◌≡◌, inl, inr, ℕ, ◌+◌, ◌-◌, ◌*�
 use Rattle.std.proofs.Common.{◌++◌, length, get_or, take, drop, refl, sym, ◌∙◌, ap}
 use Rattle.std.proofs.Common.{arith, subst, All, min}
 use Rattle.std.proofs.Math.Nat.{add-mul, min-le_right, mul-le-mul_right}
+use Rattle.std.proofs.Math.IntN.{ℤ}
 use Rattle.std.proofs.lemmas.Nat.{pow_pos}
-use Rattle.std.proofs.lemmas.List.{length-drop, length-map, length-take-le, take-map, take_all, take_at}
+use Rattle.std.proofs.lemmas.List.{length-drop, length-map, length-take-le, map-append, take-map, take_all, take_at, take_more}
 use Rattle.std.proofs.lemmas.List.Elements.{All-cons, All-nil}
+use Rattle.ln_tree.specs.Exps.{Pairs}
 use Rattle.ln_poly.specs.Keyed.{AreAllProducts, AreAscending, Has, IsGivenUp, IsMerge, Keyed, ProductsFit, weight_of}
 use Rattle.ln_poly.specs.Lean.{largest}
 use Rattle.ln_poly.specs.Packed.{AreFields, ArePackable, AreSmall, keyed, opened, packed, taken, top_of, unkeyed, weights}
@@ -120,6 +122,24 @@ module _ (n : ℕ) (ws : List ℕ) (f g : Sparse) (p : ArePackable ws (half n) f
       takes-more (unkeyed ws u.done) (unkeyed ws u.done) f g f g u.rows most (rows-unkeyed ws (half n) u.done f g u.rows p a)
       (rows-poly ws (half n) u.done f g u.rows p a room) refl refl refl many
 
+-- a further term has its number
+pub keyed-next : (ws : List ℕ) (f : Sparse) (done done' : Keyed) (i : ℕ) (t : Pairs × ℤ) → done ≡ keyed ws (take i f) → i < length f
+    → t ≡ get_or f i t → done' ≡ done ++ ((packed ws t.0, t.1) ∷ []) → done' ≡ keyed ws (take (i + 1) f)
+keyed-next ws f done done' i t e l q p = p ∙ ap (λ z. z ++ ((packed ws t.0, t.1) ∷ [])) e
+    ∙ sym (ap (keyed ws) (take_more f i t l ∙ ap (λ z. take i f ++ (z ∷ [])) (sym q))
+    ∙ map-append (λ (z : Pairs × ℤ). (packed ws z.0, z.1)) (take i f) (t ∷ []))
+
+-- and its monomial
+pub unkeyed-next : (ws : List ℕ) (f : Keyed) (done done' : Sparse) (i : ℕ) (t : ℕ × ℤ) → done ≡ unkeyed ws (take i f) → i < length f
+    → t ≡ get_or f i t → done' ≡ done ++ ((opened ws t.0, t.1) ∷ []) → done' ≡ unkeyed ws (take (i + 1) f)
+unkeyed-next ws f done done' i t e l q p = p ∙ ap (λ z. z ++ ((opened ws t.0, t.1) ∷ [])) e
+    ∙ sym (ap (unkeyed ws) (take_more f i t l ∙ ap (λ z. take i f ++ (z ∷ [])) (sym q))
+    ∙ map-append (λ (z : ℕ × ℤ). (opened ws z.0, z.1)) (take i f) (t ∷ []))
+
+-- they are as many
+pub unkeyed-length : (ws : List ℕ) (ks : Keyed) → length (unkeyed ws ks) ≡ length ks
+unkeyed-length ws ks = length-map ks (λ t. (opened ws t.0, t.1))
+
 -- ---- parts of the rows
 weight-take : (i : ℕ) (f : Keyed) → weight_of (take i f) ≤ weight_of f
 weight-take zero f = omega arith
@@ -205,3 +225,12 @@ pub with-next : (done f g e d p m t x y : Keyed) (n k a b : ℕ) → AreAllProdu
 with-next done f g e d p m t x y n k a b u v w q l r h =
     let i : IsMerge done (take n p) (take k m) = subst (λ z. IsMerge done (take n z) (take k m)) (q ∙ take_at p x a l) w in
     subst (λ z. AreAllProducts z (e ++ f) g) (sym (r ∙ ap (take k) (take_at m y b h))) (rows-joined done (take n p) (take k m) e f g u v i)
+
+-- there is room to merge them
+pub merged-room : (done f g p x d : Keyed) (n a : ℕ) → AreAllProducts (take n p) f g → d ≡ take a (p ++ x) → length p ≡ a
+    → weight_of done + weight_of f * weight_of g < 2 ^ 127 → weight_of done + weight_of (take n d) < 2 ^ 127
+merged-room done f g p x d n a u q l room = omega (arith, ap (λ z. weight_of (take n z)) (q ∙ take_at p x a l), u.size, room)
+
+-- what a slice of a whole vector leaves is as long
+pub written-long : (p x : Keyed) (a : ℕ) → length p ≡ a → length (take a (p ++ x)) ≡ length p
+written-long p x a e = ap length (take_at p x a e)

@@ -5,7 +5,7 @@ use Rattle.std.proofs.lemmas.Bool.{ltb-true}
 use Rattle.ln_tree.specs.Exps.{IsAbove, IsRising, Pairs, exponent}
 use Rattle.ln_tree.proofs.Powers.{above-at, above-take}
 use Rattle.ln_tree.proofs.Monomials.{above-lower}
-use Rattle.ln_poly.specs.Times.{AreLow}
+use Rattle.ln_poly.specs.Times.{AreLow, IsTimes}
 
 -- where one has no pair
 pub low-none : (a b : Pairs) → length b ≡ 0 → AreLow a b
@@ -61,9 +61,9 @@ exponent-append v [] b = omega arith
 exponent-append v (p ∷ a) b = omega (arith, exponent-append v a b)
 
 -- the exponents of one list of pairs followed by another are the sums of those of both
-pub behind-exponents : (e a b : Pairs) → e ≡ a ++ b → (v : ℕ) → exponent v e ≡ exponent v a + exponent v b
-behind-exponents e a b q v = ap (exponent v) q ∙ exponent-append v a b
+pub behind-times : (e a b : Pairs) → (e ≡ a ++ b) × IsRising e → IsTimes e a b
+behind-times e a b r = (λ v. ap (exponent v) r.0 ∙ exponent-append v a b, r.1)
 
 -- the same where the second list comes first
-pub turned-exponents : (e a b : Pairs) → e ≡ b ++ a → (v : ℕ) → exponent v e ≡ exponent v a + exponent v b
-turned-exponents e a b q v = omega (arith, behind-exponents e b a q v)
+pub turned-times : (e a b : Pairs) → (e ≡ b ++ a) × IsRising e → IsTimes e a b
+turned-times e a b r = (λ v. let q : exponent v e ≡ exponent v b + exponent v a = (behind-times e b a r).0 v in omega (arith, q), r.1)

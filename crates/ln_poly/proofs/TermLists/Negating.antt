@@ -1,10 +1,10 @@
 -- Terms with the other sign.
-use Rattle.std.proofs.Common.{◌≡◌, ℕ, ◌+◌, ◌<◌, zero, suc, refl, sym, ◌∙◌, ap, subst, arith, add-one, List, [], ◌∷◌, ◌++◌, length, take}
-use Rattle.std.proofs.Common.{drop, set, get_or, unsigned_abs, ◌^◌, ◌-ℤ◌, to_z, of_z, FitsSigned, Bool, true, false, if◌then◌else◌}
+use Rattle.std.proofs.Common.{◌≡◌, ℕ, ◌+◌, ◌<◌, ◌≤◌, zero, suc, refl, sym, ◌∙◌, ap, subst, arith, add-one, List, [], ◌∷◌, ◌++◌, length, take}
+use Rattle.std.proofs.Common.{drop, set, get_or, unsigned_abs, ◌^◌, ◌+ℤ◌, ◌-ℤ◌, to_z, of_z, FitsSigned, Bool, true, false, if◌then◌else◌}
 use Rattle.std.proofs.Math.IntN.{ℤ, pos, neg_ℤ}
 use Rattle.std.proofs.lemmas.Int.{ints, to_z-of_z}
 use mir.Syntax.{w128}
-use Rattle.std.proofs.lemmas.List.{length-set}
+use Rattle.std.proofs.lemmas.List.{append-nil, drop_all, length-set, take_all}
 use Rattle.std.proofs.lemmas.List.Elements.{All-map}
 use Rattle.std.specs.Prelude.{All}
 use Rattle.std.specs.List.{AllByRecursion}
@@ -104,13 +104,31 @@ negated-step out xs i e z w r h k t = record {
   long = length-set out i (e, w) ∙ r.long;
 }
 
--- the sign of a factor, as 128 bits compute it
-pub turned : (z : ℤ) → IsFactor z → to_z w128 (of_z w128 (pos 0 -ℤ to_z w128 (of_z w128 z))) ≡ neg_ℤ z
-turned z f = ap (λ y. to_z w128 (of_z w128 (pos 0 -ℤ y))) (to_z-of_z w128 z (fits z f.1))
-    ∙ to_z-of_z w128 (pos 0 -ℤ z) (fits (pos 0 -ℤ z) (omega (arith, ints, f.1))) ∙ minus
-  where
-    fits : (y : ℤ) → unsigned_abs y < 2 ^ 127 → FitsSigned w128 y
-    fits y l = omega (arith, ints)
+-- after the last term all have the other sign
+pub negated-end : (out xs : Sparse) (i : ℕ) → IsNegated out xs i → length xs ≤ i → out ≡ negated xs
+negated-end out xs i r h = r.terms ∙ ap (λ z. negated (take i xs) ++ z) (drop_all i xs h) ∙ append-nil (negated (take i xs)) ∙ ap negated (take_all i xs h)
 
-    minus : pos 0 -ℤ z ≡ neg_ℤ z
-    minus = omega (arith, ints)
+fits : (y : ℤ) → unsigned_abs y < 2 ^ 127 → FitsSigned w128 y
+fits y l = omega (arith, ints)
+
+-- the sign of a factor, as 128 bits compute it
+pub turned-fits : (z : ℤ) → IsFactor z → FitsSigned w128 (pos 0 -ℤ to_z w128 (of_z w128 z))
+turned-fits z f =
+    subst (λ y. FitsSigned w128 (pos 0 -ℤ y)) (sym (to_z-of_z w128 z (fits z f.1))) (fits (pos 0 -ℤ z) (omega (arith, ints, f.1)))
+
+-- and it is the sign turned
+pub turned : (z : ℤ) → IsFactor z → to_z w128 (of_z w128 (pos 0 -ℤ to_z w128 (of_z w128 z))) ≡ neg_ℤ z
+turned z f = to_z-of_z w128 (pos 0 -ℤ to_z w128 (of_z w128 z)) (turned-fits z f) ∙ ap (λ y. pos 0 -ℤ y) (to_z-of_z w128 z (fits z f.1)) ∙ minus where
+  minus : pos 0 -ℤ z ≡ neg_ℤ z
+  minus = omega (arith, ints)
+
+-- the sum of two factors
+pub sum-fits : (a b : ℤ) → unsigned_abs a + unsigned_abs b < 2 ^ 127 → FitsSigned w128 (to_z w128 (of_z w128 a) +ℤ to_z w128 (of_z w128 b))
+sum-fits a b h =
+    rw (to_z-of_z w128 a (fits a (omega (arith, h))), to_z-of_z w128 b (fits b (omega (arith, h)))) (fits (a +ℤ b) (omega (arith, ints, h)))
+
+-- and it is their sum
+pub sum-taken : (a b : ℤ) → unsigned_abs a + unsigned_abs b < 2 ^ 127
+    → to_z w128 (of_z w128 (to_z w128 (of_z w128 a) +ℤ to_z w128 (of_z w128 b))) ≡ a +ℤ b
+sum-taken a b h = to_z-of_z w128 (to_z w128 (of_z w128 a) +ℤ to_z w128 (of_z w128 b)) (sum-fits a b h)
+    ∙ rw (to_z-of_z w128 a (fits a (omega (arith, h))), to_z-of_z w128 b (fits b (omega (arith, h)))) refl

@@ -1,6 +1,6 @@
 -- Products with the two polynomials in turn.
 use Rattle.std.proofs.Common.{◌≡◌, ℕ, ◌*◌, ◌≤◌, refl, sym, ◌∙◌, ap, arith, List, [], ◌∷◌, length, if◌then◌else◌}
-use Rattle.std.specs.Prelude.{IfNone, IfSome, Option, None, Some}
+use Rattle.std.specs.Prelude.{IfSome, Option, None, Some}
 use Rattle.std.proofs.lemmas.Int.{ints}
 use Rattle.std.proofs.lemmas.List.{take_all}
 use Rattle.std.proofs.Math.IntN.{ℤ, pos, ◌+ℤ◌, ◌*ℤ◌}
@@ -12,7 +12,7 @@ use Rattle.ln_algebra.specs.Vector.{plus, same_vector, sum_over}
 use Rattle.ln_tree.specs.Exps.{Pairs, vector}
 use Rattle.ln_poly.specs.Rows.{IsRows, cell_at, row_at}
 use Rattle.ln_poly.specs.Sparse.{AreBelow, Sparse, coefficient_at, size_of, terms_of}
-use Rattle.ln_poly.specs.Within.{HasMoreTerms, TakesMore}
+use Rattle.ln_poly.specs.Within.{HasMoreTerms, IsWithin, TakesMore}
 use Rattle.ln_poly.proofs.TermLists.Products.{length-vector, over-terms, rows-product, rows-size, rows_times}
 
 cell-turned : (n : ℕ) (m : List ℕ) (s t : Pairs × ℤ) → cell_at n m s t ≡ cell_at n m t s
@@ -43,7 +43,7 @@ by-columns n m [] g = columns-none n m g
 by-columns n m (s ∷ f) g = ap (λ z. row_at n m s g +ℤ z) (by-columns n m f g) ∙ column-more n m s f g
 
 -- the products with a row for each term of g are those with a row for each term of f
-pub rows-turned : (out f g : Sparse) → IsRows out g f (length g) → IsRows out f g (length f)
+rows-turned : (out f g : Sparse) → IsRows out g f (length g) → IsRows out f g (length f)
 rows-turned out f g r = record {
   coefficients = λ n m. r.coefficients n m ∙ ap (sum_over (λ s. row_at n m s f)) (take_all (length g) g (omega arith)) ∙ by-columns n m g f
       ∙ sym (ap (sum_over (λ s. row_at n m s g)) (take_all (length f) f (omega arith)));
@@ -66,7 +66,7 @@ product-turned n f g m h =
     ∙ factor_at-times n (terms_of n f) (terms_of n g) (over-terms n f) (over-terms n g) m h
 
 -- where the product of g and f has more than k terms, that of f and g has
-pub more-turned : (f g : Sparse) (k : ℕ) → TakesMore g f k → TakesMore f g k
+more-turned : (f g : Sparse) (k : ℕ) → TakesMore g f k → TakesMore f g k
 more-turned f g k h = λ n bf bg. let r : HasMoreTerms n g f k = h n bg bf in record {
   vectors = r.vectors;
   distinct = r.distinct;
@@ -75,10 +75,10 @@ more-turned f g k h = λ n bf bg. let r : HasMoreTerms n g f k = h n bg bf in re
   many = r.many;
 }
 
--- the same of a product that was given up
-pub none-turned : (o : Option Sparse) (f g : Sparse) (k : ℕ) → IfNone o (TakesMore g f k) → IfNone o (TakesMore f g k)
-none-turned None f g k h = more-turned f g k h
-none-turned (Some x) f g k h = h
+-- the same of a product, or none, that was made by the rows of g
+pub within-turned : (o : Option Sparse) (f g : Sparse) (k : ℕ) → IsWithin g f k o → IsWithin f g k o
+within-turned None f g k r = record { rows = tt; form = tt; few = tt; none = more-turned f g k r.none }
+within-turned (Some h) f g k r = record { rows = rows-turned h f g r.rows; form = r.form; few = r.few; none = tt }
 
 -- ---- a product that there may be
 -- a product that was found has the coefficients of the product of f and g

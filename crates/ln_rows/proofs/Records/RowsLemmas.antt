@@ -1,7 +1,7 @@
 -- Proves what remains after a record, and what a few of its fields say.
 use Rattle.std.proofs.Common.{◌≡◌, ◌≢◌, ℕ, ◌+◌, ◌-◌, ◌^◌, ◌<◌, ◌≤◌, min, Bool, List, [], ◌∷◌, length, get_or, take, drop, Option, Some}
 use Rattle.std.proofs.Common.{None, Ok, Err, refl, ap, sym, subst, ◌∙◌, arith, inl, inr, true, false, true≢false}
-use Rattle.std.specs.Prelude.{if◌then◌else◌, ◌⊎◌, ◌==◌, Result, is_some}
+use Rattle.std.specs.Prelude.{if◌then◌else◌, ◌⊎◌, ◌==◌, Result, is_some, IfOk}
 use Rattle.std.proofs.lemmas.Bool.{cases_lt, eqb-true}
 use Rattle.std.proofs.lemmas.List.{take_all, length-take}
 use Rattle.csv.specs.Machine.{next_record}
@@ -84,10 +84,11 @@ module _ (old : Records) (o : Option Records) (rest text : List ℕ) (view : lef
   }
 
   -- csv's own reader takes the next record
-  pub left_reads : (most : ℕ) (found : Bool) (quoted new : Records) (kept : List (List ℕ)) → quoted ≡ records_of text
-      → TakesWithin most found quoted new kept → TakesWithin most found old new kept
-  left_reads most found quoted new kept q t =
-      subst (λ (rs : Records). TakesWithin most found rs new kept) (q ∙ sym (same_first rest text same) ∙ ap (left_of rest) (sym none) ∙ view) t
+  pub left_reads : {E : Type 0} (most : ℕ) (r : Result Bool E) (quoted new : Records) (kept : List (List ℕ)) → quoted ≡ records_of text
+      → IfOk r (λ found. TakesWithin most found quoted new kept) → IfOk r (λ found. TakesWithin most found old new kept)
+  left_reads most r quoted new kept q t =
+      subst (λ (rs : Records). IfOk r (λ found. TakesWithin most found rs new kept))
+      (q ∙ sym (same_first rest text same) ∙ ap (left_of rest) (sym none) ∙ view) t
 
 -- a read that finds a record takes the first of the remaining ones
 pub takes_some : (most : ℕ) (found : Bool) (old new : Records) (kept : List (List ℕ)) → TakesWithin most found old new kept → found ≡ true

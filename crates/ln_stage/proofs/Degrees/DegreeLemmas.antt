@@ -24,7 +24,8 @@ pairs-degree : (n : ℕ) (vs : List ℕ) (a : Pairs) → AreFresh n vs → degre
 pairs-degree n [] a f = refl
 pairs-degree n (v ∷ vs) a f = omega (arith, vector-get n v a f.0, pairs-degree n vs a f.2)
 
-or_parts : (a b : Bool) → (a || b) ≡ false → (a ≡ false) × (b ≡ false)
+-- where one of two or the other is false, both are
+pub or_parts : (a b : Bool) → (a || b) ≡ false → (a ≡ false) × (b ≡ false)
 or_parts true b e = cc
 or_parts false b e = (refl, e)
 

@@ -1,6 +1,8 @@
 -- The lists that are found by total degree first are the stage lists, and what is kept of them are the stages.
 use Rattle.std.proofs.Common.{◌≡◌, ℕ, suc, ◌+◌, ◌<◌, ◌≤◌, Bool, true, false, eqb, eq-eqb, eqb-true, List, [], ◌∷◌, ◌++◌, length}
 use Rattle.std.proofs.Common.{map, take, refl, sym, ◌∙◌, ap, subst, arith, if◌then◌else◌}
+use Rattle.std.specs.Prelude.{◌||◌, ◌&&◌, nat_lt}
+use Rattle.std.proofs.lemmas.Bool.Decides.{nat_tests}
 use Rattle.std.specs.List.{range_with_len}
 use Rattle.std.proofs.lemmas.List.{length-take-le, take_all}
 use Rattle.ln_algebra.specs.Orders.{ByDegree, GradedEarlier}
@@ -17,12 +19,13 @@ use Rattle.ln_order.proofs.Signs.SitesLemmas.{kept as shape-keeps}
 use Rattle.ln_poly.specs.Sparse.{AreBelow, IsPoly, Sparse}
 use Rattle.ln_stage.specs.Degrees.{largest_degree, listed_graded, listed_layers}
 use Rattle.ln_stage.specs.FirstSight.{list_along}
-use Rattle.ln_stage.specs.Graded.{AreGradedStagesOf, AreStagesBy, graded_at, graded_list, rank_of, segment_by}
+use Rattle.ln_stage.specs.Graded.{AreGradedStagesOf, AreStagesBy, graded_at, graded_list, rank_of}
+use Rattle.ln_stage.specs.Graded.{cut_by, found_at, segment_by}
 use Rattle.ln_stage.specs.Kept.{all_rows, list_of, rows}
 use Rattle.ln_algebra.specs.Layers.{DegreesBelow, layers}
 use Rattle.ln_stage.specs.StageList.{IsMonomialOf}
 use Rattle.ln_stage.specs.Tally.{Tallied, see_all}
-use Rattle.ln_stage.specs.Visit.{IsStart}
+use Rattle.ln_stage.specs.Visit.{IsStart, cut_before}
 use Rattle.ln_stage.proofs.Degrees.DegreeLemmas.{rows-largest}
 use Rattle.ln_algebra.proofs.Walking.GradedStages.{layers-stages-by}
 use Rattle.ln_stage.proofs.Results.KeptLemmas as by_lists
@@ -31,7 +34,7 @@ use Rattle.ln_stage.proofs.Results.FoldLemmas.{Sized}
 use Rattle.ln_stage.proofs.Results.KeptLemmas.{AreAlong, sized-in}
 use Rattle.ln_stage.proofs.Results.ResultLemmas.{by-prefixes, result-stages}
 use Rattle.ln_stage.proofs.Walks.StartLemmas.{fresh-ranking, rows-all}
-use Rattle.ln_stage.proofs.Walks.VisitLemmas.{start-size}
+use Rattle.ln_stage.proofs.Walks.VisitLemmas.{nothing-behind, start-size}
 
 -- ---- what is at a prefix
 -- at a whole order is its stage list by total degree first
@@ -49,6 +52,20 @@ at-part k vars f p d = go (eqb (length p) k) refl where
   go : (b : Bool) → eqb (length p) k ≡ b → (if b then graded_list vars f p else []) ≡ []
   go true q = absurd (d (eqb-true (length p) k q))
   go false q = refl
+
+-- what is left out has nothing at it
+pub left-out : (by_degree cut : Bool) (k : ℕ) (vars : List VarInfo) (f : Sparse) (p : List ℕ) → cut ≡ cut_before (cut_by by_degree k vars f) p
+    → true ≡ (cut || (by_degree && nat_lt (length p) k)) → found_at by_degree k vars f p ≡ ([], cut)
+left-out false true k vars f p b h = nothing-behind vars f p (sym b)
+left-out false false k vars f p b h = cc
+left-out true true k vars f [] b h = cc
+left-out true true k vars f (x ∷ p) b h = cc
+left-out true false k vars f p b h = ap (λ z. (z, false)) (at-part k vars f p (λ e. grind (arith, nat_tests)))
+
+-- by degree what isn't left out is a whole order
+pub whole-size : (by_degree : Bool) {n k : ℕ} → by_degree ≡ true → (by_degree && nat_lt n k) ≡ false → n ≤ k → n ≡ k
+whole-size false e h l = cc
+whole-size true e h l = grind (arith, nat_tests)
 
 -- where nothing is at the shorter prefixes, the whole list is at the order
 whole-along : (S : List ℕ → List (List ℕ)) (o : List ℕ) → ((j : ℕ) → j < length o → S (take j o) ≡ []) → list_along S o ≡ S o

@@ -34,6 +34,11 @@ position-some bs a i e = go (nat_lt (number_in bs a) (length bs)) refl e where
   go true q h = ((cc), grind (arith, nat_tests))
   go false q h = cc
 
+-- a place that is taken up or not is at most one
+pub at-most-one : (b : Bool) → (if b then 0 else 1) ≤ 1
+at-most-one true = omega arith
+at-most-one false = omega arith
+
 -- exponents that are not found get the next number
 pub position-none : (bs : List Pairs) (a : Pairs) → position (same_pairs a) bs ≡ None → number_in bs a ≡ length bs
 position-none bs a e = go (nat_lt (number_in bs a) (length bs)) refl e where

@@ -11,8 +11,8 @@ use Rattle.ln_base.proofs.Texts.Lists.{equal_bytes, head, rest}
 use Rattle.ln_base.proofs.Texts.Numbers.{decimal_injective, no_byte, signed_injective}
 use Rattle.ln_base.proofs.Texts.Plain.{decimal_plain, exponent_plain, plain_append, plain_map, signed_plain}
 use Rattle.ln_base.proofs.Texts.Words.{ArePlain, words_parted}
-use Rattle.ln_lines.proofs.Colon.{same_before}
-use Rattle.ln_lines.proofs.Picked.{none, pick, some}
+use Rattle.ln_base.proofs.Forms.Colon.{same_before}
+use Rattle.ln_base.proofs.Forms.Picked.{none, pick, some}
 use Rattle.ln_trace.specs.declared.line.TraceLine.{TraceLine}
 use Rattle.ln_trace.specs.declared.line.TraceLine.TheVariants as line
 use Rattle.ln_trace.specs.declared.state.Kind.{Kind}

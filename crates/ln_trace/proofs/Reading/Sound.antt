@@ -4,7 +4,7 @@ use Rattle.ln_base.specs.Lines.{lines, parted}
 use Rattle.ln_base.specs.declared.sign.Sign.TheVariants.{Zero}
 use Rattle.ln_base.proofs.Texts.Lines.{words_line_end}
 use Rattle.ln_base.proofs.Texts.Words.{ArePlain}
-use Rattle.ln_lines.specs.Form.{AreSound, Finish}
+use Rattle.ln_base.specs.Forms.Form.{AreSound, Finish}
 use Rattle.ln_trace.specs.declared.line.TraceLine.{TraceLine}
 use Rattle.ln_trace.specs.declared.line.TraceLine.TheVariants as line
 use Rattle.ln_trace.specs.declared.state.State.{State}

@@ -1,7 +1,7 @@
 -- A trace leads from the first line to the end of a record, and what does so is a trace.
 use Rattle.std.proofs.Common.{◌≡◌, ℕ, ℤ, List, [], ◌∷◌, Option, Some, None, refl, ◌∙◌}
 use Rattle.ln_base.specs.declared.sign.Sign.{Sign as AnySign}
-use Rattle.ln_lines.proofs.Walk.{goes_none}
+use Rattle.ln_base.proofs.Forms.Walk.{goes_none}
 use Rattle.ln_trace.specs.declared.line.TraceLine.{TraceLine}
 use Rattle.ln_trace.specs.declared.line.TraceLine.TheVariants.{Refused, Row, At, Sign}
 use Rattle.ln_trace.specs.declared.state.State.{State}

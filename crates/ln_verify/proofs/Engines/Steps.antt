@@ -49,6 +49,12 @@ module _ {X K : Type 0} (R : X → K → Type 0) where
   local-there (Some y) x None e h = absurd h
   local-there (Some y) x (Some k) e h = (k, refl, subst (λ (z : X). R z k) (same_Some y x e) h)
 
+  -- where a local in code has no value, nothing is known of the local
+  local-lacks : (o : Option X) (r : Option K) → o ≡ None → IsLocal R o r → r ≡ None
+  local-lacks o None e h = refl
+  local-lacks None (Some k) e h = absurd h
+  local-lacks (Some x) (Some k) e h = cc
+
   -- where a value is put into a local in code, and what it is for into that of the state, each local is still for what is known of it
   pub local-set : (ls : List (Option X)) (l : ℕ → Option K) (j i : ℕ) (x : X) (k : K) (q : Bool) → (i == j) ≡ q → j < length ls → R x k
       → IsLocal R (get_or ls i None) (l i) → IsLocal R (get_or (slice_set ls j (Some x)) i None) (with_local l j k i)
@@ -124,6 +130,13 @@ module _ {B X K : Type 0} (R : X → K → Type 0) (tree : K → Tree) (n : ℕ)
     -- reading a local that has a value pushes what the rules make of that value
     pub get-step : (j : ℕ) (b : B) (l : ℕ → Option K) (xs : List K) (k : K) → l j ≡ Some k → step e (Get j) b l xs ≡ Goes l xs (e.again k b)
     get-step j b l xs k q = ap (λ (o : Option K). next (next o (λ x. e.again x b)) (pushed e l xs)) (got l j ∙ q)
+
+    -- reading a local that has no value leads nowhere
+    pub get-lacks : (j : ℕ) (b : B) (l : ℕ → Option K) (xs : List K) (o : Option X) (t : State K (ℕ → Option K)) → o ≡ None → IsLocal R o (l j)
+        → step e (Get j) b l xs ≡ Some t → ⊥
+    get-lacks j b l xs o t h i q =
+        let w = local-lacks R o (l j) h i in
+        let z : None ≡ Some t = sym (ap (λ (r : Option K). next (next r (λ x. e.again x b)) (pushed e l xs)) (got l j ∙ w)) ∙ q in cc
 
     -- writing a local takes the top value off the stack and puts it into the local
     pub set-came : (s : State K (ℕ → Option K)) (old mid : List X) (before ls : List (Option X)) (j : ℕ) (b : B) (x : X) → old ≡ mid ++ x ∷ []

@@ -1,7 +1,7 @@
 -- The lines of a listing with their numbers.
 use Rattle.std.proofs.Common.{◌≡◌, ℕ, ◌<◌, ◌+◌, ◌≤◌, zero, suc, List, [], ◌∷◌, length, get_or, arith}
 use Rattle.std.proofs.lemmas.List.{length-map}
-use Rattle.ln_lines.proofs.Walk.{few_lines}
+use Rattle.ln_base.proofs.Forms.Walk.{few_lines}
 use Rattle.ln_cert.specs.declared.part.Entry.{Entry}
 use Rattle.ln_cert.specs.Listing.{AreNumbered, Kept, Listed, parts_of}
 use Rattle.ln_cert.specs.Reading.{list_rules}

@@ -4,7 +4,7 @@ use Rattle.std.proofs.lemmas.Option.{get_or_from_slice_get, none-some, same_Some
 use Rattle.std.specs.Option.{option_map}
 use Rattle.std.specs.Prelude.{All, None, Some, slice_get}
 use Rattle.std.proofs.lemmas.List.{length-map}
-use Rattle.ln_lines.proofs.Judging.{Reached, reached_all}
+use Rattle.ln_base.proofs.Forms.Judging.{Reached, reached_all}
 use Rattle.ln_tree.specs.Names.{name_bytes}
 use Rattle.ln_order.specs.Orders.{orders_of}
 use Rattle.ln_order.specs.Places.{order_places}

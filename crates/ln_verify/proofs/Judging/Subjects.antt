@@ -22,7 +22,7 @@ use Rattle.ln_verify.specs.declared.case.Case.{Case}
 use Rattle.ln_verify.specs.declared.listings.Judged.{Judged}
 use Rattle.ln_verify.specs.declared.listings.Judged.TheVariants.{Valid, Invalid}
 use Rattle.ln_verify.proofs.Validity.One.{one-answer}
-use Rattle.ln_verify.proofs.Polynomials.SamePoly.{one-normal}
+use Rattle.ln_stage.proofs.Results.SamePoly.{one-normal}
 
 -- ---- a predicate has one subject
 subject-one : (p : PredOf) (s t : Subject) → IsSubjectOf p s → IsSubjectOf p t → s ≡ t

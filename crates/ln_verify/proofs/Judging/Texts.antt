@@ -5,8 +5,8 @@ use Rattle.ln_tree.specs.Table.{PredOf}
 use Rattle.ln_cert.specs.declared.part.Entry.{Entry}
 use Rattle.ln_cert.specs.declared.part.Part.{Part}
 use Rattle.ln_cert.specs.Listing.{IsFormFault, ListText, Listed, parts_of}
-use Rattle.ln_lines.specs.declared.stop.TextStop.{TextStop as ListStop}
-use Rattle.ln_lines.specs.declared.stop.TextStop.TheVariants.{Form}
+use Rattle.ln_base.specs.declared.lines.stop.TextStop.{TextStop as ListStop}
+use Rattle.ln_base.specs.declared.lines.stop.TextStop.TheVariants.{Form}
 use Rattle.ln_cert.specs.Stop.{Stops}
 use Rattle.ln_cert.specs.Unread.{AreLeft, IsOpened, Unread}
 use Rattle.ln_cert.proofs.Reading.Whole.{no_text, one_fault, one_text}

@@ -20,9 +20,7 @@ use Rattle.ln_stage.specs.Lists.{AreStageLists, Passes}
 use Rattle.ln_stage.specs.Sound.{IsSound}
 use Rattle.ln_stage.specs.Staged.{AreStagesOf, Staged, StopsListing}
 use Rattle.ln_stage.specs.declared.stop.StageStop.TheVariants.{Stages}
-use Rattle.ln_verify.specs.Cases.{IsOrderedOf}
 use Rattle.ln_verify.specs.Here.{IsCase}
-use Rattle.ln_verify.specs.declared.case.Case.{Case}
 
 -- where no node has too many terms, none is the first that has
 few-part : (n : ℕ) (xs : List (Span × Tree)) (y : Span × Tree) (zs : List (Span × Tree)) → HaveFewTerms n (xs ++ y ∷ zs) → HasTooManyTerms n y.1 → ⊥
@@ -57,24 +55,15 @@ light_whole p f a n = at_most (weighted_sum (weights p.shape.vars) (terms_of (le
     at_most : (x y : ℕ) → (y < x → ⊥) → x ≤ y
     at_most x y h = omega (arith, h)
 
--- the predicate with what its part is judged by
-made-case : (p : Pred) (s : Shape) (f : Sparse) (st : Staged) (os : List Order) → s ≡ p.shape → IsSound (pred_of p)
+-- a predicate without a fault, with its normal polynomial, its stages and all orders of its sites is a case
+pub case_is : (p : Pred) (s : Shape) (f : Sparse) (st : Staged) (os : List Order) → s ≡ p.shape → IsSound (pred_of p)
     → IsNormal (length p.shape.vars) (root_of (pred_of p)) f
     → AreStagesOf p.shape.sites p.shape.vars f st → map order_places os ≡ orders_of p.shape.sites
     → IsCase (record { shape = s; poly = f; stages = st; orders = os })
-made-case p s f st os e a n g o = record {
+case_is p s f st os e a n g o = record {
   form = n.form;
   below = subst (λ (z : Shape). AreBelow (length z.vars) f) (sym e) n.below;
   light = subst (λ (z : Shape). weighted_sum (weights z.vars) (terms_of (length z.vars) f) ≤ most) (sym e) (light_whole p f a n);
   staged = subst (λ (z : Shape). AreStagesOf z.sites z.vars f st) (sym e) g;
   ordered = subst (λ (z : Shape). map order_places os ≡ orders_of z.sites) (sym e) o;
 }
-
--- a predicate without a fault, with its normal polynomial and its stages is a case
-pub case_is : (p : Pred) (c : Case) (f : Sparse) (st : Staged) → IsOrderedOf p.shape f st c → IsSound (pred_of p)
-    → IsNormal (length p.shape.vars) (root_of (pred_of p)) f
-    → AreStagesOf p.shape.sites p.shape.vars f st → IsCase c
-case_is p c f st i a n g =
-    made-case p c.shape c.poly c.stages c.orders i.shape a (subst (λ (z : Sparse). IsNormal (length p.shape.vars) (root_of (pred_of p)) z) (sym i.poly) n)
-    (subst (λ (z : Staged). AreStagesOf p.shape.sites p.shape.vars c.poly z) (sym i.stages)
-    (subst (λ (z : Sparse). AreStagesOf p.shape.sites p.shape.vars z st) (sym i.poly) g)) i.ordered

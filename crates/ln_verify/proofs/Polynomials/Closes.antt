@@ -1,6 +1,7 @@
 -- `decide` and `end`: the one value of a stack.
-use Rattle.std.proofs.Common.{◌≡◌, ◌↔◌, ℕ, ◌≤◌, ◌<◌, ◌-◌, Bool, List, [], ◌∷◌, ◌++◌, length, reverse, get_or, refl, sym, ap, arith, subst, ◌∙◌}
-use Rattle.std.specs.Prelude.{Option, IsTrue}
+use Rattle.std.proofs.Common.{◌≡◌, ◌↔◌, ℕ, ◌≤◌, ◌<◌, ◌-◌, Bool, true, List, [], ◌∷◌, ◌++◌, length, reverse, get_or, refl, sym, ap, arith, subst, ◌∙◌}
+use Rattle.std.specs.Prelude.{◌==◌, Option, IsTrue}
+use Rattle.std.proofs.lemmas.Bool.{eqb-true}
 use Rattle.std.proofs.lemmas.List.{get_or_push, length-append, length-reverse}
 use Rattle.ln_algebra.specs.Terms.{IsNormalOf, derived}
 use Rattle.ln_algebra.specs.Tree.{Tree}
@@ -32,6 +33,10 @@ last-is xs es a d e =
 pub last-above : (n : ℕ) (xs es : List Pairs) (a : Pairs) → xs ≡ es ++ a ∷ [] → AreAbove n xs → IsAbove a n
 last-above n xs es a e h =
     subst (λ (x : Pairs). IsAbove x n) (last-is xs es a [] e) (h (length xs - 1) [] (omega (arith, ap length e, length-append es (a ∷ []))))
+
+-- a list with one more at the end isn't empty
+pub not-empty : (xs es : List Pairs) (a : Pairs) → true ≡ (length xs == 0) → xs ≡ es ++ a ∷ [] → ⊥
+not-empty xs es a h e = omega (arith, eqb-true (length xs) 0 (sym h), ap length e, length-append es (a ∷ []))
 
 heads-same : {K : Type 0} (j k : K) (xs : List K) → xs ≡ j ∷ [] → xs ≡ k ∷ [] → j ≡ k
 heads-same j k xs e f = cc

@@ -7,7 +7,7 @@ use Rattle.ln_poly.specs.Expansion.{IsNormal}
 use Rattle.ln_poly.specs.Sparse.{AreBelow, IsPoly, Sparse, coefficient_at, terms_of}
 use Rattle.ln_poly.proofs.TermLists.Products.{over-terms}
 use Rattle.ln_poly.proofs.Derivations.Several.{over-vector}
-use Rattle.ln_verify.proofs.Polynomials.SamePoly.{one-normal}
+use Rattle.ln_stage.proofs.Results.SamePoly.{one-normal}
 
 -- `decide`: the polynomial is the predicate's exactly where the two are one list
 pub decide-same : (n : ℕ) (t : Tree) (g f : Sparse) → IsNormal n t g → IsPoly f → AreBelow n f → (g ≡ f) ↔ IsNormalOf n t (terms_of n f)

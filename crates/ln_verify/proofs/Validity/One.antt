@@ -1,6 +1,6 @@
 -- A line leads to one place at most; so a listing is valid or has one first fault, and not both.
 use Rattle.std.proofs.Common.{◌≡◌, List, [], ◌∷◌, ◌++◌, sym, ◌∙◌, ap, subst}
-use Rattle.ln_lines.proofs.Judging.{not_both, one_fault}
+use Rattle.ln_base.proofs.Forms.Judging.{not_both, one_fault}
 use Rattle.ln_due.proofs.Parts.BlockLemmas.{some-same}
 use Rattle.ln_verify.specs.BlockRules.{Version, balanced}
 use Rattle.ln_verify.specs.Line.{Between, InBlock, InFilter, LineRule, Named, Ordering, Outside, PartRule, Place, Rule, Spot, Subject, Within, Written}

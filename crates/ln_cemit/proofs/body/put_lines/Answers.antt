@@ -1,5 +1,6 @@
 -- Answers to the goals of `put_lines` in src/body.rt.
 use Rattle.std.proofs.Common.{rules, ◌≡◌, false, true, refl, arith}
+use Rattle.std.proofs.lemmas.Result.{IfOk-weaker}
 use Rattle.ln_cemit.proofs.Writing.Loops.{line_step, lines_end, loop_end, loop_goes, loop_named, loop_step, loop_stop, unread_is}
 use Rattle.ln_cemit.proofs.body.put_lines.Goals as goal
 
@@ -26,5 +27,5 @@ ops-preserved c =
     }
 
 pub returns : goal.returns
-returns c = loop_end c.args.e _ c.ops.i c.ops.stack.items c.ops.locals (lines_end c.args.ops.now c.args.ways.now c.ops.i (omega arith))
-    c.ops.invariant.goes (rw c.as_slice-2.ensures.value at c.in_ok-last.ensures)
+returns c = IfOk-weaker c.put_sign.result _ _ (λ _ p. loop_end c.args.e _ c.ops.i c.ops.stack.items c.ops.locals
+    (lines_end c.args.ops.now c.args.ways.now c.ops.i (omega arith)) c.ops.invariant.goes (rw c.as_slice-2.ensures.value at p)) c.put_sign.ensures

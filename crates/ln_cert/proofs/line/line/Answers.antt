@@ -1,8 +1,12 @@
 -- Answers to the goals of `line` in src/line.rt.
 use Rattle.std.proofs.Common.{sym, ◌∙◌}
 use Rattle.ln_base.specs.Lines.{words, words_from}
+use Rattle.ln_cert.proofs.Reading.FirstWords.{sound}
 use Rattle.ln_cert.proofs.Reading.OneLine.{found, no_args, no_kind}
 use Rattle.ln_cert.proofs.line.line.Goals as goal
+
+pub part-requires : goal.part-requires
+part-requires c = (sound c.args.version c.args.state c.word-at.result.0.now c.in-Some.k (sym c.kind.ensures ∙ c.in-Some.is)).good
 
 pub returns-in_default : goal.returns-in_default
 returns-in_default c = no_kind c.args.version c.args.state c.word-at.result.0.now (words_from c.word-at.result.1 c.args.bytes.now)

@@ -4,7 +4,7 @@ use Rattle.ln_cmean.specs.Answered.{tally}
 use Rattle.ln_cmean.specs.Room.{slots_in}
 use Rattle.ln_cmean.specs.Scene.{scene_of}
 use Rattle.ln_cmean.specs.Slots.{seen}
-use Rattle.ln_cmean.proofs.Runs.{front_then, going_on, left_on, left_same, same_front, went_all}
+use Rattle.ln_cmean.proofs.Runs.{front_then, going_on, left_on, left_same, same_front, same_then, went_all}
 use Rattle.ln_cmean.proofs.body.+run.Goals as goal
 
 pub run-stmts-preserved : goal.run-stmts-preserved
@@ -42,3 +42,19 @@ pub run-returns-clause-meaning : goal.run-returns-clause-meaning
 run-returns-clause-meaning g t c =
     went_all (scene_of (g.C.Calls.given c.args.calls.now) c.args.inputs.now) c.args.stmts.now c.stmts.stmt-index _ (seen c.stmts.s)
     (tally c.stmts.counts) (omega (arith, c.stmts-test.false)) c.stmts.invariant.going
+
+pub step-wanted_value-requires : goal.step-wanted_value-requires
+step-wanted_value-requires g t c = record { based = c.requires.1.based; fit = omega (arith, c.requires.1.fit) }
+
+pub step-wanted_value-requires-in-Return : goal.step-wanted_value-requires-in-Return
+step-wanted_value-requires-in-Return g t c = record { based = c.requires.1.based; fit = omega (arith, c.requires.1.fit) }
+
+pub step-returns-then-number-eq0-clause-front : goal.step-returns-then-number-eq0-clause-front
+step-returns-then-number-eq0-clause-front g t c = same_front c.args.s.now c.wanted_value.new.s c.in-Ok.ensures.same
+
+pub step-returns-else-number-eq0-clause-front : goal.step-returns-else-number-eq0-clause-front
+step-returns-else-number-eq0-clause-front g t c =
+    on_ok_weaker c.run-else-number-eq0.result (λ p. same_front _ _ (same_then _ _ _ c.in-Ok.ensures.same p)) c.run-else-number-eq0.ensures.same
+
+pub step-returns-in-Ok-wanted_value-clause-front : goal.step-returns-in-Ok-wanted_value-clause-front
+step-returns-in-Ok-wanted_value-clause-front g t c = same_front c.args.s.now c.wanted_value-in-Return.new.s c.in-Ok-wanted_value.ensures.same

@@ -13,3 +13,10 @@ returns-clause-adds c =
     λ start s. so_far_next _ _ start c.args.i _ _ (λ k l h. h.second)
     (subst (λ (n : ℕ). EdgesSoFar c.args.p.now c.args.points.now start c.args.i n c.second.text.items) end
     (c.second.invariant.so_far start s))
+
+pub second-preserved : goal.second-preserved
+second-preserved c = record {
+  made = c.add_pair.ensures.made;
+  within = omega (arith, c.second-test.true);
+  so_far = λ start s. c.in_ok-add_pair.ensures.adds start (c.second.invariant.so_far start s);
+}

@@ -13,3 +13,10 @@ returns c =
     so_far_all _ _ many _ (λ k l h. h.first)
     (subst (λ (n : ℕ). EdgesSoFar c.args.p.now c.args.points.now [] n 0 c.first.text.items) end
     c.first.invariant.so_far)
+
+pub first-preserved : goal.first-preserved
+first-preserved c = record {
+  made = c.add_from.ensures.made;
+  within = omega (arith, c.first-test.true);
+  so_far = c.in_ok-add_from.ensures.adds [] c.first.invariant.so_far;
+}

@@ -1,12 +1,13 @@
 use Rattle.std.proofs.Common.{◌+◌, ◌-◌, arith, ◌∙◌, ap, length, FitsSigned, rules}
 use mir.Syntax.{w128}
 use Rattle.std.proofs.lemmas.Int.{to_z-of_z}
+use Rattle.std.proofs.lemmas.Result.{IfOk-weaker}
 use Rattle.ln_bound.specs.Light.{most}
 use Rattle.ln_bound.specs.View.{typed}
 use Rattle.ln_nest.specs.Nested.{nested, total}
 use Rattle.ln_nest.specs.View.{scale, terms_in, abs_total}
 use Rattle.ln_nest.proofs.Forms.Steps.{scale_some, free_weight, divided_weight, product_fits, sum_fits_most, ends_free}
-use Rattle.ln_nest.proofs.Forms.Steps.{ends_product, ends_sum, is_empty, is_some, at_count, constant_has, total_fits}
+use Rattle.ln_nest.proofs.Forms.Steps.{ends_product, ends_sum, is_empty, is_some, at_count, by_powers, constant_has, total_fits}
 use Rattle.ln_nest.proofs.Forms.Bounds.{few_weight}
 use Rattle.ln_nest.proofs.horner.+powers.Goals as goal
 
@@ -57,13 +58,18 @@ nest_from-returns-then-v-vars t c =
     constant_has c.args.vars.now c.args.d (length c.args.vars.now) c.args.v (terms_in c.args.terms.items) (typed c.number.result) _ (omega arith)
     (to_z-of_z w128 c.constant.result f ∙ c.constant.ensures ∙ ap (λ s. total (terms_in s)) c.as_slice.ensures.value) c.number.ensures
 
+pub nest_from-returns : goal.nest_from-returns
+nest_from-returns t c = IfOk-weaker c.by_powers.result _ _ (λ x p. by_powers c.args.vars.now (typed x) c.args.d (length c.args.vars.now) c.args.v _
+    (terms_in c.args.terms.items) (omega (arith, c.requires.variable, c.if-v-vars.false)) p) c.by_powers.ensures
+
 pub by_powers-returns-then-is_empty : goal.by_powers-returns-then-is_empty
 by_powers-returns-then-is_empty t c =
     let inner = nested c.args.d (length c.args.vars.now - (c.args.v + 1)) (c.args.v + 1) in
-    at_count c.args.vars.now inner c.args.v (c.args.b - 1) c.args.b _ (terms_in c.args.terms.items) (typed c.in_ok-rest.rest) (omega arith)
+    IfOk-weaker c.nest_from-then-is_empty.result _ _ (λ x p. at_count c.args.vars.now inner c.args.v (c.args.b - 1) c.args.b _
+    (terms_in c.args.terms.items) (typed x) (omega arith)
     (ends_free c.args.vars.now inner c.args.v (c.args.b - 1) (terms_in c.args.terms.items) c.in_ok-with.with.items c.in_ok-with.without.items
-    (typed c.in_ok-rest.rest) (is_empty c.in_ok-with.with.len c.in_ok-with.with.items c.if-is_empty.ensures (omega (arith, c.in_ok-with.with.ok.0)))
-    c.in_ok-with.ensures.with c.in_ok-with.ensures.without c.in_ok-rest.ensures)
+    (typed x) (is_empty c.in_ok-with.with.len c.in_ok-with.with.items c.if-is_empty.ensures (omega (arith, c.in_ok-with.with.ok.0)))
+    c.in_ok-with.ensures.with c.in_ok-with.ensures.without p)) c.nest_from-then-is_empty.ensures
 
 pub by_powers-returns-then-is_empty-2 : goal.by_powers-returns-then-is_empty-2
 by_powers-returns-then-is_empty-2 t c =
@@ -78,9 +84,9 @@ by_powers-returns-then-is_empty-2 t c =
 pub by_powers-returns : goal.by_powers-returns
 by_powers-returns t c =
     let inner = nested c.args.d (length c.args.vars.now - (c.args.v + 1)) (c.args.v + 1) in
-    at_count c.args.vars.now inner c.args.v (c.args.b - 1) c.args.b _ (terms_in c.args.terms.items) (typed c.in_ok-sum.sum) (omega arith)
+    IfOk-weaker c.two.result _ _ (λ x p. at_count c.args.vars.now inner c.args.v (c.args.b - 1) c.args.b _ (terms_in c.args.terms.items) (typed x) (omega arith)
     (ends_sum c.args.vars.now inner c.args.v (c.args.b - 1) (terms_in c.args.terms.items) c.in_ok-with.with.items c.in_ok-with.without.items
-    (typed c.input.result) (typed c.in_ok-h.h) (typed c.in_ok-i.i) (typed c.in_ok-product.product) (typed c.in_ok-sum.sum)
+    (typed c.input.result) (typed c.in_ok-h.h) (typed c.in_ok-i.i) (typed c.in_ok-product.product) (typed x)
     (is_some c.in_ok-with.with.len c.in_ok-with.with.items c.if-is_empty.ensures (omega (arith, c.in_ok-with.with.ok.0)))
     (is_some c.in_ok-with.without.len c.in_ok-with.without.items c.if-is_empty-2.ensures (omega (arith, c.in_ok-with.without.ok.0)))
-    c.in_ok-with.ensures.with c.in_ok-with.ensures.without c.input.ensures c.in_ok-h.ensures c.in_ok-product.ensures c.in_ok-i.ensures c.in_ok-sum.ensures)
+    c.in_ok-with.ensures.with c.in_ok-with.ensures.without c.input.ensures c.in_ok-h.ensures c.in_ok-product.ensures c.in_ok-i.ensures p)) c.two.ensures

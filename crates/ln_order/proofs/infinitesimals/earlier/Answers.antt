@@ -1,6 +1,10 @@
 use Rattle.std.proofs.Common.{◌∙◌, refl, sym, arith, length}
 use Rattle.ln_order.proofs.Signs.RankingLemmas.{along-more, tested-here, tested-nowhere}
+use Rattle.ln_order.proofs.Signs.SitesLemmas.{kept}
 use Rattle.ln_order.proofs.infinitesimals.earlier.Goals as goal
+
+pub at_site-requires-clause-few : goal.at_site-requires-clause-few
+at_site-requires-clause-few c = let s = c.args.s.now in rw c.as_slice-vars.ensures (kept s.sites s.vars s.kept).few_vars
 
 pub returns-in_default : goal.returns-in_default
 returns-in_default c =

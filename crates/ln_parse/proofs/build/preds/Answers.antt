@@ -5,16 +5,16 @@ use Rattle.std.proofs.lemmas.List.{map_push, map-append}
 use Rattle.std.proofs.lemmas.List.Folds.{list_all-append}
 use Rattle.ln_syntax.specs.declared.raw.RawArg.{RawArg}
 use Rattle.ln_syntax.specs.declared.raw.RawLet.{RawLet}
-use Rattle.ln_syntax.specs.Raw.{Item, PredItem, item, items, is_pred}
+use Rattle.ln_syntax.specs.Raw.{Item, PredItem, item, items}
 use Rattle.ln_tree.specs.declared.pred.Pred.{Pred}
 use Rattle.ln_tree.specs.Table.{PredOf, site_of, param_of, pred_of, pred_fits}
 use Rattle.ln_parse.specs.Ready.{ReadyItem, ReadyPred}
 use Rattle.ln_parse.proofs.Building.Lists.{IsAt, SeenAt}
-use Rattle.ln_parse.proofs.Building.Said.{PredsOn, preds_end, preds_skip, preds_pred}
+use Rattle.ln_parse.proofs.Building.Said.{PredsOn, no_pred, preds_end, preds_skip, preds_pred}
 use Rattle.ln_parse.proofs.Building.Kept.{declared}
 use Rattle.ln_parse.proofs.Building.Loops.{item_index}
 use Rattle.ln_parse.proofs.build.preds.Goals as goal
-use Rattle.ln_parse.proofs.build.preds.Goals.{in-Site, in-Param, in-Pred+in_ok-predicate-in-Pred+in_ok-push-in-Pred}
+use Rattle.ln_parse.proofs.build.preds.Goals.{in-Pred+in_ok-predicate+in_ok-push, in_default}
 
 pub predicate-requires-clause-ready : goal.predicate-requires-clause-ready
 predicate-requires-clause-ready c =
@@ -51,27 +51,22 @@ items-preserved c =
     let at : IsAt its i x = record { below = omega arith; is = c.index-its-i.is } in
     let here : SeenAt item its i (item x) = record { element = x; at = at; seen = refl } in
     elim c.match-it.branch [
-      | in-Site w ↦ record {
-        says = λ t s p. rw w.preds-is (preds_skip bytes ts t its i (item x) done here (ap (λ x. is_pred (item x)) w.in-Site.is)
+      | in_default w ↦ record {
+        says = λ t s p. rw w.preds-is (preds_skip bytes ts t its i (item x) done here (no_pred x w.in_default.not-Pred)
             (c.items.invariant.says t s p));
         fits = rw w.preds-is c.items.invariant.fits;
       }
-      | in-Param w ↦ record {
-        says = λ t s p. rw w.preds-is (preds_skip bytes ts t its i (item x) done here (ap (λ x. is_pred (item x)) w.in-Param.is)
-            (c.items.invariant.says t s p));
-        fits = rw w.preds-is c.items.invariant.fits;
-      }
-      | in-Pred+in_ok-predicate-in-Pred+in_ok-push-in-Pred w ↦
-          let y = w.in_ok-predicate-in-Pred.field-0 in
+      | in-Pred+in_ok-predicate+in_ok-push w ↦
+          let y = w.in_ok-predicate.field-0 in
           let e : map pred_of c.match-it.preds ≡ done ++ (pred_of y ∷ []) =
-          ap (λ (w : List Pred). map pred_of w) (w.preds-is ∙ w.in_ok-push-in-Pred.ensures.ok) ∙ map_push pred_of c.items.preds y in
+          ap (λ (w : List Pred). map pred_of w) (w.preds-is ∙ w.in_ok-push.ensures.ok) ∙ map_push pred_of c.items.preds y in
           let next : Item = PredItem w.in-Pred.name w.deref.result.now w.deref-in-Pred.result.now w.in-Pred.root in
           let q : SeenAt item its i next =
           record { element = x; at = at; seen = rw (w.deref.ensures.value, w.deref-in-Pred.ensures.value) (ap item w.in-Pred.is) } in
           record {
             says = λ t s p. subst (λ (z : List PredOf). PredsOn bytes ts t its (i + 1) z) (sym e) (preds_pred bytes ts t its i next done (pred_of y) q
-                (w.in_ok-predicate-in-Pred.ensures.says t s p, tt) (c.items.invariant.says t s p));
-            fits = ap (list_all fit) (w.preds-is ∙ w.in_ok-push-in-Pred.ensures.ok) ∙ list_all-append fit c.items.preds _
-                ∙ and_from _ _ c.items.invariant.fits (and_from _ _ w.in_ok-predicate-in-Pred.ensures.fits refl);
+                (w.in_ok-predicate.ensures.says t s p, tt) (c.items.invariant.says t s p));
+            fits = ap (list_all fit) (w.preds-is ∙ w.in_ok-push.ensures.ok) ∙ list_all-append fit c.items.preds _
+                ∙ and_from _ _ c.items.invariant.fits (and_from _ _ w.in_ok-predicate.ensures.fits refl);
           }
     ]

@@ -5,9 +5,9 @@ use Rattle.ln_tree.specs.Table.{site_of}
 use Rattle.ln_parse.specs.Says.{site_said}
 use Rattle.ln_parse.specs.Ready.{ReadyItem, ReadySite}
 use Rattle.ln_parse.proofs.Building.Loops.{item_index}
-use Rattle.ln_parse.proofs.Building.Said.{said_more, said_skip}
+use Rattle.ln_parse.proofs.Building.Said.{no_site, said_more, said_skip}
 use Rattle.ln_parse.proofs.build.sites.Goals as goal
-use Rattle.ln_parse.proofs.build.sites.Goals.{in-Site+in_ok-site-in-Site+in_ok-push-in-Site, in-Param, in-Pred}
+use Rattle.ln_parse.proofs.build.sites.Goals.{in-Site+in_ok-site+in_ok-push, in_default}
 
 pub site-requires : goal.site-requires
 site-requires c =
@@ -24,10 +24,9 @@ items-preserved c =
     let says = site_said c.args.bytes.now in
     let skip = said_skip says site_of its i x c.items.sites c.match-it.sites (omega arith) c.it-item.is in
     elim c.match-it.branch [
-      | in-Site+in_ok-site-in-Site+in_ok-push-in-Site w ↦
-          said_more says site_of its i x c.items.sites c.match-it.sites (omega arith) c.it-item.is w.in_ok-site-in-Site.field-0
+      | in-Site+in_ok-site+in_ok-push w ↦
+          said_more says site_of its i x c.items.sites c.match-it.sites (omega arith) c.it-item.is w.in_ok-site.field-0
           (ap (λ x. says (item x)) w.in-Site.is ∙ ap (λ (cs : List RawCoord). says (SiteItem w.in-Site.name cs)) (sym w.deref.ensures.value)
-          ∙ ap (λ s. Some s) (sym w.in_ok-site-in-Site.ensures)) (w.sites-is ∙ w.in_ok-push-in-Site.ensures.ok) c.items.invariant
-      | in-Param w ↦ skip (ap (λ x. says (item x)) w.in-Param.is) w.sites-is c.items.invariant
-      | in-Pred w ↦ skip (ap (λ x. says (item x)) w.in-Pred.is) w.sites-is c.items.invariant
+          ∙ ap (λ s. Some s) (sym w.in_ok-site.ensures)) (w.sites-is ∙ w.in_ok-push.ensures.ok) c.items.invariant
+      | in_default w ↦ skip (no_site _ _ w.in_default.not-Site) w.sites-is c.items.invariant
     ]

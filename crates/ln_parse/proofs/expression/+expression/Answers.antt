@@ -1,8 +1,8 @@
 use Rattle.std.proofs.Common.{inl, inr, refl, sym, ◌∙◌, true≢false, arith}
 use Rattle.std.proofs.lemmas.Result.{IfOk-weaker}
-use Rattle.ln_lex.specs.declared.token.Kind.TheVariants.{ParL, Minus, Star}
+use Rattle.ln_syntax.specs.declared.lex.token.Kind.TheVariants.{ParL, Minus, Star}
 use Rattle.ln_syntax.proofs.Spellings.Parts.{is_within}
-use Rattle.ln_parse.proofs.Expressions.Steps.{par_here, par_tree, parens_read, atom_tree, power_plain, exponent_fit, power_read}
+use Rattle.ln_parse.proofs.Expressions.Steps.{both_ok, par_here, par_tree, parens_read, atom_tree, power_plain, exponent_fit, power_read}
 use Rattle.ln_parse.proofs.Expressions.Steps.{power_tree, unary_tree, unary_plain, unary_minus, unary_first, factor_tree, term_first}
 use Rattle.ln_parse.proofs.Expressions.Steps.{sign_within, sign_tree, sums_begin, sums_next, sums_end, products_begin, products_times}
 use Rattle.ln_parse.proofs.Expressions.Steps.{products_end}
@@ -26,7 +26,9 @@ power-returns-then-not-is t c = power_plain c.in_ok-base.ensures (λ h. true≢f
 
 pub power-returns : goal.power-returns
 power-returns t c =
-    rw c.in_ok-read.ensures.end (power_read c.requires.there c.in_ok-base.ensures (c.is.ensures.0 c.if-not-is.false) c.in_ok-read.ensures.value)
+    IfOk-weaker c.to_power.result _ _
+    (λ x k. rw k.0 (power_read c.requires.there c.in_ok-base.ensures (c.is.ensures.0 c.if-not-is.false) k.1))
+    (both_ok c.to_power.result _ _ c.to_power.ensures.end c.to_power.ensures.value)
 
 pub sum-terms-init : goal.sum-terms-init
 sum-terms-init t c = sums_begin c.in_ok-first.ensures
@@ -76,7 +78,9 @@ unary-unary-requires t c =
     (omega arith, (omega arith, (c.requires.small, (c.requires.narrow, unary_tree c.requires.there h))))
 
 pub unary-returns : goal.unary-returns
-unary-returns t c = rw c.in_ok-read.ensures.end (unary_minus (c.is.ensures.0 c.if-not-is.false) c.in_ok-of.ensures refl c.in_ok-read.ensures.value)
+unary-returns t c =
+    IfOk-weaker c.opposite.result _ _ (λ x k. rw k.0 (unary_minus (c.is.ensures.0 c.if-not-is.false) c.in_ok-of.ensures refl k.1))
+    (both_ok c.opposite.result _ _ c.opposite.ensures.end c.opposite.ensures.value)
 
 pub power-atom-requires : goal.power-atom-requires
 power-atom-requires t c = (omega arith, (c.requires.within, (c.requires.small, (c.requires.narrow, atom_tree c.requires.there))))

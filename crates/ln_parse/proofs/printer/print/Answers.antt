@@ -1,4 +1,5 @@
 use Rattle.std.proofs.Common.{List, ℕ, sym, subst}
+use Rattle.std.proofs.lemmas.Result.{IfOk-weaker}
 use Rattle.ln_tree.specs.Table.{table_of}
 use Rattle.ln_parse.specs.Spanless.{IsTextUpToSpans}
 use Rattle.ln_parse.proofs.Wholes.HasTable.{has_table}
@@ -9,4 +10,5 @@ pub returns-clause-table : goal.returns-clause-table
 returns-clause-table c =
     let t = c.args.t.now in
     let u = table_of t.sites t.params t.preds in
-    subst (λ (w : List ℕ). IsTextUpToSpans w u) (sym c.in_ok-text.ensures) (has_table u (table_is_whole t.sites t.params t.preds t.kept t.whole))
+    IfOk-weaker c.canonical_text.result _ _ (λ v k. subst (λ (w : List ℕ). IsTextUpToSpans w u) (sym k)
+    (has_table u (table_is_whole t.sites t.params t.preds t.kept t.whole))) c.canonical_text.ensures

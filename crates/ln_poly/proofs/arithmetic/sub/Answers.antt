@@ -1,6 +1,7 @@
 -- The remaining goals of `sub`.
 use Rattle.std.proofs.Common.{ap, arith, subst, sym}
 use Rattle.std.proofs.lemmas.Int.{ints}
+use Rattle.std.proofs.lemmas.Result.{IfOk-weaker}
 use Rattle.ln_poly.specs.Sparse.{AreBelow, coefficient_at, size_of}
 use Rattle.ln_poly.proofs.TermLists.Negating.{below-negated, coefficient-negated, size-negated}
 use Rattle.ln_poly.proofs.arithmetic.sub.Goals as goal
@@ -10,7 +11,14 @@ sum-requires c = omega (arith, c.requires, ap size_of c.in_ok-minus.ensures, siz
 
 pub returns-clause-coefficients : goal.returns-clause-coefficients
 returns-clause-coefficients c =
-    λ n m. omega (arith, ints, c.in_ok-h.ensures.coefficients n m, ap (λ z. coefficient_at n z m) c.in_ok-minus.ensures, coefficient-negated n m c.args.g.now)
+    IfOk-weaker c.sum.result _ _ (λ h k n m. omega (
+      arith,
+      ints,
+      k n m,
+      ap (λ z. coefficient_at n z m) c.in_ok-minus.ensures,
+      coefficient-negated n m c.args.g.now,
+    )) c.sum.ensures.coefficients
 
 pub returns-clause-below : goal.returns-clause-below
-returns-clause-below c = λ n a b. c.in_ok-h.ensures.below n (subst (AreBelow n) (sym c.in_ok-minus.ensures) (below-negated n c.args.g.now b)) a
+returns-clause-below c =
+    IfOk-weaker c.sum.result _ _ (λ h k n a b. k n (subst (AreBelow n) (sym c.in_ok-minus.ensures) (below-negated n c.args.g.now b)) a) c.sum.ensures.below

@@ -26,3 +26,27 @@ returns-clause-coefficients c =
     let d : AreDerived c.terms.out.items c.args.f.now (length c.args.s.now.vars) c.args.v c.args.n (sizes c.args.s.now.vars) =
     deriving-end _ _ _ _ _ _ _ _ c.terms-f.ensures.value c.terms-test.false c.terms.invariant in
     λ m. c.nonzero-h.ensures.coefficients (length c.args.s.now.vars) m ∙ d.coefficients m
+
+pub offset_bounds-f-t-index : goal.offset_bounds-f-t-index
+offset_bounds-f-t-index c = omega (arith, c.terms-test.true)
+
+pub bounds-f-t-index : goal.bounds-f-t-index
+bounds-f-t-index c = omega (arith, c.terms-test.true)
+
+pub terms-smaller : goal.terms-smaller
+terms-smaller c = omega (arith, c.terms-test.true)
+
+pub put_derived-requires-clause-column : goal.put_derived-requires-clause-column
+put_derived-requires-clause-column c = c.column-column.ensures
+
+pub nonzero-h-requires-clause-rising : goal.nonzero-h-requires-clause-rising
+nonzero-h-requires-clause-rising c = c.terms.invariant.rising
+
+pub nonzero-h-requires-clause-sorted : goal.nonzero-h-requires-clause-sorted
+nonzero-h-requires-clause-sorted c = c.terms.invariant.sorted
+
+pub returns-clause-form : goal.returns-clause-form
+returns-clause-form c = c.nonzero-h.ensures.form
+
+pub returns-clause-below : goal.returns-clause-below
+returns-clause-below c = c.nonzero-h.ensures.below _ c.terms.invariant.below

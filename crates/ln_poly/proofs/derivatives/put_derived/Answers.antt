@@ -1,5 +1,6 @@
 use Rattle.std.proofs.Common.{◌≡◌, ◌<◌, ◌∙◌, FitsSigned, ap, arith, get_or, refl, rules}
 use Rattle.std.proofs.lemmas.Int.{to_z-of_z}
+use Rattle.std.proofs.lemmas.Result.{on_ok_weaker}
 use mir.Syntax.{w128}
 use Rattle.ln_tree.specs.Exps.{exponent}
 use Rattle.ln_algebra.specs.Terms.{binomial}
@@ -36,11 +37,8 @@ returns c =
     let b : get_or c.args.column.now c.exponent_of-e.result 0 ≡ binomial c.exponent_of-e.result c.args.n =
     c.requires.column c.exponent_of-e.result c.exponent_of-e.ensures.small in
     let f : FitsSigned w128 c.args.t.now.1 = search rules in
+    let put = rw (to_z-of_z w128 c.args.t.now.1 f, c.from.ensures, b, e) at c.push_times.ensures in
     record {
-      none = λ h. absurd (omega (arith, h, e, c.if-e-n.false));
-      some = λ h. record {
-        exps = c.in_ok-exps.exps;
-        put = rw (to_z-of_z w128 c.args.t.now.1 f, c.from.ensures, b, e) at c.in_ok-push_times.ensures;
-        lowered = c.in_ok-exps.ensures;
-      };
+      none = on_ok_weaker c.push_times.result (λ _ h. absurd (omega (arith, h, e, c.if-e-n.false))) put;
+      some = on_ok_weaker c.push_times.result (λ p h. record { exps = c.in_ok-exps.exps; put = p; lowered = c.in_ok-exps.ensures }) put;
     }

@@ -7,7 +7,7 @@ use Rattle.ln_poly.specs.Expansion.{closed_lets, expanded, powers}
 use Rattle.ln_poly.specs.Ready.{AreLight}
 use Rattle.ln_bound.specs.Typed.{formula_of, kind_of}
 use Rattle.ln_bound.proofs.Trees.Operands.{operands}
-use Rattle.ln_poly.proofs.Expansions.Nodes.{are-ready, first-stops, neg-room, one-err, one-ok, pow-room, second-stops, two-err, two-ok}
+use Rattle.ln_poly.proofs.Expansions.Nodes.{are-ready, first-stops, one-err, one-ok, pow-room, second-stops, two-err, two-ok}
 use Rattle.ln_poly.proofs.expansion.+expand.Goals as goal
 
 pub expand-requires-in-Add : goal.expand-requires-in-Add
@@ -103,15 +103,6 @@ returns-in_ok-g-in-Add-clause-err t c =
     two-err vars ls (formula e) x y _ c.both.result r.nodes
     c.in_ok-f-in-Add.ensures.ok.few c.in_ok-g-in-Add.ensures.ok.few (MatchResult-weaker c.both.result o (λ h z. tt)
     (λ s z. z (length vars) _ _ c.in_ok-f-in-Add.ensures.ok.normal c.in_ok-g-in-Add.ensures.ok.normal))
-
-pub negation-requires : goal.negation-requires
-negation-requires t c =
-    let vars = c.args.vars.now in
-    let ls = closed_lets vars (map formula c.args.lets.now) in
-    let at = c.args.e.now.at in
-    let q : formula c.args.e.now ≡ FNeg at (formula c.deref.result.now) = rw c.deref.ensures (ap (node_formula at) c.in-Neg.is) in
-    neg-room vars ls (tree vars (formula c.deref.result.now)) c.in_ok-f-in-Neg.f
-    (subst (λ (z : Formula). AreLight (length vars) two ls (tree vars z)) q c.requires.light) c.in_ok-f-in-Neg.ensures.ok.normal
 
 pub returns-in_ok-f-in-Neg-clause-ok : goal.returns-in_ok-f-in-Neg-clause-ok
 returns-in_ok-f-in-Neg-clause-ok t c =

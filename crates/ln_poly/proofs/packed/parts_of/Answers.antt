@@ -1,4 +1,4 @@
-use Rattle.std.proofs.Common.{◌≡◌, ◌≤◌, arith, length, rules, subst, sym}
+use Rattle.std.proofs.Common.{◌≡◌, ◌-◌, ◌*◌, ◌≤◌, ap, arith, length, rules, subst, sym}
 use Rattle.std.proofs.lemmas.Bool.{iff_false}
 use Rattle.ln_poly.specs.Keyed.{AreAllProducts, Keyed}
 use Rattle.ln_poly.proofs.Packing.Loops.{part-fit}
@@ -30,12 +30,28 @@ parts-preserved g c =
     c.end_of-j.ensures.further c.end_of-j.ensures.within c.in_ok-next.ensures.long c.in_ok-next.ensures.long_aside l
     (iff_false c.are_too_many.ensures c.if-are_too_many.false)
 
-pub returns-then-are_too_many-clause-none : goal.returns-then-are_too_many-clause-none
-returns-then-are_too_many-clause-none g c =
+pub returns-then-are_too_many : goal.returns-then-are_too_many
+returns-then-are_too_many g c =
     let l : c.len.result ≡ length c.in_ok-next.next.items = search rules in
     given-up-at _ _ _ _ _ _ _ _ _ c.parts.invariant.products
     (λ e p. c.in_ok-next.ensures.rows e (subst (λ (z : Keyed). AreAllProducts z e c.args.g.now) (sym c.as_slice.ensures.value) p)) c.between.ensures
     c.end_of-j.ensures.further l (c.are_too_many.ensures.0 c.if-are_too_many.true)
 
-pub returns-clause-products : goal.returns-clause-products
-returns-clause-products g c = parts-end _ _ _ _ _ _ _ c.parts.invariant (omega (arith, c.parts-test.false))
+pub overflow_sub-f : goal.overflow_sub-f
+overflow_sub-f g c = c.end_of-j.ensures.within
+
+pub end_of-j-requires : goal.end_of-j-requires
+end_of-j-requires g c = c.parts-test.true
+
+pub between-requires : goal.between-requires
+between-requires g c = (search rules, (omega (arith, c.end_of-j.ensures.further), c.end_of-j.ensures.within))
+
+pub parts-smaller : goal.parts-smaller
+parts-smaller g c = omega (arith, c.end_of-j.ensures.further, c.end_of-j.ensures.within)
+
+pub returns : goal.returns
+returns g c =
+    let none : length c.args.f.now - c.parts.i ≡ 0 = omega (arith, c.parts-test.false) in (
+      parts-end _ _ _ _ _ _ _ c.parts.invariant (omega (arith, c.parts-test.false)),
+      omega (arith, c.parts.invariant.few, ap (λ z. z * length c.args.g.now) none),
+    )

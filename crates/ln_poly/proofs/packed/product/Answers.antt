@@ -1,8 +1,8 @@
-use Rattle.std.proofs.Common.{ap, arith, length, rules, ◌≡◌, ◌∙◌, ◌*◌, ◌<◌, ◌^◌}
+use Rattle.std.proofs.Common.{ap, arith, length, rules, ◌≡◌, ◌∙◌, ◌*◌, ◌<◌, ◌≤◌, ◌^◌}
 use Rattle.std.proofs.lemmas.List.{length-map}
 use Rattle.ln_poly.specs.Keyed.{AreAllProducts, IsGivenUp}
 use Rattle.ln_poly.specs.Packed.{keyed, packed, weights}
-use Rattle.ln_poly.proofs.Packing.Whole.{given-up, keyed-fit, left-low, product-poly, product-rows, product-small, right-low, some-half}
+use Rattle.ln_poly.proofs.Packing.Whole.{given-up, keyed-fit, left-low, product-poly, product-rows, product-small, right-low, some-half, unkeyed-length}
 use Rattle.ln_poly.proofs.packed.product.Goals as goal
 
 pub pack-requires : goal.pack-requires
@@ -33,9 +33,9 @@ unpack-requires g c =
     let ws = weights c.args.fields.now.shifts in
     let l = c.as_slice.ensures.value ∙ c.in_ok-left.ensures ∙ ap (keyed ws) c.terms.ensures.value in
     let r = c.as_slice-2.ensures.value ∙ c.in_ok-right.ensures ∙ ap (keyed ws) c.terms-2.ensures.value in
-    let a : AreAllProducts c.in-Some.terms.items (keyed ws c.args.f.now) (keyed ws c.args.g.now) =
-    rw (c.in-Some.is, l, r) at c.in_ok-found.ensures.products in
-    let small = product-small g.row.N ws c.args.f.now c.args.g.now c.requires.fields c.in-Some.terms.items a in
+    let a : AreAllProducts c.in-Some.terms.items (keyed ws c.args.f.now) (keyed ws c.args.g.now) × (length c.in-Some.terms.items ≤ c.args.most) =
+    rw (c.in-Some.is, l, r) at c.in_ok-found.ensures in
+    let small = product-small g.row.N ws c.args.f.now c.args.g.now c.requires.fields c.in-Some.terms.items a.0 in
     (search rules, (omega (arith, c.args.fields.now.few), rw c.as_slice-in-Some.ensures.value small))
 
 pub seal-requires : goal.seal-requires
@@ -43,25 +43,29 @@ seal-requires g c =
     let ws = weights c.args.fields.now.shifts in
     let l = c.as_slice.ensures.value ∙ c.in_ok-left.ensures ∙ ap (keyed ws) c.terms.ensures.value in
     let r = c.as_slice-2.ensures.value ∙ c.in_ok-right.ensures ∙ ap (keyed ws) c.terms-2.ensures.value in
-    let a : AreAllProducts c.in-Some.terms.items (keyed ws c.args.f.now) (keyed ws c.args.g.now) =
-    rw (c.in-Some.is, l, r) at c.in_ok-found.ensures.products in
+    let a : AreAllProducts c.in-Some.terms.items (keyed ws c.args.f.now) (keyed ws c.args.g.now) × (length c.in-Some.terms.items ≤ c.args.most) =
+    rw (c.in-Some.is, l, r) at c.in_ok-found.ensures in
     rw (c.from_vec.ensures, c.in_ok-h-in-Some.ensures, c.as_slice-in-Some.ensures.value)
-    (product-poly g.row.N ws c.args.f.now c.args.g.now c.requires.fields c.in-Some.terms.items a c.requires.room)
+    (product-poly g.row.N ws c.args.f.now c.args.g.now c.requires.fields c.in-Some.terms.items a.0 c.requires.room)
 
-pub returns-in-Some-clause-rows : goal.returns-in-Some-clause-rows
-returns-in-Some-clause-rows g c =
+pub returns-in-Some : goal.returns-in-Some
+returns-in-Some g c =
     let ws = weights c.args.fields.now.shifts in
     let l = c.as_slice.ensures.value ∙ c.in_ok-left.ensures ∙ ap (keyed ws) c.terms.ensures.value in
     let r = c.as_slice-2.ensures.value ∙ c.in_ok-right.ensures ∙ ap (keyed ws) c.terms-2.ensures.value in
-    let a : AreAllProducts c.in-Some.terms.items (keyed ws c.args.f.now) (keyed ws c.args.g.now) =
-    rw (c.in-Some.is, l, r) at c.in_ok-found.ensures.products in
-    rw (c.seal.ensures, c.from_vec.ensures, c.in_ok-h-in-Some.ensures, c.as_slice-in-Some.ensures.value)
-    (product-rows g.row.N ws c.args.f.now c.args.g.now c.requires.fields c.in-Some.terms.items a)
+    let a : AreAllProducts c.in-Some.terms.items (keyed ws c.args.f.now) (keyed ws c.args.g.now) × (length c.in-Some.terms.items ≤ c.args.most) =
+    rw (c.in-Some.is, l, r) at c.in_ok-found.ensures in
+    rw (c.seal.ensures, c.from_vec.ensures, c.in_ok-h-in-Some.ensures, c.as_slice-in-Some.ensures.value) (record {
+      rows = product-rows g.row.N ws c.args.f.now c.args.g.now c.requires.fields c.in-Some.terms.items a.0;
+      form = product-poly g.row.N ws c.args.f.now c.args.g.now c.requires.fields c.in-Some.terms.items a.0 c.requires.room;
+      few = omega (arith, a.1, unkeyed-length ws c.in-Some.terms.items);
+      none = tt;
+    })
 
-pub returns-clause-none : goal.returns-clause-none
-returns-clause-none g c =
+pub returns : goal.returns
+returns g c =
     let ws = weights c.args.fields.now.shifts in
     let l = c.as_slice.ensures.value ∙ c.in_ok-left.ensures ∙ ap (keyed ws) c.terms.ensures.value in
     let r = c.as_slice-2.ensures.value ∙ c.in_ok-right.ensures ∙ ap (keyed ws) c.terms-2.ensures.value in
-    let u : IsGivenUp (keyed ws c.args.f.now) (keyed ws c.args.g.now) c.args.most = rw (c.in-None.is, l, r) at c.in_ok-found.ensures.none in
-    given-up g.row.N ws c.args.f.now c.args.g.now c.requires.fields c.args.most c.requires.room u
+    let u : IsGivenUp (keyed ws c.args.f.now) (keyed ws c.args.g.now) c.args.most = rw (c.in-None.is, l, r) at c.in_ok-found.ensures in
+    record { rows = tt; form = tt; few = tt; none = given-up g.row.N ws c.args.f.now c.args.g.now c.requires.fields c.args.most c.requires.room u }

@@ -1,5 +1,6 @@
 -- The remaining goals of `sum`.
 use Rattle.std.proofs.Common.{subst, sym}
+use Rattle.std.proofs.lemmas.Result.{IfOk-weaker}
 use Rattle.ln_tree.specs.Exps.{IsAbove, IsRising}
 use Rattle.ln_poly.specs.Sparse.{AreBelow, AreRising, AreSorted}
 use Rattle.ln_poly.proofs.Sorting.Gathering.{same-all, same-sorted}
@@ -14,11 +15,11 @@ joined-requires-clause-rising c = same-all IsRising c.into_terms-terms.result.it
     (subst AreRising (sym c.into_terms-terms.ensures.value) c.into_terms-terms.ensures.form.rising)
 
 pub returns-clause-below : goal.returns-clause-below
-returns-clause-below c = λ n a b.
-    c.in_ok-h.ensures.below n
+returns-clause-below c = IfOk-weaker c.joined.result _ _ (λ h k n a b.
+    k n
     (same-all (λ e. IsAbove e n) c.into_terms-terms.result.items c.spread.new.f.items c.in_ok-more.ensures.exps
     (subst (AreBelow n) (sym c.into_terms-terms.ensures.value) a))
-    (c.in_ok-more.ensures.below n (subst (AreBelow n) (sym c.terms.ensures.value) b))
+    (c.in_ok-more.ensures.below n (subst (AreBelow n) (sym c.terms.ensures.value) b))) c.joined.ensures.below
 
 pub joined-requires-clause-more_sorted : goal.joined-requires-clause-more_sorted
 joined-requires-clause-more_sorted c = c.in_ok-more.ensures.sorted (subst AreSorted (sym c.terms.ensures.value) c.terms.ensures.form.sorted)

@@ -1,4 +1,4 @@
-use Rattle.ln_signs.proofs.GradedLaws.{begins_at, gradable_at, programs_at, stops_at}
+use Rattle.ln_signs.proofs.GradedLaws.{begins_at, gradable_at, programs_at, short_stops, stops_at}
 use Rattle.ln_signs.proofs.graded.graded_program.Goals as goal
 
 pub graded-requires-clause-poly : goal.graded-requires-clause-poly
@@ -21,3 +21,9 @@ pub returns-clause-err : goal.returns-clause-err
 returns-clause-err c =
     stops_at c.args.c.now.table.preds c.args.i c.requires c.in_ok-f.f c.in_ok-p.p c.in_ok-f.ensures c.in_ok-p.ensures.program _
     (rw c.shape.ensures at c.graded.ensures.err)
+
+pub returns-in_err-f-clause-err : goal.returns-in_err-f-clause-err
+returns-in_err-f-clause-err c = short_stops c.from_residual.result _ c.from_residual.ensures.1
+
+pub returns-in_err-p-clause-err : goal.returns-in_err-p-clause-err
+returns-in_err-p-clause-err c = short_stops c.from_residual-in_err-p.result _ c.from_residual-in_err-p.ensures.1

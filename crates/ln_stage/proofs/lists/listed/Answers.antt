@@ -45,7 +45,8 @@ returns-in_err-more-clause-err c =
     let m = more-prefixes c.args.prefixes.now c.prefixes.p-index c.p-item.result (omega arith) c.p-item.is in
     let p = err_from_is_err_and c.from_residual-in_err-more.result c.from_residual-in_err-more.ensures.1 in
     let n = c.orders.ensures.value ∙ ap (λ z. length (orders_of (c.args.s.now.sites - length z))) c.places.ensures.value in
-    rw (p.1, p.2, ← c.requires.prefixes) (up-passes c.prefixes.invariant.so_far m c.in_ok-list.ensures.list c.len.ensures n _ _ c.in_err-more.ensures.err)
+    rw (p.1, p.2, ← c.requires.prefixes)
+    (up-passes c.prefixes.invariant.so_far m c.in_ok-list.ensures.list c.len-stages.ensures n _ _ c.in_err-more.ensures.err)
 
 pub prefixes-preserved : goal.prefixes-preserved
 prefixes-preserved c =
@@ -53,7 +54,7 @@ prefixes-preserved c =
     let n = c.orders.ensures.value ∙ ap (λ z. length (orders_of (c.args.s.now.sites - length z))) c.places.ensures.value in
     let s = c.args.s.now in
     record {
-      so_far = up-goes c.prefixes.invariant.so_far m c.in_ok-list.ensures.list c.len.ensures n c.in_ok-list.ensures.rest c.in_ok-push.ensures.ok
+      so_far = up-goes c.prefixes.invariant.so_far m c.in_ok-list.ensures.list c.len-stages.ensures n c.in_ok-list.ensures.rest c.in_ok-push.ensures.ok
           c.in_ok-more.ensures.ok c.in_ok-more.ensures.within;
       cuts = cuts-follow (cut_by c.args.by_degree s.sites s.vars c.args.f.now) c.args.prefixes.now s.sites c.prefixes.p-index c.p-item.result
           c.segment.new.cuts (kept s.sites s.vars s.kept).few_sites c.requires.prefixes (omega arith) c.p-item.is c.in_ok-list.ensures.cuts;

@@ -77,4 +77,4 @@ returns-clause-weight c =
     let h = has-terms c.args.s.now.kept c.terms-terms.ensures.value c.terms-terms.ensures.form c.requires.below in
     let a = rw c.new-tally.ensures at c.in_ok-found.ensures.ok in
     let q = final-is (along-by h c.args.by_degree) c.args.most c.args.heavy a c.of.ensures c.into_blocks-blocks.ensures.blocks in
-    rw (← c.terms-terms.ensures.value, q) (final-weight (along-by h c.args.by_degree) c.args.most c.args.heavy a c.into_blocks-blocks.ensures.within.1)
+    rw (← c.terms-terms.ensures.value, q) (final-weight (along-by h c.args.by_degree) c.args.most c.args.heavy a c.into_blocks-blocks.ensures.within)

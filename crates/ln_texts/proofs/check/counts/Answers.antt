@@ -1,4 +1,4 @@
-use Rattle.ln_texts.proofs.CheckLaws.{counts_start, counts_more}
+use Rattle.ln_texts.proofs.CheckLaws.{counts_end, counts_start, counts_more}
 use Rattle.ln_texts.proofs.check.counts.Goals as goal
 
 pub preds-init : goal.preds-init
@@ -13,3 +13,8 @@ preds-preserved c =
     let there = rw (c.as_slice-p-items.ensures, c.table.ensures) at c.p-item.is in
     counts_more c.args.c.now.table.preds c.preds.i c.p-item.result _ _ _ few there c.preds.invariant c.stage_count.ensures
     c.in_ok-add_count.ensures
+
+pub returns : goal.returns
+returns c =
+    let all = rw (c.as_slice-p-items.ensures, c.table.ensures) at c.preds-test.false in
+    counts_end c.args.c.now.table.preds c.preds.i c.preds.text.items all c.preds.invariant

@@ -1,6 +1,8 @@
+use Rattle.std.proofs.Common.{ap, Err}
 use Rattle.ln_top.specs.Plan.{with_bytes}
 use Rattle.ln_top.proofs.Steps.Prepared.{names_stop, suits_stop, files_stop}
 use Rattle.ln_compile.proofs.Numbers.{numbers_within}
+use Rattle.ln_top.proofs.Steps.TopLaws.{err_same}
 use Rattle.ln_top.proofs.prepare.later.Goals as goal
 
 pub returns-in-Err-clause-err : goal.returns-in-Err-clause-err
@@ -22,3 +24,6 @@ returns-in-Err-texts-clause-err g c =
     let n = c.in-Ok.ensures.ok in
     files_stop (with_bytes c.args.plan) (g.F.Files.told c.args.files.now) _ _ n.preds _ _ c.requires.read c.requires.compiles n.found
     ((rw c.deref.ensures.value at c.in-Ok-suited.ensures.ok) n.preds n.numbered) c.in-Err-texts.ensures.err
+
+pub returns-in-Err-texts-clause-quiet : goal.returns-in-Err-texts-clause-quiet
+returns-in-Err-texts-clause-quiet g c n = c.in-Err-texts.ensures.quiet (λ e. n (ap Err (err_same e)))

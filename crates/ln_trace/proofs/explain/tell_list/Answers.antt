@@ -1,4 +1,5 @@
 use Rattle.std.proofs.Common.{◌≡◌, ◌≤◌, ◌<◌, ap, arith, length}
+use Rattle.std.proofs.lemmas.Result.{IfOk-weaker}
 use Rattle.ln_tree.specs.declared.shape.Shape.{Shape}
 use Rattle.ln_tree.proofs.KeptLemmas.{laid_out}
 use Rattle.ln_order.specs.Places.{order_places}
@@ -49,5 +50,5 @@ returns-clause-told c =
     let o = order_places c.args.order.now in
     let e : c.shape.result.now.sites ≡ p.shape.sites = ap (λ (s : Shape). s.sites) c.shape.ensures in
     let h : length o < c.prefixes.j = omega (arith, e, c.requires.order, c.prefixes-test.false) in
-    list-end p (row_of p.shape.sites p.shape.vars c.args.r.now).values o (list_of p o) c.args.out.now.items c.prefixes.out.items
-    c.put_sign.new.out.items c.prefixes.j h c.prefixes.invariant.on c.in_ok-put_sign.ensures
+    IfOk-weaker c.put_sign.result _ _ (λ x w. list-end p (row_of p.shape.sites p.shape.vars c.args.r.now).values o (list_of p o)
+    c.args.out.now.items c.prefixes.out.items c.put_sign.new.out.items c.prefixes.j h c.prefixes.invariant.on w) c.put_sign.ensures

@@ -1,6 +1,6 @@
 -- Answers to the goals of `over_lines` in src/judging.rt.
 use Rattle.std.proofs.Common.{◌∷◌, arith, refl, sym, ◌∙◌, true≢false}
-use Rattle.ln_lines.proofs.Judging.{midway_more, reached_first, reached_stops}
+use Rattle.ln_base.proofs.Forms.Judging.{midway_more, reached_first, reached_stops}
 use Rattle.ln_trace.specs.Reading.{trace_rules}
 use Rattle.ln_trace.specs.Unread.{AreLeft, IsTaken}
 use Rattle.ln_trace.proofs.Midway.{here-ends, here-lacks}

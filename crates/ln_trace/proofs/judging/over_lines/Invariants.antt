@@ -1,7 +1,7 @@
 -- In the loop of `over_lines` the lines so far lead to the place that the state of the judge stands for, and the other lines remain.
 use Rattle.std.proofs.Common.{List, length}
 use Rattle.ln_algebra.specs.Tree.{Tree}
-use Rattle.ln_lines.proofs.Judging.{Midway}
+use Rattle.ln_base.proofs.Forms.Judging.{Midway}
 use Rattle.ln_trace.specs.declared.line.TraceLine.{TraceLine}
 use Rattle.ln_trace.specs.Here.{HasPoly, Holds, IsHere, subject_of}
 use Rattle.ln_trace.specs.Judge.{judge_of}

@@ -1,7 +1,7 @@
 -- Answers to the goals of `over_trace` in src/judging.rt.
 use Rattle.std.proofs.Common.{◌∷◌, ◌+◌, arith, drop, refl, sym, ◌∙◌, true≢false}
 use Rattle.std.proofs.lemmas.List.{drop_all}
-use Rattle.ln_lines.proofs.Judging.{at_hand, reached_first, reached_more, reached_stops}
+use Rattle.ln_base.proofs.Forms.Judging.{at_hand, reached_first, reached_more, reached_stops}
 use Rattle.ln_trace.proofs.Midway.{here-ends, here-lacks}
 use Rattle.ln_trace.proofs.judging.over_trace.Goals as goal
 

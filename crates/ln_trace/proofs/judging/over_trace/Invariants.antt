@@ -1,7 +1,7 @@
 -- In the loop of `over_trace` the first `i` lines lead to the place that the state of the judge stands for.
 use Rattle.std.proofs.Common.{◌+◌, drop}
 use Rattle.ln_algebra.specs.Tree.{Tree}
-use Rattle.ln_lines.proofs.Judging.{Reached}
+use Rattle.ln_base.proofs.Forms.Judging.{Reached}
 use Rattle.ln_trace.specs.Here.{HasPoly, Holds, IsHere, subject_of}
 use Rattle.ln_trace.specs.Judge.{judge_of}
 use Rattle.ln_trace.specs.Trace.{Between}

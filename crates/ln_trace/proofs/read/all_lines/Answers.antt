@@ -1,6 +1,6 @@
 -- Answers to the goals of `all_lines` in src/read.rt.
 use Rattle.std.proofs.Common.{rules}
-use Rattle.ln_lines.proofs.Left.{gathered_more}
+use Rattle.ln_base.proofs.Forms.Left.{gathered_more}
 use Rattle.ln_trace.specs.Reading.{trace_rules}
 use Rattle.ln_trace.specs.Unread.{IsTaken}
 use Rattle.ln_trace.proofs.read.all_lines.Goals as goal

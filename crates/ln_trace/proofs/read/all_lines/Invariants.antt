@@ -1,6 +1,6 @@
 -- The loop over lines of `all_lines` in src/read.rt.
 use Rattle.std.proofs.Common.{length}
-use Rattle.ln_lines.proofs.Left.{Gathered}
+use Rattle.ln_base.proofs.Forms.Left.{Gathered}
 use Rattle.ln_trace.specs.Reading.{trace_rules}
 use Rattle.ln_trace.proofs.read.all_lines.Given as goal
 

@@ -4,7 +4,7 @@ use Rattle.ln_base.specs.Lines.{words_from}
 use Rattle.ln_base.proofs.Texts.Lists.{differs}
 use Rattle.ln_base.proofs.Texts.Words.{past_words}
 use Rattle.ln_base.specs.Exponents.{IsExponent, exponent_word}
-use Rattle.ln_lines.proofs.Colon.{no_colon_left, no_item_here}
+use Rattle.ln_base.proofs.Forms.Colon.{no_colon_left, no_item_here}
 use Rattle.ln_trace.proofs.Reading.OneLine.{no_colon}
 use Rattle.ln_trace.proofs.words.exponents.Goals as goal
 

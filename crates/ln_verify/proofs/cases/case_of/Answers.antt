@@ -1,9 +1,5 @@
 -- Answers to the goals of `case_of` in src/cases.rt.
-use Rattle.std.proofs.Common.{length, subst, sym}
-use Rattle.ln_tree.specs.Table.{pred_of}
-use Rattle.ln_poly.specs.Expansion.{IsNormal}
-use Rattle.ln_poly.specs.OfPred.{root_of}
-use Rattle.ln_poly.specs.Sparse.{Sparse}
+use Rattle.ln_tree.proofs.KeptLemmas.{laid_out}
 use Rattle.ln_verify.proofs.Polynomials.CaseLemmas.{case_is, few_lists, some_terms}
 use Rattle.ln_verify.proofs.cases.case_of.Goals as goal
 
@@ -16,10 +12,9 @@ staged-requires-clause-below c = c.in_ok-poly.ensures.normal.below
 pub staged-requires-clause-few : goal.staged-requires-clause-few
 staged-requires-clause-few c = few_lists c.args.p.now c.in_ok-poly.poly c.requires c.in_ok-poly.ensures.normal
 
-pub returns-clause-normal : goal.returns-clause-normal
-returns-clause-normal c = subst (λ (f : Sparse). IsNormal (length c.args.p.now.shape.vars) (root_of (pred_of c.args.p.now)) f)
-    (sym c.in_ok-case.ensures.poly) c.in_ok-poly.ensures.normal
+pub all_orders-requires : goal.all_orders-requires
+all_orders-requires c = (laid_out c.args.p.now.shape.sites c.args.p.now.shape.vars c.args.p.now.shape.kept).few_sites
 
 pub returns-clause-case : goal.returns-clause-case
-returns-clause-case c = case_is c.args.p.now c.in_ok-case.case c.in_ok-poly.poly c.in_ok-stages.stages c.in_ok-case.ensures c.requires
-    c.in_ok-poly.ensures.normal c.in_ok-stages.ensures
+returns-clause-case c = case_is c.args.p.now c.in_ok-shape.shape c.in_ok-poly.poly c.in_ok-stages.stages c.in_ok-orders.orders
+    c.in_ok-shape.ensures c.requires c.in_ok-poly.ensures.normal c.in_ok-stages.ensures c.in_ok-orders.ensures

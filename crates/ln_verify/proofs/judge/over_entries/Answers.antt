@@ -1,7 +1,7 @@
 -- Answers to the goals of `over_entries` in src/judge.rt.
 use Rattle.std.proofs.Common.{◌≡◌, ◌+◌, true, false, ◌∷◌, drop, get_or, sym, ◌∙◌, ap, arith}
 use Rattle.std.proofs.lemmas.List.{drop_all, length-map}
-use Rattle.ln_lines.proofs.Judging.{at_hand, reached_first, reached_more, reached_stops}
+use Rattle.ln_base.proofs.Forms.Judging.{at_hand, reached_first, reached_more, reached_stops}
 use Rattle.ln_cert.specs.declared.part.Entry.{Entry}
 use Rattle.ln_cert.specs.Listing.{parts_of}
 use Rattle.ln_verify.specs.Line.{Place}

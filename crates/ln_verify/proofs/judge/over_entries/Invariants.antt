@@ -1,6 +1,6 @@
 -- States the invariant of the loop of `over_entries`: the lines so far lead to a place that the judge's state stands for.
 use Rattle.std.proofs.Common.{◌+◌, [], drop}
-use Rattle.ln_lines.proofs.Judging.{Reached}
+use Rattle.ln_base.proofs.Forms.Judging.{Reached}
 use Rattle.ln_cert.specs.Listing.{parts_of}
 use Rattle.ln_verify.specs.Here.{IsHere, subjects_of}
 use Rattle.ln_verify.specs.Judge.{judge_of}

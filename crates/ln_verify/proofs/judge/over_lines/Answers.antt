@@ -1,7 +1,7 @@
 -- Answers to the goals of `over_lines` in src/judge.rt.
 use Rattle.std.proofs.Common.{true, false, ◌∷◌, sym, ◌∙◌}
 use Rattle.std.proofs.lemmas.List.{length-map}
-use Rattle.ln_lines.proofs.Judging.{midway_more, reached_first, reached_stops}
+use Rattle.ln_base.proofs.Forms.Judging.{midway_more, reached_first, reached_stops}
 use Rattle.ln_cert.specs.Reading.{list_rules}
 use Rattle.ln_cert.specs.Unread.{AreLeft, IsTaken, rest_of}
 use Rattle.ln_verify.specs.Line.{Place}

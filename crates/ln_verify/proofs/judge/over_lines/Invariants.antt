@@ -1,6 +1,6 @@
 -- States the invariant of the loop of `over_lines`, that the lines so far lead to a place that the judge's state stands for, and why it ends.
 use Rattle.std.proofs.Common.{List, [], length}
-use Rattle.ln_lines.proofs.Judging.{Midway}
+use Rattle.ln_base.proofs.Forms.Judging.{Midway}
 use Rattle.ln_cert.specs.declared.part.Part.{Part}
 use Rattle.ln_cert.specs.Unread.{AreLeft}
 use Rattle.ln_verify.specs.Here.{IsHere, subjects_of}

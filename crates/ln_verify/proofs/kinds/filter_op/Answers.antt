@@ -1,10 +1,12 @@
 -- Answers to the goals of `filter_op` in src/kinds.rt.
 use Rattle.std.proofs.Common.{refl}
+use Rattle.std.proofs.lemmas.Result.{IfOk-weaker}
 use Rattle.ln_verify.specs.Here.{subject_of}
 use Rattle.ln_verify.specs.Versions.{version_of}
 use Rattle.ln_verify.proofs.Engines.AtSpots.{filter_stack-led}
 use Rattle.ln_verify.proofs.kinds.filter_op.Goals as goal
 
 pub returns : goal.returns
-returns c = filter_stack-led (version_of c.args.form) (subject_of c.args.case.now) c.args.state.now c.operate.new.on c.args.op c.args.a
-    c.in_ok-ok.ok (c.is_at.ensures.0 c.if-not-is_at.false) (c.in_ok-ok.ensures c.args.a refl)
+returns c = IfOk-weaker c.operate.result _ _ (λ ok h.
+    filter_stack-led (version_of c.args.form) (subject_of c.args.case.now) c.args.state.now c.operate.new.on c.args.op c.args.a
+    ok (c.is_at.ensures.0 c.if-not-is_at.false) (h c.args.a refl)) c.operate.ensures

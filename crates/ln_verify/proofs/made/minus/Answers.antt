@@ -3,7 +3,7 @@ use Rattle.std.proofs.Common.{◌≡◌, ◌∙◌, ap, arith, refl, subst, sym}
 use Rattle.ln_algebra.specs.Tree.{Neg}
 use Rattle.ln_poly.specs.Sparse.{Sparse, size_of}
 use Rattle.ln_poly.proofs.TermLists.Negating.{size-negated}
-use Rattle.ln_verify.proofs.Polynomials.Negations.{negated-normal}
+use Rattle.ln_poly.proofs.Expansions.Normals.{neg-normal}
 use Rattle.std.specs.Prelude.{None}
 use Rattle.ln_verify.specs.Values.{IsFor, IsMade}
 use Rattle.ln_verify.proofs.Values.Made.{exact, made, nothing}
@@ -29,4 +29,4 @@ returns g c v vars n b k h i =
     subst (IsMade (IsFor g.L.Limits.known n) g.L.Limits.tree n c.kept.result) (λ a. e.minus c.args.w b (sym i.is a))
     (made g.L.Limits.known g.L.Limits.tree g.met.L.Limits.tree_known n c.in-Some.limits (Neg i.tree) x.size x.size _ c.kept.result
     (c.in-Some.ensures.rule x.size (Neg i.tree) _ (exact x.size x.size refl) (c.of_minus.ensures v vars b i.tree x.size h)) refl
-    (c.kept.ensures n (Neg i.tree) (negated-normal n i.tree c.args.x.poly c.opposite.result i.normal c.opposite.ensures)))
+    (c.kept.ensures n (Neg i.tree) (neg-normal n i.tree c.args.x.poly c.opposite.result i.normal c.opposite.ensures)))

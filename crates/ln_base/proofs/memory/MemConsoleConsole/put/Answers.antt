@@ -1,19 +1,18 @@
-use Rattle.std.proofs.Common.{rules, ◌⊎◌, inr, refl, sym, ◌∙◌, true≢false}
-use Rattle.std.specs.List.{Contains}
-use Rattle.ln_base.specs.Memory.{IsFull}
-use Rattle.ln_base.proofs.Kept.{neither, some_taken}
+use Rattle.std.proofs.Common.{inr, refl, sym, ◌∙◌, true≢false}
+use Rattle.ln_base.proofs.Kept.{some_taken, through}
 use Rattle.ln_base.proofs.memory.MemConsoleConsole.put.Goals as goal
 
 pub returns-then-is_refused-clause-exact : goal.returns-then-is_refused-clause-exact
 returns-then-is_refused-clause-exact c =
-    let why : Contains c.args.self.now.fails c.saturating_add-self-inside.result ⊎ IsFull c.args.port c.args.self.now c.args.bytes.now = search rules in
-    (λ e. why, λ h. refl)
+    let why = through (rw c.deref.ensures.value at c.is_listed-listed.ensures.listed)
+    (rw (c.saturating_sub-left.ensures, c.bytes.ensures, ← c.self.view_is) at c.is_refused.ensures) in
+    rw (← c.self.view_is) (λ e. why.0 c.if-is_refused.true, λ h. refl)
 
 pub returns-clause-exact : goal.returns-clause-exact
 returns-clause-exact c =
-    let unlisted : Contains c.args.self.now.fails c.add.new.self.calls → ⊥ = search rules in
-    let roomy : IsFull c.args.port c.args.self.now c.args.bytes.now → ⊥ = search rules in
-    (λ e. absurd (true≢false (sym e)), neither unlisted roomy)
+    let why = through (rw c.deref.ensures.value at c.is_listed-listed.ensures.listed)
+    (rw (c.saturating_sub-left.ensures, c.bytes.ensures, ← c.self.view_is) at c.is_refused.ensures) in
+    rw (← c.self.view_is, c.add.ensures.counts.0) (λ e. why.0 (c.if-is_refused.false ∙ e), λ h. sym c.if-is_refused.false ∙ why.1 h)
 
 pub returns-then-is_refused-clause-bound : goal.returns-then-is_refused-clause-bound
 returns-then-is_refused-clause-bound c = tt
@@ -37,7 +36,7 @@ pub returns-then-is_refused-clause-limits : goal.returns-then-is_refused-clause-
 returns-then-is_refused-clause-limits c = rw (← c.self.view_is) (refl, refl, refl)
 
 pub returns-then-is_refused-clause-calls : goal.returns-then-is_refused-clause-calls
-returns-then-is_refused-clause-calls c = rw (← c.self.view_is) c.saturating_add-self-inside.ensures
+returns-then-is_refused-clause-calls c = rw (← c.self.view_is) c.is_listed-listed.ensures.calls
 
 pub returns-clause-err : goal.returns-clause-err
 returns-clause-err c = tt

@@ -1,78 +1,38 @@
-use Rattle.std.proofs.Common.{rules, ◌≡◌, inl, inr, sym, refl, None, true≢false}
-use Rattle.std.specs.List.{Contains}
-use Rattle.ln_base.specs.Outside.{bytes_of}
-use Rattle.ln_base.proofs.Kept.{neither}
+use Rattle.std.proofs.Common.{refl}
+use Rattle.ln_base.proofs.Kept.{through}
 use Rattle.ln_base.proofs.memory.MemFilesFiles.read_at.Goals as goal
 
-pub returns-in-None-clause-told : goal.returns-in-None-clause-told
-returns-in-None-clause-told c = rw (← c.self.view_is) refl
+pub returns-clause-told : goal.returns-clause-told
+returns-clause-told c = rw (← c.self.view_is) refl
 
-pub returns-in-None-clause-fails : goal.returns-in-None-clause-fails
-returns-in-None-clause-fails c = rw (← c.self.view_is) refl
+pub returns-clause-fails : goal.returns-clause-fails
+returns-clause-fails c = rw (← c.self.view_is) refl
 
-pub returns-in-None-clause-calls : goal.returns-in-None-clause-calls
-returns-in-None-clause-calls c = rw (← c.self.view_is) c.saturating_add-self-inside.ensures
+pub returns-clause-calls : goal.returns-clause-calls
+returns-clause-calls c = rw (← c.self.view_is) c.is_listed-listed.ensures.calls
 
-pub returns-in-None-clause-bound : goal.returns-in-None-clause-bound
-returns-in-None-clause-bound c = tt
+pub returns-clause-bound : goal.returns-clause-bound
+returns-clause-bound c = c.hand_over.ensures.bound
 
-pub returns-in-None-clause-bytes : goal.returns-in-None-clause-bytes
-returns-in-None-clause-bytes c = tt
+pub returns-clause-bytes : goal.returns-clause-bytes
+returns-clause-bytes c = rw (← c.self.view_is) (rw (c.found-file.ensures, c.deref.ensures.value) at c.hand_over.ensures).bytes
 
-pub returns-in-None-clause-fine : goal.returns-in-None-clause-fine
-returns-in-None-clause-fine c = tt
+pub returns-clause-absent : goal.returns-clause-absent
+returns-clause-absent c = rw (← c.self.view_is) (rw (c.found-file.ensures, c.deref.ensures.value) at c.hand_over.ensures).absent
 
-pub returns-in-None-clause-handed : goal.returns-in-None-clause-handed
-returns-in-None-clause-handed c = tt
+pub returns-clause-cause : goal.returns-clause-cause
+returns-clause-cause c = rw (← c.self.view_is) (rw (c.found-file.ensures, c.deref.ensures.value) at c.hand_over.ensures).cause
 
-pub returns-in-None-clause-absent : goal.returns-in-None-clause-absent
-returns-in-None-clause-absent c = rw (← c.self.view_is) (λ a. (refl, refl))
+pub returns-clause-step : goal.returns-clause-step
+returns-clause-step c = rw (← c.self.view_is) (rw (c.found-file.ensures, c.deref.ensures.value) at c.hand_over.ensures).step
 
-pub returns-then-listed-clause-told : goal.returns-then-listed-clause-told
-returns-then-listed-clause-told c = rw (← c.self.view_is) refl
+pub returns-clause-fine : goal.returns-clause-fine
+returns-clause-fine c = rw (← c.self.view_is) (rw (c.found-file.ensures, c.deref.ensures.value) at c.hand_over.ensures).fine
 
-pub returns-then-listed-clause-fails : goal.returns-then-listed-clause-fails
-returns-then-listed-clause-fails c = rw (← c.self.view_is) refl
+pub returns-clause-exact : goal.returns-clause-exact
+returns-clause-exact c = rw (← c.self.view_is)
+    (through (rw c.deref-2.ensures.value at c.is_listed-listed.ensures.listed)
+    (rw (c.found-file.ensures, c.deref.ensures.value) at c.hand_over.ensures).exact)
 
-pub returns-then-listed-clause-calls : goal.returns-then-listed-clause-calls
-returns-then-listed-clause-calls c = rw (← c.self.view_is) c.saturating_add-self-inside.ensures
-
-pub returns-then-listed-clause-bound : goal.returns-then-listed-clause-bound
-returns-then-listed-clause-bound c = tt
-
-pub returns-then-listed-clause-bytes : goal.returns-then-listed-clause-bytes
-returns-then-listed-clause-bytes c = tt
-
-pub returns-then-listed-clause-fine : goal.returns-then-listed-clause-fine
-returns-then-listed-clause-fine c = tt
-
-pub returns-then-listed-clause-handed : goal.returns-then-listed-clause-handed
-returns-then-listed-clause-handed c = tt
-
-pub returns-else-listed-clause-told : goal.returns-else-listed-clause-told
-returns-else-listed-clause-told c = rw (← c.self.view_is) refl
-
-pub returns-else-listed-clause-fails : goal.returns-else-listed-clause-fails
-returns-else-listed-clause-fails c = rw (← c.self.view_is) refl
-
-pub returns-else-listed-clause-calls : goal.returns-else-listed-clause-calls
-returns-else-listed-clause-calls c = rw (← c.self.view_is) c.saturating_add-self-inside.ensures
-
-pub returns-else-listed-clause-fine : goal.returns-else-listed-clause-fine
-returns-else-listed-clause-fine c = rw (← c.self.view_is) refl
-
-pub returns-in-None-clause-exact : goal.returns-in-None-clause-exact
-returns-in-None-clause-exact c =
-    let none : bytes_of c.args.name.now c.args.self.now.shelf ≡ None = search rules in
-    (λ e. inr none, λ h. refl)
-
-pub returns-then-listed-clause-exact : goal.returns-then-listed-clause-exact
-returns-then-listed-clause-exact c =
-    let listed : Contains c.args.self.now.fails c.saturating_add-self-inside.result = search rules in
-    (λ e. inl listed, λ h. refl)
-
-pub returns-else-listed-clause-exact : goal.returns-else-listed-clause-exact
-returns-else-listed-clause-exact c =
-    let unlisted : Contains c.args.self.now.fails c.saturating_add-self-inside.result → ⊥ = search rules in
-    let there : bytes_of c.args.name.now c.args.self.now.shelf ≡ None → ⊥ = search rules in
-    (λ e. absurd (true≢false (sym e)), neither unlisted there)
+pub returns-clause-handed : goal.returns-clause-handed
+returns-clause-handed c = rw (← c.self.view_is) (rw (c.found-file.ensures, c.deref.ensures.value) at c.hand_over.ensures).handed

@@ -1,4 +1,5 @@
 use Rattle.std.proofs.Common.{ap, arith, length}
+use Rattle.std.proofs.lemmas.Result.{IfOk-weaker}
 use Rattle.ln_compile.proofs.Making.BuildingLemmas.{sound-at}
 use Rattle.ln_compile.proofs.Smallness.Polynomials.{polynomial-at}
 use Rattle.ln_compile.proofs.checked.Checked.polynomial.Goals as goal
@@ -19,5 +20,6 @@ pub returns : goal.returns
 returns c =
     let s = c.self.inside in
     let t = ap (λ v. length v.table.preds) c.self.view_is in
-    rw (← c.self.view_is) (polynomial-at s.table.preds c.args.i c.index-as_slice-i.result c.in_ok-f.f (omega (arith, t, c.requires))
-    (rw c.as_slice.ensures at c.index-as_slice-i.is) c.in_ok-f.ensures)
+    IfOk-weaker c.polynomial_of.result _ _ (λ f h.
+    rw (← c.self.view_is) (polynomial-at s.table.preds c.args.i c.index-as_slice-i.result f (omega (arith, t, c.requires))
+    (rw c.as_slice.ensures at c.index-as_slice-i.is) h)) c.polynomial_of.ensures

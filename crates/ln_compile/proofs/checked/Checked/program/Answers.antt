@@ -1,4 +1,5 @@
 use Rattle.std.proofs.Common.{ap, arith, length}
+use Rattle.std.proofs.lemmas.Result.{IfOk-weaker}
 use Rattle.ln_compile.proofs.Making.BuildingLemmas.{program-at, sound-at}
 use Rattle.ln_compile.proofs.checked.Checked.program.Goals as goal
 
@@ -18,5 +19,6 @@ pub returns-clause-program : goal.returns-clause-program
 returns-clause-program c =
     let s = c.self.inside in
     let t = ap (λ v. length v.table.preds) c.self.view_is in
-    rw (← c.self.view_is) (program-at s.table.preds c.args.i c.index-as_slice-i.result c.in_ok-program.program
-    (omega (arith, t, c.requires)) (rw c.as_slice.ensures at c.index-as_slice-i.is) c.in_ok-program.ensures.program)
+    IfOk-weaker c.program_of.result _ _ (λ program h.
+    rw (← c.self.view_is) (program-at s.table.preds c.args.i c.index-as_slice-i.result program
+    (omega (arith, t, c.requires)) (rw c.as_slice.ensures at c.index-as_slice-i.is) h)) c.program_of.ensures.program

@@ -1,5 +1,6 @@
 use Rattle.std.proofs.Common.{ap, arith, length}
-use Rattle.std.proofs.lemmas.List.{get_or-replicate}
+use Rattle.std.proofs.lemmas.List.{get_or-replicate, length_push}
+use Rattle.ln_poly.proofs.Derivations.Lowering.{column-pushed}
 use Rattle.ln_poly.proofs.binomials.Binomials.new.Goals as goal
 
 pub columns-init : goal.columns-init
@@ -8,3 +9,18 @@ columns-init c = record {
   size = ap length c.new-columns.ensures.items;
   each = λ j d h. absurd (omega (arith, h));
 }
+
+pub raise-requires-clause-column : goal.raise-requires-clause-column
+raise-requires-clause-column c = c.columns.invariant.column
+
+pub columns-smaller : goal.columns-smaller
+columns-smaller c = omega (arith, c.columns-test.true)
+
+pub columns-preserved : goal.columns-preserved
+columns-preserved c =
+    let i = c.columns.invariant in
+    record {
+      column = c.raise.ensures;
+      size = omega (arith, ap length c.in_ok-push.ensures.items, length_push c.columns.columns.items c.columns.c, i.size);
+      each = column-pushed _ _ c.columns.c _ c.in_ok-push.ensures.items i.size i.column i.each;
+    }

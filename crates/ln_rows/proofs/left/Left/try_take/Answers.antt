@@ -12,4 +12,6 @@ returns-in-Some-2 c =
     left_takes _ _ _ _ c.self.view_is c.in_default.is c.past_ends-text.ensures _ _ _ small (rw c.in-Some-2.is at c.in_ok-rest.ensures)
 
 pub returns : goal.returns
-returns c = left_reads _ _ _ _ c.self.view_is c.in_default.is c.past_ends-text.ensures _ _ _ _ _ c.in_ok-quoted.ensures c.in_ok-found.ensures
+returns c =
+    left_reads _ _ _ _ c.self.view_is c.in_default.is c.past_ends-text.ensures _ _ _ _ _
+    (c.insert-quoted.ensures.value ∙ c.in_ok-new.ensures) c.next-2.ensures

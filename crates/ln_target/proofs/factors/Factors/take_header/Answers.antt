@@ -1,5 +1,5 @@
-use Rattle.ln_rows.proofs.HeaderLaws.{header_is}
+use Rattle.ln_target.proofs.TargetLaws.{header_told}
 use Rattle.ln_target.proofs.factors.Factors.take_header.Goals as goal
 
 pub returns : goal.returns
-returns c = rw (← c.self.view_is) (header_is _ _ _ _ c.in_ok-right.ensures.right c.in_ok-right.ensures.wrong)
+returns c = rw (← c.self.view_is) (header_told _ _ _ _ c.header.ensures.right c.header.ensures.wrong)

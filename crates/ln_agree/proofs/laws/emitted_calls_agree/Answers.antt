@@ -1,8 +1,0 @@
-use Rattle.ln_agree.proofs.AgreeLaws.{meanings_agree, programs_agree}
-use Rattle.ln_agree.proofs.laws.emitted_calls_agree.Goals as goal
-
-pub returns-clause-meanings : goal.returns-clause-meanings
-returns-clause-meanings c = meanings_agree
-
-pub returns-clause-programs : goal.returns-clause-programs
-returns-clause-programs c = programs_agree

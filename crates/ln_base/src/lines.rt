@@ -1,0 +1,13 @@
+//! The lines of a text, one after the other.
+
+pub mod grammar;
+pub mod kinds;
+pub mod reading;
+pub mod rest;
+pub mod stop;
+
+pub use grammar::Grammar;
+pub use kinds::{either, only};
+pub use reading::{first_line, next, opened};
+pub use rest::Rest;
+pub use stop::TextStop;

@@ -1,9 +1,0 @@
--- Answers to the goals of `put_undefined` in src/meaning.rt.
-use Rattle.std.proofs.lemmas.Result.{IfOk-weaker}
-use Rattle.std.specs.Prelude.{codes}
-use Rattle.ln_calls.proofs.CallLaws.{one_number}
-use Rattle.ln_calls.proofs.meaning.put_undefined.Goals as goal
-
-pub returns : goal.returns
-returns c = IfOk-weaker c.put_number.result _ _ (λ _ p. one_number c.args.out.now.items c.put.new.out.items c.put_number.new.out.items
-    (codes "undefined") c.from.result c.args.line c.in_ok-put.ensures p c.from.ensures) c.put_number.ensures

@@ -1,9 +1,0 @@
-use Rattle.std.proofs.Common.{◌≡◌, ◌&&◌, drop}
-use Rattle.std.specs.List.{list_any}
-use Rattle.ln_syntax.specs.Raw.{same}
-use Rattle.ln_names.specs.Rules.{is_param_arg}
-use Rattle.ln_names.proofs.tokens.known_param_arg.Given as goal
-
-abbrev pub invariant-each : goal.invariant-each
-invariant-each l =
-    list_any (λ x. is_param_arg x && same l.bytes x.name l.at) (drop l.a-index l.args) ≡ list_any (λ x. is_param_arg x && same l.bytes x.name l.at) l.args
