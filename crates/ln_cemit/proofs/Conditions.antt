@@ -1,6 +1,6 @@
 -- The conditions of the subset hold of what is emitted.
 pub mod Names
-pub mod Stands
+pub mod Numbered
 pub mod Shapes
 pub mod Keeping
 pub mod Named

@@ -11,6 +11,7 @@ use Rattle.ln_base.specs.Lines.{joined}
 use Rattle.ln_base.specs.Forms.Fault.{IsFaultOf}
 use Rattle.ln_cert.specs.Text.{Each, IsLine, text_of}
 use Rattle.std.specs.Prelude.{ℤ}
+use Rattle.ln_base.specs.Limits.{most_file}
 
 -- ---- the grammar: what is in the first list and not in the second is of the form
 -- operations of a filter
@@ -86,7 +87,7 @@ pub record Listed : Type 0 where
 pub record Kept (l : Listed) : Type 0 where
   pub numbered : AreNumbered 2 l.entries
   pub bytes : List ℕ
-  pub short : length bytes ≤ 67108864
+  pub short : length bytes ≤ most_file
   pub text : ListText bytes l.version (parts_of l.entries)
 
 -- ---- form faults

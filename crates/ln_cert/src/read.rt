@@ -1,5 +1,6 @@
 //! Reads the bytes of a listing, at once or line by line, or finds the first line at which they are no listing.
 ghost use Rattle.std.specs.Prelude.{◌≡◌, ◌≤◌, ◌⊎◌, IfOk, IfErr, List, MatchOption, length, ℕ};
+ghost use Rattle.ln_base.specs.Limits.{most_file};
 ghost use Rattle.ln_cert.specs.Listing.{AreNumbered, ListText, first_line, parts_of};
 ghost use Rattle.ln_cert.specs.Stop.{Stops};
 ghost use Rattle.ln_cert.specs.Unread.{AreLeft, IsOpened};
@@ -31,7 +32,7 @@ fn version(first: &[u8]) -> Option<u8>
 /// The lines of the listing that the bytes are. The form of the whole text is checked first, and no line is kept: each is read once more
 /// where it is taken. It takes time in proportion to the number of bytes, and memory for one line.
 pub fn listing_lines<'a>(alloc: Global, bytes: &'a [u8]) -> Result<Lines<'a>, ListStop>
-    requires { length bytes.now ≤ 67108864 }
+    requires { length bytes.now ≤ most_file }
     ensures ok { IfOk result (λ l. IsOpened bytes.now l) }
     ensures err { IfErr result (λ e. Stops bytes.now e) }
 {
@@ -59,7 +60,7 @@ fn entries_of(alloc: Global, lines: &mut Lines<'_>) -> Result<Seq<Entry>, NoMemo
 
 /// The listing that the bytes are. It takes time in proportion to their number, and memory for an entry for each line.
 pub fn read_listing(alloc: Global, bytes: &[u8]) -> Result<Listing, ListStop>
-    requires { length bytes.now ≤ 67108864 }
+    requires { length bytes.now ≤ most_file }
     ensures ok { IfOk result (λ l. ListText bytes.now l.version (parts_of l.entries)) }
     ensures err { IfErr result (λ e. Stops bytes.now e) }
 {

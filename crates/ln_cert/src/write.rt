@@ -1,5 +1,6 @@
 //! Writing the listing of programs.
 ghost use Rattle.std.specs.Prelude.{◌≡◌, ◌<◌, ◌≤◌, ◌∷◌, ◌++◌, [], ℕ, List, Some, IfOk, IfSome, OnErr, decimal, length, map};
+ghost use Rattle.ln_base.specs.Limits.{most_stages};
 ghost use Rattle.ln_bound.specs.Intervals.View.{range};
 ghost use Rattle.ln_order.specs.Orders.{IsOrderOf, orders_of};
 ghost use Rattle.ln_order.specs.Places.{order_places};
@@ -146,7 +147,7 @@ fn put_block_lines(out: &mut Vec<u8>, n: u32, b: &Block) -> Result<(), NoMemory>
 }
 
 fn put_blocks(out: &mut Vec<u8>, blocks: &[Block]) -> Result<(), NoMemory>
-    requires few { length blocks.now ≤ 65536 }
+    requires few { length blocks.now ≤ most_stages }
     requires rules { Each ForBlock blocks.now }
     ensures wrote { IfOk result (λ x. Wrote out.old.items out.new.items (blocks_lines 0 blocks.now)) }
     ensures listable { IfOk result (λ x. AreListableBlocks blocks.now) }
@@ -171,7 +172,7 @@ fn put_list(out: &mut Vec<u8>, p: &Program, o: &Order) -> Result<(), NoMemory>
 
 fn put_order_line(out: &mut Vec<u8>, p: &Program, o: &Order) -> Result<(), NoMemory>
     requires order { IsOrderOf p.now.shape.sites (order_places o.now) }
-    requires few { length p.now.blocks ≤ 65536 }
+    requires few { length p.now.blocks ≤ most_stages }
     requires list { IsList (length p.now.blocks) (list_of p.now (order_places o.now)) }
     ensures { IfOk result (λ x. Wrote out.old.items out.new.items (part.Order (order_places o.now)
         (list_of p.now (order_places o.now)) ∷ [])) }
@@ -186,7 +187,7 @@ fn put_order_line(out: &mut Vec<u8>, p: &Program, o: &Order) -> Result<(), NoMem
 
 fn put_orders(out: &mut Vec<u8>, p: &Program, orders: &[Order]) -> Result<(), NoMemory>
     requires all { map order_places orders.now ≡ orders_of p.now.shape.sites }
-    requires few { length p.now.blocks ≤ 65536 }
+    requires few { length p.now.blocks ≤ most_stages }
     requires kept { IsProgram p.now }
     ensures { IfOk result (λ x. Wrote out.old.items out.new.items (order_lines p.now (map order_places orders.now))) }
 {
@@ -197,7 +198,7 @@ fn put_orders(out: &mut Vec<u8>, p: &Program, orders: &[Order]) -> Result<(), No
 }
 
 fn put_all_orders(alloc: Global, out: &mut Vec<u8>, p: &Program) -> Result<(), NoMemory>
-    requires few { length p.now.blocks ≤ 65536 }
+    requires few { length p.now.blocks ≤ most_stages }
     requires kept { IsProgram p.now }
     ensures { IfOk result (λ x. Wrote out.old.items out.new.items (order_lines p.now (orders_of p.now.shape.sites))) }
 {
@@ -216,7 +217,7 @@ pub fn begin_listing(alloc: Global) -> Result<Vec<u8>, NoMemory>
 
 // Appends the lines of a program.
 fn put_part(alloc: Global, out: &mut Vec<u8>, p: &Program) -> Result<(), NoMemory>
-    requires few { length p.now.blocks ≤ 65536 }
+    requires few { length p.now.blocks ≤ most_stages }
     ensures listable { IfOk result (λ x. IsListable p.now) }
     ensures listed { IfOk result (λ x. (ps : List AnyProgram) → ListText out.old.items 2 (listing_of ps)
         → ListText out.new.items 2 (listing_of (ps ++ p.now ∷ []))) }
@@ -233,7 +234,7 @@ fn put_part(alloc: Global, out: &mut Vec<u8>, p: &Program) -> Result<(), NoMemor
 /// the program: the variables of each block's exponents rise, and no stack needs more than 2,048 places. Where allocation fails, the text is
 /// dropped, and `out` is empty.
 pub fn put_program(alloc: Global, out: &mut Vec<u8>, p: &Program) -> Result<(), NoMemory>
-    requires few { length p.now.blocks ≤ 65536 }
+    requires few { length p.now.blocks ≤ most_stages }
     ensures ok { IfOk result (λ x. (ps : List AnyProgram) → ListText out.old.items 2 (listing_of ps)
         → ListText out.new.items 2 (listing_of (ps ++ p.now ∷ []))) }
     ensures err { OnErr result (out.new.items ≡ []) }

@@ -1,15 +1,16 @@
 //! The need of the functions of a file for a scratch.
-ghost use Rattle.std.specs.Prelude.{◌≡◌, ◌+◌, ◌-◌, ◌^◌, min, max, map, IfOk, true, ◌≤◌, vec_capacity};
+ghost use Rattle.std.specs.Prelude.{◌≡◌, ◌+◌, ◌-◌, ◌^◌, ◌++◌, ◌∷◌, [], min, max, map, IfOk, OnOk, true, false, ◌≤◌, vec_capacity};
 ghost use Rattle.ln_csyn.specs.Tree.{Body};
 ghost use Rattle.ln_csyn.specs.Keeps.{distinct, names_of};
+ghost use Rattle.ln_csyn.specs.Sets.{names_in};
 ghost use Rattle.ln_csyn.specs.View.{body_tree, fun_tree, stmt_front};
+ghost use Rattle.ln_csyn.specs.Words.{among};
 ghost use Rattle.ln_cmean.specs.Room.{MadeFor, slots_in, most_slots};
 
 use crate::scratch::CScratch;
 use crate::stack::Stack;
+use indexmap::IndexSet;
 use ln_base::NoMemory;
-use ln_csyn::keep::put_names;
-use ln_csyn::names::no_names;
 use ln_csyn::{CFile, CForm, CFun, CStmt};
 use std::alloc::Global;
 
@@ -64,14 +65,34 @@ fn stack<'a>(alloc: Global, slots: usize) -> Result<Stack<'a>, NoMemory>
     })
 }
 
+// Adds a name that the set doesn't have.
+fn add_name<'a>(set: &mut IndexSet<&'a [u8]>, name: &'a [u8]) -> Result<(), NoMemory>
+    requires { among (names_in set.old) name.now ≡ false }
+    ensures { OnOk result (names_in set.new ≡ names_in set.old ++ name.now ∷ []) }
+{
+    set.insert_full(name)?;
+    Ok(())
+}
+
+// The names of functions, all of which differ, in order.
+fn names<'a>(alloc: Global, funs: &'a [CFun]) -> Result<IndexSet<&'a [u8]>, NoMemory>
+    requires { distinct (names_of (map fun_tree funs.now)) ≡ true }
+    ensures { IfOk result (λ s. names_in s ≡ names_of (map fun_tree funs.now)) }
+{
+    let mut set = IndexSet::new(alloc);
+    'funs: for f in funs {
+        add_name(&mut set, f.name.as_slice())?;
+    }
+    Ok(set)
+}
+
 // A scratch made for a file of these functions.
 fn made_for<'a>(alloc: Global, funs: &'a [CFun]) -> Result<CScratch<'a>, NoMemory>
     requires { distinct (names_of (map fun_tree funs.now)) ≡ true }
     ensures { IfOk result (λ s. MadeFor (map fun_tree funs.now) s) }
 {
     let need = most(funs);
-    let mut names = no_names(alloc);
-    let _differ = put_names(&mut names, funs)?;
+    let names = names(alloc, funs)?;
     Ok(CScratch {
         stack: stack(alloc, need.saturating_add(need))?,
         funs: names,

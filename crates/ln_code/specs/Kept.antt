@@ -1,6 +1,7 @@
 -- What blocks, filters and programs keep.
 use Rattle.std.specs.Prelude.{◌≡◌, ◌≢◌, ℕ, pos, ◌^◌, ◌<◌, ◌≤◌, Bool, true, false, List, [], ◌∷◌, length}
 use Rattle.std.specs.Prelude.{All, AllPairs, Option, Some, None, IsSome, is_some, IfSome, slice_get}
+use Rattle.ln_base.specs.Limits.{most_stages}
 use Rattle.ln_bound.specs.Intervals.Range.{Range, point}
 use Rattle.ln_tree.specs.Exps.{Pairs}
 use Rattle.ln_tree.specs.Names.{name_bytes}
@@ -92,4 +93,4 @@ pub record IsProgram (p : Part) : Type 0 where
 -- programs whose names differ, each with at most 65,536 blocks
 pub record ArePrograms (ps : List Part) : Type 0 where
   pub names : AllPairs (λ p q. name_bytes p.shape.name ≢ name_bytes q.shape.name) ps
-  pub small : All (λ p. length p.blocks ≤ 65536) ps
+  pub small : All (λ p. length p.blocks ≤ most_stages) ps

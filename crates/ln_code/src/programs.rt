@@ -1,5 +1,6 @@
 //! The programs of a source.
 ghost use Rattle.std.specs.Prelude.{◌≡◌, ◌≢◌, ◌≤◌, ◌∷◌, ◌++◌, [], All, OnOk, OnErr, length};
+ghost use Rattle.ln_base.specs.Limits.{most_stages};
 ghost use Rattle.ln_tree.specs.Names.{name_bytes};
 ghost use Rattle.ln_code.specs.Part.{Part};
 ghost use Rattle.ln_code.specs.Kept.{ArePrograms};
@@ -40,7 +41,7 @@ impl Programs {
     /// Appends a program. Where the allocation fails, the program is dropped and the list is unchanged.
     pub fn push(&mut self, p: Program) -> Result<(), NoMemory>
         requires name { All (λ q. name_bytes q.shape.name ≢ name_bytes p.shape.name) self.old }
-        requires small { length p.blocks ≤ 65536 }
+        requires small { length p.blocks ≤ most_stages }
         ensures ok { OnOk result (self.new ≡ self.old ++ p ∷ []) }
         ensures err { OnErr result (self.new ≡ self.old) }
     {

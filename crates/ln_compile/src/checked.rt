@@ -1,5 +1,6 @@
 //! Sources whose predicates have no fault.
 ghost use Rattle.std.specs.Prelude.{◌≡◌, ◌≤◌, ◌<◌, length, map, slice_get, IfErr, IfOk, Some};
+ghost use Rattle.ln_base.specs.Limits.{most_source, most_stages};
 ghost use Rattle.ln_tree.specs.Table.{pred_of, table_of};
 ghost use Rattle.ln_compile.specs.Accepted.{Accepted};
 ghost use Rattle.ln_compile.specs.Compiled.{AreProgramsOf, IsProgramAt, IsStageCountAt, number_of};
@@ -85,7 +86,7 @@ impl Checked {
     pub fn program(&self, alloc: Global, i: usize) -> Result<Program, NoMemory>
         requires { i < length self.now.table.preds }
         ensures program { IfOk result (IsProgramAt (map pred_of self.now.table.preds) i) }
-        ensures small { IfOk result (λ c. length c.blocks ≤ 65536) }
+        ensures small { IfOk result (λ c. length c.blocks ≤ most_stages) }
     {
         program_of(alloc, &self.table.preds.as_slice()[i])
     }
@@ -110,7 +111,7 @@ impl Checked {
 /// The table of a source, each predicate of which is accepted, with its stage counts; or why the source is refused: the first fault
 /// of its text, else the fault of the first predicate that has one. Unless memory runs out, it is the one or the other. No program is made.
 pub fn check(alloc: Global, bytes: &[u8]) -> Result<Checked, Refusal>
-    requires { length bytes.now ≤ 1048576 }
+    requires { length bytes.now ≤ most_source }
     ensures ok { IfOk result (λ c. Accepted bytes.now (table_of c.table.sites c.table.params c.table.preds)) }
     ensures err { IfErr result (λ r. IsRefusal bytes.now r) }
     ensures unaccepted { IfErr result (λ r. IsUnaccepted bytes.now r) }

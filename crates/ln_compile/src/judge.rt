@@ -2,6 +2,7 @@
 ghost use Rattle.std.specs.Prelude.{◌≢◌, ◌≤◌, All, [], length, IfErr, IfOk, OnOk};
 ghost use Rattle.ln_algebra.specs.Vector.{total_degree};
 ghost use Rattle.ln_algebra.specs.Weights.{weighted_sum};
+ghost use Rattle.ln_base.specs.Limits.{most_stages, most_weight};
 ghost use Rattle.ln_tree.specs.Exps.{vector};
 ghost use Rattle.ln_tree.specs.Table.{pred_of};
 ghost use Rattle.ln_bound.specs.Light.{AreLight, most};
@@ -14,6 +15,7 @@ ghost use Rattle.ln_compile.specs.Accepted.{IsHeavyFault, IsSound, expanded_of, 
 ghost use Rattle.ln_compile.specs.Refused.{StopsPred};
 
 use crate::refusal::Refusal;
+use ln_base::limits::{MOST_STAGES, MOST_WEIGHT};
 use ln_bound::BoundStop;
 use ln_bound::weigh::weigh;
 use ln_poly::{Poly, PolyStop, heft, normal};
@@ -74,11 +76,11 @@ pub(crate) fn staged(alloc: Global, k: u8, p: &Pred, f: &Poly) -> Result<Stages,
     ensures sound { OnOk result (IsSound (pred_of p.now)) }
     ensures some { OnOk result (f.now ≢ []) }
     ensures stages { IfOk result (λ st. AreStagesOf p.now.shape.sites p.now.shape.vars f.now st) }
-    ensures count { IfOk result (λ st. stage_count (vectors_of (length p.now.shape.vars) st) ≤ 65536) }
-    ensures weight { IfOk result (λ st. stage_weight (length p.now.shape.vars) f.now (vectors_of (length p.now.shape.vars) st) ≤ 131072) }
+    ensures count { IfOk result (λ st. stage_count (vectors_of (length p.now.shape.vars) st) ≤ most_stages) }
+    ensures weight { IfOk result (λ st. stage_weight (length p.now.shape.vars) f.now (vectors_of (length p.now.shape.vars) st) ≤ most_weight) }
     ensures err { IfErr result (λ r. StopsPred k (pred_of p.now) r) }
 {
-    match stages(alloc, f, &p.shape, 65536, 131072) {
+    match stages(alloc, f, &p.shape, MOST_STAGES, MOST_WEIGHT) {
         Ok(st) => Ok(st),
         Err(StageStop::Zero) => Err(Refusal::Zero(k, p.at)),
         Err(StageStop::Stages) => Err(Refusal::Stages(k, p.at)),

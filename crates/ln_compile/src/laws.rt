@@ -1,6 +1,7 @@
 //! A source has one result; what is accepted by weights is accepted; and the programs of a table are programs of one list.
 ghost use Rattle.std.specs.Prelude.{◌≡◌, ◌≤◌, ℕ, All, List, length, map};
 ghost use Rattle.std.specs.List.{AllByRecursion};
+ghost use Rattle.ln_base.specs.Limits.{most_stages};
 ghost use Rattle.ln_tree.specs.declared.table.Table.{Table};
 ghost use Rattle.ln_tree.specs.Table.{PredOf, TableOf, pred_of};
 ghost use Rattle.ln_parse.specs.Text.{TextOf};
@@ -31,6 +32,6 @@ pub fn what_was_accepted_stays_accepted()
 /// A law: programs of the predicates of a table, one for each in order and each with at most 65,536 blocks, are programs whose names
 /// differ, whether they are there at once or one after the other.
 pub fn programs_of_a_table()
-    ensures { (t : Table) (cs : List Part) → AreProgramsOf (map pred_of t.preds) cs → All (λ c. length c.blocks ≤ 65536) cs
+    ensures { (t : Table) (cs : List Part) → AreProgramsOf (map pred_of t.preds) cs → All (λ c. length c.blocks ≤ most_stages) cs
         → ArePrograms cs }
 {}

@@ -2,6 +2,7 @@
 ghost use Rattle.std.specs.Prelude.{◌≡◌, ◌≢◌, ◌≤◌, All, [], length, IfOk, IfSome};
 ghost use Rattle.ln_algebra.specs.Vector.{total_degree};
 ghost use Rattle.ln_algebra.specs.Weights.{weighted_sum};
+ghost use Rattle.ln_base.specs.Limits.{most_stages, most_weight};
 ghost use Rattle.ln_tree.specs.Exps.{vector};
 ghost use Rattle.ln_tree.specs.Table.{pred_of};
 ghost use Rattle.ln_bound.specs.Light.{AreLight, most};
@@ -69,11 +70,11 @@ pub(crate) fn program(alloc: Global, p: &Pred, f: &Poly, st: Stages) -> Result<P
     requires degrees { All (λ t. total_degree (vector (length p.now.shape.vars) t.0) ≤ 126) f.now }
     requires some { f.now ≢ [] }
     requires stages { AreStagesOf p.now.shape.sites p.now.shape.vars f.now st }
-    requires count { stage_count (vectors_of (length p.now.shape.vars) st) ≤ 65536 }
-    requires stage_weight { stage_weight (length p.now.shape.vars) f.now (vectors_of (length p.now.shape.vars) st) ≤ 131072 }
+    requires count { stage_count (vectors_of (length p.now.shape.vars) st) ≤ most_stages }
+    requires stage_weight { stage_weight (length p.now.shape.vars) f.now (vectors_of (length p.now.shape.vars) st) ≤ most_weight }
     ensures program { IfOk result (λ c. IsProgramOf (pred_of p.now) c) }
     ensures name { IfOk result (λ c. c.shape.name ≡ p.now.shape.name) }
-    ensures small { IfOk result (λ c. length c.blocks ≤ 65536) }
+    ensures small { IfOk result (λ c. length c.blocks ≤ most_stages) }
 {
     let made = blocks_of(alloc, p, f, &st);
     let segments = st.into_segments();

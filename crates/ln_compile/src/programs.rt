@@ -1,6 +1,7 @@
 //! Predicates, judged one after the other, and compiled.
 ghost use Rattle.std.specs.Prelude.{◌≡◌, ◌≤◌, true, All, length, map, IfErr, IfOk, OnOk};
 ghost use Rattle.ln_algebra.specs.Vector.{total_degree};
+ghost use Rattle.ln_base.specs.Limits.{most_stages};
 ghost use Rattle.ln_tree.specs.Exps.{vector};
 ghost use Rattle.ln_tree.specs.Table.{pred_of};
 ghost use Rattle.ln_tree.specs.Whole.{differ};
@@ -67,7 +68,7 @@ fn compiled_of(alloc: Global, p: &Pred, f: &Poly) -> Result<Program, Refusal>
     requires degrees { All (λ t. total_degree (vector (length p.now.shape.vars) t.0) ≤ 126) f.now }
     ensures program { IfOk result (λ c. IsProgramOf (pred_of p.now) c) }
     ensures name { IfOk result (λ c. c.shape.name ≡ p.now.shape.name) }
-    ensures small { IfOk result (λ c. length c.blocks ≤ 65536) }
+    ensures small { IfOk result (λ c. length c.blocks ≤ most_stages) }
     ensures err { IfErr result (λ r. StopsPred 0 (pred_of p.now) r) }
 {
     weighed(0, p, f)?;
@@ -80,7 +81,7 @@ fn compiled_of(alloc: Global, p: &Pred, f: &Poly) -> Result<Program, Refusal>
 fn compiled(alloc: Global, p: &Pred) -> Result<Program, Refusal>
     ensures program { IfOk result (λ c. IsProgramOf (pred_of p.now) c) }
     ensures name { IfOk result (λ c. c.shape.name ≡ p.now.shape.name) }
-    ensures small { IfOk result (λ c. length c.blocks ≤ 65536) }
+    ensures small { IfOk result (λ c. length c.blocks ≤ most_stages) }
     ensures err { IfErr result (λ r. StopsPred 0 (pred_of p.now) r) }
 {
     measured(alloc, 0, p)?;
@@ -93,7 +94,7 @@ pub(crate) fn program_of(alloc: Global, p: &Pred) -> Result<Program, NoMemory>
     requires { IsSound (pred_of p.now) }
     ensures program { IfOk result (λ c. IsProgramOf (pred_of p.now) c) }
     ensures name { IfOk result (λ c. c.shape.name ≡ p.now.shape.name) }
-    ensures small { IfOk result (λ c. length c.blocks ≤ 65536) }
+    ensures small { IfOk result (λ c. length c.blocks ≤ most_stages) }
 {
     match compiled(alloc, p) {
         Ok(program) => Ok(program),

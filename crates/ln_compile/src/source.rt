@@ -1,5 +1,6 @@
 //! Compiles a whole source at once: its table, and a program and a stage count for each predicate.
 ghost use Rattle.std.specs.Prelude.{◌≡◌, ◌≤◌, ◌<◌, length, map, IfErr, IfOk};
+ghost use Rattle.ln_base.specs.Limits.{most_source};
 ghost use Rattle.ln_tree.specs.Table.{pred_of, table_of};
 ghost use Rattle.ln_compile.specs.Accepted.{Accepted};
 ghost use Rattle.ln_compile.specs.Compiled.{AreProgramsOf, IsStageCountAt, number_of};
@@ -71,7 +72,7 @@ impl Compiled {
 /// The table of a source, each predicate of which is accepted, with its programs; or why the source is refused: the first fault
 /// of its text, else the fault of the first predicate that has one. Unless memory runs out, it is the one or the other.
 pub fn compile(alloc: Global, bytes: &[u8]) -> Result<Compiled, Refusal>
-    requires { length bytes.now ≤ 1048576 }
+    requires { length bytes.now ≤ most_source }
     ensures ok { IfOk result (λ c. Accepted bytes.now (table_of c.table.sites c.table.params c.table.preds)) }
     ensures err { IfErr result (λ r. IsRefusal bytes.now r) }
     ensures unaccepted { IfErr result (λ r. IsUnaccepted bytes.now r) }

@@ -12,7 +12,7 @@ pub mod file;
 pub mod keep;
 pub mod laws;
 pub mod layout;
-pub mod names;
+pub(crate) mod names;
 pub mod read;
 pub mod scan;
 pub mod spell;

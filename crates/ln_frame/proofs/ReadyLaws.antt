@@ -1,6 +1,6 @@
 -- What is ready stands for what is given: its one number, its one file or two.
 use Rattle.std.proofs.Common.{◌≡◌, ℕ, ◌≤◌, List, [], ◌∷◌, length, map, ap, sym, subst, arith, get_or}
-use Rattle.ln_frame.specs.Given.{most_file}
+use Rattle.ln_base.specs.Limits.{most_file}
 use Rattle.ln_frame.specs.Ready.{IsFit, AreShort}
 use Rattle.ln_frame.specs.Signature.{Form}
 

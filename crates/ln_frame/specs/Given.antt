@@ -13,10 +13,6 @@ pub data Outcome (A : Type 0) : Type 0 where
 abbrev pub named : List ℕ → List PredOf → Option PredOf
 named name preds = find (λ p. bytes_eq p.name name) preds
 
--- any other file has at most 67,108,864
-abbrev pub most_file : ℕ
-most_file = 67108864
-
 -- what the work is done on: the source's table, the named predicates, the texts of the further files
 pub record Given : Type 0 where
   pub table : TableOf

@@ -1,11 +1,12 @@
 -- Defines what the program has ready for the work, and what it stands for.
 use Rattle.std.specs.Prelude.{◌≡◌, ℕ, ◌≤◌, List, [], ◌∷◌, map, length}
+use Rattle.ln_base.specs.Limits.{most_file}
 use Rattle.ln_tree.specs.Table.{pred_of}
 use Rattle.ln_compile.specs.Accepted.{AreSound}
 use Rattle.ln_compile.specs.Compiled.{AreNumbered}
 use Rattle.ln_frame.specs.declared.ready.Ready.{Ready}
 use Rattle.ln_frame.specs.Source.{view}
-use Rattle.ln_frame.specs.Given.{Given, most_file}
+use Rattle.ln_frame.specs.Given.{Given}
 use Rattle.ln_frame.specs.Signature.{Form, Signature}
 
 -- the further files are within their limit

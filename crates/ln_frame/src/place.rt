@@ -1,5 +1,6 @@
 //! The place of a byte in a source.
 ghost use Rattle.std.specs.Prelude.{◌≡◌, ◌≤◌, length};
+ghost use Rattle.ln_base.specs.Limits.{most_source};
 ghost use Rattle.ln_frame.specs.Source.{place_at};
 
 use crate::stop::Place;
@@ -7,7 +8,7 @@ use ln_base::{Span, line_col};
 
 /// Returns the place of the start of a span, both from 1. Allocates nothing.
 pub fn place_at(bytes: &[u8], at: Span) -> Place
-    requires { length bytes.now ≤ 1048576 }
+    requires { length bytes.now ≤ most_source }
     ensures { result ≡ place_at bytes.now at }
 {
     let (line, col) = line_col(bytes, at.start.min(bytes.len() as u32));

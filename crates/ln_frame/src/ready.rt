@@ -1,9 +1,10 @@
 //! The input of the work.
 ghost use Rattle.std.specs.Prelude.{◌≡◌, ◌≤◌, [], ◌∷◌, map, length};
 ghost use Rattle.std.specs.Prelude.{slice_get, slice_index_or, Some};
+ghost use Rattle.ln_base.specs.Limits.{most_file};
 ghost use Rattle.ln_tree.specs.Table.{pred_of};
 ghost use Rattle.ln_frame.specs.Source.{view};
-ghost use Rattle.ln_frame.specs.Given.{Given, most_file};
+ghost use Rattle.ln_frame.specs.Given.{Given};
 ghost use Rattle.ln_stage.specs.Sound.{AreSound};
 ghost use Rattle.ln_frame.specs.Ready.{HasStanding, StandsFor};
 

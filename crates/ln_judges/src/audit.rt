@@ -1,13 +1,14 @@
 //! The work of `audit`: a trace is judged by the predicate's polynomial and the records of the rows file.
 ghost use Rattle.std.specs.Prelude.{◌≡◌, ◌≤◌, ◌∷◌, ◌++◌, ℕ, List, IfOk, length, codes, decimal};
+ghost use Rattle.ln_base.specs.Limits.{most_file};
 ghost use Rattle.ln_tree.specs.Table.{pred_of};
 ghost use Rattle.ln_stage.specs.Sound.{IsSound};
 ghost use Rattle.ln_judges.specs.Audit.{AreJudged, AuditSaid, HasTrace, IsAuditOf, PutsOrStops, audit_signature};
 ghost use Rattle.ln_frame.specs.Carried.{CarriesOut, NoPart};
 ghost use Rattle.ln_frame.specs.Ready.{IsReadyFor, StandsFor};
-ghost use Rattle.ln_rows.specs.Header.{HeaderIs, names_of};
+ghost use Rattle.ln_rows.specs.Header.{names_of};
 ghost use Rattle.ln_frame.specs.Said.{count};
-ghost use Rattle.ln_frame.specs.Given.{Given, most_file};
+ghost use Rattle.ln_frame.specs.Given.{Given};
 
 use ln_base::{Console, NoMemory};
 use ln_frame::put::numbered;
@@ -86,14 +87,6 @@ fn audit_rows<C: Console>(
     }
 }
 
-// Takes the first record, if there is one, and returns whether it is the names of the columns.
-fn take_header(t: &Table, p: &Pred, rows: &mut Rows<'_>) -> Result<bool, NoMemory>
-    ensures { IfOk result (λ right. HeaderIs (names_of t.now p.now) rows.old rows.new right) }
-{
-    let right = rows.header(t, p)?;
-    Ok(right)
-}
-
 // The work on records, of which the first has to be the header.
 fn audit_records<C: Console>(
     alloc: Global,
@@ -109,7 +102,7 @@ fn audit_records<C: Console>(
         → CarriesOut (AuditSaid g) NoPart ⊥ ⊥
         (count (C.faults con.old) (C.faults con.new)) result (C.shown con.old) (C.shown con.new) }
 {
-    match take_header(t, p, rows) {
+    match rows.header(t, p) {
         Ok(true) => audit_rows(alloc, con, p, rows, trace),
         Ok(false) => say(alloc, con, Stop::Tell(Why::Header)),
         Err(e) => Err(Early::Memory(e)),

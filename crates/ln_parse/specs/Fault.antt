@@ -1,5 +1,6 @@
 -- Why a text has no table.
 use Rattle.std.specs.Prelude.{◌≡◌, ℕ, suc, ◌≤◌, ◌⊎◌, nat_lt, if◌then◌else◌, List, length}
+use Rattle.ln_base.specs.Limits.{most_tokens}
 use Rattle.ln_base.specs.Outside.{refused}
 use Rattle.ln_base.specs.declared.span.Span.{Span}
 use Rattle.ln_syntax.specs.declared.lex.token.Token.{Token}
@@ -37,19 +38,19 @@ pub data TextFault (bytes : List ℕ) : ParseStop → Type 0 where
   -- token 65,537 begins at a byte
   tokens : {at : ℕ} → IsLexLimit bytes at → TextFault bytes (Limit Tokens (one_byte at))
   -- a parenthesis is nested too deep
-  nesting : {ts : List Token} {k : ℕ} → Lexed bytes ts → length ts ≤ 65536 → IsNestingFault ts k →
+  nesting : {ts : List Token} {k : ℕ} → Lexed bytes ts → length ts ≤ most_tokens → IsNestingFault ts k →
       TextFault bytes (Limit Nesting (span_at ts k))
   -- a token, or the end, with which no file of the grammar goes on
-  syntax : {ts : List Token} {k : ℕ} → Lexed bytes ts → length ts ≤ 65536 → IsShallow ts → IsSyntaxFault ts k →
+  syntax : {ts : List Token} {k : ℕ} → Lexed bytes ts → length ts ≤ most_tokens → IsShallow ts → IsSyntaxFault ts k →
       TextFault bytes (Syntax (place_of bytes ts k))
   -- a token that breaks a rule of names and limits
-  names : {ts : List Token} {is : List Item} {f : Found} → Lexed bytes ts → length ts ≤ 65536 → IsShallow ts → Spelt ts is →
+  names : {ts : List Token} {is : List Item} {f : Found} → Lexed bytes ts → length ts ≤ most_tokens → IsShallow ts → Spelt ts is →
       FirstFault bytes ts is f → TextFault bytes (stop_of f.fault f.at)
 
 -- no pass finds a fault
 pub record IsFaultless (bytes : List ℕ) (ts : List Token) (is : List Item) : Type 0 where
   pub lexed : Lexed bytes ts
-  pub few : length ts ≤ 65536
+  pub few : length ts ≤ most_tokens
   pub shallow : IsShallow ts
   pub spelt : Spelt ts is
   pub clean : NoFault bytes ts is

@@ -1,5 +1,6 @@
 -- The table of a text.
 use Rattle.std.specs.Prelude.{ℕ, ◌≤◌, List, length}
+use Rattle.ln_base.specs.Limits.{most_tokens}
 use Rattle.ln_syntax.specs.declared.lex.token.Token.{Token}
 use Rattle.ln_syntax.specs.Lexing.Tokens.{Lexed}
 use Rattle.ln_syntax.specs.Raw.{Item}
@@ -14,7 +15,7 @@ use Rattle.ln_parse.specs.Says.{ItemsSay}
 pub record TextOf (bytes : List ℕ) (t : TableOf) : Type 0 where
   pub tokens : List Token
   pub lexed : Lexed bytes tokens
-  pub few : length tokens ≤ 65536
+  pub few : length tokens ≤ most_tokens
   pub shallow : IsShallow tokens
   pub items : List Item
   pub spelt : Spelt tokens items

@@ -1,5 +1,6 @@
 //! Parses a source: it returns the table, or the first fault of the text and its place.
 ghost use Rattle.std.specs.Prelude.{◌≡◌, ◌≤◌, ◌<◌, ◌^◌, ◌⊎◌, ℕ, List, All, length, IfOk, IfErr};
+ghost use Rattle.ln_base.specs.Limits.{most_source, most_tokens};
 ghost use Rattle.ln_syntax.specs.Lexing.Tokens.{IsSlice, Lexed};
 ghost use Rattle.ln_syntax.specs.Raw.{items};
 ghost use Rattle.ln_tree.specs.Table.{TableOf, table_of};
@@ -29,7 +30,7 @@ pub enum ParseStop {
 
 /// The table of a source; or the first fault of its text and its place, and then no table has the text.
 pub fn parse(alloc: Global, bytes: &[u8]) -> Result<Table, ParseStop>
-    requires { length bytes.now ≤ 1048576 }
+    requires { length bytes.now ≤ most_source }
     ensures ok { IfOk result (λ t. TextOf bytes.now (table_of t.sites t.params t.preds)) }
     ensures err { IfErr result (λ e. IsRefusal bytes.now e) }
     ensures no_table { IfErr result (λ e. IsWithoutTable bytes.now e) }
@@ -45,9 +46,9 @@ pub fn parse(alloc: Global, bytes: &[u8]) -> Result<Table, ParseStop>
 
 // The tokens of a source.
 fn scanned(alloc: Global, bytes: &[u8]) -> Result<Seq<Token>, ParseStop>
-    requires { length bytes.now ≤ 1048576 }
+    requires { length bytes.now ≤ most_source }
     ensures lexed { IfOk result (λ ts. Lexed bytes.now ts) }
-    ensures few { IfOk result (λ ts. length ts ≤ 65536) }
+    ensures few { IfOk result (λ ts. length ts ≤ most_tokens) }
     ensures slices { IfOk result (λ ts. All (IsSlice bytes.now) ts) }
     ensures err { IfErr result (λ e. IsRefusal bytes.now e) }
 {
@@ -62,8 +63,8 @@ fn scanned(alloc: Global, bytes: &[u8]) -> Result<Seq<Token>, ParseStop>
 // The items of tokens without a fault.
 fn checked(alloc: Global, bytes: &[u8], ts: &[Token]) -> Result<Vec<RawItem>, ParseStop>
     requires lexed { Lexed bytes.now ts.now }
-    requires few { length ts.now ≤ 65536 }
-    requires short { length bytes.now ≤ 1048576 }
+    requires few { length ts.now ≤ most_tokens }
+    requires short { length bytes.now ≤ most_source }
     ensures ok { IfOk result (λ its. IsFaultless bytes.now ts.now (items its.items)) }
     ensures err { IfErr result (λ e. IsRefusal bytes.now e) }
 {
@@ -95,7 +96,7 @@ fn stop_of(found: Found) -> ParseStop
 
 // The span of the token at a place, or the empty span at the end of the source.
 fn fault_place(bytes: &[u8], ts: &[Token], at: usize) -> Span
-    requires { length bytes.now ≤ 1048576 }
+    requires { length bytes.now ≤ most_source }
     ensures { result ≡ place_of bytes.now ts.now at }
 {
     if at < ts.len() {

@@ -8,4 +8,4 @@ pub mod Rising
 pub mod Ends
 pub mod Joining
 pub mod Added
-pub mod Behind
+pub mod Concatenated

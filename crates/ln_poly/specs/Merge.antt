@@ -53,8 +53,8 @@ pub record IsMerging (f g done f0 g0 : Sparse) : Type 0 where
   pub left : AreSorted f
   pub right : AreSorted g
   pub sorted : AreSorted done
-  pub behind_left : AreBefore f done
-  pub behind_right : AreBefore g done
+  pub after_left : AreBefore f done
+  pub after_right : AreBefore g done
   pub rising : AreRising f × AreRising g × AreRising done
   pub below : (k : ℕ) → AreBelow k f0 → AreBelow k g0 → AreBelow k f × AreBelow k g × AreBelow k done
   pub factors : All (λ t. IsFactor t.1) done

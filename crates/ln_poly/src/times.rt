@@ -76,7 +76,7 @@ fn are_low(a: &[(u8, u8)], b: &[(u8, u8)]) -> bool
 }
 
 // Writes the pairs of the second after those of the first.
-fn behind(out: &mut Exps, a: &Exps, b: &[(u8, u8)]) -> Result<(), NoMemory>
+fn concatenated(out: &mut Exps, a: &Exps, b: &[(u8, u8)]) -> Result<(), NoMemory>
     requires empty { out.old ≡ [] }
     requires low { AreLow a.now b.now }
     requires rising { IsRising b.now }
@@ -120,10 +120,10 @@ pub fn put_times(out: &mut Exps, a: &Exps, b: &Exps) -> Result<(), NoMemory>
     let first = a.pairs();
     let second = b.pairs();
     if are_low(first, second) {
-        return behind(out, a, second);
+        return concatenated(out, a, second);
     }
     if are_low(second, first) {
-        return behind(out, b, first);
+        return concatenated(out, b, first);
     }
     merged(out, first, second)
 }

@@ -1,7 +1,8 @@
 //! The records of a rows file.
 ghost use Rattle.std.specs.Prelude.{◌≡◌, ◌+◌, ◌≤◌, ℕ, List, None, Some, [], ◌∷◌, true, false, length, take, IfOk, IfSome, OnErr};
 ghost use Rattle.csv.specs.Records.{fields_of};
-ghost use Rattle.ln_rows.specs.Columns.{column_names, site_columns};
+ghost use Rattle.ln_rows.specs.Columns.{site_columns};
+ghost use Rattle.ln_rows.specs.Header.{HeaderIs, names_of};
 ghost use Rattle.ln_rows.specs.Left.{Records, records_in, Takes};
 ghost use Rattle.ln_rows.specs.Record.{IsReadAs};
 
@@ -84,9 +85,7 @@ impl<'a> Rows<'a> {
     /// Takes the first record, if there is one, and returns whether its fields are the names of the predicate's columns. After
     /// `NoMemory` no record remains.
     pub fn header(&mut self, t: &Table, p: &Pred) -> Result<bool, NoMemory>
-        ensures right { IfOk result (λ right. right ≡ true → self.old ≡ column_names t.now.sites t.now.params p.now.args ∷ self.new) }
-        ensures wrong { IfOk result (λ right. right ≡ false → (rest : Records) →
-            self.old ≡ column_names t.now.sites t.now.params p.now.args ∷ rest → ⊥) }
+        ensures header { IfOk result (λ right. HeaderIs (names_of t.now p.now) self.old self.new right) }
         ensures err { OnErr result (self.new ≡ []) }
     {
         let found = self.left.take(room(t, p), &mut self.record)?;

@@ -5,6 +5,7 @@ use Rattle.csv.specs.Machine.{Read, next_record}
 use Rattle.csv.specs.Reading.{default_config, is_bom, records_from, records_next, strip_bom}
 use Rattle.csv.specs.declared.parser.State.{State}
 use Rattle.csv.specs.declared.parser.State.TheVariants as st
+use Rattle.ln_base.specs.Limits.{most_file}
 use Rattle.ln_rows.specs.Left.{Records, records_in}
 
 few_next : (n : ℕ) (o : Option Read) → ((t : State) (ys : List ℕ) → length (records_from default_config n t ys) ≤ n)
@@ -33,5 +34,5 @@ pub few_records : (bytes : List ℕ) → length (records_in bytes) ≤ length by
 few_records bytes = omega (arith, few_from (length (strip_bom bytes) + 1) st.StartRecord (strip_bom bytes), strip_less bytes)
 
 -- within the limit of a file
-pub few_in : (bytes : List ℕ) (records : Records) → records ≡ records_in bytes → length bytes ≤ 67108864 → length records < 4294967296
+pub few_in : (bytes : List ℕ) (records : Records) → records ≡ records_in bytes → length bytes ≤ most_file → length records < 4294967296
 few_in bytes records e h = omega (arith, ap length e, few_records bytes, h)

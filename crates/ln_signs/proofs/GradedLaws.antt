@@ -6,6 +6,7 @@ use Rattle.std.proofs.lemmas.Option.{slice_get-map}
 use Rattle.ln_base.specs.Outside.{refused}
 use Rattle.ln_algebra.specs.Orders.{ByDegree}
 use Rattle.ln_algebra.specs.Terms.{IsNormalOf}
+use Rattle.ln_base.specs.Limits.{most_graded, most_weight}
 use Rattle.ln_tree.specs.declared.pred.Pred.{Pred}
 use Rattle.ln_tree.specs.declared.shape.Shape.{Shape}
 use Rattle.ln_tree.specs.declared.shape.VarInfo.{VarInfo}
@@ -59,16 +60,16 @@ kept_first table (i ∷ is) kept l h = h
 -- ---- few stages
 -- stage lists that pass a limit
 abbrev Many : ℕ → List VarInfo → Sparse → Type 0
-Many k vars f = (lists : List (List (List ℕ))) × AreStageListsIn ByDegree k vars f lists × Passes (length vars) f 262144 131072 lists
+Many k vars f = (lists : List (List (List ℕ))) × AreStageListsIn ByDegree k vars f lists × Passes (length vars) f most_graded most_weight lists
 
 -- where the lists of a program are within both limits, there are no others that pass one
-within_none : (s : Shape) (f : Sparse) (p q : Part) → IsGraded s f p q → IsWithin s f 262144 131072 q → Many s.sites s.vars f → ⊥
+within_none : (s : Shape) (f : Sparse) (p q : Part) → IsGraded s f p q → IsWithin s f most_graded most_weight q → Many s.sites s.vars f → ⊥
 within_none s f p q g w m = by_limit m.2
   where
     same : m.0 ≡ map (vectors q) (lists_of q)
     same = lists-one ByDegree s.sites s.vars f m.0 (map (vectors q) (lists_of q)) s.kept m.1 g.lists
 
-    by_limit : Passes (length s.vars) f 262144 131072 m.0 → ⊥
+    by_limit : Passes (length s.vars) f most_graded most_weight m.0 → ⊥
     by_limit (inl l) = absurd (omega (arith, l, w.count, ap stage_count same))
     by_limit (inr l) = absurd (omega (arith, l, w.weight, ap (stage_weight (length s.vars) f) same))
 
@@ -113,7 +114,7 @@ module _ (p : PredOf) (f : Sparse) (part : Part) (poly : IsPolynomialOf p f) (o 
       h (record { poly = f; normal = poly.normal; lists = t.0; are_lists = t.1; passes = t.2 })
 
   -- where the lists of a program by total degree are within both limits, the predicate has few stages
-  few : (q : Part) → IsGraded part.shape f part q → IsWithin part.shape f 262144 131072 q → HasFewGraded p
+  few : (q : Part) → IsGraded part.shape f part q → IsWithin part.shape f most_graded most_weight q → HasFewGraded p
   few q g w z =
       let same : z.poly ≡ f = one-normal (length p.vars) (root_of p) z.poly f z.normal poly.normal in
       let t : Many p.sites p.vars f = subst (λ (h : Sparse). Many p.sites p.vars h) same (z.lists, z.are_lists, z.passes) in
@@ -153,13 +154,13 @@ module _ (preds : List Pred) (i : ℕ) (l : i < length preds) (f : Sparse) (part
 
   -- a program by total degree made from that of the predicate with this number implements it in that order of infinitesimals, and where its
   -- lists are within both limits, the predicate has few stages
-  pub programs_at : (r : Result Part GradedStop) → IfOk r (IsGraded part.shape f part) → IfOk r (IsWithin part.shape f 262144 131072)
+  pub programs_at : (r : Result Part GradedStop) → IfOk r (IsGraded part.shape f part) → IfOk r (IsWithin part.shape f most_graded most_weight)
       → IfOk r (IsFewBy (map pred_of preds) i)
   programs_at (Ok q) g w = λ p e. (few p f part (poly p e) (o p e) q g w, answers p f part (poly p e) (o p e) q g)
   programs_at (Err s) g w = tt
 
   -- where there is none, the predicate with this number has too many stages
-  pub stops_at : (r : Result Part GradedStop) → IfErr r (StopsFor part.shape f 262144 131072)
+  pub stops_at : (r : Result Part GradedStop) → IfErr r (StopsFor part.shape f most_graded most_weight)
       → IfErr r (λ s. s ≡ Stages → IsMany (map pred_of preds) i)
   stops_at (Ok q) h = tt
   stops_at (Err Stages) h = λ k p e. many p f part (poly p e) (o p e) h

@@ -1,6 +1,7 @@
 -- Defines what `graded` asks of its predicate: few stages by total degree.
 use Rattle.std.specs.Prelude.{◌≡◌, ℕ, List, [], ◌∷◌, length, slice_get, IsSomeAnd, Option, Some}
 use Rattle.ln_algebra.specs.Orders.{ByDegree}
+use Rattle.ln_base.specs.Limits.{most_graded, most_weight}
 use Rattle.ln_tree.specs.Table.{PredOf}
 use Rattle.ln_poly.specs.Expansion.{IsNormal}
 use Rattle.ln_poly.specs.Sparse.{Sparse}
@@ -19,7 +20,7 @@ pub record HasManyGraded (p : PredOf) : Type 0 where
   pub normal : IsNormal (length p.vars) (root_of p) poly
   pub lists : List (List (List ℕ))
   pub are_lists : AreStageListsIn ByDegree p.sites p.vars poly lists
-  pub passes : Passes (length p.vars) poly 262144 131072 lists
+  pub passes : Passes (length p.vars) poly most_graded most_weight lists
 
 -- it has not
 abbrev pub HasFewGraded : PredOf → Type 0

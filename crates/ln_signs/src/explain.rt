@@ -19,10 +19,9 @@ use ln_base::{Console, NoMemory};
 use ln_code::{Scratch, Verdict};
 use ln_frame::ready::{Ready, short_text};
 use ln_frame::status::{Early, End};
-use ln_rows::Rows;
 use ln_target::target::Target;
 use ln_trace::{explain_row, put_refused};
-use ln_tree::Pred;
+use ln_tree::{Pred, Table};
 use std::alloc::Global;
 
 // A predicate whose rows are explained.
@@ -56,8 +55,8 @@ impl<'a> RecordWriter for Explainer<'a> {
         self.target.pred()
     }
 
-    fn take_header(&self, rows: &mut Rows<'_>) -> Result<bool, NoMemory> {
-        self.target.take_header(rows)
+    fn table(&self) -> &Table {
+        self.target.table()
     }
 
     fn make_room(&self, alloc: Global) -> Result<Scratch, NoMemory> {

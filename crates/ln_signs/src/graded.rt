@@ -1,6 +1,7 @@
 //! `graded`: a predicate by total degree first, whose stages in that order of infinitesimals are few.
 ghost use Rattle.std.specs.Prelude.{◌≡◌, ◌≢◌, ◌≤◌, ◌<◌, All, List, [], length, map, slice_get, Err, Some, IfErr, IfOk, OnOk};
 ghost use Rattle.ln_algebra.specs.Orders.{ByDegree};
+ghost use Rattle.ln_base.specs.Limits.{most_source};
 ghost use Rattle.ln_tree.specs.Table.{PredOf, pred_of};
 ghost use Rattle.ln_compile.specs.Filtered.{AnswersFor};
 ghost use Rattle.ln_frame.specs.Carried.{CarriesOut};
@@ -16,6 +17,7 @@ ghost use Rattle.ln_signs.specs.Signs.{RunPart, RunSaid};
 use crate::named::degree_target;
 use crate::records::put_lines;
 use crate::watching::no_watchers;
+use ln_base::limits::{MOST_GRADED, MOST_WEIGHT};
 use ln_base::{Console, Span};
 use ln_code::Program;
 use ln_compile::Checked;
@@ -25,12 +27,6 @@ use ln_frame::ready::{Ready, short_text};
 use ln_frame::status::{Early, End};
 use ln_frame::stop::{Stop, Why};
 use std::alloc::Global;
-
-/// The most stages that the lists of all orders of the sites have together by total degree.
-pub const MOST: u64 = 262_144;
-
-/// The largest stage weight by total degree.
-pub const HEAVY: u64 = 131_072;
 
 // Returns the program by total degree of the predicate with this number, from 0; or none, where it has too many stages in that order.
 fn graded_program(alloc: Global, c: &Checked, i: usize) -> Result<Program, GradedStop>
@@ -42,7 +38,7 @@ fn graded_program(alloc: Global, c: &Checked, i: usize) -> Result<Program, Grade
 {
     let f = c.polynomial(alloc, i)?;
     let p = c.program(alloc, i)?;
-    graded(alloc, &f, p.shape(), &p, MOST, HEAVY)
+    graded(alloc, &f, p.shape(), &p, MOST_GRADED, MOST_WEIGHT)
 }
 
 // Returns the place of the name of the predicate with this number, from 0.
@@ -62,7 +58,7 @@ pub fn graded_first(
     numbers: &[usize],
 ) -> Result<Option<Program>, Stop>
     requires within { All (λ i. i < length c.now.table.preds) numbers.now }
-    requires short { length bytes.now ≤ 1048576 }
+    requires short { length bytes.now ≤ most_source }
     ensures few { OnOk result ((preds : List PredOf) → AreNumbered (map pred_of c.now.table.preds) numbers.now preds → FirstHasFew preds) }
     ensures kept { IfOk result (KeepsGraded (map pred_of c.now.table.preds) numbers.now) }
     ensures err { IfErr result (λ s. (preds : List PredOf) → AreNumbered (map pred_of c.now.table.preds) numbers.now preds

@@ -18,10 +18,10 @@ use ln_base::{Console, NoMemory, Sign};
 use ln_code::Verdict;
 use ln_frame::ready::{Ready, short_text};
 use ln_frame::status::{Early, End};
-use ln_rows::{RowStop, Rows};
+use ln_rows::RowStop;
 use ln_target::factors::{Factors, Room};
 use ln_target::line::add_product_line;
-use ln_tree::Pred;
+use ln_tree::{Pred, Table};
 use std::alloc::Global;
 
 // Returns the result of the factors on a record that was read: the sign of their product on its row, or why the record is invalid.
@@ -64,8 +64,8 @@ impl<'a> RecordWriter for Factors<'a> {
         Factors::pred(self)
     }
 
-    fn take_header(&self, rows: &mut Rows<'_>) -> Result<bool, NoMemory> {
-        Factors::take_header(self, rows)
+    fn table(&self) -> &Table {
+        Factors::table(self)
     }
 
     fn make_room(&self, alloc: Global) -> Result<Room, NoMemory> {

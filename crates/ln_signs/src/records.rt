@@ -10,12 +10,13 @@ ghost use Rattle.ln_target.specs.Line.{is_row};
 ghost use Rattle.ln_frame.specs.Lines.{Closes, Gathers, Takes};
 ghost use Rattle.ln_signs.specs.Rows.{RowStep, RowsPart, RowsSaid};
 ghost use Rattle.ln_signs.specs.Run.{HasRecords, end_of, piece_room, piece};
-ghost use Rattle.ln_rows.specs.Header.{HeaderIs};
+ghost use Rattle.ln_rows.specs.Header.{names_of};
 ghost use Rattle.ln_frame.specs.Said.{count};
-ghost use Rattle.ln_frame.specs.Given.{Given, most_file};
+ghost use Rattle.ln_frame.specs.Given.{Given};
 ghost use Rattle.ln_signs.specs.Watching.{watching};
 ghost use Rattle.ln_watch.specs.Panel.{last_lines, states_of};
 ghost use Rattle.std.specs.Prelude.{◌<◌, ◌^◌, length};
+ghost use Rattle.ln_base.specs.Limits.{most_file};
 
 use crate::gather::{PIECE, end_of, put_piece};
 use crate::panel::Panel;
@@ -26,7 +27,7 @@ use ln_frame::put::{put_out, put_rest};
 use ln_frame::status::{Early, End};
 use ln_frame::stop::{Stop, Why, say};
 use ln_rows::{RowStop, Rows};
-use ln_tree::Pred;
+use ln_tree::{Pred, Table};
 use ln_watch::Watch;
 use std::alloc::Global;
 
@@ -69,9 +70,9 @@ pub(crate) trait RecordWriter {
     fn pred(&self) -> &Pred
         ensures { result.now ≡ over self.now };
 
-    /// Takes the first record, if there is one, and returns whether it is the names of the columns.
-    fn take_header(&self, rows: &mut Rows<'_>) -> Result<bool, NoMemory>
-        ensures { IfOk result (λ right. HeaderIs (columns self.now) rows.old rows.new right) };
+    /// The table that names the columns.
+    fn table(&self) -> &Table
+        ensures { columns self.now ≡ names_of result.now (over self.now) };
 
     /// Makes the memory that it works in. Each record has a line.
     fn make_room(&self, alloc: Global) -> Result<Self::Room, NoMemory>
@@ -240,7 +241,7 @@ fn put_from_header<C: Console, W: RecordWriter>(
         (RowsPart (W.begins writer.now) (W.line writer.now g.preds) (states_of kind_of tally_of watchers.items) g) ⊥ ⊥
         (count (C.faults con.old) (C.faults con.new)) result (C.shown con.old) (C.shown con.new) }
 {
-    match writer.take_header(rows) {
+    match rows.header(writer.table(), writer.pred()) {
         Ok(true) => put_rows(alloc, con, writer, rows, watchers),
         Ok(false) => say(alloc, con, Stop::Tell(Why::Header)),
         Err(e) => Err(Early::Memory(e)),

@@ -20,10 +20,10 @@ use ln_base::{Console, NoMemory};
 use ln_code::{Scratch, Verdict};
 use ln_frame::ready::{Ready, short_text};
 use ln_frame::status::{Early, End};
-use ln_rows::{RowStop, Rows};
+use ln_rows::RowStop;
 use ln_target::line::add_line;
 use ln_target::target::Target;
-use ln_tree::Pred;
+use ln_tree::{Pred, Table};
 use ln_watch::Watch;
 use std::alloc::Global;
 
@@ -100,8 +100,8 @@ impl<'a> RecordWriter for Target<'a> {
         Target::pred(self)
     }
 
-    fn take_header(&self, rows: &mut Rows<'_>) -> Result<bool, NoMemory> {
-        Target::take_header(self, rows)
+    fn table(&self) -> &Table {
+        Target::table(self)
     }
 
     fn make_room(&self, alloc: Global) -> Result<Scratch, NoMemory> {

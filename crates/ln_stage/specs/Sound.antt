@@ -1,6 +1,7 @@
 -- The faults that a predicate of a table may have, and predicates that have none: those of sources that compile.
 use Rattle.std.specs.Prelude.{ℕ, ◌<◌, List, [], ◌∷◌, length}
 use Rattle.ln_algebra.specs.Weights.{weighted_sum}
+use Rattle.ln_base.specs.Limits.{most_stages, most_weight}
 use Rattle.ln_tree.specs.Table.{PredOf}
 use Rattle.ln_bound.specs.Light.{AreLight, most}
 use Rattle.ln_bound.specs.Value.{weights}
@@ -23,7 +24,7 @@ pub record IsStagesFault (p : PredOf) : Type 0 where
   pub normal : IsNormal (length p.vars) (root_of p) poly
   pub lists : List (List (List ℕ))
   pub are_lists : AreStageLists p.sites p.vars poly lists
-  pub passes : Passes (length p.vars) poly 65536 131072 lists
+  pub passes : Passes (length p.vars) poly most_stages most_weight lists
 
 -- a predicate has no fault: no range and no size of a node exceeds 2^127 - 1, no node has too many terms, it isn't too large as a whole, the
 -- root isn't 0 however it is perturbed, and it hasn't too many stages

@@ -152,7 +152,7 @@ fn stages_by(
     let mut tally = Tally::new(alloc, most, heavy);
     let found = listed(terms, s, prefixes.as_slice(), most, by_degree, &mut tally)?;
     let (segments, count) = found;
-    let blocks = tally.into_blocks();
+    let blocks = tally.into_blocks()?;
     Ok(Stages::of(s.sites, blocks, segments, count))
 }
 

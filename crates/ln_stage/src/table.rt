@@ -1,11 +1,9 @@
 //! The stages of a polynomial.
 ghost use Rattle.std.specs.Prelude.{◌≡◌, ◌<◌, ◌≤◌, slice_index_or, [], length, take};
-ghost use Rattle.indexmap.specs.IndexMap.{keys};
 ghost use Rattle.ln_order.specs.Places.{order_places};
 ghost use Rattle.ln_order.specs.Prefixes.{prefixes_of};
 ghost use Rattle.ln_stage.specs.Staged.{count_numbers, lists_in, segment_of};
 
-use indexmap::IndexMap;
 use ln_base::Seq;
 use ln_order::{Order, at_prefix};
 use ln_tree::Exps;
@@ -17,20 +15,19 @@ use std::marker::Model;
 #[derive(Drop)]
 pub struct Stages {
     sites: u8,
-    blocks: IndexMap<Exps, ()>,
+    blocks: Seq<Exps>,
     segments: Seq<Seq<u32>>,
     count: u64,
 }
 
 impl Model for Stages {
     ghost use Rattle.std.specs.Prelude.{◌≡◌, ◌≤◌, length};
-    ghost use Rattle.indexmap.specs.IndexMap.{keys};
     ghost use Rattle.ln_order.specs.Prefixes.{prefixes_of};
     ghost use Rattle.ln_stage.specs.Staged.{Staged, count_numbers, lists_in};
 
     ghost Value = { Staged };
 
-    ghost view = { λ s. record { sites = s.sites; exps = keys s.blocks; segments = s.segments; lists = lists_in s.sites s.segments } };
+    ghost view = { λ s. record { sites = s.sites; exps = s.blocks; segments = s.segments; lists = lists_in s.sites s.segments } };
 
     ghost invariant = { λ s. record {
       few : s.sites ≤ 5;
@@ -41,16 +38,11 @@ impl Model for Stages {
 
 impl Stages {
     // The stages with these segments.
-    pub(crate) fn of(
-        sites: u8,
-        blocks: IndexMap<Exps, ()>,
-        segments: Seq<Seq<u32>>,
-        count: u64,
-    ) -> Stages
+    pub(crate) fn of(sites: u8, blocks: Seq<Exps>, segments: Seq<Seq<u32>>, count: u64) -> Stages
         requires few { sites ≤ 5 }
         requires each { length segments ≡ length (prefixes_of sites) }
         requires counted { count ≡ count_numbers (lists_in sites segments) }
-        ensures { result ≡ record { sites = sites; exps = keys blocks; segments = segments; lists = lists_in sites segments } }
+        ensures { result ≡ record { sites = sites; exps = blocks; segments = segments; lists = lists_in sites segments } }
     {
         Stages {
             sites,
@@ -79,10 +71,7 @@ impl Stages {
         requires { i < length self.now.exps }
         ensures { result.now ≡ slice_index_or self.now.exps i [] }
     {
-        match self.blocks.get_index(i) {
-            Some((exps, _)) => exps,
-            None => unreachable!(),
-        }
+        &self.blocks.as_slice()[i]
     }
 
     /// The segment of an order of the sites at its first j places, as numbers of blocks: the members of its list, in order,

@@ -5,7 +5,7 @@ ghost use Rattle.ln_stage.specs.Tally.{IsOver, IsStoppedBy, next_list, number_in
 
 use crate::stop::StageStop;
 use indexmap::IndexMap;
-use ln_base::Seq;
+use ln_base::{NoMemory, Seq};
 use ln_tree::Exps;
 use std::alloc::Global;
 use std::marker::Model;
@@ -107,11 +107,12 @@ impl Tally {
     }
 
     // The blocks; their weight is within its limit.
-    pub(crate) fn into_blocks(self) -> IndexMap<Exps, ()>
+    pub(crate) fn into_blocks(self) -> Result<Seq<Exps>, NoMemory>
         ensures within { self.weight ≤ self.heavy }
-        ensures blocks { keys result ≡ self.exps }
+        ensures blocks { IfOk result (λ bs. bs ≡ self.exps) }
     {
-        self.blocks
+        let blocks = self.blocks.into_keys().collect(self.alloc)?;
+        Ok(Seq::from_vec(blocks))
     }
 
     // Where memory comes from.

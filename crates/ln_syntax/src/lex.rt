@@ -8,5 +8,5 @@ pub mod byte;
 pub mod scan;
 pub mod token;
 
-pub use scan::{LexStop, MOST_TOKENS, one_answer, tokens};
+pub use scan::{LexStop, one_answer, tokens};
 pub use token::{Kind, Token};

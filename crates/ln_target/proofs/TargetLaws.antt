@@ -1,7 +1,6 @@
 -- Proves what a predicate that is run keeps: the verdict of its program is the one required, on each row in range there is one,
 -- and it is what is returned.
-use Rattle.std.proofs.Common.{◌≡◌, ℕ, Bool, true, false, List, ◌∷◌, Ok, Err, refl, subst}
-use Rattle.std.specs.Prelude.{IfOk, Result}
+use Rattle.std.proofs.Common.{◌≡◌, refl, subst}
 use Rattle.ln_algebra.specs.Orders.{Rank}
 use Rattle.ln_tree.specs.declared.pred.Pred.{Pred}
 use Rattle.ln_tree.specs.Row.{InRange, Row}
@@ -14,9 +13,6 @@ use Rattle.ln_code.specs.Verdict.{IsVerdict}
 use Rattle.ln_code.proofs.Verdicts.Machine.{programs-run, rows-have}
 use Rattle.ln_compile.specs.Filtered.{IsDueIn}
 use Rattle.ln_compile.proofs.Listing.FilteredLemmas.{parts_answer}
-use Rattle.ln_rows.specs.Header.{HeaderIs}
-use Rattle.ln_rows.specs.Left.{Records}
-use Rattle.ln_rows.proofs.HeaderLaws.{header_is}
 use Rattle.ln_target.specs.Target.{Belongs}
 
 -- a row in range is in range for the program
@@ -42,9 +38,3 @@ owed_there rank p part row b range =
     let there : InRange part.shape.sites part.shape.vars row = rw (b.answers.sites, b.answers.vars) range in
     let v = rows-have part row (programs-run part b.kept) there in
     (v.0, parts_answer rank (pred_of p) part row v.0 b.kept b.answers range v.1)
-
--- the first record, where it was read, is the columns' names or not
-pub header_told : {E : Type 0} (names : List (List ℕ)) (old new : Records) (r : Result Bool E) → IfOk r (λ right. right ≡ true → old ≡ names ∷ new)
-    → IfOk r (λ right. right ≡ false → (rest : Records) → old ≡ names ∷ rest → ⊥) → IfOk r (HeaderIs names old new)
-header_told names old new (Ok right) h w = header_is names old new right h w
-header_told names old new (Err e) h w = tt

@@ -6,7 +6,7 @@ ghost use Rattle.ln_tree.specs.Table.{PredOf, pred_of};
 ghost use Rattle.ln_code.specs.RowOf.{row_of};
 ghost use Rattle.ln_due.specs.Due.{sign_number};
 ghost use Rattle.ln_due.specs.Products.Factors.{AreMadeFor, numbers_of};
-ghost use Rattle.ln_rows.specs.Header.{names_of, HeaderIs};
+ghost use Rattle.ln_rows.specs.Header.{names_of};
 ghost use Rattle.ln_target.specs.Factors.{AreDue, AreFactors, AreMade, AreMadeAt, AreProgramsAt, Grows, HaveOneShape, IsInRangeOf, IsRoomFor};
 ghost use Rattle.ln_compile.specs.Compiled.{AreNumbered};
 
@@ -14,7 +14,6 @@ use ln_base::{NoMemory, Sign};
 use ln_code::{By, Program, Programs, Row, Scratch, Verdict};
 use ln_compile::Checked;
 use ln_due::factors::product_row;
-use ln_rows::Rows;
 use ln_tree::{Pred, Table};
 use std::alloc::Global;
 use std::marker::Model;
@@ -193,13 +192,6 @@ impl<'a> Factors<'a> {
         ensures { self.now.names ≡ names_of result.now self.now.pred }
     {
         self.table
-    }
-
-    /// Takes the first record, if there is one, and returns whether it is the names of the columns.
-    pub fn take_header(&self, rows: &mut Rows<'_>) -> Result<bool, NoMemory>
-        ensures { IfOk result (λ right. HeaderIs self.now.names rows.old rows.new right) }
-    {
-        rows.header(self.table, self.pred)
     }
 
     /// Makes the memory in which the factors run.

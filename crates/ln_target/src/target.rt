@@ -4,14 +4,13 @@ ghost use Rattle.ln_code.specs.Memory.{MadeFor};
 ghost use Rattle.ln_algebra.specs.Orders.{ByDegree, BySmallest};
 ghost use Rattle.ln_compile.specs.Filtered.{AnswersFor, IsDueIn};
 ghost use Rattle.ln_tree.specs.Table.{PredOf, pred_of};
-ghost use Rattle.ln_rows.specs.Header.{names_of, HeaderIs};
+ghost use Rattle.ln_rows.specs.Header.{names_of};
 ghost use Rattle.ln_target.specs.Factors.{IsInRangeOf};
 ghost use Rattle.ln_target.specs.Target.{Belongs, pred_in, row_in};
 
 use ln_base::NoMemory;
 use ln_code::{Program, Row, Scratch, Verdict, run_row};
 use ln_compile::Checked;
-use ln_rows::Rows;
 use ln_tree::{Pred, Table};
 use std::alloc::Global;
 use std::borrow::Cow;
@@ -113,13 +112,6 @@ impl<'a> Target<'a> {
         ensures { result.now ≡ self.now.program }
     {
         &self.program
-    }
-
-    /// Takes the first record, if there is one: is it the names of the columns?
-    pub fn take_header(&self, rows: &mut Rows<'_>) -> Result<bool, NoMemory>
-        ensures { IfOk result (λ right. HeaderIs self.now.names rows.old rows.new right) }
-    {
-        rows.header(self.table, self.pred)
     }
 
     /// Memory in which the program is run.

@@ -40,7 +40,7 @@ counts_more ps i p n texts new h e a at q =
     ∙ map-append pred_of (take i ps) (p ∷ []) in
     rw (behind, q) (count_behind (map pred_of (take i ps)) (pred_of p) n a (at (pred_of p) there))
 
--- behind the last predicate
+-- after the last predicate
 pub counts_end : (ps : List Pred) (i : ℕ) (texts : List ℕ) → length ps ≤ i → AreCounts (map pred_of (take i ps)) texts
     → AreCounts (map pred_of ps) texts
 counts_end ps i texts h a = rw (take_all i ps h) at a

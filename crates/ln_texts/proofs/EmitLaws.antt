@@ -3,6 +3,7 @@ use Rattle.std.proofs.Common.{◌≡◌, ℕ, suc, ◌+◌, ◌<◌, ◌≤◌, 
 use Rattle.std.specs.Prelude.{All}
 use Rattle.std.proofs.lemmas.List.{length-map, take_all}
 use Rattle.std.proofs.lemmas.List.Elements.{All-cons, All-nil}
+use Rattle.ln_base.specs.Limits.{most_stages}
 use Rattle.ln_base.specs.declared.sign.Sign.{Sign}
 use Rattle.ln_base.specs.declared.sign.Sign.TheVariants.{Minus, Zero, Plus}
 use Rattle.ln_tree.specs.declared.pred.Pred.{Pred}
@@ -98,21 +99,21 @@ c_of ps parts text a n k e = record {
 
 -- ---- the C, program by program
 -- none has more blocks than fit
-pub small_more : (cs : List Part) (c : Part) → All (λ (p : Part). length p.blocks ≤ 65536) cs → length c.blocks ≤ 65536
-    → All (λ (p : Part). length p.blocks ≤ 65536) (cs ++ c ∷ [])
-small_more [] c a h = All-cons (λ (p : Part). length p.blocks ≤ 65536) c [] h a
-small_more (d ∷ cs) c a h = All-cons (λ (p : Part). length p.blocks ≤ 65536) d (cs ++ c ∷ []) (a 0 d (omega arith))
+pub small_more : (cs : List Part) (c : Part) → All (λ (p : Part). length p.blocks ≤ most_stages) cs → length c.blocks ≤ most_stages
+    → All (λ (p : Part). length p.blocks ≤ most_stages) (cs ++ c ∷ [])
+small_more [] c a h = All-cons (λ (p : Part). length p.blocks ≤ most_stages) c [] h a
+small_more (d ∷ cs) c a h = All-cons (λ (p : Part). length p.blocks ≤ most_stages) d (cs ++ c ∷ []) (a 0 d (omega arith))
     (small_more cs c (λ k e l. a (suc k) e (omega (arith, l))) h)
 
 -- no program yet
 pub begun : (preds : List PredOf) (text : List ℕ) → BeginsFile text [] → BeginsCOfFirst preds 0 text
-begun preds text b = record { programs = []; are_programs = none preds; small = All-nil (λ (p : Part). length p.blocks ≤ 65536); begins = b } where
+begun preds text b = record { programs = []; are_programs = none preds; small = All-nil (λ (p : Part). length p.blocks ≤ most_stages); begins = b } where
   none : (preds : List PredOf) → AreProgramsOf (take 0 preds) []
   none [] = tt
   none (p ∷ ps) = tt
 
 -- one program after others
-pub more : (preds : List Pred) (i : ℕ) (c : Part) (old new : List ℕ) → i < length preds → IsProgramAt (map pred_of preds) i c → length c.blocks ≤ 65536
+pub more : (preds : List Pred) (i : ℕ) (c : Part) (old new : List ℕ) → i < length preds → IsProgramAt (map pred_of preds) i c → length c.blocks ≤ most_stages
     → ((cs : List Part) → BeginsFile old cs → BeginsFile new (cs ++ c ∷ []))
     → BeginsCOfFirst (map pred_of preds) i old → BeginsCOfFirst (map pred_of preds) (i + 1) new
 more preds i c old new h a l t f = record {

@@ -1,5 +1,6 @@
 -- `emit FILE`: C for the predicates of a source.
 use Rattle.std.specs.Prelude.{◌≡◌, ◌≤◌, ℕ, All, List, [], ◌∷◌, length, map, take, Some, codes}
+use Rattle.ln_base.specs.Limits.{most_stages}
 use Rattle.ln_tree.specs.Row.{InRange, Row}
 use Rattle.ln_tree.specs.Table.{PredOf}
 use Rattle.ln_code.specs.declared.verdict.Verdict.{Verdict}
@@ -52,7 +53,7 @@ pub record IsCOf (preds : List PredOf) (bytes : List ℕ) : Type 0 where
 pub record BeginsCOfFirst (preds : List PredOf) (i : ℕ) (bytes : List ℕ) : Type 0 where
   pub programs : List Part
   pub are_programs : AreProgramsOf (take i preds) programs
-  pub small : All (λ (p : Part). length p.blocks ≤ 65536) programs
+  pub small : All (λ (p : Part). length p.blocks ≤ most_stages) programs
   pub begins : BeginsFile bytes programs
 
 -- what may be said: C for the predicates of the source

@@ -1,5 +1,6 @@
 -- Defines the causes of each status: the ends of the steps in their order, and the faults that may come in their place.
 use Rattle.std.specs.Prelude.{◌≡◌, ◌≢◌, ◌⊎◌, ℕ, List, [], Option, Some, None}
+use Rattle.ln_base.specs.Limits.{most_file, most_source}
 use Rattle.ln_base.specs.Outside.{Shelf, Shown, refused as out_of_memory}
 use Rattle.ln_tree.specs.Table.{PredOf, TableOf}
 use Rattle.ln_compile.specs.declared.refusal.Refusal.{Refusal}
@@ -14,8 +15,8 @@ use Rattle.ln_frame.specs.Said.{Said, line, put_both, end_status}
 use Rattle.ln_frame.specs.Stop.{why_end, why_text}
 use Rattle.ln_top.specs.Plan.{Plan, plan_of}
 use Rattle.ln_frame.specs.Source.{IsRefusedAt}
-use Rattle.ln_frame.specs.Given.{stops, gives, Given, most_file}
-use Rattle.ln_top.specs.Steps.{Prepares, Reads, Compiles, Finds, Each, MayPass, most_source}
+use Rattle.ln_frame.specs.Given.{stops, gives, Given}
+use Rattle.ln_top.specs.Steps.{Prepares, Reads, Compiles, Finds, Each, MayPass}
 use Rattle.ln_top.specs.Signature.{Asks, objection}
 use Rattle.ln_top.specs.Works.{WorkEnds}
 

@@ -1,5 +1,6 @@
 -- The steps before the work, as a chain: the first that stops decides.
 use Rattle.std.specs.Prelude.{◌≡◌, ℕ, ◌≤◌, ◌<◌, List, [], ◌∷◌, length, Option, Some, None}
+use Rattle.ln_base.specs.Limits.{most_file, most_source}
 use Rattle.ln_base.specs.Outside.{Shelf, bytes_of, IsAbsent}
 use Rattle.ln_tree.specs.Table.{TableOf, PredOf}
 use Rattle.ln_compile.specs.declared.refusal.Refusal.{Refusal}
@@ -10,7 +11,7 @@ use Rattle.ln_top.specs.declared.words.Command.{Command}
 use Rattle.ln_top.specs.Plan.{Plan, plan_of}
 use Rattle.ln_frame.specs.Source.{IsAccepted, IsRefusedAt}
 use Rattle.ln_top.specs.Signature.{Asks, objection}
-use Rattle.ln_frame.specs.Given.{Outcome, stops, missing, gives, named, most_file, Given}
+use Rattle.ln_frame.specs.Given.{Outcome, stops, missing, gives, named, Given}
 
 -- one step, and where it has a value the next one
 pub data Then {A B : Type 0} (first : Outcome A → Type 0) (next : A → Outcome B → Type 0) : Outcome B → Type 0 where
@@ -57,10 +58,6 @@ pub data Finds (preds : List PredOf) (name : List ℕ) : Outcome PredOf → Type
 pub data Suits (c : Command) (bytes : List ℕ) (preds : List PredOf) : Outcome (Unit {0}) → Type 0 where
   suited : Asks c preds → Suits c bytes preds (gives tt)
   unsuited : (Asks c preds → ⊥) → Suits c bytes preds (stops (objection c bytes preds))
-
--- a source file has at most 1,048,576 bytes
-abbrev pub most_source : ℕ
-most_source = 1048576
 
 -- the source is read and compiled, the names are looked for, their predicates suit the command, the further files are read
 abbrev pub Prepares : Plan → Option Shelf → Outcome Given → Type 0

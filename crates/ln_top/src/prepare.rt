@@ -2,13 +2,14 @@
 //! the further files are read.
 ghost use Rattle.std.specs.Prelude.{◌≡◌, ◌≢◌, ◌≤◌, ◌<◌, All, Err, List, map, length, IfOk, IfErr, OnOk, string_bytes};
 ghost use Rattle.std.specs.Prelude.{true, false};
+ghost use Rattle.ln_base.specs.Limits.{most_file, most_source};
 ghost use Rattle.ln_base.specs.Outside.{Rose};
 ghost use Rattle.ln_tree.specs.Table.{PredOf, pred_of};
 ghost use Rattle.ln_top.specs.Plan.{with_bytes};
 ghost use Rattle.ln_top.specs.Signature.{Asks, signature_of};
-ghost use Rattle.ln_top.specs.Steps.{Compiles, Each, Finds, Prepares, Reads, most_source};
+ghost use Rattle.ln_top.specs.Steps.{Compiles, Each, Finds, Prepares, Reads};
 ghost use Rattle.ln_frame.specs.Source.{view};
-ghost use Rattle.ln_frame.specs.Given.{gives, most_file};
+ghost use Rattle.ln_frame.specs.Given.{gives};
 ghost use Rattle.ln_frame.specs.Carried.{Halts};
 ghost use Rattle.ln_compile.specs.Compiled.{AreNumbered};
 ghost use Rattle.ln_frame.specs.Signature.{Refuses};
@@ -16,6 +17,7 @@ ghost use Rattle.ln_top.specs.Ready.{HasNumbers, IsReady, KeepsFor};
 
 use crate::source::compiled;
 use crate::words::{Command, Plan};
+use ln_base::limits::{MOST_FILE, MOST_SOURCE};
 use ln_base::{Files, ReadStop, read_whole};
 use ln_code::Program;
 use ln_compile::Checked;
@@ -25,12 +27,6 @@ use ln_judges::three::one_of_three;
 use ln_signs::graded::graded_first;
 use ln_target::alike::alike;
 use std::alloc::Global;
-
-/// The most bytes of a source file.
-pub const SOURCE_LIMIT: usize = 1_048_576;
-
-/// The most bytes of a further file.
-pub const FILE_LIMIT: usize = 67_108_864;
 
 // The bytes of a file within its limit.
 fn file<F: Files>(alloc: Global, files: &mut F, name: &str, limit: usize) -> Result<Vec<u8>, Stop>
@@ -76,7 +72,7 @@ fn texts<F: Files>(alloc: Global, files: &mut F, names: &[String]) -> Result<Vec
 {
     let mut texts = Vec::new(alloc);
     'names: for name in names {
-        match file(alloc, files, name.as_str(), FILE_LIMIT) {
+        match file(alloc, files, name.as_str(), MOST_FILE) {
             Ok(text) => {
                 texts.push(text)?;
             }
@@ -107,7 +103,7 @@ fn suited(
     numbers: &[usize],
 ) -> Result<Option<Program>, Stop>
     requires within { All (λ i. i < length c.now.table.preds) numbers.now }
-    requires short { length bytes.now ≤ 1048576 }
+    requires short { length bytes.now ≤ most_source }
     ensures ok { OnOk result ((preds : List PredOf) → AreNumbered (map pred_of c.now.table.preds) numbers.now preds
         → Asks command preds) }
     ensures kept { IfOk result (KeepsFor command (map pred_of c.now.table.preds) numbers.now) }
@@ -132,7 +128,7 @@ fn later<F: Files>(
     c: &Checked,
 ) -> Result<(Vec<usize>, Option<Program>, Vec<Vec<u8>>), Stop>
     requires read { Reads (F.told files.old) most_source plan.source.now (gives bytes.now) }
-    requires short { length bytes.now ≤ 1048576 }
+    requires short { length bytes.now ≤ most_source }
     requires compiles { Compiles bytes.now (gives (view c.now.table)) }
     ensures found { IfOk result (λ r. HasNumbers (map pred_of c.now.table.preds) (map string_bytes plan.entry.names.now) r.0.items) }
     ensures asked { IfOk result (λ r. (preds : List PredOf) → AreNumbered (map pred_of c.now.table.preds) r.0.items preds
@@ -173,7 +169,7 @@ pub fn prepare<F: Files>(alloc: Global, files: &mut F, plan: Plan<'_>) -> Result
     ensures texts { IfOk result (λ r. length r.texts.items ≡ length plan.entry.files.now) }
     ensures quiet { result ≢ Err Stop.Read → F.faults files.new ≡ F.faults files.old }
 {
-    let bytes = match file(alloc, files, plan.source, SOURCE_LIMIT) {
+    let bytes = match file(alloc, files, plan.source, MOST_SOURCE) {
         Ok(bytes) => bytes,
         Err(stop) => return Err(stop),
     };

@@ -1,5 +1,6 @@
 //! Compiles the bytes of a source, or tells for what reason and at which place it is refused.
 ghost use Rattle.std.specs.Prelude.{◌≡◌, ◌≤◌, length, IfOk, IfErr};
+ghost use Rattle.ln_base.specs.Limits.{most_source};
 ghost use Rattle.ln_frame.specs.Source.{view, place_at};
 ghost use Rattle.ln_top.specs.Steps.{Compiles};
 ghost use Rattle.ln_frame.specs.Given.{gives};
@@ -13,7 +14,7 @@ use std::alloc::Global;
 
 // The stop for what `compile` refuses.
 fn stop_for(bytes: &[u8], r: Refusal) -> Stop
-    requires { length bytes.now ≤ 1048576 }
+    requires { length bytes.now ≤ most_source }
     ensures { result ≡ stop_of bytes.now r }
 {
     match r.span() {
@@ -24,7 +25,7 @@ fn stop_for(bytes: &[u8], r: Refusal) -> Stop
 
 /// A source, compiled; or why it is refused.
 pub fn compiled(alloc: Global, bytes: &[u8]) -> Result<Checked, Stop>
-    requires { length bytes.now ≤ 1048576 }
+    requires { length bytes.now ≤ most_source }
     ensures ok { IfOk result (λ c. Compiles bytes.now (gives (view c.table))) }
     ensures err { IfErr result (λ s. Halts (Compiles bytes.now) ⊥ s) }
 {

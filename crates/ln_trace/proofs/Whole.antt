@@ -2,6 +2,7 @@
 use Rattle.std.proofs.Common.{◌≡◌, ℕ, ◌≤◌, List, length, ap, arith, refl, subst, sym, ◌∙◌}
 use Rattle.std.specs.Prelude.{None, Option}
 use Rattle.ln_algebra.specs.Tree.{Tree}
+use Rattle.ln_base.specs.Limits.{most_file}
 use Rattle.ln_tree.specs.declared.shape.Shape.{Shape}
 use Rattle.ln_poly.specs.Sparse.{Sparse}
 use Rattle.ln_base.proofs.Forms.Walk.{few_lines}
@@ -20,7 +21,7 @@ use Rattle.ln_trace.proofs.Midway.{judged-answer, judged-signs}
 
 -- ---- how many lines
 -- a trace of at most 67,108,864 bytes has at most as many lines
-pub few-lines : (read ls : List TraceLine) → read ≡ ls → IsKept ls → length read ≤ 67108864
+pub few-lines : (read ls : List TraceLine) → read ≡ ls → IsKept ls → length read ≤ most_file
 few-lines read ls q h = omega (arith, ap length q, h.short, few_lines trace_rules h.bytes ls h.text.text)
 
 -- ---- the result

@@ -1,5 +1,6 @@
 -- The form of traces, and the first line of a text at which it stops being a trace.
 use Rattle.std.specs.Prelude.{◌≡◌, ℕ, ℤ, ◌≤◌, List, [], ◌∷◌, length, map}
+use Rattle.ln_base.specs.Limits.{most_file}
 use Rattle.ln_base.specs.Exponents.{Each}
 use Rattle.ln_base.specs.Lines.{joined}
 use Rattle.ln_base.specs.declared.sign.Sign.{Sign}
@@ -39,7 +40,7 @@ pub record TraceText (bytes : List ℕ) (ls : List TraceLine) : Type 0 where
 -- some bytes, at most 67,108,864, are the text of this trace
 pub record IsKept (ls : List TraceLine) : Type 0 where
   pub bytes : List ℕ
-  pub short : length bytes ≤ 67108864
+  pub short : length bytes ≤ most_file
   pub text : TraceText bytes ls
 
 -- ---- form faults

@@ -1,5 +1,6 @@
 //! Reads a trace from its bytes, at once or line by line, or tells at which line the bytes stop being one.
 ghost use Rattle.std.specs.Prelude.{◌≡◌, ◌≤◌, IfOk, IfErr, IsTrue, List, length, ◌↔◌};
+ghost use Rattle.ln_base.specs.Limits.{most_file};
 ghost use Rattle.ln_trace.specs.declared.line.TraceLine.{TraceLine as AnyLine};
 ghost use Rattle.ln_trace.specs.Form.{TraceText};
 ghost use Rattle.ln_trace.specs.Stop.{Stops};
@@ -25,7 +26,7 @@ fn is_first(first: &[u8]) -> bool
 /// The lines of the trace that the bytes are. The form of the whole text is checked first, and no line is kept: each is read once more
 /// where it is taken. It takes time in proportion to the number of bytes, and memory for one line.
 pub fn trace_lines<'a>(alloc: Global, bytes: &'a [u8]) -> Result<TraceLines<'a>, TraceStop>
-    requires { length bytes.now ≤ 67108864 }
+    requires { length bytes.now ≤ most_file }
     ensures ok { IfOk result (λ l. IsOpened bytes.now l) }
     ensures err { IfErr result (λ e. Stops bytes.now e) }
 {
@@ -52,7 +53,7 @@ fn all_lines(alloc: Global, lines: &mut TraceLines<'_>) -> Result<Seq<TraceLine>
 
 /// The trace that the bytes are. It takes time in proportion to their number, and memory for each line.
 pub fn read_trace(alloc: Global, bytes: &[u8]) -> Result<Trace, TraceStop>
-    requires { length bytes.now ≤ 67108864 }
+    requires { length bytes.now ≤ most_file }
     ensures ok { IfOk result (λ t. TraceText bytes.now t) }
     ensures err { IfErr result (λ e. Stops bytes.now e) }
 {

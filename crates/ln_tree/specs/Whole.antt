@@ -5,6 +5,7 @@ use Rattle.std.specs.Prelude.{Bool, true, false, if◌then◌else◌, ℤ, pos, 
 use Rattle.std.specs.Prelude.{length, map, count_by, Option, Some, None, slice_get, bytes_eq}
 use Rattle.std.specs.List.{list_any, list_all}
 use Rattle.std.specs.Ordering.{int_eq}
+use Rattle.ln_base.specs.Limits.{most_tokens}
 use Rattle.ln_tree.specs.declared.shape.VarInfo.{VarInfo}
 use Rattle.ln_tree.specs.Variables.{same_site}
 use Rattle.ln_tree.specs.Formula.{Formula, FNum, FInput, FName, FNeg, FAdd, FSub, FMul, FPow}
@@ -176,4 +177,4 @@ item_names t = map (λ s. s.name) t.sites ++ (map (λ c. c.name) t.params ++ map
 abbrev pub is_whole : TableOf → Bool
 is_whole t =
     list_all site_whole t.sites && list_all is_range t.params && list_all (pred_whole t.sites t.params) t.preds && differ (item_names t)
-    && nat_le (text_tokens t) 65536
+    && nat_le (text_tokens t) most_tokens

@@ -2,6 +2,7 @@
 ghost use Rattle.std.specs.Prelude.{◌<◌, length};
 ghost use Rattle.ln_compile.specs.Grading.Graded.{Begins, IsGradable};
 
+use ln_base::limits::MOST_SOURCE;
 use ln_code::Program;
 use ln_compile::graded::{GradedStop, graded};
 use ln_compile::{Checked, check};
@@ -30,7 +31,7 @@ fn made_of(alloc: Global, c: &Checked, i: usize, most: u64) -> Result<Program, G
 // How many blocks the program by total degree of the one predicate of a source has; why there is none; or none where the source is refused.
 fn blocks_within(alloc: Global, source: &str, most: u64) -> Option<Result<usize, GradedStop>> {
     let bytes = source.as_bytes();
-    if bytes.len() > 1_048_576 {
+    if bytes.len() > MOST_SOURCE {
         return None;
     }
     let Ok(c) = check(alloc, bytes) else {

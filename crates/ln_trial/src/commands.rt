@@ -2,6 +2,7 @@
 //! examples/checks/commands_table.py has the cases of words, sources and rows, which run on the program itself.
 use crate::spheres::CIRCLE;
 use crate::support::{Case, Faults, HEAD, are_answered, is_answered, is_said, shelf};
+use ln_base::limits::MOST_SOURCE;
 use ln_base::{MemConsole, MemFiles, NoMemory};
 use ln_top::Status;
 use ln_trial_programs::sample::{ORIENT, SQUARES};
@@ -32,8 +33,6 @@ end
 order 0 : 0 1
 done
 ";
-
-const SOURCE_LIMIT: usize = 1_048_576;
 
 const CHECK: &str = "check s.ln";
 
@@ -139,7 +138,7 @@ fn all_stop(alloc: Global) -> Result<bool, NoMemory> {
             return Ok(false);
         }
     }
-    let long = " ".repeat(alloc, SOURCE_LIMIT + 1)?;
+    let long = " ".repeat(alloc, MOST_SOURCE + 1)?;
     let stop = (RUN, long.as_str(), Status::TooLong, "error long\n", 1);
     stops(alloc, &stop)
 }

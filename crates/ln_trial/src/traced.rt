@@ -5,6 +5,7 @@ ghost use Rattle.ln_stage.specs.Sound.{AreSound, IsSound};
 
 use crate::verified::accepted;
 use ln_base::NoMemory;
+use ln_base::limits::{MOST_FILE, MOST_SOURCE};
 use ln_compile::{Refusal, check};
 use ln_rows::Rows;
 use ln_trace::{Trace, TraceStop, judge, read_trace};
@@ -61,7 +62,7 @@ fn fault_in(alloc: Global, preds: &[Pred], trace: &Trace) -> Result<Option<u32>,
 // The first line of a trace of the orientation that fails; none where the source is refused.
 fn first_failing(alloc: Global, trace: &Trace) -> Result<Option<u32>, NoMemory> {
     let source = ORIENT.as_bytes();
-    if source.len() > 1_048_576 {
+    if source.len() > MOST_SOURCE {
         return Ok(None);
     }
     match check(alloc, source) {
@@ -73,7 +74,7 @@ fn first_failing(alloc: Global, trace: &Trace) -> Result<Option<u32>, NoMemory> 
 
 // Is this the first line of the text that fails, of its form or by its rule?
 fn fails_at(alloc: Global, text: &[u8], line: u32) -> Result<bool, NoMemory> {
-    if text.len() > 67_108_864 {
+    if text.len() > MOST_FILE {
         return Ok(false);
     }
     match read_trace(alloc, text) {

@@ -1,10 +1,12 @@
 //! What the library's `verify` says of listings that are read whole first. The program's command judges line by line, with the same rules.
 ghost use Rattle.std.specs.Prelude.{◌≤◌, length, map};
+ghost use Rattle.ln_base.specs.Limits.{most_source};
 ghost use Rattle.ln_tree.specs.Table.{pred_of};
 ghost use Rattle.ln_compile.specs.Accepted.{AreSound};
 
 use crate::listings::listing_of;
 use crate::support::written;
+use ln_base::limits::MOST_SOURCE;
 use ln_base::{NoMemory, Port};
 use ln_cert::Listing;
 use ln_compile::{Checked, Refusal, check};
@@ -24,7 +26,7 @@ pub fn accepted(c: &Checked) -> &Table
 
 // What a listing is for a source; none where the source is refused.
 fn judged(alloc: Global, source: &[u8], listing: &Listing) -> Result<Option<Judged>, NoMemory>
-    requires { length source.now ≤ 1048576 }
+    requires { length source.now ≤ most_source }
 {
     match check(alloc, source) {
         Ok(c) => {
@@ -39,7 +41,7 @@ fn judged(alloc: Global, source: &[u8], listing: &Listing) -> Result<Option<Judg
 // The first line of a listing that fails for a source, 0 where none does; none where the source is refused or the text is no listing.
 fn first_failing(alloc: Global, source: &str, text: &[u8]) -> Result<Option<u32>, NoMemory> {
     let source = source.as_bytes();
-    if source.len() > 1_048_576 {
+    if source.len() > MOST_SOURCE {
         return Ok(None);
     }
     let Some(listing) = listing_of(alloc, text)? else {

@@ -2,6 +2,7 @@
 ghost use Rattle.std.specs.Prelude.{IfOk, length};
 ghost use Rattle.ln_poly.specs.Sparse.{AreBelow};
 
+use ln_base::limits::MOST_SOURCE;
 use ln_bound::BoundStop;
 use ln_bound::weigh::weigh;
 use ln_parse::parse;
@@ -12,7 +13,7 @@ use std::alloc::Global;
 /// The table of a source, where it isn't refused.
 pub(crate) fn table(alloc: Global, source: &str) -> Option<Table> {
     let bytes = source.as_bytes();
-    if bytes.len() > 1_048_576 {
+    if bytes.len() > MOST_SOURCE {
         return None;
     }
     match parse(alloc, bytes) {

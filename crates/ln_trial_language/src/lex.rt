@@ -1,4 +1,5 @@
 //! Tests the tokens of sources, their first faults and the limit of their number.
+use ln_base::limits::MOST_SOURCE;
 use ln_syntax::lex::{Kind, LexStop, Token, tokens};
 use std::alloc::Global;
 use std::test::Fail;
@@ -35,7 +36,7 @@ fn are_tokens(found: &[Token], want: &[(Kind, u32, u32)]) -> bool {
 
 /// Has the source these tokens?
 fn has_tokens(alloc: Global, source: &[u8], want: &[(Kind, u32, u32)]) -> bool {
-    if source.len() > 1_048_576 {
+    if source.len() > MOST_SOURCE {
         return false;
     }
     match tokens(alloc, source) {
@@ -95,7 +96,7 @@ const FAULTS: &[(&[u8], u32)] = &[
 
 /// Is this the first byte that begins no token?
 fn has_fault(alloc: Global, source: &[u8], want: u32) -> bool {
-    if source.len() > 1_048_576 {
+    if source.len() > MOST_SOURCE {
         return false;
     }
     match tokens(alloc, source) {
@@ -113,7 +114,7 @@ fn faults_and_their_places(rt: HostRuntime) {
 
 /// Has the source this many tokens, or one too many, which begins at this byte?
 fn has_count(alloc: Global, source: &[u8], want: &Result<usize, u32>) -> bool {
-    if source.len() > 1_048_576 {
+    if source.len() > MOST_SOURCE {
         return false;
     }
     match tokens(alloc, source) {

@@ -1,6 +1,8 @@
 //! The first fault of names and limits, and the numbers of a source.
 ghost use Rattle.std.specs.Prelude.{◌≤◌, length};
+ghost use Rattle.ln_base.specs.Limits.{most_tokens};
 
+use ln_base::limits::MOST_SOURCE;
 use ln_names::{Fault, LimitWhat, check_names};
 use ln_parse::parse;
 use ln_syntax::lex::{Token, tokens};
@@ -24,7 +26,7 @@ fn is_fault(source: &[u8], ts: &[Token], its: &[RawItem], want: Want) -> bool {
 
 /// Whether the tokens are those of a file, whose first fault is as is wanted.
 fn is_fault_of(alloc: Global, source: &[u8], ts: &[Token], want: Want) -> bool
-    requires { length ts.now ≤ 65536 }
+    requires { length ts.now ≤ most_tokens }
 {
     if syntax_fault(ts).is_some() {
         return false;
@@ -37,7 +39,7 @@ fn is_fault_of(alloc: Global, source: &[u8], ts: &[Token], want: Want) -> bool
 
 /// Whether the first fault of a source is as is wanted.
 fn is_first(alloc: Global, source: &str, want: Want) -> bool {
-    if source.len() > 1_048_576 {
+    if source.len() > MOST_SOURCE {
         return false;
     }
     match tokens(alloc, source.as_bytes()) {
@@ -73,7 +75,7 @@ fn is_range(table: &Table, lo: i64, hi: i64) -> bool {
 
 /// Is the range of the source's one param from `lo` to `hi`?
 fn has_range(alloc: Global, source: &str, lo: i64, hi: i64) -> bool {
-    if source.len() > 1_048_576 {
+    if source.len() > MOST_SOURCE {
         return false;
     }
     match parse(alloc, source.as_bytes()) {

@@ -1,6 +1,8 @@
 //! The items of sources, and the places of their faults.
 ghost use Rattle.std.specs.Prelude.{◌≤◌, length};
+ghost use Rattle.ln_base.specs.Limits.{most_tokens};
 
+use ln_base::limits::MOST_SOURCE;
 use ln_base::{NoMemory, Span};
 use ln_syntax::lex::{Token, tokens};
 use ln_syntax::{RawArg, RawCoord, RawItem, RawLet, nesting_fault, read_items, syntax_fault};
@@ -63,7 +65,7 @@ fn are_of_source(items: &[RawItem]) -> bool {
 
 /// Whether the tokens are those of a file whose three items are those of `SOURCE`.
 fn have_items_of_source(alloc: Global, ts: &[Token]) -> bool
-    requires { length ts.now ≤ 65536 }
+    requires { length ts.now ≤ most_tokens }
 {
     if syntax_fault(ts).is_some() {
         return false;
@@ -76,7 +78,7 @@ fn have_items_of_source(alloc: Global, ts: &[Token]) -> bool
 
 /// Whether the source is a file whose three items are those of `SOURCE`.
 fn has_items_of_source(alloc: Global, source: &str) -> bool {
-    if source.len() > 1_048_576 {
+    if source.len() > MOST_SOURCE {
         return false;
     }
     match tokens(alloc, source.as_bytes()) {
@@ -103,7 +105,7 @@ fn is_byte(found: Option<usize>, ts: &[Token], source: &str, want: Option<usize>
 
 /// Returns whether the nesting fault and the syntax fault are at these bytes.
 fn has_faults(alloc: Global, source: &str, nesting: Option<usize>, syntax: Option<usize>) -> bool {
-    if source.len() > 1_048_576 {
+    if source.len() > MOST_SOURCE {
         return false;
     }
     let Ok(found) = tokens(alloc, source.as_bytes()) else {

@@ -1,5 +1,6 @@
 //! Texts that are listings, and texts that are none; and what is written for programs.
 use ln_base::NoMemory;
+use ln_base::limits::MOST_FILE;
 use ln_bound::Width;
 use ln_cert::{Entry, ListStop, Listing, Part, read_listing, write_listing};
 use ln_code::{Op, Programs};
@@ -116,7 +117,7 @@ fn joined(alloc: Global, front: &str, back: &str) -> Result<Vec<u8>, Fail> {
 
 /// The line of the form fault of a text; none where it is a listing, and 0 where memory ran out.
 fn fault(rt: &impl Abort, alloc: Global, text: &[u8]) -> Option<u32> {
-    assert!(rt; text.len() <= 67_108_864);
+    assert!(rt; text.len() <= MOST_FILE);
     match read_listing(alloc, text) {
         Ok(_) => None,
         Err(ListStop::Form(line)) => Some(line),
@@ -265,7 +266,7 @@ fn faults_have_their_line(rt: HostRuntime) -> Result<(), Fail> {
 #[test]
 fn a_listing_is_read(rt: HostRuntime) -> Result<(), Fail> {
     let text = joined(rt.alloc(), "listing 2\n", RANGES)?;
-    assert!(rt; text.len() <= 67_108_864);
+    assert!(rt; text.len() <= MOST_FILE);
     match read_listing(rt.alloc(), text.as_slice()) {
         Ok(listing) => assert!(rt; is_of_ranges(&listing)),
         Err(_) => assert!(rt; false),

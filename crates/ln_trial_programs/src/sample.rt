@@ -1,4 +1,5 @@
 //! Sources and listings that tests of several crates use, and what the sources compile to.
+use ln_base::limits::MOST_SOURCE;
 use ln_base::{NoMemory, Span};
 use ln_compile::{Compiled, Refusal, compile};
 use std::alloc::Global;
@@ -105,7 +106,7 @@ done
 /// Compiles a source. One that is too long counts as one without grammar.
 pub fn compile_text(alloc: Global, source: &str) -> Result<Compiled, Refusal> {
     let bytes = source.as_bytes();
-    if bytes.len() > 1_048_576 {
+    if bytes.len() > MOST_SOURCE {
         return Err(Refusal::Syntax(Span { start: 0, end: 0 }));
     }
     compile(alloc, bytes)

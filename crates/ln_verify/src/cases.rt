@@ -1,5 +1,6 @@
 //! A predicate of a table, with what its part is judged by.
 ghost use Rattle.std.specs.Prelude.{◌≡◌, ◌↔◌, [], ℕ, List, IfOk, length};
+ghost use Rattle.ln_base.specs.Limits.{most_stages, most_weight};
 ghost use Rattle.ln_tree.specs.Table.{pred_of};
 ghost use Rattle.ln_bound.specs.Light.{AreLight};
 ghost use Rattle.ln_poly.specs.Expansion.{HaveFewTerms, IsNormal, IsZeroFault};
@@ -12,6 +13,7 @@ ghost use Rattle.ln_verify.specs.Here.{IsCase};
 
 use crate::case::Case;
 use ln_base::NoMemory;
+use ln_base::limits::{MOST_STAGES, MOST_WEIGHT};
 use ln_order::all_orders;
 use ln_poly::{Poly, PolyStop, normal};
 use ln_stage::{StageStop, Stages, stages};
@@ -39,10 +41,10 @@ fn staged(alloc: Global, f: &Poly, s: &Shape) -> Result<Stages, NoMemory>
     requires some { f.now ≡ [] → ⊥ }
     requires below { AreBelow (length s.now.vars) f.now }
     requires few { (lists : List (List (List ℕ))) → AreStageLists s.now.sites s.now.vars f.now lists →
-        Passes (length s.now.vars) f.now 65536 131072 lists → ⊥ }
+        Passes (length s.now.vars) f.now most_stages most_weight lists → ⊥ }
     ensures { IfOk result (λ st. AreStagesOf s.now.sites s.now.vars f.now st) }
 {
-    match stages(alloc, f, s, 65536, 131072) {
+    match stages(alloc, f, s, MOST_STAGES, MOST_WEIGHT) {
         Ok(st) => Ok(st),
         Err(StageStop::Zero) => unreachable!(),
         Err(StageStop::Stages) => unreachable!(),

@@ -1,5 +1,6 @@
 //! The exact judge of listings.
 ghost use Rattle.std.specs.Prelude.{◌≡◌, ◌↔◌, ◌<◌, ◌≤◌, ℕ, All, IfOk, length, map};
+ghost use Rattle.ln_base.specs.Limits.{most_file};
 ghost use Rattle.ln_tree.specs.Table.{pred_of};
 ghost use Rattle.ln_stage.specs.Sound.{AreSound};
 ghost use Rattle.ln_cert.specs.Listing.{AreNumbered};
@@ -92,7 +93,7 @@ pub fn verify(alloc: Global, t: &Table, l: &Listing) -> Result<Judged, NoMemory>
 /// beside that of `verify`, and the time of `verify` and of two readings.
 pub fn verify_text(alloc: Global, t: &Table, bytes: &[u8]) -> Result<Judged, NoMemory>
     requires accepted { AreSound (map pred_of t.now.preds) }
-    requires short { length bytes.now ≤ 67108864 }
+    requires short { length bytes.now ≤ most_file }
     ensures valid { IfOk result (λ j. (j ≡ Valid) ↔ IsValidTextFor (map pred_of t.now.preds) bytes.now) }
     ensures invalid { IfOk result (λ j. (line : ℕ) → (j ≡ Invalid line) ↔ IsTextFaultFor (map pred_of t.now.preds) bytes.now line) }
 {

@@ -7,6 +7,7 @@ use Rattle.std.proofs.lemmas.List.Kept.{AllPairs-cons}
 use Rattle.ln_algebra.specs.Orders.{BySmallest, Rank}
 use Rattle.ln_algebra.specs.Terms.{Term}
 use Rattle.ln_algebra.specs.Tree.{Tree}
+use Rattle.ln_base.specs.Limits.{most_stages}
 use Rattle.ln_tree.specs.declared.pred.Pred.{Pred}
 use Rattle.ln_tree.specs.declared.shape.VarInfo.{VarInfo}
 use Rattle.ln_tree.specs.declared.table.Table.{Table}
@@ -48,7 +49,7 @@ abbrev Differs : Part → Part → Type 0
 Differs p q = name_bytes p.shape.name ≢ name_bytes q.shape.name
 
 abbrev IsSmall : Part → Type 0
-IsSmall p = length p.blocks ≤ 65536
+IsSmall p = length p.blocks ≤ most_stages
 
 -- programs without their filters are programs whose names differ
 bare_head : (c : Part) (cs : List Part) → All (Differs c) cs → All (Differs (without_filter c)) (map without_filter cs)
@@ -113,7 +114,7 @@ begun preds text b = record { programs = []; are_programs = none preds; small = 
 
 -- one program after others
 pub more : (preds : List Pred) (i : ℕ) (c q : Part) (old new : List ℕ) → i < length preds → IsProgramAt (map pred_of preds) i c
-    → length c.blocks ≤ 65536 → q ≡ without_filter c → ((cs : List Part) → BeginsFile old cs → BeginsFile new (cs ++ q ∷ []))
+    → length c.blocks ≤ most_stages → q ≡ without_filter c → ((cs : List Part) → BeginsFile old cs → BeginsFile new (cs ++ q ∷ []))
     → BeginsExact (map pred_of preds) i old → BeginsExact (map pred_of preds) (i + 1) new
 more preds i c q old new h a l e t f = record {
   programs = f.programs ++ c ∷ [];

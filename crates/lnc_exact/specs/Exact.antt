@@ -1,5 +1,6 @@
 -- What the program writes and how it ends: as `lnc emit` with its words, but for the C.
 use Rattle.std.specs.Prelude.{◌≡◌, ℕ, ◌≤◌, All, codes, length, List, [], ◌∷◌, map, take, Option, Some, None}
+use Rattle.ln_base.specs.Limits.{most_stages}
 use Rattle.ln_base.specs.Outside.{Shelf, Shown}
 use Rattle.ln_tree.specs.Table.{PredOf}
 use Rattle.ln_code.specs.Part.{Part, without_filter}
@@ -46,5 +47,5 @@ CallsAreSigns words shelf was now = WhereGiven (emit_words words) shelf Emit (λ
 pub record BeginsExact (preds : List PredOf) (i : ℕ) (bytes : List ℕ) : Type 0 where
   pub programs : List Part
   pub are_programs : AreProgramsOf (take i preds) programs
-  pub small : All (λ (p : Part). length p.blocks ≤ 65536) programs
+  pub small : All (λ (p : Part). length p.blocks ≤ most_stages) programs
   pub begins : BeginsFile bytes (map without_filter programs)

@@ -1,6 +1,7 @@
 -- The line at the start of a text, the loop over the lines, and what remains after some of them.
 use Rattle.std.proofs.Common.{◌≡◌, ℕ, ◌+◌, ◌-◌, ◌≤◌, ◌<◌, suc, List, [], ◌∷◌, ◌++◌, length, take, drop, map, Option, Some}
 use Rattle.std.proofs.Common.{refl, sym, ap, ◌∙◌, arith, append_assoc, append-nil, length-append, length-drop}
+use Rattle.ln_base.specs.Limits.{most_file}
 use Rattle.ln_base.specs.Exponents.{Each}
 use Rattle.ln_base.specs.Lines.{lines, parted, span_to, words}
 use Rattle.ln_base.proofs.Texts.Lines.{line_at, no_line, with_feed}
@@ -103,7 +104,7 @@ module _ {S L : Type 0} (R : Rules S L) where
   all_read bs (b ∷ text) done t h = absurd (omega arith)
 
   -- at the end of the text and of the rules, the bytes are of the form, and all lines but the first remain
-  pub so_far_whole : (bs : List ℕ) (behind : ℕ) (s : S) (text : List ℕ) (n : ℕ) → length bs ≤ 67108864 → lines bs ≡ R.first ∷ lines (drop behind bs)
+  pub so_far_whole : (bs : List ℕ) (behind : ℕ) (s : S) (text : List ℕ) (n : ℕ) → length bs ≤ most_file → lines bs ≡ R.first ∷ lines (drop behind bs)
       → SoFar R bs s text n → length text ≡ 0 → s ≡ R.start → IsOpened R bs (record { state = R.start; line = 2; text = drop behind bs })
   so_far_whole bs behind s text n short e h l f =
       let a : lines bs ≡ texts_of R h.done = all_read bs text h.done h.texts l in

@@ -1,5 +1,6 @@
 //! Reads a text line by line.
 ghost use Rattle.std.specs.Prelude.{◌≡◌, ◌<◌, ◌≤◌, ◌∷◌, IfOk, IfErr, MatchOption, OnErr, drop, length};
+ghost use Rattle.ln_base.specs.Limits.{most_file};
 ghost use Rattle.ln_base.specs.Lines.{lines};
 ghost use Rattle.ln_base.specs.Forms.Form.{AreSound};
 ghost use Rattle.ln_base.specs.Forms.Unread.{Begins, IsFirst, IsOpened, IsUnread, NoFirst, NoneBegins, Stops, Takes};
@@ -53,7 +54,7 @@ fn check<S: Copy, L: Drop, G: Grammar<S, L>>(
     behind: usize,
 ) -> Result<(), TextStop>
     requires sound { AreSound (G.rules form.now) }
-    requires short { length bytes.now ≤ 67108864 }
+    requires short { length bytes.now ≤ most_file }
     requires within { behind ≤ length bytes.now }
     requires first { lines bytes.now ≡ (G.rules form.now).first ∷ lines (drop behind bytes.now) }
     ensures ok { IfOk result (λ _. IsOpened (G.rules form.now) bytes.now
@@ -89,7 +90,7 @@ pub fn opened<'a, S: Copy, L: Drop, G: Grammar<S, L>>(
     behind: usize,
 ) -> Result<Rest<'a, S>, TextStop>
     requires sound { AreSound (G.rules form.now) }
-    requires short { length bytes.now ≤ 67108864 }
+    requires short { length bytes.now ≤ most_file }
     requires within { behind ≤ length bytes.now }
     requires first { lines bytes.now ≡ (G.rules form.now).first ∷ lines (drop behind bytes.now) }
     ensures ok { IfOk result (λ r. IsOpened (G.rules form.now) bytes.now r) }

@@ -6,6 +6,7 @@ use Rattle.std.specs.List.{range_with_len}
 use Rattle.std.proofs.lemmas.Bool.{cond_both, lt-ltb}
 use Rattle.std.proofs.lemmas.Int.{ints}
 use Rattle.std.proofs.lemmas.List.{length-map, map-append}
+use Rattle.ln_base.specs.Limits.{most_stages}
 use Rattle.ln_tree.specs.declared.shape.VarInfo.{VarInfo}
 use Rattle.ln_tree.specs.Row as tree
 use Rattle.ln_tree.specs.Row.{AreWithin, InRange}
@@ -252,7 +253,7 @@ none-apart [] = tt
 none-apart (p ∷ ps) = ((λ y e. tt), none-apart ps)
 
 -- ---- what the list keeps
-facts-of : (ps : List Part) → AreKept ps → All (λ (p : Part). length p.blocks ≤ 65536) ps → AllFacts ps
+facts-of : (ps : List Part) → AreKept ps → All (λ (p : Part). length p.blocks ≤ most_stages) ps → AllFacts ps
 facts-of [] k s = tt
 facts-of (p ∷ ps) k s = (record { kept = k.0; small = s 0 p (omega arith) }, facts-of ps k.1 (λ i d l. s (suc i) d (omega (arith, l))))
 

@@ -31,7 +31,7 @@ use Rattle.ln_cemit.specs.Law.{error_of}
 use Rattle.ln_cemit.specs.Conditions.{is_fine, are_fine, FunsKeep, BlocksKeep, FiltersKeep}
 use Rattle.ln_cemit.proofs.Meanings.Follows.{number_held}
 use Rattle.ln_cemit.proofs.Conditions.Shapes.{shape_is}
-use Rattle.ln_cemit.proofs.Conditions.Stands.{meets}
+use Rattle.ln_cemit.proofs.Conditions.Numbered.{meets}
 
 -- the function of lines keeps the conditions, where its names are free and differ and its numbers are small
 pub funs_keep : FunsKeep

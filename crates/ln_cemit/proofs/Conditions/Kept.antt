@@ -9,6 +9,7 @@ use Rattle.std.proofs.lemmas.List.{length-map}
 use Rattle.std.proofs.lemmas.List.FromFn.{length-range_with_len}
 use Rattle.ln_algebra.specs.Walk.{Member}
 use Rattle.ln_algebra.specs.Vector.{same_vector}
+use Rattle.ln_base.specs.Limits.{most_stages}
 use Rattle.ln_tree.specs.declared.shape.VarInfo.{VarInfo}
 use Rattle.ln_tree.specs.Row.{AreWithin}
 use Rattle.ln_tree.specs.Variables.{has_range, is_laid_out}
@@ -33,7 +34,7 @@ use Rattle.ln_cemit.specs.Whole.{block_body, bodies_of, call_body, file_of, filt
 use Rattle.ln_cemit.proofs.Conditions.Keeping.{blocks_keep, filters_keep}
 use Rattle.ln_cemit.proofs.Conditions.Named.{names_serve}
 use Rattle.ln_cemit.proofs.Choices.Orders.{member-range}
-use Rattle.ln_cemit.proofs.Conditions.Stands.{meets}
+use Rattle.ln_cemit.proofs.Conditions.Numbered.{meets}
 use Rattle.ln_cemit.proofs.Conditions.Steps.{Steps, above_one, body_steps, room_few, room_for, touch_steps}
 use Rattle.ln_cemit.proofs.Conditions.Titles.{away_among, away_more, away_one, call_c_name, call_family, distinct_one, family, name_passes}
 use Rattle.ln_cemit.proofs.Conditions.Titles.{numbered_begins, numbered_c_name, numbered_differ, numbered_family, numbered_no_call}
@@ -43,7 +44,7 @@ use Rattle.ln_cemit.proofs.Conditions.Titles.{numbered_own, sign_apart}
 -- what holds of a program: it follows the rules for programs, and has at most 65,536 blocks
 pub record Facts (p : Part) : Type 0 where
   pub kept : IsProgram p
-  pub small : length p.blocks ≤ 65536
+  pub small : length p.blocks ≤ most_stages
 
 -- there are no more lines than operations
 pub lines_short : {B : Type 0} (g : B → Way) (ops : List Op) (bs : List B) → length (ways g (lines_of ops bs)) ≤ length ops

@@ -25,7 +25,7 @@ use Rattle.ln_cemit.specs.declared.slot.Way.{Way}
 use Rattle.ln_cemit.specs.Emit.{type_of, in_parts, is_short, natural, constant, cut_expr, slot, operand, sign_expr, Rest, put_get}
 use Rattle.ln_cemit.specs.Emit.{put_set, put_two, put_neg, put_cut, put_op, put_sign, emitted, any_gets, naming, unread, ops_of, body_of, reads_row, touching}
 use Rattle.ln_cemit.specs.Conditions.{is_fine, are_fine}
-use Rattle.ln_cemit.proofs.Conditions.Stands.{Stands, back, decl, fine, none, when}
+use Rattle.ln_cemit.proofs.Conditions.Numbered.{IsNumbered, back, decl, fine, none, when}
 use Rattle.ln_cemit.proofs.Meanings.Blocks.{op_of}
 
 -- a number below 2^63 is a NUMBER
@@ -76,7 +76,7 @@ sign_fine name (suc e) s b h = rw (h, le-leb (suc e) most_number b) refl
 
 module _ (name : ℕ → List ℕ) (top : ℕ) where
   abbrev Shape : ℕ → Body → Type 0
-  Shape n b = Stands name top false n 1 b
+  Shape n b = IsNumbered name top false n 1 b
 
   abbrev Good : Slot → Type 0
   Good s = is_c_name (name s.at) ≡ true

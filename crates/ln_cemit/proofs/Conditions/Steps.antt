@@ -10,7 +10,7 @@ use Rattle.ln_cemit.specs.Chosen.{AreNumbers}
 use Rattle.ln_cemit.specs.Emit.{touching_index}
 use Rattle.ln_cemit.specs.Walked.{attempt, body_for, guarded, less, picks, says_nothing, tries, walked, without}
 use Rattle.ln_cemit.proofs.Choices.Finds.{in-without}
-use Rattle.ln_cemit.proofs.Conditions.Stands.{Stands, back, decl, group, none, when}
+use Rattle.ln_cemit.proofs.Conditions.Numbered.{IsNumbered, back, decl, group, none, when}
 
 -- this many more
 abbrev raised : ℕ → ℕ → ℕ
@@ -35,9 +35,9 @@ room_few (suc d) = let h : suc (suc (suc (suc (suc (room_for d))))) ≤ 2 + 5 * 
 module _ (own : List ℕ) (spelt : is_c_name own ≡ true) where
   -- statements with at most n braces round a place, in which nothing is declared but in braces of its own
   abbrev pub Steps : ℕ → Body → Type 0
-  Steps n b = Stands (λ i. own) 1 true 0 n b
+  Steps n b = IsNumbered (λ i. own) 1 true 0 n b
 
-  more : {i n : ℕ} {b : Body} → Stands (λ i. own) 1 true i n b → Stands (λ i. own) 1 true i (suc n) b
+  more : {i n : ℕ} {b : Body} → IsNumbered (λ i. own) 1 true i n b → IsNumbered (λ i. own) 1 true i (suc n) b
   more none = none
   more (back f) = back f
   more (decl l f s) = decl l f (more s)

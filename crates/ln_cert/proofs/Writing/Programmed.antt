@@ -29,6 +29,7 @@ use Rattle.ln_cert.proofs.Writing.Rules.{obeys_block, obeys_filter}
 use Rattle.ln_cert.proofs.Reading.Walk.{is_form}
 use Rattle.ln_cert.proofs.Writing.Wrote.{Left, after, at_end, go_on, one}
 use Rattle.std.proofs.Common.{zero, Contains}
+use Rattle.ln_base.specs.Limits.{most_stages}
 
 -- what holds at each place of a list holds of each of its members
 pub all_each : {A : Type 0} (P : A → Type 0) (xs : List A) → All P xs → Each P xs
@@ -135,13 +136,13 @@ place : (n : ℕ) (xs : List ℕ) → n ≤ 5 → Each (λ k. k < n) xs → Each
 place n [] h p = tt
 place n (x ∷ xs) h p = let q = p.0 in (omega arith, place n xs h p.1)
 
-number : (n : ℕ) (xs : List ℕ) → n ≤ 65536 → Each (λ k. k < n) xs → Each IsNumber xs
+number : (n : ℕ) (xs : List ℕ) → n ≤ most_stages → Each (λ k. k < n) xs → Each IsNumber xs
 number n [] h p = tt
 number n (x ∷ xs) h p = let q = p.0 in (omega arith, number n xs h p.1)
 
 -- the line of an order was appended, with numbers in range
 pub order_wrote : (a b : List ℕ) (blocks : ℕ) (places list : List ℕ) → PutsLine a b (Order places list) → length places ≤ 5
-    → ArePlaces places → blocks ≤ 65536 → IsList blocks list → Wrote a b (Order places list ∷ [])
+    → ArePlaces places → blocks ≤ most_stages → IsList blocks list → Wrote a b (Order places list ∷ [])
 order_wrote a b blocks places list e few each small l =
     one a b (Order places list) e (
       place (length places) places few (all_each (λ k. k < length places) places each.within),

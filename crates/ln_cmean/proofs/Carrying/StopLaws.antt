@@ -3,6 +3,7 @@ use Rattle.std.proofs.Common.{◌≡◌, ℕ, ◌<◌, ◌≤◌, ◌⊎◌, Lis
 use Rattle.std.specs.Prelude.{Contains, Err, IfErr, IfSome, Ok, Option, Result, Some, None}
 use Rattle.std.specs.Result.{IsErrAnd}
 use Rattle.std.proofs.lemmas.List.{take-append-drop}
+use Rattle.ln_base.specs.Limits.{most_file}
 use Rattle.ln_base.specs.Outside.{IsAbsent, Rose, Shelf, Shown, appended, bytes_of}
 use Rattle.ln_base.specs.declared.outside.Port.TheVariants.{Out}
 use Rattle.ln_base.specs.declared.whole.ReadStop.{ReadStop}
@@ -36,16 +37,16 @@ Caused g s = IsCause s g.words g.told g.reads g.writes
 -- Why the file of this name wasn't read.
 pub record IsUnread (g : Given) (name : List ℕ) (r : ReadStop) : Type 0 where
   pub fault : r ≡ Fault → Rose g.reads.0 g.reads.1 ⊎ IsAbsent name g.told
-  pub long : r ≡ TooLong → IfSome g.told (λ shelf. IfSome (bytes_of name shelf) (λ bytes. 67108864 < length bytes))
+  pub long : r ≡ TooLong → IfSome g.told (λ shelf. IfSome (bytes_of name shelf) (λ bytes. most_file < length bytes))
 
 -- the same where another file was read before, which changed no count of faults
 pub later_unread : (g : Given) (name : List ℕ) (r : ReadStop) (told : Option Shelf) (before : ℕ) → told ≡ g.told → before ≡ g.reads.0 →
     (r ≡ Fault → Rose before g.reads.1 ⊎ IsAbsent name told) →
-    (r ≡ TooLong → IfSome told (λ shelf. IfSome (bytes_of name shelf) (λ bytes. 67108864 < length bytes))) → IsUnread g name r
+    (r ≡ TooLong → IfSome told (λ shelf. IfSome (bytes_of name shelf) (λ bytes. most_file < length bytes))) → IsUnread g name r
 later_unread g name r told before e f h k = record {
   fault = λ q. subst (λ (x : ℕ). Rose x g.reads.1 ⊎ IsAbsent name g.told) f
       (subst (λ (t : Option Shelf). Rose before g.reads.1 ⊎ IsAbsent name t) e (h q));
-  long = λ q. subst (λ (t : Option Shelf). IfSome t (λ shelf. IfSome (bytes_of name shelf) (λ bytes. 67108864 < length bytes))) e (k q);
+  long = λ q. subst (λ (t : Option Shelf). IfSome t (λ shelf. IfSome (bytes_of name shelf) (λ bytes. most_file < length bytes))) e (k q);
 }
 
 read_cause : (g : Given) (name : List ℕ) (r : ReadStop) → Contains g.words name → IsUnread g name r → Caused g (of_read r)

@@ -1,5 +1,6 @@
 -- Why the program stops before its end, and what it writes then.
 use Rattle.std.specs.Prelude.{◌≡◌, ◌≢◌, ◌⊎◌, ℕ, ◌<◌, List, [], ◌∷◌, ◌++◌, length, Option, Some, IfSome, Contains, codes, decimal}
+use Rattle.ln_base.specs.Limits.{most_file}
 use Rattle.ln_base.specs.Outside.{IsAbsent, Rose, Shelf, Shown, appended, bytes_of}
 use Rattle.ln_base.specs.declared.outside.Port.TheVariants.{Out}
 use Rattle.ln_base.specs.declared.whole.ReadStop.{ReadStop}
@@ -59,7 +60,7 @@ pub record NamesAbsent (words : List (List ℕ)) (told : Option Shelf) : Type 0 
 pub record NamesLong (words : List (List ℕ)) (told : Option Shelf) : Type 0 where
   pub name : List ℕ
   pub word : Contains words name
-  pub long : IfSome told (λ shelf. IfSome (bytes_of name shelf) (λ bytes. 67108864 < length bytes))
+  pub long : IfSome told (λ shelf. IfSome (bytes_of name shelf) (λ bytes. most_file < length bytes))
 
 -- The cause of a stop: from the words, what is known of the bytes of files, and how many faults of files and of streams there were before and
 -- after. Memory can run out at any time.

@@ -5,12 +5,10 @@ ghost use Rattle.ln_cmean.specs.Carrying.Stops.{IsCause, IsUnwritten};
 
 use crate::program::meaning::meanings;
 use crate::program::stop::Stop;
+use ln_base::limits::MOST_FILE;
 use ln_base::{Console, Files, Port, put_all, read_whole};
 use ln_csyn::read_c;
 use std::alloc::Global;
-
-// The longest file that is read, in bytes.
-const LONGEST: usize = 67_108_864;
 
 // Returns the two words, where there are two.
 fn two_words(words: &[String]) -> Option<(&str, &str)>
@@ -43,10 +41,10 @@ pub fn carry_out<F: Files, C: Console>(
         return Err(Stop::Usage);
     };
     let file = {
-        let text = read_whole(alloc, files, file, LONGEST)?;
+        let text = read_whole(alloc, files, file, MOST_FILE)?;
         read_c(alloc, text.as_slice())?
     };
-    let calls = read_whole(alloc, files, calls, LONGEST)?;
+    let calls = read_whole(alloc, files, calls, MOST_FILE)?;
     let out = meanings(alloc, file, calls)?;
     put_all(con, Port::Out, out.as_slice())?;
     Ok(())

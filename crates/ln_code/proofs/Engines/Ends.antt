@@ -57,7 +57,7 @@ leads_on e o k now rest lines s m l d r a =
     let q : is_some (run e now (record { stack = s; locals = m })) ≡ true = rw r (next_is_some _ _ a) in
     next_is_some _ _ (rw d at q)
 
--- the run goes on behind its next operation
+-- the run goes on after its next operation
 pub goes_on : (e : Engine ℕ ℤ (ℕ → ℤ)) (o : Op) (k : ℕ) (now rest lines : List (Line ℕ)) (s : List ℤ) (m l : ℕ → ℤ) (t : State ℤ (ℕ → ℤ)) →
     now ≡ record { op = o; bound = k } ∷ rest → run e now (record { stack = s; locals = m }) ≡ run e lines (record { stack = []; locals = l }) →
     step e o k m s ≡ Some t → run e rest t ≡ run e lines (record { stack = []; locals = l })

@@ -3,6 +3,7 @@ use Rattle.std.proofs.Common.{◌≡◌, ℕ, ◌+◌, ◌*◌, ◌^◌, ◌<◌
 use Rattle.std.specs.Prelude.{All, IfSome, slice_get}
 use Rattle.std.proofs.lemmas.Option.{get_or_from_slice_get, same_Some, slice_get_within}
 use Rattle.ln_algebra.specs.Orders.{ByDegree}
+use Rattle.ln_base.specs.Limits.{most_weight}
 use Rattle.ln_tree.specs.declared.shape.Shape.{Shape}
 use Rattle.ln_tree.specs.Exps.{vector}
 use Rattle.ln_order.specs.Orders.{orders_of}
@@ -47,12 +48,12 @@ own-block s f p own b e k = record {
 }
 
 few-ops : (filter own ops cover len heavy : ℕ) → filter + own < 2 ^ 21 → ops ≤ own + 4096 * cover + 68 * len → cover ≤ heavy → len ≤ heavy
-    → heavy ≤ 131072 → filter + ops < 2 ^ 32
+    → heavy ≤ most_weight → filter + ops < 2 ^ 32
 few-ops filter own ops cover len heavy h k l m n = omega (arith, h, k, l, m, n)
 
 module _ (s : Shape) (f : Sparse) (p : Part) (st : Staged) (blocks : List Code) (poly : IsGradable s.vars f) (b : Begins s f p)
     (k : IsProgram p) (stages : AreGradedStagesOf s.sites s.vars f st)
-    (light : stage_weight (length s.vars) f (vectors_of (length s.vars) st) ≤ 131072) (own : Code) (there : slice_get p.blocks 0 ≡ Some own)
+    (light : stage_weight (length s.vars) f (vectors_of (length s.vars) st) ≤ most_weight) (own : Code) (there : slice_get p.blocks 0 ≡ Some own)
     (made : AreBlocksOf s.vars f own st.exps blocks) where
   -- the program by total degree: over the shape, with the filter of p, these blocks and the segments of the stages
   abbrev pub part : Part

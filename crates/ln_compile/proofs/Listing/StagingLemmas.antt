@@ -14,6 +14,7 @@ use Rattle.ln_algebra.specs.Tree.{Tree}
 use Rattle.ln_algebra.specs.Vector.{plus}
 use Rattle.ln_algebra.proofs.Vectors.Covering.{factor_at-derived}
 use Rattle.ln_algebra.proofs.Bounding.Weights.{IsCollected-Once}
+use Rattle.ln_base.specs.Limits.{most_stages, most_weight}
 use Rattle.ln_tree.specs.declared.shape.VarInfo.{VarInfo}
 use Rattle.ln_tree.specs.Exps.{vector}
 use Rattle.ln_tree.specs.Table.{PredOf}
@@ -133,12 +134,12 @@ all-same n e f g p q (a ∷ as') =
 -- where its lists are within the limits it has not too many stages
 pub within-limits : (p : PredOf) (f : Sparse) (ls : List (List (List ℕ))) → is_laid_out p.sites p.vars ≡ true
     → IsNormal (length p.vars) (root_of p) f → AreStageLists p.sites p.vars f ls
-    → stage_count ls ≤ 65536 → stage_weight (length p.vars) f ls ≤ 131072 → IsStagesFault p → ⊥
+    → stage_count ls ≤ most_stages → stage_weight (length p.vars) f ls ≤ most_weight → IsStagesFault p → ⊥
 within-limits p f ls h n a c w z =
     let e : z.lists ≡ ls =
     lists-one BySmallest p.sites p.vars f z.lists ls h (moved (length p.vars) p.sites p.vars (root_of p) f z.poly z.lists refl n z.normal z.are_lists) a in
     go z.passes e where
-      go : Passes (length p.vars) z.poly 65536 131072 z.lists → z.lists ≡ ls → ⊥
+      go : Passes (length p.vars) z.poly most_stages most_weight z.lists → z.lists ≡ ls → ⊥
       go (inl l) e = absurd (omega (arith, l, c, ap stage_count e))
       go (inr l) e =
           absurd (omega (arith, l, w, ap (stage_weight (length p.vars) z.poly) e, all-same (length p.vars) (root_of p) z.poly f z.normal n (first_seen ls)))
@@ -151,6 +152,6 @@ sound_pred p f l t w n d s = record { light = l; few = t; whole = w; nonzero = �
 -- a predicate whose stage lists exceed a limit is refused for its stages, where it has none of the faults before
 pub stages_stops : (k : ℕ) (p : PredOf) (f : Sparse) → AreLight (loaded_of p) → HaveFewTerms (length p.vars) (expanded_of p)
     → (IsHeavyFault p → ⊥) → IsNormal (length p.vars) (root_of p) f → f ≢ []
-    → ((ls : List (List (List ℕ))) × AreStageLists p.sites p.vars f ls × Passes (length p.vars) f 65536 131072 ls) → StopsPred k p (Stages k p.at)
+    → ((ls : List (List (List ℕ))) × AreStageLists p.sites p.vars f ls × Passes (length p.vars) f most_stages most_weight ls) → StopsPred k p (Stages k p.at)
 stages_stops k p f l t w n d s =
     inl (stages l t w (λ z. d (zero-no-terms (length p.vars) (root_of p) f n z)) (record { poly = f; normal = n; lists = s.0; are_lists = s.1; passes = s.2 }))

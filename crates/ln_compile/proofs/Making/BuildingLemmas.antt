@@ -5,6 +5,7 @@ use Rattle.std.specs.Prelude.{◌≢◌, All, AllPairs, bytes_eq, slice_get}
 use Rattle.std.proofs.lemmas.List.{drop_more, length-map, map-append, take-append-drop, take_more}
 use Rattle.std.proofs.lemmas.List.Elements.{All-cons, All-nil}
 use Rattle.std.proofs.lemmas.List.Kept.{AllPairs-cons}
+use Rattle.ln_base.specs.Limits.{most_stages}
 use Rattle.ln_tree.specs.declared.name.Name.{Name}
 use Rattle.ln_tree.specs.declared.pred.Pred.{Pred}
 use Rattle.ln_tree.specs.declared.table.Table.{Table}
@@ -186,7 +187,8 @@ names-of-programs (p ∷ ps) (c ∷ cs) d a = AllPairs-cons (λ (c d : Part). na
     (names-behind p c ps cs a.0.name d.0 a.1) (names-of-programs ps cs d.1 a.1)
 
 -- the programs of a table's predicates, each with at most 65,536 blocks, are programs whose names differ
-pub programs-of-table : (t : Table) (cs : List Part) → AreProgramsOf (map pred_of t.preds) cs → All (λ (c : Part). length c.blocks ≤ 65536) cs → ArePrograms cs
+pub programs-of-table : (t : Table) (cs : List Part) → AreProgramsOf (map pred_of t.preds) cs → All (λ (c : Part). length c.blocks ≤ most_stages) cs
+    → ArePrograms cs
 programs-of-table t cs a s = record {
   names = names-of-programs (map pred_of t.preds) cs
       (differing (map (λ (p : PredOf). p.shape_name) (map pred_of t.preds)) (names-differ (table_of t.sites t.params t.preds) t.whole)) a;

@@ -5,6 +5,7 @@ use Rattle.ln_algebra.specs.Coefficient.{normal_coefficient}
 use Rattle.ln_algebra.proofs.Vectors.Zeros.{derived-zeros}
 use Rattle.ln_algebra.specs.Terms.{IsNormalOf, derived}
 use Rattle.ln_algebra.specs.Tree.{inlined, inlined_after}
+use Rattle.ln_base.specs.Limits.{most_weight}
 use Rattle.ln_tree.specs.declared.pred.Pred.{Pred}
 use Rattle.ln_tree.specs.declared.shape.VarInfo.{VarInfo}
 use Rattle.ln_tree.specs.Exps.{Pairs, vector}
@@ -156,6 +157,6 @@ filter-of p lets root o l r w v =
     filter-here (pred_of p) o (rw (sym ts, sym t) w) (rw (sym ts, sym t) v)
 
 -- a filter has few operations where its expression is cheap
-pub filter-small : (o : Option FilterCode) (k : ℕ) → IfSome o (λ f. length f.ops ≤ 8 * k + 64) → k ≤ 131072 → ops_in_filter o ≤ 1048640
+pub filter-small : (o : Option FilterCode) (k : ℕ) → IfSome o (λ f. length f.ops ≤ 8 * k + 64) → k ≤ most_weight → ops_in_filter o ≤ 1048640
 filter-small None k h l = omega arith
 filter-small (Some f) k h l = omega (arith, h, l)

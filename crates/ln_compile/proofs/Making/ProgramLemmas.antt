@@ -6,6 +6,7 @@ use Rattle.std.proofs.lemmas.List.{length-map}
 use Rattle.std.proofs.lemmas.Simd.{map-map}
 use Rattle.ln_algebra.specs.Orders.{BySmallest}
 use Rattle.ln_algebra.specs.Sizes.{two}
+use Rattle.ln_base.specs.Limits.{most_stages, most_weight}
 use Rattle.ln_tree.specs.declared.pred.Pred.{Pred}
 use Rattle.ln_tree.specs.Exps.{Pairs, vector}
 use Rattle.ln_tree.specs.Formula.{formula, tree}
@@ -54,13 +55,13 @@ pub blocks-length : (n : ℕ) (blocks : List Code) (exps : List Pairs) → map (
     → length blocks ≡ length exps
 blocks-length n blocks exps e = omega (arith, ap length e, length-map blocks (λ (c : Code). vector n c.exps), length-map exps (vector n))
 
-few-ops : (first ops cover len : ℕ) → first ≤ 1048640 → ops ≤ 524352 + 4096 * cover + 68 * len → cover ≤ 131072 → len ≤ 65536 → first + ops < 2 ^ 32
+few-ops : (first ops cover len : ℕ) → first ≤ 1048640 → ops ≤ 524352 + 4096 * cover + 68 * len → cover ≤ most_weight → len ≤ most_stages → first + ops < 2 ^ 32
 few-ops first ops cover len f h k l = omega (arith, f, h, k, l)
 
 module _ (p : Pred) (f : Sparse) (st : Staged) (blocks : List Code) (light : AreLight (loaded_of (pred_of p)))
     (normal : IsNormal (length p.shape.vars) (root_of (pred_of p)) f) (some : f ≢ []) (stages : AreStagesOf p.shape.sites p.shape.vars f st)
-    (count : stage_count (vectors_of (length p.shape.vars) st) ≤ 65536) (heavy : stage_weight (length p.shape.vars) f
-    (vectors_of (length p.shape.vars) st) ≤ 131072) (ours : AreOwnBlocks (pred_of p) f st.exps blocks)
+    (count : stage_count (vectors_of (length p.shape.vars) st) ≤ most_stages) (heavy : stage_weight (length p.shape.vars) f
+    (vectors_of (length p.shape.vars) st) ≤ most_weight) (ours : AreOwnBlocks (pred_of p) f st.exps blocks)
     (filter : Option FilterCode) (own : IsFilterOf (pred_of p) filter) (rules : IfSome filter (FollowsFilterRules p.shape.vars))
     (whole : IfSome filter (CarriesWhole p.shape.vars (terms_of (length p.shape.vars) f))) (short : ops_in_filter filter ≤ 1048640)
     (pushes : IfSome filter (FilterPushesSmall p.shape.vars)) where
@@ -72,7 +73,7 @@ module _ (p : Pred) (f : Sparse) (st : Staged) (blocks : List Code) (light : Are
   as-many = blocks-length (length p.shape.vars) blocks st.exps ours.made.vectors
 
   -- the program has at most 65,536 blocks
-  pub few-blocks : length blocks ≤ 65536
+  pub few-blocks : length blocks ≤ most_stages
   few-blocks = omega (arith, as-many, stages-few p.shape.sites p.shape.vars f st stages, count)
 
   -- the program's lists are the stages'

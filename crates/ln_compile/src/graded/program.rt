@@ -1,5 +1,6 @@
 //! The program of a predicate by total degree.
 ghost use Rattle.std.specs.Prelude.{◌≡◌, ◌<◌, ◌≤◌, length, slice_get, IfErr, IfOk, Some};
+ghost use Rattle.ln_base.specs.Limits.{most_weight};
 ghost use Rattle.ln_code.specs.Kept.{IsProgram};
 ghost use Rattle.ln_stage.specs.Graded.{AreGradedStagesOf};
 ghost use Rattle.ln_stage.specs.Lists.{stage_count, stage_weight};
@@ -18,7 +19,7 @@ use std::alloc::Global;
 // The stages of a polynomial that isn't 0.
 fn staged(alloc: Global, f: &Poly, s: &Shape, most: u64, heavy: u64) -> Result<Stages, GradedStop>
     requires poly { IsGradable s.now.vars f.now }
-    requires heavy { heavy ≤ 131072 }
+    requires heavy { heavy ≤ most_weight }
     ensures stages { IfOk result (λ st. AreGradedStagesOf s.now.sites s.now.vars f.now st) }
     ensures count { IfOk result (λ st. stage_count (vectors_of (length s.now.vars) st) ≤ most) }
     ensures weight { IfOk result (λ st. stage_weight (length s.now.vars) f.now (vectors_of (length s.now.vars) st) ≤ heavy) }
@@ -59,7 +60,7 @@ fn joined(alloc: Global, f: &Poly, s: &Shape, p: &Program, st: Stages) -> Result
     requires poly { IsGradable s.now.vars f.now }
     requires begins { Begins s.now f.now p.now }
     requires stages { AreGradedStagesOf s.now.sites s.now.vars f.now st }
-    requires weight { stage_weight (length s.now.vars) f.now (vectors_of (length s.now.vars) st) ≤ 131072 }
+    requires weight { stage_weight (length s.now.vars) f.now (vectors_of (length s.now.vars) st) ≤ most_weight }
     ensures program { IfOk result (IsGraded s.now f.now p.now) }
     ensures within { IfOk result (IsWithin s.now f.now (stage_count (vectors_of (length s.now.vars) st))
         (stage_weight (length s.now.vars) f.now (vectors_of (length s.now.vars) st))) }
@@ -87,7 +88,7 @@ pub fn graded(
 ) -> Result<Program, GradedStop>
     requires poly { IsGradable s.now.vars f.now }
     requires begins { Begins s.now f.now p.now }
-    requires heavy { heavy ≤ 131072 }
+    requires heavy { heavy ≤ most_weight }
     ensures program { IfOk result (IsGraded s.now f.now p.now) }
     ensures within { IfOk result (IsWithin s.now f.now most heavy) }
     ensures err { IfErr result (StopsFor s.now f.now most heavy) }

@@ -91,7 +91,7 @@ indented : {bytes : List ℕ} {ts : List Token} → ((line : ℕ) → Lexes line
 indented h zero = h
 indented h (suc d) = behind_blank (behind_blank (indented h d) 32 refl) 32 refl
 
--- what holds of a rest and of it behind a gap: by what the gap is
+-- what holds of a rest and of it after a gap: by what the gap is
 pub gap_cases : (s : Spot) (b : ℕ) (r : List ℕ) (P : List ℕ → Type 0) → (b ≡ 10 → P r)
     → (ends_line s.last ≡ true → P (10 ∷ indent (gap_depth s.depth b) r)) → (ends_line s.last ≡ false → P (32 ∷ r))
     → (ends_line s.last ≡ false → is_apart s b ≡ false → P r) → P (gap s b r)

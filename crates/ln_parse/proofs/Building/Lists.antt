@@ -13,7 +13,7 @@ pub record SeenAt {A B : Type 0} (f : A → B) (xs : List A) (i : ℕ) (y : B) :
   pub at : IsAt xs i element
   pub seen : f element ≡ y
 
--- the first element of a list, and the slice behind it
+-- the first element of a list, and the slice after it
 pub first_rest : {A : Type 0} (xs : List A) (x : A) → 1 ≤ length xs → x ≡ get_or xs 0 x → x ∷ take (length xs - 1) (drop 1 xs) ≡ xs
 first_rest [] x l e = absurd (omega arith)
 first_rest (y ∷ ys) x l e = ap (λ w. x ∷ w) (take_all (length (y ∷ ys) - 1) ys (omega arith)) ∙ ap (λ w. w ∷ ys) e

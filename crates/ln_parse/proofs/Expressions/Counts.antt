@@ -11,7 +11,7 @@ use Rattle.ln_tree.specs.Formula.{node_count}
 use Rattle.ln_parse.specs.Says.{resolved, name_of}
 use Rattle.ln_parse.proofs.Expressions.Roles.{HasRoles, literal, bare, coord, inner, opposite, added, taken, multiplied, raised}
 
--- the tokens of two parts of an expression, one behind the other
+-- the tokens of two parts of an expression, one after the other
 pub record Joined (ts : List Token) (i j k m p : ℕ) : Type 0 where
   pub many : ℕ
   pub ends : i + many ≡ k

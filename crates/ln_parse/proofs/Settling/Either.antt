@@ -1,6 +1,7 @@
 -- All bytes have a table or a first fault.
 use Rattle.std.proofs.Common.{◌≡◌, ℕ, suc, ◌≤◌, ◌⊎◌, inl, inr, List, [], ◌∷◌, ◌++◌, length, map, Option, Some, None, refl}
 use Rattle.std.specs.Prelude.{count_by}
+use Rattle.ln_base.specs.Limits.{most_tokens}
 use Rattle.ln_syntax.specs.declared.lex.token.Token.{Token}
 use Rattle.ln_syntax.specs.declared.lex.token.Kind.TheVariants.{Semi}
 use Rattle.ln_syntax.specs.Lexing.Answers as lexed
@@ -113,14 +114,14 @@ items_said bytes ts is h =
 abbrev Judged : List ℕ → Type 0
 Judged bytes = ((t : TableOf) × TextOf bytes t) ⊎ ((e : ParseStop) × TextFault bytes e)
 
-named : (bytes : List ℕ) (ts : List Token) (is : List Item) → Lexed bytes ts → length ts ≤ 65536 → IsShallow ts → Spelt ts is
+named : (bytes : List ℕ) (ts : List Token) (is : List Item) → Lexed bytes ts → length ts ≤ most_tokens → IsShallow ts → Spelt ts is
     → (o : Option Found) → first_fault bytes (file_visits ts is) ≡ o → Judged bytes
 named bytes ts is l w s p (Some f) e = inr (_, fault.names l w s p (is_first bytes (file_visits ts is) f e))
 named bytes ts is l w s p None e =
     let r = items_said bytes ts is p in
     inl (r.0, record { tokens = ts; lexed = l; few = w; shallow = s; items = is; spelt = p; clean = is_clean bytes (file_visits ts is) e; says = r.1 })
 
-spelled : (bytes : List ℕ) (ts : List Token) → Lexed bytes ts → length ts ≤ 65536 → Judged bytes
+spelled : (bytes : List ℕ) (ts : List Token) → Lexed bytes ts → length ts ≤ most_tokens → Judged bytes
 spelled bytes ts l w = elim (either_depth ts) [
   | inl d ↦ inr (_, fault.nesting l w d.1)
   | inr s ↦ elim (either_place ts) [

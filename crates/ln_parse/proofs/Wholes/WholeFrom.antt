@@ -11,6 +11,7 @@ use Rattle.std.proofs.lemmas.Int.{ints}
 use Rattle.std.proofs.lemmas.List.{length-map, map-append}
 use Rattle.std.proofs.lemmas.List.Folds.{list_any-append}
 use Rattle.std.proofs.lemmas.Slice.Eq.{bytes_eq-Decides}
+use Rattle.ln_base.specs.Limits.{most_tokens}
 use Rattle.ln_base.specs.declared.span.Span.{Span}
 use Rattle.ln_syntax.specs.declared.lex.token.Token.{Token}
 use Rattle.ln_syntax.specs.declared.lex.token.Kind.TheVariants.{Name, Number, Site, Param, Predicate, Let, Sign, BraceL, BraceR, ParL, ParR, Colon}
@@ -458,7 +459,7 @@ kinds_differ bytes (PredItem n as' ls r ∷ is) d =
     subst (λ (w : List (List ℕ)). Differ w) (append_assoc S P (t ∷ Q)) (insert (S ++ P) Q t a b)
 
 -- the table that the items of a file without a fault say is whole
-pub whole_from : (bytes : List ℕ) (ts : List Token) (is : List Item) → length ts ≤ 65536 → IsShallow ts → Spelt ts is
+pub whole_from : (bytes : List ℕ) (ts : List Token) (is : List Item) → length ts ≤ most_tokens → IsShallow ts → Spelt ts is
     → ReadyFile bytes ts is → FileWithin bytes ts is → (t : TableOf) → ItemsSay bytes ts is t → is_whole t ≡ true
 whole_from bytes ts is l h d r w t s =
     let m = items_whole bytes ts t is [] d t.preds s.preds_are (record {
@@ -481,4 +482,4 @@ whole_from bytes ts is l h d r w t s =
     let k1 = ap (λ (v : List SiteOf). total site_tokens v) s.sites_are in
     let k2 = ap (λ (v : List CoordOf). total param_tokens v) s.params_are in
     let k3 = m.tokens in
-    and_from _ _ (and_from _ _ (and_from _ _ (and_from _ _ a b) m.preds) c) (le-leb (text_tokens t) 65536 (omega arith))
+    and_from _ _ (and_from _ _ (and_from _ _ (and_from _ _ a b) m.preds) c) (le-leb (text_tokens t) most_tokens (omega arith))

@@ -9,6 +9,7 @@ use Rattle.std.proofs.lemmas.Bool.{and_parts, leb-true, eqb-true}
 use Rattle.std.proofs.lemmas.Bool.Decides.{nat_tests}
 use Rattle.std.proofs.lemmas.Int.{ints}
 use Rattle.std.proofs.lemmas.Slice.Eq.{bytes_eq-Decides}
+use Rattle.ln_base.specs.Limits.{most_tokens}
 use Rattle.ln_tree.specs.declared.shape.VarInfo.{VarInfo}
 use Rattle.ln_tree.specs.Variables.{same_site}
 use Rattle.ln_tree.specs.Table.{CoordOf, SiteOf, PredOf, TableOf}
@@ -164,7 +165,7 @@ pub record TableParts (t : TableOf) : Type 0 where
   pub params : Every InRange t.params
   pub preds : Every (PredParts t.sites t.params) t.preds
   pub names : Differ (item_names t)
-  pub tokens : text_tokens t ≤ 65536
+  pub tokens : text_tokens t ≤ most_tokens
 
 -- a table that is whole is such
 pub table_parts : (t : TableOf) → is_whole t ≡ true → TableParts t
@@ -172,7 +173,7 @@ table_parts t h =
     let t1 = list_all site_whole t.sites in
     let t2 = list_all is_range t.params in
     let t3 = list_all (pred_whole t.sites t.params) t.preds in
-    let d = and_parts (t1 && t2 && t3 && differ (item_names t)) (nat_le (text_tokens t) 65536) h in
+    let d = and_parts (t1 && t2 && t3 && differ (item_names t)) (nat_le (text_tokens t) most_tokens) h in
     let c = and_parts (t1 && t2 && t3) (differ (item_names t)) d.0 in
     let b = and_parts (t1 && t2) t3 c.0 in
     let a = and_parts t1 t2 b.0 in

@@ -36,10 +36,10 @@ single-here v w n e = omega (arith, power-here w (v, n) e)
 single-apart : (v w n : ℕ) → (v ≡ w → ⊥) → exponent w ((v, n) ∷ []) ≡ 0
 single-apart v w n e = omega (arith, power-apart w (v, n) e)
 
-covers-behind : (w k v n : ℕ) (ps : Pairs) → v < w → covers (exponents_from w k ps) (exponents_from w k ((v, n) ∷ [])) ≡ true
-covers-behind w zero v n ps h = refl
-covers-behind w (suc k) v n ps h =
-    rw (single-apart v w n (λ e. absurd (omega arith)), le-leb 0 (exponent w ps) (omega arith), covers-behind (suc w) k v n ps (omega arith)) refl
+covers-after : (w k v n : ℕ) (ps : Pairs) → v < w → covers (exponents_from w k ps) (exponents_from w k ((v, n) ∷ [])) ≡ true
+covers-after w zero v n ps h = refl
+covers-after w (suc k) v n ps h =
+    rw (single-apart v w n (λ e. absurd (omega arith)), le-leb 0 (exponent w ps) (omega arith), covers-after (suc w) k v n ps (omega arith)) refl
 
 and-true : (b : Bool) → (b && true) ≡ b
 and-true true = refl
@@ -53,7 +53,7 @@ covers-single w (suc k) v n ps h l = by_case (cases_lt w v) (λ g. covers-single
   by_case (inl g) ih = rw (single-apart v w n (λ e. absurd (omega arith)), le-leb 0 (exponent w ps) (omega arith)) (ih (omega arith))
   by_case (inr g) ih =
       let e : w ≡ v = omega arith in
-      rw (single-here v w n (sym e), covers-behind (suc w) k v n ps (omega arith), and-true (leb n (exponent w ps))) (ap (λ z. leb n (exponent z ps)) e)
+      rw (single-here v w n (sym e), covers-after (suc w) k v n ps (omega arith), and-true (leb n (exponent w ps))) (ap (λ z. leb n (exponent z ps)) e)
 
 minus-single : (w k v n : ℕ) (e ps : Pairs) → ((u : ℕ) → exponent u e + power_at u (v, n) ≡ exponent u ps)
     → minus (exponents_from w k ps) (exponents_from w k ((v, n) ∷ [])) ≡ exponents_from w k e
@@ -62,10 +62,10 @@ minus-single w (suc k) v n e ps h =
     let x : exponent w ps - exponent w ((v, n) ∷ []) ≡ exponent w e = omega (arith, h w) in
     rw (x, minus-single (suc w) k v n e ps h) refl
 
-binomials-behind : (w k v n : ℕ) (ps : Pairs) → v < w → binomials (exponents_from w k ps) (exponents_from w k ((v, n) ∷ [])) ≡ 1
-binomials-behind w zero v n ps h = refl
-binomials-behind w (suc k) v n ps h =
-    rw (single-apart v w n (λ e. absurd (omega arith)), binomial-none (exponent w ps), binomials-behind (suc w) k v n ps (omega arith)) refl
+binomials-after : (w k v n : ℕ) (ps : Pairs) → v < w → binomials (exponents_from w k ps) (exponents_from w k ((v, n) ∷ [])) ≡ 1
+binomials-after w zero v n ps h = refl
+binomials-after w (suc k) v n ps h =
+    rw (single-apart v w n (λ e. absurd (omega arith)), binomial-none (exponent w ps), binomials-after (suc w) k v n ps (omega arith)) refl
 
 binomials-single : (w k v n : ℕ) (ps : Pairs) → w ≤ v → v < w + k
     → binomials (exponents_from w k ps) (exponents_from w k ((v, n) ∷ [])) ≡ binomial (exponent v ps) n
@@ -76,7 +76,7 @@ binomials-single w (suc k) v n ps h l = by_case (cases_lt w v) (λ g. binomials-
   by_case (inl g) ih = rw (single-apart v w n (λ e. absurd (omega arith)), binomial-none (exponent w ps)) (omega (arith, ih (omega arith)))
   by_case (inr g) ih =
       let e : w ≡ v = omega arith in
-      rw (single-here v w n (sym e), binomials-behind (suc w) k v n ps (omega arith)) (omega (arith, ap (λ z. binomial (exponent z ps) n) e))
+      rw (single-here v w n (sym e), binomials-after (suc w) k v n ps (omega arith)) (omega (arith, ap (λ z. binomial (exponent z ps) n) e))
 
 -- ---- one term
 -- a term that the derivative drops

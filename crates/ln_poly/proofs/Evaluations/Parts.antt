@@ -9,7 +9,7 @@ use Rattle.ln_algebra.specs.Terms.{Term, binomial, binomials, covers, derived, m
 use Rattle.ln_tree.specs.Exps.{AllAbove, IsAbove, IsRising, Pairs, exponent, exponents_from, vector}
 use Rattle.ln_tree.proofs.Powers.{all_above-none, power-apart, power-here}
 use Rattle.ln_poly.specs.Values.{part, parts, term_value}
-use Rattle.ln_poly.proofs.TermLists.Vectors.{exponents-behind}
+use Rattle.ln_poly.proofs.TermLists.Vectors.{exponents-after}
 
 -- the pairs begin at v or after it
 abbrev From : ℕ → Pairs → Type 0
@@ -70,7 +70,7 @@ vector-parts x y a v (suc n) (p ∷ ps) s f r b c = by_case (cases_eq p.0 v)
         → (suc v ≤ p.0 → covers rest below ≡ true → SaysRest x y a below (p ∷ ps) rest)
         → pos (binomials (E ∷ rest) (k ∷ below)) *ℤ monomial y (minus (E ∷ rest) (k ∷ below)) ≡ parts x a (p ∷ ps)
     by_case (inl o) ih other =
-        let t : rest ≡ exponents_from (suc v) n ps = exponents-behind (suc v) n p.0 p.1 ps (omega (arith, o)) in
+        let t : rest ≡ exponents_from (suc v) n ps = exponents-after (suc v) n p.0 p.1 ps (omega (arith, o)) in
         let j : covers (exponents_from (suc v) n ps) below ≡ true = ap (λ m. covers m below) (sym t) ∙ q.1 in
         let i : SaysRest x y a below ps rest = subst (SaysRest x y a below ps) (sym t) (ih tt j) in
         let e : E ≡ p.1 = omega (arith, power-here v p o, all_above-none v ps (subst (λ z. AllAbove z ps) o r.2)) in

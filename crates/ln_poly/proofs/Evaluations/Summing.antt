@@ -47,25 +47,25 @@ pub record IsProduct (vars : List VarInfo) (x : ℕ → ℤ) (a ps : Pairs) (c y
 weight-there : (vars : List VarInfo) (v : ℕ) → v < length vars → 0 < weights vars v
 weight-there vars v h = omega (arith, grown-some 1 vars v h, grown-one vars v)
 
-above-behind : (n : ℕ) (ps : Pairs) (i : ℕ) → IsAbove ps n → IsAbove (drop i ps) n
-above-behind n ps zero h = h
-above-behind n [] (suc i) h = tt
-above-behind n (p ∷ ps) (suc i) h = above-behind n ps i h.1
+above-after : (n : ℕ) (ps : Pairs) (i : ℕ) → IsAbove ps n → IsAbove (drop i ps) n
+above-after n ps zero h = h
+above-after n [] (suc i) h = tt
+above-after n (p ∷ ps) (suc i) h = above-after n ps i h.1
 
 module _ (vars : List VarInfo) (zs : List ℤ) (a ps : Pairs) (c y : ℤ) (i : ℕ) (there : i < length ps) (row : AreWithin vars zs)
     (above : IsAbove ps (length vars)) (r : IsProduct vars (values zs) a ps c y i) where
-  behind : drop i ps ≡ get_or ps i (0, 0) ∷ drop (i + 1) ps
-  behind = drop_more ps i (0, 0) there
+  after : drop i ps ≡ get_or ps i (0, 0) ∷ drop (i + 1) ps
+  after = drop_more ps i (0, 0) there
 
   heavy : unsigned_abs y * (weights vars (get_or ps i (0, 0)).0 ^ (get_or ps i (0, 0)).1 * pairs_weight (weights vars) (drop (i + 1) ps))
       ≤ unsigned_abs c * pairs_weight (weights vars) ps
-  heavy = rw behind at r.room
+  heavy = rw after at r.room
 
   sized : size (values zs (get_or ps i (0, 0)).0) + 1 ≤ weights vars (get_or ps i (0, 0)).0
   sized = row-size vars zs (get_or ps i (0, 0)).0 row (variable-at (length vars) ps i above there)
 
   rest-some : 0 < pairs_weight (weights vars) (drop (i + 1) ps)
-  rest-some = weight-some (length vars) (weights vars) (weight-there vars) (drop (i + 1) ps) (above-behind (length vars) ps (i + 1) above)
+  rest-some = weight-some (length vars) (weights vars) (weight-there vars) (drop (i + 1) ps) (above-after (length vars) ps (i + 1) above)
 
   -- there is room for the product so far times what the next pair adds, where the term's weight is within the limit
   pub product-room : unsigned_abs c * pairs_weight (weights vars) ps ≤ most
@@ -89,7 +89,7 @@ module _ (vars : List VarInfo) (zs : List ℤ) (a ps : Pairs) (c y : ℤ) (i : �
       let W : ℕ = pairs_weight (weights vars) (drop (i + 1) ps) in
       let P : ℤ = part (values zs) a (get_or ps i (0, 0)) in
       let v : z *ℤ parts (values zs) a (drop (i + 1) ps) ≡ y *ℤ parts (values zs) a (drop i ps) = ap (λ j. j *ℤ parts (values zs) a (drop (i + 1) ps)) q
-      ∙ mul_assoc y P (parts (values zs) a (drop (i + 1) ps)) ∙ ap (λ j. y *ℤ parts (values zs) a j) (sym behind) in
+      ∙ mul_assoc y P (parts (values zs) a (drop (i + 1) ps)) ∙ ap (λ j. y *ℤ parts (values zs) a j) (sym after) in
       let s : unsigned_abs P ≤ w ^ e = part-abs (values zs (get_or ps i (0, 0)).0) w e (exponent (get_or ps i (0, 0)).0 a) k sized in
       let t : unsigned_abs y * unsigned_abs P ≤ unsigned_abs y * w ^ e = mul-le-mul_left (unsigned_abs y) s in
       let u : (unsigned_abs y * unsigned_abs P) * W ≤ (unsigned_abs y * w ^ e) * W = mul-le-mul_right W t in

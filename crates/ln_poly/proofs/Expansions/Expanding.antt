@@ -41,8 +41,8 @@ stop-before n xs ys (Terms at) f = record {
 stop-before n xs ys (NoMemory m) f = tt
 
 -- it is the first after those that have few
-pub stop-behind : (n : ℕ) (xs ys : Nodes) (s : PolyStop) → HaveFewTerms n xs → StopsExpanding n ys s → StopsExpanding n (xs ++ ys) s
-stop-behind n xs ys (Terms at) l f = record {
+pub stop-after : (n : ℕ) (xs ys : Nodes) (s : PolyStop) → HaveFewTerms n xs → StopsExpanding n ys s → StopsExpanding n (xs ++ ys) s
+stop-after n xs ys (Terms at) l f = record {
   before = xs ++ f.before;
   node = f.node;
   after = f.after;
@@ -50,7 +50,7 @@ stop-behind n xs ys (Terms at) l f = record {
   few = few-both n xs f.before l f.few;
   many = f.many;
 }
-stop-behind n xs ys (NoMemory m) l f = tt
+stop-after n xs ys (NoMemory m) l f = tt
 
 -- ---- nodes
 -- after one operand
@@ -93,9 +93,9 @@ stop-power n at e k (Terms t) f = by_before f.before f.stands f.few where
     none (u ∷ ys) y zs w = cc
 
 -- more powers follow
-pub powers-behind : (n : ℕ) (at : Span) (e : Tree) (j k : ℕ) (s : PolyStop) → j ≤ k → StopsExpanding n (powers at e j) s → StopsExpanding n (powers at e k) s
-powers-behind n at e j zero s l f = let q : j ≡ 0 = omega arith in subst (λ z. StopsExpanding n (powers at e z) s) q f
-powers-behind n at e j (suc k) s l f = by_case (powers-behind n at e j k s) (cases_lt k j) where
+pub powers-after : (n : ℕ) (at : Span) (e : Tree) (j k : ℕ) (s : PolyStop) → j ≤ k → StopsExpanding n (powers at e j) s → StopsExpanding n (powers at e k) s
+powers-after n at e j zero s l f = let q : j ≡ 0 = omega arith in subst (λ z. StopsExpanding n (powers at e z) s) q f
+powers-after n at e j (suc k) s l f = by_case (powers-after n at e j k s) (cases_lt k j) where
   by_case : (j ≤ k → StopsExpanding n (powers at e j) s → StopsExpanding n (powers at e k) s) → (k < j) ⊎ (j ≤ k) → StopsExpanding n (powers at e (suc k)) s
   by_case ih (inl h) = let q : j ≡ suc k = omega arith in subst (λ z. StopsExpanding n (powers at e z) s) q f
   by_case ih (inr h) = stop-before n (powers at e k) ((at, Pow e (suc k)) ∷ []) s (ih h f)
@@ -104,7 +104,7 @@ powers-behind n at e j (suc k) s l f = by_case (powers-behind n at e j k s) (cas
 pub powers-stop : (n : ℕ) (at : Span) (e : Tree) (j k : ℕ) (p : Sparse) (s : PolyStop) → j < k → Expands n (powers at e j) (Pow e j) p
     → StopsExpanding n ((at, Mul (Pow e j) e) ∷ []) s → StopsExpanding n (powers at e k) s
 powers-stop n at e j k p s l a f =
-    powers-behind n at e (suc j) k s (omega arith) (stop-behind n (powers at e j) ((at, Pow e (suc j)) ∷ []) s a.few (stop-power n at e j s f))
+    powers-after n at e (suc j) k s (omega arith) (stop-after n (powers at e j) ((at, Pow e (suc j)) ∷ []) s a.few (stop-power n at e j s f))
 
 -- the loop begins with the number 1
 pub power-begin : (n : ℕ) (e : Tree) (f : Sparse) → f ≡ ([], pos 1) ∷ [] → Expands n [] (Pow e 0) f

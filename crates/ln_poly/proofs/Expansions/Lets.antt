@@ -28,7 +28,7 @@ use Rattle.ln_poly.specs.Expansion.{HaveFewTerms, IsNormal, closed_lets, expande
 use Rattle.ln_poly.specs.Ready.{AreLight, AreNormal, Expands, IsLight, LetsAreLight}
 use Rattle.ln_poly.specs.Stop.{StopsExpanding}
 use Rattle.ln_poly.proofs.Sorting.Collected.{collected}
-use Rattle.ln_poly.proofs.Expansions.Expanding.{Nodes, few-both, stop-before, stop-behind}
+use Rattle.ln_poly.proofs.Expansions.Expanding.{Nodes, few-both, stop-after, stop-before}
 use Rattle.ln_poly.proofs.Expansions.Normals.{lets-more}
 use Rattle.ln_poly.proofs.TermLists.Products.{length-vector}
 use Rattle.ln_poly.proofs.Loads.Room.{AreTwo, factor-some, normal-weight, times-le-left, two-power}
@@ -108,7 +108,7 @@ pub lets-stop : (vars : List VarInfo) (lets : List Expr) (j : ℕ) (e : Expr) (p
 lets-stop vars lets j e polys s l h a q =
     let b = lets-at vars lets j e polys l h a in
     subst (λ (ns : Nodes). StopsExpanding (length vars) ns s) (sym b.stands)
-    (stop-behind (length vars) b.nodes _ s b.few (stop-before (length vars) (expanded vars (closed_lets vars (map formula (take j lets))) (formula e)) _ s q))
+    (stop-after (length vars) b.nodes _ s b.few (stop-before (length vars) (expanded vars (closed_lets vars (map formula (take j lets))) (formula e)) _ s q))
 
 -- there are as many normal polynomials as trees
 pub length-normal : (n : ℕ) (ts : List Tree) (fs : List Sparse) → AreNormal n ts fs → length fs ≡ length ts

@@ -19,7 +19,7 @@ use Rattle.ln_poly.specs.Rows.{PowersFit}
 use Rattle.ln_poly.specs.Expansion.{HaveFewTerms, IsNormal, expanded}
 use Rattle.ln_poly.specs.Ready.{AreLight, Expands, HasPower, HaveRoom}
 use Rattle.ln_poly.specs.Stop.{StopsExpanding}
-use Rattle.ln_poly.proofs.Expansions.Expanding.{Nodes, few-both, one-expands, stop-before, stop-behind, two-expand}
+use Rattle.ln_poly.proofs.Expansions.Expanding.{Nodes, few-both, one-expands, stop-after, stop-before, two-expand}
 use Rattle.ln_poly.proofs.Loads.Room.{product-powers, product-room, sum-room, two-sizes}
 
 module _ (vars : List VarInfo) (ls : List Tree) (F : Formula) where
@@ -33,7 +33,7 @@ module _ (vars : List VarInfo) (ls : List Tree) (F : Formula) where
   pub one-err : (x : Formula) (ys : Nodes) (r : Result Sparse PolyStop) → expanded vars ls F ≡ expanded vars ls x ++ ys
       → HaveFewTerms (length vars) (expanded vars ls x) → IfErr r (λ s. StopsExpanding (length vars) ys s)
       → IfErr r (λ s. StopsExpanding (length vars) (expanded vars ls F) s)
-  one-err x ys r a p k = rw a (MatchResult-weaker r k (λ h t. tt) (λ s q. stop-behind (length vars) (expanded vars ls x) ys s p q))
+  one-err x ys r a p k = rw a (MatchResult-weaker r k (λ h t. tt) (λ s q. stop-after (length vars) (expanded vars ls x) ys s p q))
 
   -- a node over two operands is expanded where both are and then the rest of its nodes are
   pub two-ok : (x y : Formula) (zs : Nodes) (c : Tree) (f g : Sparse) (r : Result Sparse PolyStop)
@@ -48,7 +48,7 @@ module _ (vars : List VarInfo) (ls : List Tree) (F : Formula) where
   pub two-err : (x y : Formula) (zs : Nodes) (r : Result Sparse PolyStop) → expanded vars ls F ≡ expanded vars ls x ++ expanded vars ls y ++ zs
       → HaveFewTerms (length vars) (expanded vars ls x) → HaveFewTerms (length vars) (expanded vars ls y)
       → IfErr r (λ s. StopsExpanding (length vars) zs s) → IfErr r (λ s. StopsExpanding (length vars) (expanded vars ls F) s)
-  two-err x y zs r a p q k = rw a (MatchResult-weaker r k (λ h t. tt) (λ s t. stop-behind (length vars)
+  two-err x y zs r a p q k = rw a (MatchResult-weaker r k (λ h t. tt) (λ s t. stop-after (length vars)
       (expanded vars ls x ++ expanded vars ls y) zs s (few-both (length vars) (expanded vars ls x) (expanded vars ls y) p q) t))
 
   -- a stop in the first operand is the stop of the whole
@@ -62,7 +62,7 @@ module _ (vars : List VarInfo) (ls : List Tree) (F : Formula) where
       → HaveFewTerms (length vars) (expanded vars ls x) → StopsExpanding (length vars) (expanded vars ls y) s
       → StopsExpanding (length vars) (expanded vars ls F) s
   second-stops x y zs s a p k = rw a
-      (stop-before (length vars) (expanded vars ls x ++ expanded vars ls y) zs s (stop-behind (length vars) (expanded vars ls x) (expanded vars ls y) s p k))
+      (stop-before (length vars) (expanded vars ls x ++ expanded vars ls y) zs s (stop-after (length vars) (expanded vars ls x) (expanded vars ls y) s p k))
 
 -- ---- room
 module _ (vars : List VarInfo) (ls : List Tree) where

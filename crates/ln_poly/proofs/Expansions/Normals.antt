@@ -21,7 +21,7 @@ use Rattle.ln_poly.specs.Within.{TakesMore}
 use Rattle.ln_poly.proofs.TermLists.Leaves.{no-terms, one-term}
 use Rattle.ln_poly.proofs.TermLists.Negating.{below-negated, coefficient-negated, poly-negated}
 use Rattle.ln_poly.proofs.TermLists.Products.{over-terms}
-use Rattle.ln_poly.proofs.TermLists.Vectors.{exponents-behind}
+use Rattle.ln_poly.proofs.TermLists.Vectors.{exponents-after}
 
 -- ---- vectors of leaves
 -- no exponents are those of the vector of zeros
@@ -31,7 +31,7 @@ vector-none v (suc n) = ap (λ z. 0 ∷ z) (vector-none (suc v) n)
 
 -- a variable that came before
 vector-before : (v n u : ℕ) → u < v → exponents_from v n ((u, 1) ∷ []) ≡ zeros n
-vector-before v n u h = exponents-behind v n u 1 [] h ∙ vector-none v n
+vector-before v n u h = exponents-after v n u 1 [] h ∙ vector-none v n
 
 vector-unit : (v n u x : ℕ) → x ≡ v + u → exponents_from v n ((x, 1) ∷ []) ≡ unit_vector n u
 vector-unit v zero u x q = refl

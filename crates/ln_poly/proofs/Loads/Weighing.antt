@@ -18,7 +18,7 @@ use Rattle.ln_tree.specs.Exps.{IsAbove, Pairs, exponents_from, vector}
 use Rattle.ln_poly.specs.Sparse.{AreBelow, Sparse, terms_of}
 use Rattle.ln_poly.specs.Weight.{IsWeighed, grown, grown_or, pairs_weight, term_weight, total_weight}
 use Rattle.ln_poly.proofs.TermLists.Products.{length-vector, vector-plus}
-use Rattle.ln_poly.proofs.TermLists.Vectors.{exponents-behind}
+use Rattle.ln_poly.proofs.TermLists.Vectors.{exponents-after}
 
 -- ---- monomials
 -- no pair: the monomial 1
@@ -28,7 +28,7 @@ weight-none w v (suc n) = rw pow-zero (omega (arith, weight-none (λ u. w (suc u
 
 -- a variable that came before
 weight-before : (w : ℕ → ℕ) (v n u e : ℕ) → u < v → monomial_weight w (exponents_from v n ((u, e) ∷ [])) ≡ 1
-weight-before w v n u e h = ap (monomial_weight w) (exponents-behind v n u e [] h) ∙ weight-none w v n
+weight-before w v n u e h = ap (monomial_weight w) (exponents-after v n u e [] h) ∙ weight-none w v n
 
 weight-single : (w : ℕ → ℕ) (v n u x e : ℕ) → x ≡ v + u → u < n → monomial_weight w (exponents_from v n ((x, e) ∷ [])) ≡ w u ^ e
 weight-single w v zero u x e q h = absurd (omega arith)

@@ -26,8 +26,8 @@ merging-init f g s r a b = record {
   left = s;
   right = r;
   sorted = none-sorted;
-  behind_left = λ k d l. tt;
-  behind_right = λ k d l. tt;
+  after_left = λ k d l. tt;
+  after_right = λ k d l. tt;
   rising = (a, b, All-nil (λ z. IsRising z.0));
   below = λ k x y. (x, y, All-nil (λ z. IsAbove z.0 k));
   factors = All-nil (λ z. IsFactor z.1);
@@ -37,7 +37,7 @@ merging-init f g s r a b = record {
 pub merging-put : (f g f' g' done f0 g0 : Sparse) (t : Pairs × ℤ) → IsMerging f g done f0 g0 → IsTaken f g f' g' t
     → size_of f0 + size_of g0 < 2 ^ 127 → t.1 ≢ pos 0 → IsMerging f' g' (t ∷ done) f0 g0
 merging-put f g f' g' done f0 g0 t m r room n =
-    let b = r.before done m.behind_left m.behind_right in
+    let b = r.before done m.after_left m.after_right in
     let l = r.later m.left m.right in
     let w = r.rising m.rising.0 m.rising.1 in
     record {
@@ -46,8 +46,8 @@ merging-put f g f' g' done f0 g0 t m r room n =
       left = (r.sorted m.left m.right).0;
       right = (r.sorted m.left m.right).1;
       sorted = sorted-cons t done b.0 m.sorted;
-      behind_left = λ k d h. (l.0 k d h, b.1 k d h);
-      behind_right = λ k d h. (l.1 k d h, b.2 k d h);
+      after_left = λ k d h. (l.0 k d h, b.1 k d h);
+      after_right = λ k d h. (l.1 k d h, b.2 k d h);
       rising = (w.1, w.2, All-cons (λ z. IsRising z.0) t done w.0 m.rising.2);
       below = λ k x y.
           let o = m.below k x y in
@@ -59,7 +59,7 @@ merging-put f g f' g' done f0 g0 t m r room n =
 -- a term that has come to 0
 pub merging-drop : (f g f' g' done f0 g0 : Sparse) (t : Pairs × ℤ) → IsMerging f g done f0 g0 → IsTaken f g f' g' t → t.1 ≡ pos 0 → IsMerging f' g' done f0 g0
 merging-drop f g f' g' done f0 g0 t m r e =
-    let b = r.before done m.behind_left m.behind_right in
+    let b = r.before done m.after_left m.after_right in
     let w = r.rising m.rising.0 m.rising.1 in
     record {
       coefficients = λ n k. omega (arith, ints, m.coefficients n k, r.coefficients n k, ap (λ z. part_at n (t.0, z) k) e, part-zero n k t.0);
@@ -67,8 +67,8 @@ merging-drop f g f' g' done f0 g0 t m r e =
       left = (r.sorted m.left m.right).0;
       right = (r.sorted m.left m.right).1;
       sorted = m.sorted;
-      behind_left = b.1;
-      behind_right = b.2;
+      after_left = b.1;
+      after_right = b.2;
       rising = (w.1, w.2, m.rising.2);
       below = λ k x y. let o = m.below k x y in let q = r.below k o.0 o.1 in (q.1, q.2, o.2);
       factors = m.factors;

@@ -31,12 +31,12 @@ exponent-before u v (suc k ∷ m) h =
     rw (ne_eqb v u (λ e. absurd (omega (arith, e)))) (omega (arith, exponent-before u (suc v) m (omega arith)))
 
 -- a pair of an earlier variable changes nothing
-pub exponents-behind : (v n u k : ℕ) (ps : Pairs) → u < v → exponents_from v n ((u, k) ∷ ps) ≡ exponents_from v n ps
-exponents-behind v zero u k ps h = refl
-exponents-behind v (suc n) u k ps h =
+pub exponents-after : (v n u k : ℕ) (ps : Pairs) → u < v → exponents_from v n ((u, k) ∷ ps) ≡ exponents_from v n ps
+exponents-after v zero u k ps h = refl
+exponents-after v (suc n) u k ps h =
     let e : eqb u v ≡ false = ne_eqb u v (λ q. absurd (omega (arith, q))) in
     let z : 0 + exponent v ps ≡ exponent v ps = omega arith in
-    let ih : exponents_from (suc v) n ((u, k) ∷ ps) ≡ exponents_from (suc v) n ps = exponents-behind (suc v) n u k ps (omega arith) in
+    let ih : exponents_from (suc v) n ((u, k) ∷ ps) ≡ exponents_from (suc v) n ps = exponents-after (suc v) n u k ps (omega arith) in
     rw (e, z, ih) refl
 
 -- the exponents of the pairs are the vector
@@ -50,7 +50,7 @@ pairs-vector v (suc k ∷ m) =
     let s : eqb v v ≡ true = eq-eqb v v refl in
     let e : exponent v (pairs_from (suc v) m) ≡ 0 = exponent-before v (suc v) m (omega arith) in
     let b : exponents_from (suc v) (length m) ((v, suc k) ∷ pairs_from (suc v) m) ≡ exponents_from (suc v) (length m) (pairs_from (suc v) m) =
-    exponents-behind (suc v) (length m) v (suc k) (pairs_from (suc v) m) (omega arith) in
+    exponents-after (suc v) (length m) v (suc k) (pairs_from (suc v) m) (omega arith) in
     let t : exponents_from (suc v) (length m) (pairs_from (suc v) m) ≡ m = pairs-vector (suc v) m in
     rw (s, e, b, t) (ap (λ (j : ℕ). j ∷ m) (plain (suc k))) where
       plain : (i : ℕ) → i + 0 ≡ i

@@ -19,14 +19,14 @@ use Rattle.ln_poly.proofs.TermLists.Products.{rows-begin, rows-room, rows-step}
 
 -- ---- the order
 -- a product is before those of what comes after
-behind : (s x t : Pairs × ℤ) (g xs : Sparse) → IsRising t.0 → AreRising g → IsProduct x s t → AreProducts s g xs
+after : (s x t : Pairs × ℤ) (g xs : Sparse) → IsRising t.0 → AreRising g → IsProduct x s t → AreProducts s g xs
     → AllByRecursion (λ (y : Pairs × ℤ). pairs_cmp t.0 y.0 ≡ Less) g → AllByRecursion (λ (y : Pairs × ℤ). pairs_cmp x.0 y.0 ≡ Less) xs
-behind s x t [] [] w r p a h = tt
-behind s x t [] (y ∷ xs) w r p a h = absurd a
-behind s x t (u ∷ g) [] w r p a h = absurd a
-behind s x t (u ∷ g) (y ∷ xs) w r p a h = (
+after s x t [] [] w r p a h = tt
+after s x t [] (y ∷ xs) w r p a h = absurd a
+after s x t (u ∷ g) [] w r p a h = absurd a
+after s x t (u ∷ g) (y ∷ xs) w r p a h = (
   products-kept t.0 u.0 s.0 x.0 y.0 w (All-head (λ z. IsRising z.0) u g r) p.rising a.0.rising p.exponents a.0.exponents h.0,
-  behind s x t g xs w (All-tail (λ z. IsRising z.0) u g r) p a.1 h.1,
+  after s x t g xs w (All-tail (λ z. IsRising z.0) u g r) p a.1 h.1,
 )
 
 products-sorted : (s : Pairs × ℤ) (g xs : Sparse) → AreRising g → AreProducts s g xs
@@ -36,7 +36,7 @@ products-sorted s [] [] r a h = tt
 products-sorted s [] (y ∷ xs) r a h = absurd a
 products-sorted s (t ∷ g) [] r a h = absurd a
 products-sorted s (t ∷ g) (x ∷ xs) r a h = (
-  behind s x t g xs (All-head (λ z. IsRising z.0) t g r) (All-tail (λ z. IsRising z.0) t g r) a.0 a.1 h.0,
+  after s x t g xs (All-head (λ z. IsRising z.0) t g r) (All-tail (λ z. IsRising z.0) t g r) a.0 a.1 h.0,
   products-sorted s g xs (All-tail (λ z. IsRising z.0) t g r) a.1 h.1,
 )
 

@@ -65,7 +65,7 @@ module _ (f : Sparse) (vs kept p : List ℕ) (n k : ℕ) (within : n ≤ length 
       ap (drop (n - (k + 1))) (sym (take-append-drop n vs)) ∙ drop-append-le (n - (k + 1)) (take n vs) (drop n vs) (omega (arith, size, more))
       ∙ ap (λ z. z ++ drop n vs) last-more
 
-  -- what is listed from the exponent 1 of one variable more, behind what is listed without it
+  -- what is listed from the exponent 1 of one variable more, after what is listed without it
   module _ {r : List ℕ} (er : r ≡ drop (n - (k + 1)) vs) where
     site-turn : listed_behind f (last_of (k + 1) n vs) (drop n vs) kept p
         ≡ before (listed_behind f (last_of k n vs) (drop n vs) kept p) (listed_at f r kept p 1)

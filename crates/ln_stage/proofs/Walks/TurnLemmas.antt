@@ -1,4 +1,4 @@
--- Listing in turn: one part, and behind it another, unless the cut ended the first.
+-- Listing in turn: one part, and after it another, unless the cut ended the first.
 use Rattle.std.proofs.Common.{◌≡◌, ◌∙◌, ◌<◌, ℕ, Bool, true, false, List, [], ◌∷◌, ◌++◌, length, refl, sym, ap, subst, arith, append_assoc}
 use Rattle.std.proofs.lemmas.List.{append-nil}
 use Rattle.ln_algebra.specs.Walk.{Found, before, unless_none}
@@ -24,7 +24,7 @@ pub unless_empty : (ms : List (List ℕ)) (r : Found) → length ms ≡ 0 → un
 unless_empty [] r h = refl
 unless_empty (m ∷ ms) r h = absurd (omega arith)
 
--- behind the cut nothing is found, and else what was found goes on
+-- after the cut nothing is found, and else what was found goes on
 before-cut : (r s : Found) → r.1 ≡ true → before r s ≡ r
 before-cut (l, true) s h = refl
 before-cut (l, false) s h = cc
@@ -33,7 +33,7 @@ before-on : (r s : Found) → r.1 ≡ false → before r s ≡ (r.0 ++ s.0, s.1)
 before-on (l, true) s h = cc
 before-on (l, false) s h = refl
 
--- nothing behind
+-- nothing after it
 pub before-end : (r : Found) → before r ([], false) ≡ r
 before-end (l, true) = refl
 before-end (l, false) = ap (λ z. (z, false)) (append-nil l)
@@ -102,7 +102,7 @@ behind-listed {n} {f} {front} {here} {u} {t} i h =
       cut = h.cut ∙ ap (λ y. y.1) (sym a);
     }
 
--- the cut ends all that would come behind it
+-- the cut ends all that would come after it
 pub cut-listed : {n : ℕ} {f : Sparse} {front : Found} {u t : Tallied} (rest : Found) → EndsAs n f u ([], true) t front
     → EndsAs n f u ([], true) t (before front rest)
 cut-listed {front = front} rest i = ends-whole (sym (before-cut front rest (sym i.cut))) i

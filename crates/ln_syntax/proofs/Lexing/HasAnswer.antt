@@ -2,6 +2,7 @@
 use Rattle.std.proofs.Common.{◌≡◌, ℕ, zero, suc, ◌+◌, ◌-◌, ◌<◌, ◌≤◌, ◌⊎◌, inl, inr, Bool, true, false, List, [], ◌∷◌, ◌++◌, length, take}
 use Rattle.std.proofs.Common.{drop, Option, Some, None, refl, ap, sym, arith, subst, length-drop}
 use Rattle.std.proofs.lemmas.List.{drop-drop}
+use Rattle.ln_base.specs.Limits.{most_tokens}
 use Rattle.ln_base.specs.Words.{is_digit, is_letter, is_name_byte}
 use Rattle.ln_syntax.specs.declared.lex.token.Kind.{Kind}
 use Rattle.ln_syntax.specs.declared.lex.token.Kind.TheVariants.{Number, Dots}
@@ -106,7 +107,7 @@ token_step bytes ts at s g h on f =
     } in
     elim f [
       | no_token n ↦ answer.fault (at + g.len) (record { before = ts; few = s.few; behind = b; no_token = n })
-      | a_token n kind i ↦ elim (below (length ts) 65536) [
+      | a_token n kind i ↦ elim (below (length ts) most_tokens) [
         | inl w ↦ let p = i.some in
             on (ts ++ (record { kind = kind; span = record { start = at + g.len; end = at + g.len + n } }) ∷ []) (at + g.len + n)
             (scanned_more s w refl g.skips refl i refl) (omega arith)

@@ -4,6 +4,7 @@ use Rattle.std.proofs.Common.{ap, sym, ◌∙◌, arith, subst, length-drop, inl
 use Rattle.std.proofs.lemmas.Bool.{cases_order}
 use Rattle.std.proofs.lemmas.Bool.Decides.{nat_tests}
 use Rattle.std.proofs.lemmas.List.{drop-drop}
+use Rattle.ln_base.specs.Limits.{most_tokens}
 use Rattle.ln_syntax.specs.declared.lex.token.Kind.{Kind}
 use Rattle.ln_syntax.specs.declared.lex.token.Token.{Token}
 use Rattle.ln_syntax.specs.Lexing.Tokens.{is_blank, kind_of, comment_len, begins_comment, begins_blank, IsFirst, BeginsNone, Skips, nothing, blank}
@@ -220,7 +221,7 @@ list_or_fault bytes ts i l f =
     ]
 
 -- bytes with a list of at most 65,536 tokens have no token too many
-pub list_or_limit : (bytes : List ℕ) (ts : List Token) (i : ℕ) → Lexed bytes ts → length ts ≤ 65536 → IsLexLimit bytes i → ⊥
+pub list_or_limit : (bytes : List ℕ) (ts : List Token) (i : ℕ) → Lexed bytes ts → length ts ≤ most_tokens → IsLexLimit bytes i → ⊥
 list_or_limit bytes ts i l few f =
     let a = list_leads bytes ts l in
     let b = behind_leads bytes f.before i f.behind in

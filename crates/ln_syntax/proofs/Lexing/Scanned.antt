@@ -2,6 +2,7 @@
 use Rattle.std.proofs.Common.{◌≡◌, ◌∙◌, ℕ, ◌+◌, ◌-◌, ◌<◌, ◌≤◌, false, List, [], ◌∷◌, ◌++◌, length, drop, refl, ap, sym, arith, subst}
 use Rattle.std.proofs.Common.{length-drop, length-append, Fits, w32, w64}
 use Rattle.std.proofs.lemmas.List.{drop-drop}
+use Rattle.ln_base.specs.Limits.{most_source, most_tokens}
 use Rattle.ln_syntax.specs.declared.lex.token.Kind.{Kind}
 use Rattle.ln_syntax.specs.declared.lex.token.Token.{Token}
 use Rattle.ln_syntax.specs.Lexing.Tokens.{Behind, BeginsNone, IsFirst, IsLexFault, IsLexLimit, Lexed, Skips, Stand, begins_blank, begins_comment}
@@ -9,7 +10,7 @@ use Rattle.ln_syntax.specs.Lexing.Tokens.{Behind, BeginsNone, IsFirst, IsLexFaul
 -- the bytes before this place are these tokens
 pub record Scanned (bytes : List ℕ) (ts : List Token) (at : ℕ) : Type 0 where
   pub within : at ≤ length bytes
-  pub few : length ts ≤ 65536
+  pub few : length ts ≤ most_tokens
   pub tokens : Stand bytes 0 ts at
 
 -- one token more comes after the last
@@ -24,7 +25,7 @@ stand_more bytes at (u ∷ us) to t s a g b f = (s.0, s.1, s.2, s.3, stand_more 
 
 -- a gap and a token more are scanned
 pub scanned_more : {bytes gap_bytes rest : List ℕ} {ts : List Token} {at g n : ℕ} {k : Kind} {t : Token} → Scanned bytes ts at
-    → length ts < 65536 → gap_bytes ≡ drop at bytes → Skips gap_bytes g → rest ≡ drop (at + g) bytes → IsFirst rest n k
+    → length ts < most_tokens → gap_bytes ≡ drop at bytes → Skips gap_bytes g → rest ≡ drop (at + g) bytes → IsFirst rest n k
     → t ≡ record { kind = k; span = record { start = at + g; end = at + g + n } } → Scanned bytes (ts ++ t ∷ []) (at + g + n)
 scanned_more {bytes = bytes} {ts = ts} {at = at} {g = g} {n = n} {k = k} {t = t} s w e d r f q =
     let f2 : IsFirst (drop (at + g) bytes) n k = rw (← r) f in
@@ -74,7 +75,7 @@ fault_behind {ts = ts} s e l d b c q r f =
 -- the token after a gap and as many tokens as there may be is one too many
 pub limit_behind : {bytes gap_bytes rest : List ℕ} {ts : List Token} {at g n : ℕ} {k : Kind} → Scanned bytes ts at → gap_bytes ≡ drop at bytes
     → g ≤ length gap_bytes → Skips gap_bytes g → begins_blank (drop g gap_bytes) ≡ false → begins_comment (drop g gap_bytes) ≡ false
-    → (at + g ≡ length bytes → ⊥) → rest ≡ drop (at + g) bytes → IsFirst rest n k → length ts ≡ 65536 → IsLexLimit bytes (at + g)
+    → (at + g ≡ length bytes → ⊥) → rest ≡ drop (at + g) bytes → IsFirst rest n k → length ts ≡ most_tokens → IsLexLimit bytes (at + g)
 limit_behind {ts = ts} {n = n} {k = k} s e l d b c q r f m =
     record { before = ts; many = m; behind = behind_gap _ _ _ _ _ s e l d b c q; n = n; kind = k; token = subst (λ (xs : List ℕ). IsFirst xs n k) r f }
 
@@ -98,9 +99,9 @@ pub token_nearer : (bytes : List ℕ) (at g : ℕ) {rest : List ℕ} {n : ℕ} {
 token_nearer bytes at g w r f = omega (arith, w, f.some, token_within bytes (at + g) w r f)
 
 -- places within a source are small
-pub fits_32 : (bytes : List ℕ) (n : ℕ) → n ≤ length bytes → length bytes ≤ 1048576 → Fits w32 n
+pub fits_32 : (bytes : List ℕ) (n : ℕ) → n ≤ length bytes → length bytes ≤ most_source → Fits w32 n
 fits_32 bytes n w s = omega (arith, w, s)
 
 -- places within a source fit 64 bits
-pub fits_64 : (bytes : List ℕ) (n : ℕ) → n ≤ length bytes → length bytes ≤ 1048576 → Fits w64 n
+pub fits_64 : (bytes : List ℕ) (n : ℕ) → n ≤ length bytes → length bytes ≤ most_source → Fits w64 n
 fits_64 bytes n w s = omega (arith, w, s)

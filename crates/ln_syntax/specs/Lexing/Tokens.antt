@@ -1,6 +1,7 @@
 -- Which bytes are which tokens.
 use Rattle.std.specs.Prelude.{◌≡◌, ℕ, suc, ◌+◌, ◌-◌, ◌<◌, ◌≤◌, ◌==◌, ◌&&◌, ◌||◌, not, Bool, true, false, if◌then◌else◌}
 use Rattle.std.specs.Prelude.{nat_lt, List, [], ◌∷◌, length, take, drop, Option, Some, None, codes, bytes_eq}
+use Rattle.ln_base.specs.Limits.{most_tokens}
 use Rattle.ln_base.specs.Words.{is_digit, is_letter, is_name_byte, every}
 use Rattle.ln_syntax.specs.declared.lex.byte.Class.{Class}
 use Rattle.ln_syntax.specs.declared.lex.byte.Class.TheVariants.{InName, Digits, InComment}
@@ -132,14 +133,14 @@ pub record Behind (bytes : List ℕ) (before : List Token) (at : ℕ) : Type 0 w
 -- the byte at this place is the first that begins neither blank, comment nor token, and at most 65,536 tokens come before
 pub record IsLexFault (bytes : List ℕ) (at : ℕ) : Type 0 where
   pub before : List Token
-  pub few : length before ≤ 65536
+  pub few : length before ≤ most_tokens
   pub behind : Behind bytes before at
   pub no_token : BeginsNone (drop at bytes)
 
 -- token 65,537 begins at this place
 pub record IsLexLimit (bytes : List ℕ) (at : ℕ) : Type 0 where
   pub before : List Token
-  pub many : length before ≡ 65536
+  pub many : length before ≡ most_tokens
   pub behind : Behind bytes before at
   pub n : ℕ
   pub kind : Kind

@@ -1,6 +1,7 @@
 //! Splits the bytes of a source into tokens, or returns the byte at which the first fault is.
 ghost use Rattle.std.specs.Prelude.{◌≡◌, ℕ, ◌+◌, ◌<◌, ◌≤◌, ◌^◌, false, if◌then◌else◌, bytes_eq};
 ghost use Rattle.std.specs.Prelude.{List, All, IfErr, IfNone, IfOk, IfSome, drop, length};
+ghost use Rattle.ln_base.specs.Limits.{most_source, most_tokens};
 ghost use Rattle.ln_syntax.specs.Lexing.Answers.{IsAnswered};
 ghost use Rattle.ln_syntax.specs.Lexing.Tokens.{BeginsNone, IsFirst, IsLexFault, IsLexLimit, IsSlice, Lexed, RiseFrom};
 ghost use Rattle.ln_syntax.specs.Lexing.Tokens.{Skips, StopsLexing, begins_blank, begins_comment, comment_len, word_kind};
@@ -9,6 +10,7 @@ ghost use Rattle.ln_syntax.specs.declared.lex.token.Token.{Token as Tok};
 
 use crate::lex::byte::{Class, after, blank_at, run, sign, twice_at};
 use crate::lex::token::{Kind, Token};
+use ln_base::limits::MOST_TOKENS;
 use ln_base::word::{digit, letter};
 use ln_base::{NoMemory, Seq, Span};
 use std::alloc::Global;
@@ -32,14 +34,11 @@ impl From<NoMemory> for LexStop {
     }
 }
 
-/// The most tokens that a source may have.
-pub const MOST_TOKENS: usize = 65_536;
-
 /// The tokens of a source, in one pass. The first fault in order of the text decides.
 pub fn tokens(alloc: Global, bytes: &[u8]) -> Result<Seq<Token>, LexStop>
-    requires { length bytes.now ≤ 1048576 }
+    requires { length bytes.now ≤ most_source }
     ensures ok { IfOk result (λ ts. Lexed bytes.now ts) }
-    ensures few { IfOk result (λ ts. length ts ≤ 65536) }
+    ensures few { IfOk result (λ ts. length ts ≤ most_tokens) }
     ensures slices { IfOk result (λ ts. All (IsSlice bytes.now) ts) }
     ensures rising { IfOk result (λ ts. RiseFrom 0 ts) }
     ensures err { IfErr result (λ e. StopsLexing bytes.now e) }
@@ -148,7 +147,7 @@ pub fn one_answer()
     ensures one_fault { (bytes : List ℕ) (i j : ℕ) → IsLexFault bytes i → IsLexFault bytes j → i ≡ j }
     ensures one_limit { (bytes : List ℕ) (i j : ℕ) → IsLexLimit bytes i → IsLexLimit bytes j → i ≡ j }
     ensures list_or_fault { (bytes : List ℕ) (ts : List Tok) (i : ℕ) → Lexed bytes ts → IsLexFault bytes i → ⊥ }
-    ensures list_or_limit { (bytes : List ℕ) (ts : List Tok) (i : ℕ) → Lexed bytes ts → length ts ≤ 65536 → IsLexLimit bytes i → ⊥ }
+    ensures list_or_limit { (bytes : List ℕ) (ts : List Tok) (i : ℕ) → Lexed bytes ts → length ts ≤ most_tokens → IsLexLimit bytes i → ⊥ }
     ensures fault_or_limit { (bytes : List ℕ) (i j : ℕ) → IsLexFault bytes i → IsLexLimit bytes j → ⊥ }
 {}
 

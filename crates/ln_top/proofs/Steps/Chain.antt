@@ -1,6 +1,7 @@
 -- Chains: one lemma on what they come to, and one for each way to run through a list.
 use Rattle.std.proofs.Common.{◌≡◌, ℕ, List, [], ◌∷◌, ◌++◌, length, refl, ap, sym, ◌∙◌, subst, arith, Some, append_assoc}
 use Rattle.std.proofs.lemmas.List.{append-nil}
+use Rattle.ln_base.specs.Limits.{most_file, most_source}
 use Rattle.ln_base.specs.Outside.{Shelf}
 use Rattle.ln_tree.specs.Table.{PredOf}
 use Rattle.ln_parse.proofs.Settling.OneAnswer.{one_table}
@@ -12,9 +13,9 @@ use Rattle.ln_frame.specs.declared.stop.Place.{Place}
 use Rattle.ln_top.specs.declared.words.Command.{Command}
 use Rattle.ln_top.specs.Plan.{Plan}
 use Rattle.ln_frame.specs.Source.{IsRefusedAt, place_at}
-use Rattle.ln_frame.specs.Given.{Outcome, stops, missing, gives, most_file}
+use Rattle.ln_frame.specs.Given.{Outcome, stops, missing, gives}
 use Rattle.ln_top.specs.Steps.{Then, stopped, lacks, goes, Gives, Each, Reads, there, long, absent, Compiles, accepted, refused, Finds, found, none, Suits}
-use Rattle.ln_top.specs.Steps.{suited, unsuited, Prepares, most_source}
+use Rattle.ln_top.specs.Steps.{suited, unsuited, Prepares}
 use Rattle.ln_frame.proofs.Outcomes.{some_same}
 
 -- a step comes to one thing

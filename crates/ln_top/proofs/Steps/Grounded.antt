@@ -1,9 +1,10 @@
 -- What the steps of a plan give: it stands for a table in memory, suits the command, and its files are within their limit.
 use Rattle.std.proofs.Common.{◌≡◌, ℕ, ◌≤◌, List, [], ◌∷◌, length, Option, Some}
+use Rattle.ln_base.specs.Limits.{most_file}
 use Rattle.ln_base.specs.Outside.{Shelf}
 use Rattle.ln_tree.specs.Table.{PredOf, TableOf}
 use Rattle.ln_frame.specs.Source.{IsAccepted}
-use Rattle.ln_frame.specs.Given.{gives, Given, named, most_file}
+use Rattle.ln_frame.specs.Given.{gives, Given, named}
 use Rattle.ln_frame.specs.Ready.{AreShort}
 use Rattle.ln_top.specs.Plan.{Plan}
 use Rattle.ln_top.specs.Steps as step

@@ -4,6 +4,7 @@ use Rattle.std.proofs.Common.{◌∙◌, subst, Option, Some, None, get_or}
 use Rattle.std.specs.Prelude.{slice_get, IfErr, IfSome, Result, Ok, Err}
 use Rattle.std.specs.Result.{IsErrAnd}
 use Rattle.std.proofs.lemmas.List.{drop_more, drop_all}
+use Rattle.ln_base.specs.Limits.{most_file, most_source}
 use Rattle.ln_base.specs.Outside.{Shelf, bytes_of, IsAbsent, Rose, refused}
 use Rattle.ln_tree.specs.declared.pred.Pred.{Pred}
 use Rattle.ln_tree.specs.Table.{PredOf, TableOf, pred_of}
@@ -16,9 +17,8 @@ use Rattle.ln_frame.specs.declared.ready.Ready.{Ready}
 use Rattle.ln_top.specs.declared.words.Command.{Command}
 use Rattle.ln_top.specs.Plan.{Plan}
 use Rattle.ln_frame.specs.Source.{view}
-use Rattle.ln_frame.specs.Given.{Outcome, stops, missing, gives, most_file}
+use Rattle.ln_frame.specs.Given.{Outcome, stops, missing, gives}
 use Rattle.ln_top.specs.Steps.{Then, stopped, lacks, goes, Each, Reads, there, long, absent, Finds, found, none, Compiles, Suits, suited, unsuited, Prepares}
-use Rattle.ln_top.specs.Steps.{most_source}
 use Rattle.ln_frame.specs.Carried.{Halts, tells, unread, short}
 use Rattle.ln_compile.specs.Compiled.{AreNumbered}
 use Rattle.ln_frame.specs.Signature.{Refuses}

@@ -3,6 +3,7 @@ use Rattle.std.proofs.Common.{arith, ◌≡◌, ◌≢◌, ◌⊎◌, inl, inr, 
 use Rattle.std.proofs.Common.{subst, Option, Some, None, Ok, Err}
 use Rattle.std.specs.Prelude.{Result, IfSome}
 use Rattle.std.proofs.lemmas.Option.{none-some}
+use Rattle.ln_base.specs.Limits.{most_file}
 use Rattle.ln_base.specs.Outside.{Shelf, Shown, Rose, refused}
 use Rattle.ln_watch.specs.Panel.{State}
 use Rattle.ln_tree.specs.Table.{PredOf}
@@ -22,7 +23,7 @@ use Rattle.ln_frame.specs.Said.{Said, Count, Rises, IsCalm, put_both, end_status
 use Rattle.ln_frame.specs.Stop.{said_of, why_end}
 use Rattle.ln_top.specs.Plan.{Plan, plan_of}
 use Rattle.ln_top.specs.Steps as step
-use Rattle.ln_frame.specs.Given.{Outcome, stops, missing, gives, Given, most_file}
+use Rattle.ln_frame.specs.Given.{Outcome, stops, missing, gives, Given}
 use Rattle.ln_top.specs.Steps.{Prepares, Each, Finds, Gives, Reads, Then, WhereGiven}
 use Rattle.ln_frame.specs.Carried as c
 use Rattle.ln_frame.specs.Carried.{CarriesOut, Halts, Says, LeavesFronts, LeavesPart, read_line}

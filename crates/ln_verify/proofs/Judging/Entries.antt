@@ -1,6 +1,7 @@
 -- The lines of a listing with their numbers.
 use Rattle.std.proofs.Common.{◌≡◌, ℕ, ◌<◌, ◌+◌, ◌≤◌, zero, suc, List, [], ◌∷◌, length, get_or, arith}
 use Rattle.std.proofs.lemmas.List.{length-map}
+use Rattle.ln_base.specs.Limits.{most_file}
 use Rattle.ln_base.proofs.Forms.Walk.{few_lines}
 use Rattle.ln_cert.specs.declared.part.Entry.{Entry}
 use Rattle.ln_cert.specs.Listing.{AreNumbered, Kept, Listed, parts_of}
@@ -13,7 +14,7 @@ number-at n (e ∷ es) zero d h l = omega (arith, h.0)
 number-at n (e ∷ es) (suc i) d h l = omega (arith, number-at (n + 1) es i d h.1 (omega (arith, l)))
 
 -- a listing has no more lines than its text has bytes
-pub entries-few : (l : Listed) → Kept l → length l.entries ≤ 67108864
+pub entries-few : (l : Listed) → Kept l → length l.entries ≤ most_file
 entries-few l k = omega (
   arith,
   k.short,

@@ -4,6 +4,7 @@ use Rattle.ln_base.specs.declared.span.Span.{Span}
 use Rattle.ln_algebra.specs.Tree.{Tree}
 use Rattle.ln_algebra.specs.Weights.{weighted_sum}
 use Rattle.std.specs.Prelude.{◌<◌, ◌≤◌}
+use Rattle.ln_base.specs.Limits.{most_stages, most_weight}
 use Rattle.ln_tree.specs.declared.pred.Pred.{Pred}
 use Rattle.ln_tree.specs.declared.shape.Shape.{Shape}
 use Rattle.ln_tree.specs.declared.shape.VarInfo.{VarInfo}
@@ -43,7 +44,7 @@ some_terms p f a z e = a.nonzero (z.0 e)
 
 -- its normal polynomial has few stages
 pub few_lists : (p : Pred) (f : Sparse) → IsSound (pred_of p) → IsNormal (length p.shape.vars) (root_of (pred_of p)) f
-    → (lists : List (List (List ℕ))) → AreStageLists p.shape.sites p.shape.vars f lists → Passes (length p.shape.vars) f 65536 131072 lists → ⊥
+    → (lists : List (List (List ℕ))) → AreStageLists p.shape.sites p.shape.vars f lists → Passes (length p.shape.vars) f most_stages most_weight lists → ⊥
 few_lists p f a n lists l h = a.staged (record { poly = f; normal = n; lists = lists; are_lists = l; passes = h })
 
 -- and all scaled derivatives of it together weigh at most 2^127 - 1

@@ -4,6 +4,7 @@ use Rattle.std.specs.Prelude.{nat_le, count_by, bytes_eq}
 use Rattle.std.specs.List.{list_all}
 use Rattle.std.proofs.lemmas.Bool.{and_parts}
 use Rattle.std.proofs.lemmas.Slice.Eq.{bytes_eq-Decides}
+use Rattle.ln_base.specs.Limits.{most_tokens}
 use Rattle.ln_tree.specs.Table.{CoordOf, SiteOf, PredOf}
 use Rattle.ln_tree.specs.Whole.{differ, is_range, site_whole, is_one_of, is_site_said, is_param_said, arg_name, vars_behind, same_vars}
 use Rattle.ln_tree.specs.Whole.{nesting, pred_whole, item_names, text_tokens}
@@ -49,7 +50,7 @@ parts-named t ss h a =
     let t1 = list_all site_whole t.sites in
     let t2 = list_all is_range t.params in
     let t3 = list_all (pred_whole t.sites t.params) t.preds in
-    let d = and_parts (t1 && t2 && t3 && differ (item_names t)) (nat_le (text_tokens t) 65536) h in
+    let d = and_parts (t1 && t2 && t3 && differ (item_names t)) (nat_le (text_tokens t) most_tokens) h in
     let c = and_parts (t1 && t2 && t3) (differ (item_names t)) d.0 in
     let b = and_parts (t1 && t2) t3 c.0 in
     each-named t.sites t.params t.preds ss b.1 a

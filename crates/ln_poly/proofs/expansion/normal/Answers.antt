@@ -5,7 +5,7 @@ use Rattle.ln_tree.specs.Formula.{formula, tree}
 use Rattle.ln_algebra.specs.Sizes.{two}
 use Rattle.ln_poly.specs.Expansion.{closed_lets, closed_root, expanded, expanded_lets}
 use Rattle.ln_poly.proofs.TermLists.Counting.{no-terms-zero, zero-no-terms}
-use Rattle.ln_poly.proofs.Expansions.Expanding.{few-both, stop-before, stop-behind}
+use Rattle.ln_poly.proofs.Expansions.Expanding.{few-both, stop-after, stop-before}
 use Rattle.ln_poly.proofs.Expansions.Lets.{pred-fit, root-degrees, root-fits, root-light}
 use Rattle.ln_poly.proofs.Loads.Sizing.{pred-expands}
 use Rattle.ln_poly.proofs.Loads.Room.{two-sizes}
@@ -60,7 +60,7 @@ returns c =
       terms = IfOk-weaker c.expand.result _ _ (λ f q. q.terms) k;
       degrees = IfOk-weaker c.expand.result _ _ (λ f q. root-degrees n two root f (two-sizes n) whole q.normal) k;
       zero = IfOk-weaker c.expand.result _ _ (λ f q. (no-terms-zero n root f q.normal, zero-no-terms n root f q.normal)) k;
-      err = MatchResult-weaker c.expand.result e (λ f t. tt) (λ s q. stop-behind n lets nodes s a q);
+      err = MatchResult-weaker c.expand.result e (λ f t. tt) (λ s q. stop-after n lets nodes s a q);
     }
 
 pub returns-in_err-polys-clause-err : goal.returns-in_err-polys-clause-err

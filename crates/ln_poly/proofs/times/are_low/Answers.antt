@@ -1,5 +1,5 @@
 use Rattle.std.proofs.Common.{arith}
-use Rattle.ln_poly.proofs.Sorting.Behind.{low-none, low-tested, none-low}
+use Rattle.ln_poly.proofs.Sorting.Concatenated.{low-none, low-tested, none-low}
 use Rattle.ln_poly.proofs.times.are_low.Goals as goal
 
 pub returns-then-n-eq0 : goal.returns-then-n-eq0

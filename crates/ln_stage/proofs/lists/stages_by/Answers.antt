@@ -62,19 +62,19 @@ pub returns-clause-stages : goal.returns-clause-stages
 returns-clause-stages c =
     let h = has-terms c.args.s.now.kept c.terms-terms.ensures.value c.terms-terms.ensures.form c.requires.below in
     let q = final-is (along-by h c.args.by_degree) c.args.most c.args.heavy (rw c.new-tally.ensures at c.in_ok-found.ensures.ok)
-    c.of.ensures c.into_blocks-blocks.ensures.blocks in
+    c.of.ensures c.in_ok-blocks.ensures.blocks in
     rw (← c.terms-terms.ensures.value, q) (stages-by h c.args.by_degree c.args.most c.args.heavy)
 
 pub returns-clause-count : goal.returns-clause-count
 returns-clause-count c =
     let h = has-terms c.args.s.now.kept c.terms-terms.ensures.value c.terms-terms.ensures.form c.requires.below in
     let a = rw c.new-tally.ensures at c.in_ok-found.ensures.ok in
-    rw (final-is (along-by h c.args.by_degree) c.args.most c.args.heavy a c.of.ensures c.into_blocks-blocks.ensures.blocks)
+    rw (final-is (along-by h c.args.by_degree) c.args.most c.args.heavy a c.of.ensures c.in_ok-blocks.ensures.blocks)
     (final-count (along-by h c.args.by_degree) c.args.most c.args.heavy a)
 
 pub returns-clause-weight : goal.returns-clause-weight
 returns-clause-weight c =
     let h = has-terms c.args.s.now.kept c.terms-terms.ensures.value c.terms-terms.ensures.form c.requires.below in
     let a = rw c.new-tally.ensures at c.in_ok-found.ensures.ok in
-    let q = final-is (along-by h c.args.by_degree) c.args.most c.args.heavy a c.of.ensures c.into_blocks-blocks.ensures.blocks in
-    rw (← c.terms-terms.ensures.value, q) (final-weight (along-by h c.args.by_degree) c.args.most c.args.heavy a c.into_blocks-blocks.ensures.within)
+    let q = final-is (along-by h c.args.by_degree) c.args.most c.args.heavy a c.of.ensures c.in_ok-blocks.ensures.blocks in
+    rw (← c.terms-terms.ensures.value, q) (final-weight (along-by h c.args.by_degree) c.args.most c.args.heavy a c.in_ok-blocks.ensures.within)

@@ -1,6 +1,6 @@
 use Rattle.std.proofs.Common.{◌≡◌, map, drop, length, string_bytes}
+use Rattle.ln_base.specs.Limits.{most_file}
 use Rattle.ln_top.specs.Steps.{Reads}
-use Rattle.ln_frame.specs.Given.{most_file}
 use Rattle.ln_top.proofs.Steps.Chain.{Behind}
 use Rattle.ln_top.proofs.prepare.texts.Given as goal
 

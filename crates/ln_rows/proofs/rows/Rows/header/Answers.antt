@@ -1,19 +1,15 @@
 use Rattle.std.proofs.Common.{◌≡◌, ◌∷◌, List, ℕ, true, ap, rules, sym, ◌∙◌, true≢false}
-use Rattle.ln_rows.specs.Columns.{column_names}
+use Rattle.ln_rows.specs.Header.{names_of}
+use Rattle.ln_rows.proofs.HeaderLaws.{header_is}
 use Rattle.ln_rows.proofs.Records.RowsLemmas.{takes_some, names_cut, not_header}
 use Rattle.ln_rows.proofs.rows.Rows.header.Goals as goal
 
-pub returns-clause-right : goal.returns-clause-right
-returns-clause-right c = λ e.
+pub returns-clause-header : goal.returns-clause-header
+returns-clause-header c =
     let there : c.in_ok-found.found ≡ true = search rules in
     let s = takes_some _ _ _ _ _ c.in_ok-found.ensures.takes there in
-    let cut = names_cut s.fields _ (column_names c.args.t.now.sites c.args.t.now.params c.args.p.now.args) c.room.result s.first c.room.ensures s.few in
-    sym c.self.view_is ∙ s.next ∙ ap (λ (fs : List (List ℕ)). fs ∷ c.take.new.self) (cut.0 (c.header.ensures.0 e))
-
-pub returns-clause-wrong : goal.returns-clause-wrong
-returns-clause-wrong c = λ e others h.
-    let there : c.in_ok-found.found ≡ true = search rules in
-    let s = takes_some _ _ _ _ _ c.in_ok-found.ensures.takes there in
-    let names : List (List ℕ) = column_names c.args.t.now.sites c.args.t.now.params c.args.p.now.args in
+    let names : List (List ℕ) = names_of c.args.t.now c.args.p.now in
     let cut = names_cut s.fields _ names c.room.result s.first c.room.ensures s.few in
-    not_header s.fields names _ _ others (sym c.self.view_is ∙ s.next) (λ q. true≢false (sym (c.header.ensures.1 (cut.1 q)) ∙ e)) h
+    let next = sym c.self.view_is ∙ s.next in
+    header_is names _ _ c.header.result (λ e. next ∙ ap (λ (fs : List (List ℕ)). fs ∷ c.take.new.self) (cut.0 (c.header.ensures.0 e)))
+    (λ e others h. not_header s.fields names _ _ others next (λ q. true≢false (sym (c.header.ensures.1 (cut.1 q)) ∙ e)) h)

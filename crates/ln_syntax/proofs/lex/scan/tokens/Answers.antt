@@ -1,4 +1,5 @@
 use Rattle.std.proofs.Common.{◌≡◌, ◌+◌, ◌<◌, length, rules, refl}
+use Rattle.ln_base.specs.Limits.{most_tokens}
 use Rattle.ln_syntax.proofs.Lexing.Scanned.{fault_behind, lexed_all, limit_behind, scanned_more, gap_within, token_within, token_nearer, fits_32, fits_64}
 use Rattle.ln_syntax.proofs.Lexing.Slices.{stand_slices, stand_rises}
 use Rattle.ln_syntax.proofs.lex.scan.tokens.Goals as goal
@@ -11,7 +12,7 @@ returns-then-start-bytes-clause-rising c = stand_rises c.args.bytes.now 0 c.toke
 
 pub tokens-preserved : goal.tokens-preserved
 tokens-preserved c =
-    let few : length c.tokens.tokens < 65536 = search rules in
+    let few : length c.tokens.tokens < most_tokens = search rules in
     rw c.in_ok-push.ensures.ok (scanned_more c.tokens.invariant few c.after.ensures c.gap.ensures.skips c.after-in-tokens.ensures c.in-Some.ensures.some refl)
 
 pub returns-then-start-bytes-clause-ok : goal.returns-then-start-bytes-clause-ok
@@ -24,7 +25,7 @@ returns-in_default-clause-err c =
 
 pub returns-then-len-eq-MOST_TOKENS-clause-err : goal.returns-then-len-eq-MOST_TOKENS-clause-err
 returns-then-len-eq-MOST_TOKENS-clause-err c =
-    let many : length c.tokens.tokens ≡ 65536 = search rules in
+    let many : length c.tokens.tokens ≡ most_tokens = search rules in
     limit_behind c.tokens.invariant c.after.ensures c.gap.ensures.within c.gap.ensures.skips c.gap.ensures.no_blank c.gap.ensures.no_comment
     c.if-start-bytes.false c.after-in-tokens.ensures c.in-Some.ensures.some many
 

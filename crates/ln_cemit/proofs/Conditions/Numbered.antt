@@ -32,17 +32,18 @@ fine_says calls x h =
     record { words = p.0; divide = q.0; few = leb-true (parens x) 12 r.0; call = r.1 }
 
 -- statements in which the declarations directly in them are numbered upwards from n on, and at most d braces are round a place
-pub data Stands (name : ℕ → List ℕ) (top : ℕ) (calls : Bool) : ℕ → ℕ → Body → Type 0 where
-  none : {n d : ℕ} → Stands name top calls n d c.End
-  back : {n d : ℕ} {x : Expr} → fine calls x ≡ true → Stands name top calls n d (c.Return 2 x c.End)
-  decl : {n d : ℕ} {t : CType} {x : Expr} {b : Body} → n < top → fine calls x ≡ true → Stands name top calls (suc n) d b
-      → Stands name top calls n d (c.Decl 2 t (name n) x b)
-  group : {n i d : ℕ} {a b : Body} → Stands name top calls i d a → Stands name top calls n (suc d) b → Stands name top calls n (suc d) (c.Group 2 a b)
-  when : {n i d : ℕ} {x : Expr} {a b : Body} → fine calls x ≡ true → Stands name top calls i d a → Stands name top calls n (suc d) b
-      → Stands name top calls n (suc d) (c.If 2 x a b)
+pub data IsNumbered (name : ℕ → List ℕ) (top : ℕ) (calls : Bool) : ℕ → ℕ → Body → Type 0 where
+  none : {n d : ℕ} → IsNumbered name top calls n d c.End
+  back : {n d : ℕ} {x : Expr} → fine calls x ≡ true → IsNumbered name top calls n d (c.Return 2 x c.End)
+  decl : {n d : ℕ} {t : CType} {x : Expr} {b : Body} → n < top → fine calls x ≡ true → IsNumbered name top calls (suc n) d b
+      → IsNumbered name top calls n d (c.Decl 2 t (name n) x b)
+  group : {n i d : ℕ} {a b : Body} → IsNumbered name top calls i d a → IsNumbered name top calls n (suc d) b
+      → IsNumbered name top calls n (suc d) (c.Group 2 a b)
+  when : {n i d : ℕ} {x : Expr} {a b : Body} → fine calls x ≡ true → IsNumbered name top calls i d a → IsNumbered name top calls n (suc d) b
+      → IsNumbered name top calls n (suc d) (c.If 2 x a b)
 
 module _ (name : ℕ → List ℕ) (top : ℕ) (calls : Bool) where
-  exprs_pass : (q : Expr → Bool) → ((x : Expr) → fine calls x ≡ true → q x ≡ true) → {n d : ℕ} {b : Body} → Stands name top calls n d b
+  exprs_pass : (q : Expr → Bool) → ((x : Expr) → fine calls x ≡ true → q x ≡ true) → {n d : ℕ} {b : Body} → IsNumbered name top calls n d b
       → each_expr q b ≡ true
   exprs_pass q h none = refl
   exprs_pass q h (back {x = x} f) = rw (h x f) refl
@@ -50,28 +51,28 @@ module _ (name : ℕ → List ℕ) (top : ℕ) (calls : Bool) where
   exprs_pass q h (group s t) = rw (exprs_pass q h s, exprs_pass q h t) refl
   exprs_pass q h (when {x = x} f s t) = rw (h x f, exprs_pass q h s, exprs_pass q h t) refl
 
-  names_pass : (q : List ℕ → Bool) → ((i : ℕ) → i < top → q (name i) ≡ true) → {n d : ℕ} {b : Body} → Stands name top calls n d b → each_name q b ≡ true
+  names_pass : (q : List ℕ → Bool) → ((i : ℕ) → i < top → q (name i) ≡ true) → {n d : ℕ} {b : Body} → IsNumbered name top calls n d b → each_name q b ≡ true
   names_pass q h none = refl
   names_pass q h (back f) = refl
   names_pass q h (decl {n = n} l f s) = rw (h n l, names_pass q h s) refl
   names_pass q h (group s t) = rw (names_pass q h s, names_pass q h t) refl
   names_pass q h (when f s t) = rw (names_pass q h s, names_pass q h t) refl
 
-  few_braces : {n d : ℕ} {b : Body} → Stands name top calls n d b → braces_in b ≤ d
+  few_braces : {n d : ℕ} {b : Body} → IsNumbered name top calls n d b → braces_in b ≤ d
   few_braces none = omega arith
   few_braces (back f) = omega arith
   few_braces (decl l f s) = few_braces s
   few_braces (group s t) = omega (arith, few_braces s, few_braces t)
   few_braces (when f s t) = omega (arith, few_braces s, few_braces t)
 
-  few_parens : {n d : ℕ} {b : Body} → Stands name top calls n d b → parens_in b ≤ 13
+  few_parens : {n d : ℕ} {b : Body} → IsNumbered name top calls n d b → parens_in b ≤ 13
   few_parens none = omega arith
   few_parens (back {x = x} f) = omega (arith, (fine_says calls x f).few)
   few_parens (decl {x = x} l f s) = omega (arith, (fine_says calls x f).few, few_parens s)
   few_parens (group s t) = omega (arith, few_parens s, few_parens t)
   few_parens (when {x = x} f s t) = omega (arith, (fine_says calls x f).few, few_parens s, few_parens t)
 
-  one_line : {n d : ℕ} {b : Body} → Stands name top calls n d b → flat b ≡ b
+  one_line : {n d : ℕ} {b : Body} → IsNumbered name top calls n d b → flat b ≡ b
   one_line none = refl
   one_line (back f) = refl
   one_line (decl l f s) = rw (one_line s) refl
@@ -84,35 +85,35 @@ module _ (name : ℕ → List ℕ) (top : ℕ) (calls : Bool) where
     other_name i m l h = false_from_ne_true (bytes_eq (name i) (name m))
         (λ e. let r : i ≡ m = differ i m (omega (arith, l, h)) h ((bytes_eq-Decides (name i) (name m)).0 e) in omega (arith, r, l))
 
-    later : (i : ℕ) {n d : ℕ} {b : Body} → i < n → Stands name top calls n d b → among (direct b) (name i) ≡ false
+    later : (i : ℕ) {n d : ℕ} {b : Body} → i < n → IsNumbered name top calls n d b → among (direct b) (name i) ≡ false
     later i h none = refl
     later i h (back f) = refl
     later i h (decl {n = n} l f s) = rw (other_name i n h l, later i (omega (arith, h)) s) refl
     later i h (group s t) = later i h t
     later i h (when f s t) = later i h t
 
-    all_differ : {n d : ℕ} {b : Body} → Stands name top calls n d b → distinct (direct b) ≡ true
+    all_differ : {n d : ℕ} {b : Body} → IsNumbered name top calls n d b → distinct (direct b) ≡ true
     all_differ none = refl
     all_differ (back f) = refl
     all_differ (decl {n = n} l f s) = rw (later n (omega arith) s, all_differ s) refl
     all_differ (group s t) = all_differ t
     all_differ (when f s t) = all_differ t
 
-    differ_inside : {n d : ℕ} {b : Body} → Stands name top calls n d b → differ_within b ≡ true
+    differ_inside : {n d : ℕ} {b : Body} → IsNumbered name top calls n d b → differ_within b ≡ true
     differ_inside none = refl
     differ_inside (back f) = refl
     differ_inside (decl l f s) = differ_inside s
     differ_inside (group s t) = rw (all_differ s, differ_inside s, differ_inside t) refl
     differ_inside (when f s t) = rw (all_differ s, differ_inside s, differ_inside t) refl
 
-    call_where : (v : Bool) → ((x : Expr) → fine calls x ≡ true → (v || calls_none x) ≡ true) → {n d : ℕ} {b : Body} → Stands name top calls n d b
+    call_where : (v : Bool) → ((x : Expr) → fine calls x ≡ true → (v || calls_none x) ≡ true) → {n d : ℕ} {b : Body} → IsNumbered name top calls n d b
         → (v || each_expr calls_none b) ≡ true
     call_where true h s = refl
     call_where false h s = exprs_pass calls_none h s
 
     -- a function of such statements keeps the conditions, where the names are free and its own is a NAME
     pub meets : (names : List (List ℕ)) (own : Bool) (x : List ℕ) {d : ℕ} (b : Body) → AreFree names name top → is_c_name x ≡ true → is_own x ≡ true
-        → d ≤ 63 → Stands name top calls 0 d b → MeetsConditions names (record { own = own; name = x; indexed = calls; body = b; end = 2 })
+        → d ≤ 63 → IsNumbered name top calls 0 d b → MeetsConditions names (record { own = own; name = x; indexed = calls; body = b; end = 2 })
     meets names own x b free w o l s =
         let small : nat_le (parens_in b) 16 ≡ true = le-leb _ _ (omega (arith, few_parens s)) in
         let braces : nat_le (suc (braces_in b)) 64 ≡ true = le-leb _ _ (omega (arith, few_braces s, l)) in

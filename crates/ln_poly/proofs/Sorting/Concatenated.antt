@@ -44,9 +44,9 @@ above-append : (a b : Pairs) (v : ℕ) → IsAbove a v → IsAbove b v → IsAbo
 above-append [] b v h k = k
 above-append (p ∷ a) b v h k = (h.0, above-append a b v h.1 k)
 
--- in `behind` all pairs so far are below the next one
-pub behind-above : (out a b : Pairs) (i : ℕ) → out ≡ a ++ take i b → AreLow a b → IsRising b → i < length b → IsAbove out (get_or b i (0, 0)).0
-behind-above out a b i e l r h =
+-- in `concatenated` all pairs so far are below the next one
+pub concatenated-above : (out a b : Pairs) (i : ℕ) → out ≡ a ++ take i b → AreLow a b → IsRising b → i < length b → IsAbove out (get_or b i (0, 0)).0
+concatenated-above out a b i e l r h =
     subst (λ z. IsAbove z (get_or b i (0, 0)).0) (sym e) (above-append a (take i b) (get_or b i (0, 0)).0 (above-more a b i l r h) (above-take b i r h))
 
 -- each exponent of rising pairs is above 0
@@ -61,9 +61,9 @@ exponent-append v [] b = omega arith
 exponent-append v (p ∷ a) b = omega (arith, exponent-append v a b)
 
 -- the exponents of one list of pairs followed by another are the sums of those of both
-pub behind-times : (e a b : Pairs) → (e ≡ a ++ b) × IsRising e → IsTimes e a b
-behind-times e a b r = (λ v. ap (exponent v) r.0 ∙ exponent-append v a b, r.1)
+pub concatenated-times : (e a b : Pairs) → (e ≡ a ++ b) × IsRising e → IsTimes e a b
+concatenated-times e a b r = (λ v. ap (exponent v) r.0 ∙ exponent-append v a b, r.1)
 
 -- the same where the second list comes first
 pub turned-times : (e a b : Pairs) → (e ≡ b ++ a) × IsRising e → IsTimes e a b
-turned-times e a b r = (λ v. let q : exponent v e ≡ exponent v b + exponent v a = (behind-times e b a r).0 v in omega (arith, q), r.1)
+turned-times e a b r = (λ v. let q : exponent v e ≡ exponent v b + exponent v a = (concatenated-times e b a r).0 v in omega (arith, q), r.1)

@@ -1,11 +1,11 @@
 use Rattle.std.proofs.Common.{arith}
 use Rattle.ln_tree.proofs.Powers.{small-at}
-use Rattle.ln_poly.proofs.Sorting.Behind.{behind-above, positive-at}
-use Rattle.ln_poly.proofs.times.behind.Goals as goal
+use Rattle.ln_poly.proofs.Sorting.Concatenated.{concatenated-above, positive-at}
+use Rattle.ln_poly.proofs.times.concatenated.Goals as goal
 
 pub push-requires-clause-above : goal.push-requires-clause-above
 push-requires-clause-above c =
-    behind-above _ c.args.a.now c.args.b.now c.pairs.p-index c.pairs.invariant c.requires.low c.requires.rising (omega (arith, c.pairs-test.true))
+    concatenated-above _ c.args.a.now c.args.b.now c.pairs.p-index c.pairs.invariant c.requires.low c.requires.rising (omega (arith, c.pairs-test.true))
 
 pub push-requires-clause-positive : goal.push-requires-clause-positive
 push-requires-clause-positive c = positive-at _ _ c.requires.rising (omega (arith, c.pairs-test.true))
