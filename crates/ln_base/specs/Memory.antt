@@ -1,16 +1,17 @@
 -- What files and streams in memory hold, and when their calls fail.
 use Rattle.std.specs.Prelude.{◌≡◌, ◌⊎◌, ◌↔◌, ℕ, ◌-◌, ◌<◌, min, List, length, Bool, IsTrue, Option, None, Result, IfOk, IfSome, IsErr, OnErr, OnOk}
 use Rattle.std.specs.Io.{ReadsAtMost}
-use Rattle.ln_base.specs.Outside.{Gives, HasCause, Shelf, Shown, counted, port_bytes}
+use Rattle.ln_base.specs.Outside.{Gives, HasCause, Shelf, Shown, counted, counted_on, port_bytes}
 use Rattle.ln_base.specs.declared.outside.Failed.{Failed}
 use Rattle.ln_base.specs.declared.outside.Port.{Port}
 
--- files in memory: names with their bytes, the numbers of the calls that fail, and how many calls and faults there were
+-- files in memory: names with their bytes, the numbers of the calls that fail, and how many calls, faults and bytes that were read there were
 pub record FilesHeld : Type 0 where
   pub shelf : Shelf
   pub fails : List ℕ
   pub calls : ℕ
   pub faults : ℕ
+  pub given : ℕ
 
 -- two streams in memory: their bytes, the room of each, the most that one `put` takes, the numbers of the calls that fail, and how
 -- many calls and faults there were
@@ -28,13 +29,16 @@ abbrev pub handed : List ℕ → ℕ → ℕ → ℕ
 handed content at room = min room (length content - at)
 
 -- how bytes of a file that may be missing were read: each field is the clause of `read_at` with that name
-pub record HandedOver (content : Option (List ℕ)) (at : ℕ) (listed : Bool) (before count : ℕ) (r : Result ℕ Failed) (buf : List ℕ) : Type 0 where
+pub record HandedOver (content : Option (List ℕ)) (at : ℕ) (listed : Bool) (before count had has : ℕ) (r : Result ℕ Failed)
+    (buf : List ℕ) : Type 0 where
   pub bound : ReadsAtMost r buf
   pub bytes : IfOk r (λ n. IfSome content (λ bs. Gives bs at n buf))
   pub absent : content ≡ None → IsErr r × (count ≡ before)
   pub cause : HasCause before count r (content ≡ None)
   pub step : OnErr r ((count ≡ counted before) ⊎ (content ≡ None))
   pub fine : OnOk r (count ≡ before)
+  pub given : IfOk r (λ n. has ≡ counted_on had n)
+  pub none : OnErr r (has ≡ had)
   pub exact : IsErr r ↔ (IsTrue listed ⊎ (content ≡ None))
   pub handed : IfOk r (λ n. IfSome content (λ bs. n ≡ handed bs at (length buf)))
 

@@ -9,6 +9,7 @@
 
 pub mod calls;
 pub mod decimal;
+mod gather;
 pub mod limits;
 pub mod lines;
 pub mod memory;
@@ -26,7 +27,7 @@ pub mod word;
 pub use calls::Call;
 pub use decimal::Reading;
 pub use memory::{MemConsole, MemFiles};
-pub use outside::{Console, Failed, Files, NoMemory, Port};
+pub use outside::{Console, Failed, Files, NoMemory, Port, ReportsNoMemory};
 pub use place::line_col;
 pub use seq::Seq;
 pub use sign::Sign;

@@ -1,4 +1,4 @@
-//! Reads the files on a disk by their names, and counts each read that fails.
+//! Reads the files on a disk by their names, and counts each read that fails and the bytes of those that don't.
 ghost use Rattle.std.specs.Prelude.{◌≡◌, ◌<◌, None, true, length, take, IfOk, OnOk};
 ghost use Rattle.std.specs.Io.{ReadsAtMost};
 ghost use Rattle.std.specs.Io.KnownBytes.{Consumes, IsAtEnd};
@@ -38,17 +38,20 @@ pub struct DiskFiles<'a, R: rt::Files> {
     rt: &'a R,
     open: Option<Open<R::File>>,
     faults: u64,
+    given: u64,
 }
 
 impl<'a, R: rt::Files> DiskFiles<'a, R> {
-    /// The files of this runtime, none of them open and no fault counted.
+    /// The files of this runtime, none of them open and nothing counted.
     pub fn new(rt: &'a R) -> Self
-        ensures { result.faults ≡ 0 }
+        ensures faults { result.faults ≡ 0 }
+        ensures given { result.given ≡ 0 }
     {
         DiskFiles {
             rt,
             open: None,
             faults: 0,
+            given: 0,
         }
     }
 }
@@ -133,10 +136,13 @@ impl<R: rt::Files> Files for DiskFiles<'_, R> {
 
     ghost faults = { λ d. d.faults };
 
+    ghost given = { λ d. d.given };
+
     fn read_at(&mut self, name: &str, at: u64, buf: &mut [u8]) -> Result<usize, Failed> {
         let read = read_from(self.rt, &mut self.open, name, at, buf);
-        if read.is_err() {
-            self.faults = self.faults.saturating_add(1);
+        match read {
+            Ok(n) => self.given = self.given.saturating_add(n as u64),
+            Err(_) => self.faults = self.faults.saturating_add(1),
         }
         read
     }

@@ -1,10 +1,17 @@
 //! The words of a command line.
+ghost use Rattle.std.specs.Prelude.{◌≡◌};
+ghost use Rattle.std.specs.IoError.{error_kind};
 
-use ln_base::NoMemory;
+use ln_base::{NoMemory, ReportsNoMemory};
 use std::alloc::Global;
 use std::env;
 use std::env::Env;
-use std::io::ErrorKind;
+use std::io::{Error, ErrorKind};
+
+/// An error of the system's reports a refused allocation where it says so itself.
+impl ReportsNoMemory for Error {
+    ghost reports = { λ e. error_kind e ≡ ErrorKind.OutOfMemory };
+}
 
 /// The words after the program's name. Where one of them isn't text there are none, which is a faulty command line.
 pub fn words_of(rt: &(impl Env + Alloc<A = Global>)) -> Result<Vec<String>, NoMemory> {
@@ -17,7 +24,7 @@ pub fn words_of(rt: &(impl Env + Alloc<A = Global>)) -> Result<Vec<String>, NoMe
         }
         Err(e) => {
             if e.kind() == ErrorKind::OutOfMemory {
-                return Err(NoMemory::reported());
+                return Err(NoMemory::reported_by(&e));
             }
         }
     }

@@ -1,10 +1,10 @@
 //! Records by csv's own reader.
-ghost use Rattle.std.specs.Prelude.{◌≡◌, [], ◌∷◌, IfOk};
+ghost use Rattle.std.specs.Prelude.{◌≡◌, [], ◌∷◌, IfOk, ⊤};
 ghost use Rattle.csv.specs.Records.{fields_of};
 ghost use Rattle.ln_rows.specs.Left.{records_of, TakesWithin};
 
-use csv::{ByteRecord, Reader, ReaderBuilder};
-use ln_base::NoMemory;
+use csv::{ByteRecord, Error, Reader, ReaderBuilder};
+use ln_base::{NoMemory, ReportsNoMemory};
 use std::alloc::Global;
 use std::io::{Chain, Read};
 use std::marker::Model;
@@ -25,6 +25,11 @@ impl<'a> Model for Quoted<'a> {
     ghost invariant = { λ q. MayRead q.reader };
 }
 
+/// An error of csv's reports a refused allocation where its reader reads bytes in memory, with lengths that may differ: it has no other cause there.
+impl ReportsNoMemory for Error {
+    ghost reports = { λ _. ⊤ };
+}
+
 fn line_end() -> &'static [u8]
     ensures { result.now ≡ 10 ∷ [] }
 {
@@ -42,7 +47,7 @@ impl<'a> Quoted<'a> {
             .from_reader(alloc, line_end().chain(bytes));
         match reader.set_byte_headers(ByteRecord::new(alloc)) {
             Ok(()) => Ok(Quoted { reader }),
-            Err(_) => Err(NoMemory::reported()),
+            Err(e) => Err(NoMemory::reported_by(&e)),
         }
     }
 
@@ -50,8 +55,9 @@ impl<'a> Quoted<'a> {
     pub(crate) fn next(&mut self, most: usize, into: &mut ByteRecord) -> Result<bool, NoMemory>
         ensures { IfOk result (λ found. TakesWithin most found self.old self.new (fields_of into.new)) }
     {
-        let Ok(found) = self.reader.read_byte_record(into) else {
-            return Err(NoMemory::reported());
+        let found = match self.reader.read_byte_record(into) {
+            Ok(found) => found,
+            Err(e) => return Err(NoMemory::reported_by(&e)),
         };
         let count = into.len().min(most);
         into.truncate(count);

@@ -4,7 +4,6 @@ ghost use Rattle.ln_poly.specs.Sparse.{AreBelow};
 
 use crate::sources::{poly_of, table};
 use crate::spheres::SPHERE;
-use ln_base::NoMemory;
 use ln_poly::Poly;
 use ln_stage::{StageStop, graded_stages};
 use ln_tree::{Pred, Shape};
@@ -48,40 +47,46 @@ fn counts(
     Ok((st.count(), st.blocks()))
 }
 
-/// The count and the blocks of the one predicate.
+/// The count and the blocks of the one predicate; none without one, or where it has no polynomial.
 fn counts_of(
     alloc: Global,
     preds: &[Pred],
     most: u64,
     heavy: u32,
-) -> Result<(u64, usize), StageStop> {
+) -> Option<Result<(u64, usize), StageStop>> {
     match preds {
         [p] => match poly_of(alloc, p) {
-            Ok(f) => counts(alloc, &f, &p.shape, most, heavy),
-            Err(_) => Err(StageStop::NoMemory(NoMemory::reported())),
+            Ok(f) => Some(counts(alloc, &f, &p.shape, most, heavy)),
+            Err(_) => None,
         },
-        _ => Err(StageStop::NoMemory(NoMemory::reported())),
+        _ => None,
     }
 }
 
-/// The count and the blocks of the one predicate of a source. A source without one counts as out of memory.
-fn counted(alloc: Global, source: &str, most: u64, heavy: u32) -> Result<(u64, usize), StageStop> {
-    match table(alloc, source) {
-        Some(t) => counts_of(alloc, t.preds.as_slice(), most, heavy),
-        None => Err(StageStop::NoMemory(NoMemory::reported())),
-    }
+/// The count and the blocks of the one predicate of a source, if it has one.
+fn counted(
+    alloc: Global,
+    source: &str,
+    most: u64,
+    heavy: u32,
+) -> Option<Result<(u64, usize), StageStop>> {
+    let t = table(alloc, source)?;
+    counts_of(alloc, t.preds.as_slice(), most, heavy)
 }
 
 /// Does a limit stop the stages of a source?
 fn is_past(alloc: Global, source: &str, most: u64, heavy: u32) -> bool {
-    matches!(counted(alloc, source, most, heavy), Err(StageStop::Stages))
+    matches!(
+        counted(alloc, source, most, heavy),
+        Some(Err(StageStop::Stages))
+    )
 }
 
 /// Has a source as many stages as the limit allows, and this many blocks?
 fn is_full(alloc: Global, source: &str, most: u64, heavy: u32, blocks: usize) -> bool {
     match counted(alloc, source, most, heavy) {
-        Ok(found) => found.0 == most && found.1 == blocks,
-        Err(_) => false,
+        Some(Ok(found)) => found.0 == most && found.1 == blocks,
+        _ => false,
     }
 }
 
@@ -93,7 +98,7 @@ fn orientation_has_48_stages_of_weight_24(rt: HostRuntime) {
         is_full(alloc, ORIENT, 48, 24, 13)
             && is_past(alloc, ORIENT, 47, 24)
             && is_past(alloc, ORIENT, 48, 23)
-            && matches!(counted(alloc, NOTHING, 48, 24), Err(StageStop::Zero))
+            && matches!(counted(alloc, NOTHING, 48, 24), Some(Err(StageStop::Zero)))
     );
 }
 

@@ -71,8 +71,8 @@ fn has_segments(alloc: Global, st: &Stages) -> bool
 /// Has insphere its stages, blocks and segments?
 fn are_of_insphere(alloc: Global) -> bool {
     match stages_of(alloc, SPHERE, 5, 26_760, 131_072) {
-        Ok(st) => st.count() == 26_760 && st.blocks() == 1_261 && has_segments(alloc, &st),
-        Err(_) => false,
+        Some(Ok(st)) => st.count() == 26_760 && st.blocks() == 1_261 && has_segments(alloc, &st),
+        _ => false,
     }
 }
 

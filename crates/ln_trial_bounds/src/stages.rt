@@ -1,9 +1,8 @@
 //! Stages of polynomials: the difference of two squares over two sites of one coordinate each, and the product of the sixteen
 //! coordinates of one site.
-ghost use Rattle.std.specs.Prelude.{◌≡◌, ◌≤◌, IfOk, length};
+ghost use Rattle.std.specs.Prelude.{◌≡◌, ◌≤◌, IfOk, IfSome, length};
 
 use crate::sources::{poly_of, table};
-use ln_base::NoMemory;
 use ln_order::order_of;
 use ln_stage::{StageStop, Stages, stages};
 use ln_tree::Pred;
@@ -19,13 +18,13 @@ const CUBE: &str =
 i: -1 .. 1; j: -1 .. 1; k: -1 .. 1; l: -1 .. 1; m: -1 .. 1; n: -1 .. 1; o: -1 .. 1; p: -1 .. 1; }
 predicate all(x: cube) { sign x.a*x.b*x.c*x.d*x.e*x.f*x.g*x.h*x.i*x.j*x.k*x.l*x.m*x.n*x.o*x.p; }";
 
-/// The stages of a predicate within these limits.
-fn staged(alloc: Global, p: &Pred, most: u64, heavy: u32) -> Result<Stages, StageStop>
-    ensures { IfOk result (λ st. st.sites ≡ p.now.shape.sites) }
+/// The stages of a predicate within these limits; none where it has no polynomial.
+fn staged(alloc: Global, p: &Pred, most: u64, heavy: u32) -> Option<Result<Stages, StageStop>>
+    ensures { IfSome result (λ r. IfOk r (λ st. st.sites ≡ p.now.shape.sites)) }
 {
     match poly_of(alloc, p) {
-        Ok(f) => stages(alloc, &f, &p.shape, most, u64::from(heavy)),
-        Err(_) => Err(StageStop::NoMemory(NoMemory::reported())),
+        Ok(f) => Some(stages(alloc, &f, &p.shape, most, u64::from(heavy))),
+        Err(_) => None,
     }
 }
 
@@ -36,29 +35,28 @@ fn staged_one(
     sites: u8,
     most: u64,
     heavy: u32,
-) -> Result<Stages, StageStop>
-    ensures { IfOk result (λ st. st.sites ≡ sites) }
+) -> Option<Result<Stages, StageStop>>
+    ensures { IfSome result (λ r. IfOk r (λ st. st.sites ≡ sites)) }
 {
     match preds {
         [p] if p.shape.sites == sites => staged(alloc, p, most, heavy),
-        _ => Err(StageStop::NoMemory(NoMemory::reported())),
+        _ => None,
     }
 }
 
-/// The stages of the one predicate of a source, which has this many sites, within these limits. A source without such a predicate
-/// counts as out of memory.
+/// The stages of the one predicate of a source, which has this many sites, within these limits, if it has one.
 pub(crate) fn stages_of(
     alloc: Global,
     source: &str,
     sites: u8,
     most: u64,
     heavy: u32,
-) -> Result<Stages, StageStop>
-    ensures { IfOk result (λ st. st.sites ≡ sites) }
+) -> Option<Result<Stages, StageStop>>
+    ensures { IfSome result (λ r. IfOk r (λ st. st.sites ≡ sites)) }
 {
     match table(alloc, source) {
         Some(t) => staged_one(alloc, t.preds.as_slice(), sites, most, heavy),
-        None => Err(StageStop::NoMemory(NoMemory::reported())),
+        None => None,
     }
 }
 
@@ -102,8 +100,8 @@ fn have_powers(st: &Stages) -> bool {
 /// Have the squares six stages in the five blocks and segments of their lists?
 fn are_of_squares(alloc: Global) -> bool {
     match stages_of(alloc, SQUARES, 2, 6, 6) {
-        Ok(st) => st.count() == 6 && have_powers(&st) && have_segments(&st),
-        Err(_) => false,
+        Some(Ok(st)) => st.count() == 6 && have_powers(&st) && have_segments(&st),
+        _ => false,
     }
 }
 
@@ -112,17 +110,25 @@ fn two_lists_of_three_have_five_blocks(rt: HostRuntime) {
     assert!(rt; are_of_squares(rt.alloc()));
 }
 
-/// How many stages a source has within these limits.
-fn count(alloc: Global, source: &str, sites: u8, most: u64, heavy: u32) -> Result<u64, StageStop> {
-    let st = stages_of(alloc, source, sites, most, heavy)?;
-    Ok(st.count())
+/// How many stages a source has within these limits, if it has one predicate.
+fn count(
+    alloc: Global,
+    source: &str,
+    sites: u8,
+    most: u64,
+    heavy: u32,
+) -> Option<Result<u64, StageStop>> {
+    match stages_of(alloc, source, sites, most, heavy)? {
+        Ok(st) => Some(Ok(st.count())),
+        Err(stop) => Some(Err(stop)),
+    }
 }
 
 /// Does a limit stop the stages of a source?
 fn is_past(alloc: Global, source: &str, sites: u8, most: u64, heavy: u32) -> bool {
     matches!(
         count(alloc, source, sites, most, heavy),
-        Err(StageStop::Stages)
+        Some(Err(StageStop::Stages))
     )
 }
 
@@ -132,7 +138,7 @@ fn a_limit_that_is_passed_stops(rt: HostRuntime) {
     assert!(rt;
         is_past(alloc, SQUARES, 2, 5, 6)
             && is_past(alloc, SQUARES, 2, 6, 5)
-            && matches!(count(alloc, NOTHING, 2, 6, 6), Err(StageStop::Zero))
+            && matches!(count(alloc, NOTHING, 2, 6, 6), Some(Err(StageStop::Zero)))
     );
 }
 
@@ -140,7 +146,7 @@ fn a_limit_that_is_passed_stops(rt: HostRuntime) {
 fn sixteen_coordinates_have_65536_stages(rt: HostRuntime) {
     let alloc = rt.alloc();
     assert!(rt;
-        matches!(count(alloc, CUBE, 1, 65_536, 131_072), Ok(65_536))
+        matches!(count(alloc, CUBE, 1, 65_536, 131_072), Some(Ok(65_536)))
             && is_past(alloc, CUBE, 1, 65_535, 131_072)
     );
 }

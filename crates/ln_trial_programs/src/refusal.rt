@@ -94,12 +94,28 @@ fn a_broken_limit_says_which_and_where(rt: HostRuntime) -> Result<(), Fail> {
     Ok(())
 }
 
+// That memory ran out, by the refusal of more than there is.
+fn no_memory(alloc: Global) -> Option<NoMemory> {
+    match Vec::<u8>::with_capacity(alloc, usize::MAX) {
+        Ok(_) => None,
+        Err(e) => Some(NoMemory::from(e)),
+    }
+}
+
+// Does a refusal for want of memory say this?
+fn memory_says(alloc: Global, want: &str) -> bool {
+    match no_memory(alloc) {
+        Some(why) => says(Refusal::NoMemory(why), want),
+        None => false,
+    }
+}
+
 #[test]
 fn a_refusal_says_what_is_wrong_and_where(rt: HostRuntime) -> Result<(), Fail> {
     for (refusal, want) in OTHERS {
         assert!(rt; says(*refusal, want));
     }
-    assert!(rt; says(Refusal::NoMemory(NoMemory::reported()), "out of memory"));
+    assert!(rt; memory_says(rt.alloc(), "out of memory"));
     Ok(())
 }
 

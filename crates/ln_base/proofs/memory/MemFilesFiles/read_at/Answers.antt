@@ -29,6 +29,12 @@ returns-clause-step c = rw (← c.self.view_is) (rw (c.found-file.ensures, c.der
 pub returns-clause-fine : goal.returns-clause-fine
 returns-clause-fine c = rw (← c.self.view_is) (rw (c.found-file.ensures, c.deref.ensures.value) at c.hand_over.ensures).fine
 
+pub returns-clause-given : goal.returns-clause-given
+returns-clause-given c = rw (← c.self.view_is) (rw (c.found-file.ensures, c.deref.ensures.value) at c.hand_over.ensures).given
+
+pub returns-clause-none : goal.returns-clause-none
+returns-clause-none c = rw (← c.self.view_is) (rw (c.found-file.ensures, c.deref.ensures.value) at c.hand_over.ensures).none
+
 pub returns-clause-exact : goal.returns-clause-exact
 returns-clause-exact c = rw (← c.self.view_is)
     (through (rw c.deref-2.ensures.value at c.is_listed-listed.ensures.listed)
