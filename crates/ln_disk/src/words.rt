@@ -1,6 +1,4 @@
 //! The words of a command line.
-ghost use Rattle.std.specs.Prelude.{◌≡◌};
-ghost use Rattle.std.specs.IoError.{error_kind};
 
 use ln_base::{NoMemory, ReportsNoMemory};
 use std::alloc::Global;
@@ -8,9 +6,18 @@ use std::env;
 use std::env::Env;
 use std::io::{Error, ErrorKind};
 
-/// An error of the system's reports a refused allocation where it says so itself.
-impl ReportsNoMemory for Error {
-    ghost reports = { λ e. error_kind e ≡ ErrorKind.OutOfMemory };
+// Why the words of the command line weren't read: memory ran out where the error says so, and else one of them isn't text.
+#[derive(Drop)]
+struct Unread {
+    why: Error,
+}
+
+impl ReportsNoMemory for Unread {
+    ghost use Rattle.std.specs.Prelude.{◌≡◌};
+    ghost use Rattle.std.specs.IoError.{error_kind};
+    ghost use Rattle.std.specs.declared.io.ErrorKind.TheVariants.{OutOfMemory};
+
+    ghost reports = { λ u. error_kind u.why ≡ OutOfMemory };
 }
 
 /// The words after the program's name. Where one of them isn't text there are none, which is a faulty command line.
@@ -24,7 +31,7 @@ pub fn words_of(rt: &(impl Env + Alloc<A = Global>)) -> Result<Vec<String>, NoMe
         }
         Err(e) => {
             if e.kind() == ErrorKind::OutOfMemory {
-                return Err(NoMemory::reported_by(&e));
+                return Err(NoMemory::reported_by(&Unread { why: e }));
             }
         }
     }

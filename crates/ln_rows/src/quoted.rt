@@ -25,8 +25,13 @@ impl<'a> Model for Quoted<'a> {
     ghost invariant = { λ q. MayRead q.reader };
 }
 
-/// An error of csv's reports a refused allocation where its reader reads bytes in memory, with lengths that may differ: it has no other cause there.
-impl ReportsNoMemory for Error {
+// Why csv's reader stopped, which reads bytes in memory, with lengths that may differ: memory ran out, since nothing else stops it there.
+#[derive(Drop)]
+struct Unread {
+    _why: Error,
+}
+
+impl ReportsNoMemory for Unread {
     ghost reports = { λ _. ⊤ };
 }
 
@@ -47,7 +52,7 @@ impl<'a> Quoted<'a> {
             .from_reader(alloc, line_end().chain(bytes));
         match reader.set_byte_headers(ByteRecord::new(alloc)) {
             Ok(()) => Ok(Quoted { reader }),
-            Err(e) => Err(NoMemory::reported_by(&e)),
+            Err(e) => Err(NoMemory::reported_by(&Unread { _why: e })),
         }
     }
 
@@ -57,7 +62,7 @@ impl<'a> Quoted<'a> {
     {
         let found = match self.reader.read_byte_record(into) {
             Ok(found) => found,
-            Err(e) => return Err(NoMemory::reported_by(&e)),
+            Err(e) => return Err(NoMemory::reported_by(&Unread { _why: e })),
         };
         let count = into.len().min(most);
         into.truncate(count);
