@@ -1,6 +1,6 @@
 # shellcheck shell=bash disable=SC2154  # examples/check, which reads this file, gives the names that stand for nothing here
 # the documents beside the repository: the list that is made from crates.txt; links, names and files that the documents speak of; the table of
-# README.md's first run, which has the sample's rows with their lines; the version of the toolchain, where it is installed. Of the proofs, that
+# README.md's first run, which has the sample's rows with their lines; the prover's logic, where one is installed; how scripts begin. Of the proofs, that
 # each public lemma and definition has a line of its own, and that each is named somewhere. Of docs/THEOREM.md, that it names each law and
 # each clause of `lnc`, and says how much there is to read. Of README.md, that it says how many promises have a wrong body that was refused
 case_ 'the list of crates is that of crates.txt' 0 '' '' 'python3 examples/checks/crates.py compare'
@@ -11,5 +11,12 @@ case_ 'public lemmas and definitions have a line each, and each is named somewhe
 case_ 'docs/THEOREM.md names each law and each clause of lnc' 0 '' '' 'python3 examples/checks/laws.py'
 case_ 'docs/THEOREM.md says how much bin/statement prints' 0 '' '' 'bin/statement --compare'
 case_ 'README.md says which promises edits are against' 0 '' '' 'python3 examples/checks/matrix.py --compare'
-kit=$(dirname "$(readlink -f "$(command -v rt || echo /nowhere/bin/rt)")")/../KIT-ID
-case_ 'the version of the toolchain' 0 'named' '' "[ ! -e $kit ] || grep -qF \"\$(cat $kit)\" README.md && echo named"
+# the logic decides what is proved, whatever the letter of the kit that brings it
+named=$(grep -om1 'logic [0-9a-f]\{16\}' README.md)
+mkdir "$scratch/kit"; printf '#!/bin/sh\necho "rattle-kit-99z %s"\n' "$named" >"$scratch/kit/rt"; chmod +x "$scratch/kit/rt"
+for kit in '' "$scratch/kit:"; do
+  case_ "README.md names the logic of the prover${kit:+, of a kit that nothing names}" 0 "$named" '' \
+    "PATH=$kit\$PATH; if command -v rt >/dev/null; then rt version | grep -o 'logic [0-9a-f]*'; else echo '$named'; fi"
+done
+case_ 'no kit has its letter elsewhere than beside what was measured' 0 '' '' "grep -rnE '[k]it[- ][0-9]+[a-z]' --exclude-dir=checks README.md CONTRIBUTING.md docs examples predicates release bin .ci || true"
+case_ 'each script forgets what a shell, grep and git take from the environment' 0 "$(find .ci bin bench examples predicates release -type f -print0 | xargs -0 awk 'FNR == 1 && /^#!.*sh$/ { n++ } { nextfile } END { print n }') scripts" '' 'python3 examples/checks/scripts.py'

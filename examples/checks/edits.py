@@ -12,7 +12,9 @@ import hashlib
 import os
 import re
 import shutil
+import subprocess
 import sys
+from functools import cache
 from pathlib import Path
 
 from sources import file_at, functions
@@ -78,11 +80,12 @@ def faults_of(path):
             texts[file] = texts[file].replace(old, rest)
 
 
+@cache
 def logic():
     """The logic of the prover that is on the path, or none."""
     rt = shutil.which("rt")
-    kit = Path(rt).resolve().parent.parent / "KIT-ID" if rt else None
-    found = re.search(r"logic (\w+)", kit.read_text()) if kit and kit.is_file() else None
+    said = subprocess.run([rt, "version"], stdin=subprocess.DEVNULL, capture_output=True, text=True).stdout if rt else ""
+    found = re.search(r"\blogic (\w+)", said)
     return found[1] if found else ""
 
 

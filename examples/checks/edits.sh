@@ -13,7 +13,7 @@ for name in low high; do
 done
 cat >"$home/tools/rt" <<'RT'
 #!/bin/sh
-[ $# -gt 0 ] || { echo 'rt ci NAME..'; exit 2; }
+case ${1:-} in '') echo 'rt ci NAME..'; exit 2 ;; version) echo 'logic 0'; exit ;; esac
 echo 'must-fail low/two.edit: refused, as it must be: note: src/lib.rt:4:5: it is not proved (`returns`)'
 echo $$ >"$RUNS"; exec sleep 100
 RT
