@@ -4,7 +4,8 @@
 packed=$scratch/packed tree="$scratch/a tree"; mkdir "$packed" "$tree"
 tar --exclude=out --exclude=.git --exclude=__pycache__ -cf - . | tar -xf - -C "$tree"
 (cd "$tree" && git init -q && git add -A && git -c user.name=a -c user.email=a commit -qm a)
-case_ 'a tree that was not proved is not packed' 1 '' 'dist: the gate, .ci/run, was not passed here on what is committed' "'$tree/bin/dist' $packed"
+dist="env -u GATE '$tree/bin/dist'"
+case_ 'a tree that was not proved is not packed' 1 '' 'dist: the gate, .ci/run, was not passed here on what is committed' "$dist $packed"
 for name in lnc lnc_c lnc_exact; do
   [ -d "$tree/crates/$name" ] || continue
   given=${name^^}; given=${!given:-$(bin/$name --path)}
@@ -12,25 +13,29 @@ for name in lnc lnc_c lnc_exact; do
   "$tree/bin/stamp" "$name" "$tree/crates/$name/out/$name" >"$tree/crates/$name/out/stamp"
 done
 printf '%s\nno prover\nrt: ok; in a copy, where nothing was proved\n' "$("$tree/bin/stamp" tree)" >"$tree/crates/lnc/out/gate"
-echo >>"$tree/crates/ln_base/src/lib.rt"
-case_ 'nor one in which a source was changed' 1 '' 'dist: the crates are not as they are committed' "'$tree/bin/dist' $packed"
-(cd "$tree" && git checkout -q crates/ln_base/src/lib.rt)
+for changed in crates.txt bin/largest docs/LANGUAGE.md examples/check more; do
+  echo >>"$tree/$changed"
+  case_ "nor one in which $changed was changed" 1 '' 'dist: the tree is not as it is committed' "$dist $packed"
+  (cd "$tree" && rm "$changed" && { git checkout -q "$changed" 2>/dev/null || true; })
+done
 mv "$tree/crates/lnc/out/lnc" "$scratch/kept"; cp /bin/true "$tree/crates/lnc/out/lnc"
-case_ 'nor another program' 1 '' 'dist: lnc was not proved from these sources' "'$tree/bin/dist' $packed"
+case_ 'nor another program' 1 '' 'dist: lnc was not proved from these sources' "$dist $packed"
 mv "$scratch/kept" "$tree/crates/lnc/out/lnc"
-if [ -e crates/lnc/out/gate ] && [ "$(head -1 crates/lnc/out/gate)" = "$(bin/stamp tree)" ]; then
-  tree=$PWD; echo "release.sh: packed from the gate's own proved tree"
+# (the gate's record is in the folder that it hands on, until it has passed)
+gate=${GATE:-crates/lnc/out}/gate
+if [ -e "$gate" ] && [ "$(head -1 "$gate")" = "$(bin/stamp tree)" ]; then
+  tree=$PWD dist=$PWD/bin/dist; echo "release.sh: packed from the gate's own proved tree"
 else
-  echo 'release.sh: packed from a copy that stands for a proved tree'
+  gate=$tree/crates/lnc/out/gate; echo 'release.sh: packed from a copy that stands for a proved tree'
 fi
 version=$(sed -n 's/^## //p' CHANGELOG.md | head -1)
-case_ 'a proved tree is packed' 0 "$packed/lnc-$version-x86_64-linux.tar.gz" '' "'$tree/bin/dist' $packed"
-case_ 'in one way' 0 'equal' '' "mkdir $packed/again && '$tree/bin/dist' $packed/again >/dev/null && cmp $packed/*.tar.gz $packed/again/*.tar.gz && echo equal"
+case_ 'a proved tree is packed' 0 "$packed/lnc-$version-x86_64-linux.tar.gz" '' "$dist $packed"
+case_ 'in one way' 0 'equal' '' "mkdir $packed/again && $dist $packed/again >/dev/null && cmp $packed/*.tar.gz $packed/again/*.tar.gz && echo equal"
 mkdir "$packed/empty"; tar -xzf "$packed/lnc-$version-x86_64-linux.tar.gz" -C "$packed/empty"
 unpacked=$packed/empty/lnc-$version-x86_64-linux
 case_ 'what is in it' 0 'CHANGELOG.md CONTRIBUTING.md Makefile PROOF README.md bin crates.txt docs examples lnc.bash man' '' "echo \$(ls $unpacked | grep -v '^predicates\$')"
 judge 'and the predicates, where there are some' "$(git -C "$tree" ls-files predicates 2>/dev/null | sort)" "$(cd "$unpacked" && find predicates -type f 2>/dev/null | sort)"
-case_ 'PROOF says which commit, by which prover and what the gate said' 0 "commit: $(git -C "$tree" rev-parse HEAD)"$'\n'"prover: $(sed -n 2p "$tree/crates/lnc/out/gate")"$'\n'"gate: $(sed -n 3p "$tree/crates/lnc/out/gate")" '' \
+case_ 'PROOF says which commit, by which prover and what the gate said' 0 "commit: $(git -C "$tree" rev-parse HEAD)"$'\n'"prover: $(sed -n 2p "$gate")"$'\n'"gate: $(sed -n 3p "$gate")" '' \
   "grep -E '^(commit|prover|gate): ' $unpacked/PROOF"
 # the samples, in the folder that was unpacked, where there is no toolchain: all but those that make something
 samples_there() {
