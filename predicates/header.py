@@ -3,41 +3,234 @@
 
 header.py NAME.ln [NAME.c]     lnc_NAME.h for the C that lnc_exact or `lnc emit` wrote of the source, with both checksums where NAME.c is given
 header.py --grid BITS NAME.ln  no header but the source for smaller ranges: coordinates from -2^BITS to 2^BITS, weights w to 2^(2*BITS), and the names
-                               of sites and predicates with _BITS at their ends, so that both sets can be linked together
+                               of sites, params and predicates with _BITS at their ends, so that both sets can be linked together
 
-The source is one that `lnc check` takes; nothing is checked again here."""
+`lnc check` has to take the source: the program in LNC, that of this checkout, or the one on the path. For what no header can be written the one line
+on standard error has its place, and nothing is written: names that the header has for itself or that meet in it (ranges are macros in capitals), words
+of C and C++, a comment that C would end, a source that is refused, C that isn't this source's. Status 1."""
 import hashlib
+import os
 import re
+import shutil
+import subprocess
 import sys
 import textwrap
 from pathlib import Path
+from typing import NamedTuple
 
+TOKENS = re.compile(r"[ \t\r\n]+|//[^\n]*|(\.\.|[A-Za-z_][A-Za-z_0-9]*|[0-9]+|[{}():;,.+\-*^=])")
 COMMENT = re.compile(r"//[^\n]*")
+NAME = "[A-Za-z_][A-Za-z_0-9]*"
+# words of C and C++, with those of gcc and clang, and macros of the headers that are included
+WORDS = set("""alignas alignof and and_eq asm auto bitand bitor bool break case catch char char16_t char32_t char8_t class co_await co_return co_yield compl
+    concept const const_cast consteval constexpr constinit continue decltype default delete do double dynamic_cast else enum explicit export extern false
+    float for friend goto if inline int long mutable namespace new noexcept not not_eq nullptr operator or or_eq private protected public register
+    reinterpret_cast requires restrict return short signed sizeof static static_assert static_cast struct switch template this thread_local throw true try
+    typedef typeid typename typeof typeof_unqual union unsigned using virtual void volatile wchar_t while xor xor_eq std unix linux i386 NULL EOF BUFSIZ
+    BIG_ENDIAN BYTE_ORDER EXIT_FAILURE EXIT_SUCCESS FD_SETSIZE FILENAME_MAX FOPEN_MAX LITTLE_ENDIAN L_ctermid L_cuserid L_tmpnam MB_CUR_MAX NFDBITS
+    PDP_ENDIAN P_tmpdir RAND_MAX RENAME_EXCHANGE RENAME_NOREPLACE RENAME_WHITEOUT SEEK_CUR SEEK_DATA SEEK_END SEEK_HOLE SEEK_SET TMP_MAX WCONTINUED WEXITED
+    WNOHANG WNOWAIT WSTOPPED WUNTRACED stdin stdout stderr size_t""".split())
+RESERVED = re.compile(r"_[A-Z_].*|u?int\w*_t|U?INT\w*_(MIN|MAX|C|WIDTH)|(PTRDIFF|SIZE|WCHAR|WINT|SIG_ATOMIC)_(MIN|MAX|WIDTH)")
+OWN = re.compile(r"(ln|lf|la|ls|lc|li|lm|lr|lv|lb[0-9]+|lnc|LN|LNC)_.*")
+
+
+class Fault(Exception):
+    """Why no header can be written, with the place in the file: an offset, or a line and a column."""
+
+    def __init__(self, place, text):
+        super().__init__(text)
+        self.place = place
+
+
+class Token(NamedTuple):
+    text: str
+    at: int
+
+
+class Range(NamedTuple):
+    low: int
+    high: int
+    begin: int
+    end: int
 
 
 class Source:
-    """Site types with their coordinates, params, and predicates with their arguments and comments."""
+    """Site types with their coordinates, params, and predicates with their arguments and comments, in the order of the text. What follows a
+    predicate's arguments isn't read: that is for `check`."""
 
     def __init__(self, text):
-        bare = COMMENT.sub("", text)
-        self.sites = {name: [(c, int(low), int(high)) for c, low, high in re.findall(r"(\w+)\s*:\s*(-?\s*\d+)\s*\.\.\s*(-?\s*\d+)", body.replace(" ", ""))]
-                      for name, body in re.findall(r"\bsite\s+(\w+)\s*\{([^}]*)\}", bare)}
-        self.params = {name: (int(low.replace(" ", "")), int(high.replace(" ", "")))
-                       for name, low, high in re.findall(r"\bparam\s+(\w+)\s*:\s*(-?\s*\d+)\s*\.\.\s*(-?\s*\d+)", bare)}
-        self.predicates = {name: [tuple(word.strip() for word in argument.split(":")) for argument in arguments.split(",")]
-                           for name, arguments in re.findall(r"\bpredicate\s+(\w+)\s*\(([^)]*)\)", bare)}
-        self.comments = {name: " ".join(line.strip("/ ") for line in lines.splitlines())
-                         for lines, name in re.findall(r"((?:^//[^\n]*\n)+)predicate\s+(\w+)", text, flags=re.M)}
+        self.text, self.sites, self.params, self.predicates, self.places, self.uses = text, {}, {}, {}, {}, []
+        self.tokens, self.next = list(tokens(text)), 0
+        while self.next < len(self.tokens):
+            self.item()
+        self.comments = {}
+        for match in re.finditer(r"((?:^//[^\n]*\n)+)predicate\s+(\w+)", text, flags=re.M):
+            self.comments[match[2]] = list(self.lines(match.start(1), match[1]))
+
+    @staticmethod
+    def lines(at, text):
+        """The lines of a comment, without what marks it as one."""
+        for line in text.splitlines(keepends=True):
+            bare = line.strip("/ \r\n")
+            yield Token(bare, at + line.index(bare))
+            at += len(line)
+
+    def peek(self):
+        """The text of the next token; at the end none."""
+        return self.tokens[self.next].text if self.next < len(self.tokens) else ""
+
+    def take(self, form):
+        """The next token, which has to be of this form."""
+        token = self.tokens[self.next] if self.next < len(self.tokens) else Token("", len(self.text))
+        if not re.fullmatch(form, token.text):
+            raise Fault(token.at, f"{token.text or 'the end'} can't stand here")
+        self.next += 1
+        return token
+
+    def name(self, kind, owner=None):
+        """A name, which is kept with its place."""
+        token = self.take(NAME)
+        self.uses.append((kind, token.text, owner, token.at))
+        return token.text
+
+    def number(self):
+        sign = self.take("-") if self.peek() == "-" else None
+        digits = self.take("[0-9]+")
+        return int(digits.text) * (-1 if sign else 1), (sign or digits).at, digits.at + len(digits.text)
+
+    def range(self):
+        """`: LOW .. HIGH ;`"""
+        self.take(":")
+        low, begin, _ = self.number()
+        self.take(r"\.\.")
+        high, _, end = self.number()
+        self.take(";")
+        return Range(low, high, begin, end)
+
+    def item(self):
+        keyword = self.take("site|param|predicate").text
+        name = self.name(keyword)
+        if keyword == "param":
+            self.params[name] = self.range()
+        elif keyword == "site":
+            self.take("{")
+            self.sites[name] = []
+            while self.peek() != "}":
+                coordinate = self.name("coordinate", name)
+                self.sites[name].append((coordinate, self.range()))
+            self.take("}")
+        else:
+            self.take(r"\(")
+            self.predicates[name] = [self.argument(name)]
+            while self.take(r"[,)]").text == ",":
+                self.predicates[name].append(self.argument(name))
+            while self.take(".+").text != "}":
+                pass
+
+    def argument(self, predicate):
+        name = self.name("argument", predicate)
+        self.take(":")
+        return name, self.take(NAME).text
 
     def values(self, name):
         """The values of a row, in order: each the argument and, of a site, the coordinate."""
-        return [(argument, c) for argument, kind in self.predicates[name] for c in ([None] if kind == "param" else [c for c, _, _ in self.sites[kind]])]
+        return [(argument, c) for argument, kind in self.predicates[name] for c in ([None] if kind == "param" else [c for c, _ in self.sites[kind]])]
 
     def indices(self, name):
         return [argument for argument, kind in self.predicates[name] if kind != "param"]
 
+    def end_names(self, name):
+        """The macros of the ranges of a row's values, without _MIN and _MAX."""
+        kinds = dict(self.predicates[name])
+        return [("LN_" + (f"{kinds[a]}_{c}" if c else a).upper()) for a, c in self.values(name)]
 
-def comment(text, indent=""):
+
+def tokens(text):
+    at = 0
+    while at < len(text):
+        match = TOKENS.match(text, at)
+        if not match:
+            raise Fault(at, "a byte that begins no token")
+        if match[1]:
+            yield Token(match[1], at)
+        at = match.end()
+
+
+class Names:
+    """The names that the header makes, each with what it is of: two that are the same meet."""
+
+    def __init__(self, source):
+        self.made = {name: "the header's own" for name in ("ln_refusal", "ln_on_refusal", "lnc::in_range", "lnc::checked")}
+        for kind, name, owner, at in source.uses:
+            self.usable(source, kind, name, at)
+            for made in self.of(kind, name, owner):
+                self.make(source, made, f"{kind} {owner + '.' if kind == 'coordinate' else ''}{name}", at)
+
+    @staticmethod
+    def of(kind, name, owner):
+        """What the header calls by a name of the source."""
+        if kind == "coordinate":
+            return [f"LN_{owner}_{name}_MIN".upper()]
+        if kind == "param":
+            return [f"LN_{name}_MIN".upper(), f"ln_{name}_in_range"]
+        if kind == "site":
+            return [f"ln_{name}", f"ln_{name}_in_range", f"lnc::{name}"]
+        if kind == "predicate":
+            return [f"ln_{name}{end}" for end in ("", "_plain", "_rows", "_at", "_plain_at")] + [f"lnc::{name}", f"lnc::{name}_plain"]
+        return []
+
+    def make(self, source, made, what, at):
+        if made in self.made:
+            raise Fault(at, f"{what}: the header's name {made.removesuffix('_MIN')} is already taken: {self.made[made]}")
+        self.made[made] = f"{what}, at {place_of(source.text, at)}"
+
+    @staticmethod
+    def usable(source, kind, name, at):
+        """Whether C and C++ can have the name where the header writes it."""
+        why = None
+        if name in WORDS or RESERVED.fullmatch(name):
+            why = "a word of C or C++, or one of their libraries'"
+        elif OWN.fullmatch(name):
+            why = "names that begin so are the header's"
+        elif kind == "coordinate" and name == "index":
+            why = "the member for the index has this name"
+        elif kind == "argument" and name in ("x", "v"):
+            why = "the arrays of indices and values have the names x and v"
+        elif kind == "argument" and name in source.sites:
+            why = "a site type has this name"
+        if why:
+            raise Fault(at, f"{kind} {name}: {why}. Give it another name")
+
+
+def place_of(text, at):
+    """`LINE:COLUMN`, from 1."""
+    before = text[:at]
+    return f"{before.count(chr(10)) + 1}:{len(before) - before.rfind(chr(10))}"
+
+
+class Code:
+    """The C of a source: by which program it was written, and how it is called."""
+
+    def __init__(self, path, text, source):
+        self.name, self.text = path.name, text
+        functions = re.findall(r"^(?:static )?int (\w+)\(const int64_t \*(x, const int64_t \*)?v\) \{$(.*?)^\}$", text, flags=re.M | re.S)
+        self.functions = {name: body for name, _, body in functions}
+        called = {name for name, two, _ in functions if two}
+        if re.search(r'["\\\n]', self.name) or not text.startswith("#include <stdint.h>\n"):
+            raise Fault(0, "it isn't C that lnc_exact or `lnc emit` writes")
+        for name in source.predicates:
+            block, whole = self.functions.get(f"lb0_{name}"), self.functions.get(f"ln_{name}")
+            if whole is None or block is None:
+                raise Fault(0, f"it has no functions of the predicate {name}: it isn't the C of this source")
+            most = [max(map(int, re.findall(rf"\b{array}\[(\d+)\]", body)), default=-1) for array, body in (("v", block), ("x", whole))]
+            if most[0] >= len(source.values(name)) or most[1] >= max(1, len(source.indices(name))):
+                raise Fault(text.index(f" ln_{name}("), f"ln_{name} reads more values or indices than {name} has: it isn't the C of this source")
+        for name in called - {f"ln_{name}" for name in source.predicates}:
+            raise Fault(text.index(f" {name}("), f"{name} is no predicate of the source: it isn't the C of this source")
+        self.program = "lnc emit" if any(name.startswith("lf_") for name in self.functions) else "lnc_exact"
+
+
+def commented(text, indent=""):
     """A C comment within 120 columns."""
     lines = textwrap.wrap(text, 112)
     return f"{indent}/* " + f"\n{indent}   ".join(lines) + " */"
@@ -45,130 +238,270 @@ def comment(text, indent=""):
 
 def ranges(source):
     """The ranges as constants, a type of points for each site type, and tests that a point or a param is in range."""
-    def ends(name, low, high):
-        yield f"#define LN_{name.upper()}_MIN INT64_C({low})"
-        yield f"#define LN_{name.upper()}_MAX INT64_C({high})"
+    def ends(name, it):
+        yield f"#define LN_{name.upper()}_MIN INT64_C({it.low})"
+        yield f"#define LN_{name.upper()}_MAX INT64_C({it.high})"
 
     def within(name, what):
         return f"LN_{name.upper()}_MIN <= {what} && {what} <= LN_{name.upper()}_MAX"
 
     for site, coordinates in source.sites.items():
-        for c, low, high in coordinates:
-            yield from ends(f"{site}_{c}", low, high)
-        yield f"typedef struct ln_{site} {{ int64_t index, {', '.join(c for c, _, _ in coordinates)}; }} ln_{site};"
-        tests = " &&\n    ".join(within(f"{site}_{c}", f"p->{c}") for c, _, _ in coordinates)
+        for c, it in coordinates:
+            yield from ends(f"{site}_{c}", it)
+        yield f"typedef struct ln_{site} {{ int64_t index, {', '.join(c for c, _ in coordinates)}; }} ln_{site};"
+        tests = " &&\n    ".join(within(f"{site}_{c}", f"p->{c}") for c, _ in coordinates)
         yield f"static inline int ln_{site}_in_range(const ln_{site} *p) {{\n  return 0 <= p->index &&\n    {tests};\n}}\n"
-    for param, (low, high) in source.params.items():
-        yield from ends(param, low, high)
-        yield f"static inline int ln_{param}_in_range(int64_t {param}) {{ return {within(param, param)}; }}\n"
+    for param, it in source.params.items():
+        yield from ends(param, it)
+        yield f"static inline int ln_{param}_in_range(int64_t value) {{ return {within(param, 'value')}; }}\n"
 
 
-def prototypes(source):
-    """The functions of each predicate that take arrays."""
-    for name in source.predicates:
-        if name in source.comments:
-            yield comment(source.comments[name])
-        values = ", ".join(f"{a}.{c}" if c else a for a, c in source.values(name))
-        yield f"/* x: {', '.join(source.indices(name))}\n   v: {values} */"
-        yield f"int ln_{name}(const int64_t *x, const int64_t *v);"
-        yield f"int ln_{name}_plain(const int64_t *v);"
-        yield f"void ln_{name}_rows(size_t n, const int64_t *x, const int64_t *v, int8_t *signs);\n"
+class Call:
+    """A predicate's calls in C: what they take and what they pass on."""
 
-
-def thin(source):
-    """Calls that take points."""
-    for name, arguments in source.predicates.items():
-        taken = ", ".join(f"int64_t {a}" if kind == "param" else f"const ln_{kind} *{a}" for a, kind in arguments)
-        x = ", ".join(f"{a}->index" for a in source.indices(name))
-        v = ", ".join(f"{a}->{c}" if c else a for a, c in source.values(name))
-        row = f"  const int64_t v[] = {{{v}}};\n"
+    def __init__(self, source, name):
+        self.name, arguments = name, source.predicates[name]
+        self.sites, self.values, self.ends = source.indices(name), source.values(name), source.end_names(name)
+        self.points = ", ".join(f"int64_t {a}" if kind == "param" else f"const ln_{kind} *{a}" for a, kind in arguments)
+        self.passed = ", ".join(a for a, _ in arguments)
         # a predicate of params alone has no index, and C no empty array
-        yield f"static inline int ln_{name}_at({taken}) {{\n  const int64_t x[] = {{{x or 0}}};\n{row}  return ln_{name}(x, v);\n}}"
-        yield f"static inline int ln_{name}_plain_at({taken}) {{\n{row}  return ln_{name}_plain(v);\n}}"
+        self.x = f"const int64_t x[] = {{{', '.join(f'{a}->index' for a in self.sites) or 0}}};"
+        self.v = f"const int64_t v[] = {{{', '.join(f'{a}->{c}' if c else a for a, c in self.values)}}};"
+        self.references = ", ".join(f"std::int64_t {a}" if kind == "param" else f"const {kind} &{a}" for a, kind in arguments)
+        self.addresses = ", ".join(a if kind == "param" else "&" + a for a, kind in arguments)
 
 
-def overloads(source):
-    """The same in the namespace lnc, by references."""
+ARRAYS = "const int64_t *x, const int64_t *v"
+ROWS = f"size_t n, {ARRAYS}, int8_t *signs"
+
+
+def prototypes(source, calls):
+    """The functions of each predicate that take arrays."""
+    for call in calls:
+        name = call.name
+        if name in source.comments:
+            yield commented(" ".join(line.text for line in source.comments[name]))
+        values = ", ".join(f"{a}.{c}" if c else a for a, c in call.values)
+        yield f"/* x: {', '.join(call.sites)}\n   v: {values} */"
+        yield f"int ln_{name}({ARRAYS});"
+        yield f"int ln_{name}_plain(const int64_t *v);"
+        yield f"void ln_{name}_rows({ROWS});"
+        yield f"int ln_{name}_at({call.points});"
+        yield f"int ln_{name}_plain_at({call.points});\n"
+
+
+# what calls that check share, of all headers together
+REFUSAL = """
+#if defined(LNC_CHECKED) && !defined(LNC_HAS_REFUSAL)
+#define LNC_HAS_REFUSAL
+#include <stdio.h>
+#include <stdlib.h>
+#ifdef __cplusplus
+extern "C" {
+#endif
+/* told of the first fault of a call: the predicate, the argument ("p" for its index, "p.x"), what is wrong with it, and of ln_NAME_rows the row,
+   from 0, otherwise SIZE_MAX. Where it returns, the call returns 0, or writes 0 for the row. Without another it prints this and aborts */
+typedef void ln_refusal(const char *predicate, const char *argument, const char *fault, size_t row);
+static inline void lr_aborts(const char *predicate, const char *argument, const char *fault, size_t row) {
+  if (row == SIZE_MAX) fprintf(stderr, "lnc: %s: %s %s\\n", predicate, argument, fault);
+  else fprintf(stderr, "lnc: %s, row %zu: %s %s\\n", predicate, row, argument, fault);
+  abort();
+}
+__attribute__((weak)) ln_refusal *ln_on_refusal = lr_aborts;
+static inline int lr_is(int right, const char *predicate, const char *argument, const char *fault, size_t row) {
+  if (!right) ln_on_refusal(predicate, argument, fault, row);
+  return right;
+}
+#ifdef __cplusplus
+}
+#endif
+#endif
+"""
+
+
+def checked(call):
+    """The calls of a predicate that check what they are given. (`&&` stops at the first fault.)"""
+    name = call.name
+    values = [f'lr_is({end}_MIN <= v[{k}] && v[{k}] <= {end}_MAX, "{name}", "{a}{"." + c if c else ""}", "is out of range", row)'
+              for k, ((a, c), end) in enumerate(zip(call.values, call.ends))]
+    indices = [f'lr_is(0 <= x[{k}], "{name}", "{a}", "has a negative index", row)' for k, a in enumerate(call.sites)]
+    indices += [f'lr_is(x[{j}] != x[{k}], "{name}", "{a}", "has the index of {b} too", row)'
+                for k, a in enumerate(call.sites) for j, b in enumerate(call.sites[:k])]
+    lines = {f"lv_{name}(const int64_t *v, size_t row)": " &&\n    ".join(values)}
+    if indices:
+        lines[f"li_{name}(const int64_t *x, size_t row)"] = " &&\n    ".join(indices)
+    for head, right in lines.items():
+        yield f"static inline int {head} {{\n  return {right};\n}}"
+    fit, at = f"lv_{name}(v, SIZE_MAX)", f"lv_{name}(v + {len(call.values)} * i, i)"
+    fits = fit + f" && li_{name}(x, SIZE_MAX)" * bool(indices)
+    ats = at + f" && li_{name}(x + {len(call.sites)} * i, i)" * bool(indices)
+    yield f"static inline int lc_{name}({ARRAYS}) {{ return {fits} ? ln_{name}(x, v) : 0; }}"
+    yield f"static inline int lc_{name}_plain(const int64_t *v) {{ return {fit} ? ln_{name}_plain(v) : 0; }}"
+    yield (f"static inline void lc_{name}_rows({ROWS}) {{\n  for (size_t i = 0; i < n; i++) {{\n    signs[i] = 0;\n"
+           f"    if ({ats}) ln_{name}_rows(1, x + {len(call.sites)} * i, v + {len(call.values)} * i, signs + i);\n  }}\n}}")
+    x = f"\n  {call.x}" if indices else ""
+    yield f"static inline int lc_{name}_at({call.points}) {{{x}\n  {call.v}\n  return {fits} ? ln_{name}_at({call.passed}) : 0;\n}}"
+    yield f"static inline int lc_{name}_plain_at({call.points}) {{\n  {call.v}\n  return {fit} ? ln_{name}_plain_at({call.passed}) : 0;\n}}"
+
+
+def overloads(source, calls):
+    """The same in the namespace lnc, by references. (Calls that check are other functions, so that files with and without can be linked.)"""
+    yield "#ifdef LNC_CHECKED\n#define LNC_CALL(name) ::lc_##name\n#else\n#define LNC_CALL(name) ::ln_##name\n#endif\nnamespace lnc {"
     for site in source.sites:
         yield f"typedef ::ln_{site} {site};"
         yield f"inline bool in_range(const {site} &p) {{ return ::ln_{site}_in_range(&p) != 0; }}"
-    for name, arguments in source.predicates.items():
-        taken = ", ".join(f"std::int64_t {a}" if kind == "param" else f"const {kind} &{a}" for a, kind in arguments)
-        passed = ", ".join(a if kind == "param" else "&" + a for a, kind in arguments)
-        for call in (name, f"{name}_plain"):
-            yield f"inline int {call}({taken}) {{\n  return ::ln_{call}_at({passed});\n}}"
+    yield "#ifdef LNC_CHECKED\ninline namespace checked {\n#endif"
+    for call in calls:
+        for name in (call.name, f"{call.name}_plain"):
+            yield f"inline int {name}({call.references}) {{\n  return LNC_CALL({name}_at)({call.addresses});\n}}"
+    yield "#ifdef LNC_CHECKED\n}\n#endif\n}\n#undef LNC_CALL"
 
 
-def implementation(source, code):
-    """What is compiled once: the C itself, and what needs its block 0."""
-    yield f'#ifndef __SIZEOF_INT128__\n#error "no __int128 here: {code} takes gcc or clang for a 64-bit target"\n#endif\n#include "{code}"'
-    for name in source.predicates:
-        sites, values = len(source.indices(name)), len(source.values(name))
-        yield f"int ln_{name}_plain(const int64_t *v) {{ return lb0_{name}(v); }}"
-        yield (f"void ln_{name}_rows(size_t n, const int64_t *x, const int64_t *v, int8_t *signs) {{\n"
-               f"  for (size_t i = 0; i < n; i++) signs[i] = (int8_t)ln_{name}(x + {sites} * i, v + {values} * i);\n}}")
+def bodies(call):
+    """What is compiled once for a predicate, over the functions of its C. Block 0, the plain value, is compiled into the calls over points, which
+    then read them where they are; where it is 0, the values are copied into arrays."""
+    name, sites, values = call.name, len(call.sites), len(call.values)
+    yield f"int ln_{name}_plain(const int64_t *v) {{ return lb0_{name}(v); }}"
+    yield (f"void ln_{name}_rows({ROWS}) {{\n"
+           f"  for (size_t i = 0; i < n; i++) signs[i] = (int8_t)ln_{name}(x + {sites} * i, v + {values} * i);\n}}")
+    yield f"static __attribute__((noinline)) int lm_{name}({call.points}) {{\n  {call.x}\n  {call.v}\n  return ln_{name}(x, v);\n}}"
+    yield f"__attribute__((flatten)) int ln_{name}_plain_at({call.points}) {{\n  {call.v}\n  return lb0_{name}(v);\n}}"
+    yield (f"__attribute__((flatten)) int ln_{name}_at({call.points}) {{\n  {call.v}\n  const int sign = lb0_{name}(v);\n"
+           f"  return sign != 0 ? sign : lm_{name}({call.passed});\n}}")
+
+
+CALLS = ("", "_plain", "_rows", "_at", "_plain_at")
+UNCAST = '#ifdef __cplusplus\n#pragma GCC diagnostic push\n#pragma GCC diagnostic ignored "-Wold-style-cast"\n#endif'
+
+
+def implementation(upper, calls, code):
+    """What is compiled once: the C itself, and what needs its block 0. Then the names by which calls that check are called."""
+    yield f"\n#if defined(LNC_{upper}_IMPLEMENTATION) && !defined(LNC_{upper}_IMPLEMENTED)\n#define LNC_{upper}_IMPLEMENTED"
+    for call in calls:
+        yield from (f"#undef ln_{call.name}{end}" for end in CALLS)
+    yield f'#ifndef __SIZEOF_INT128__\n#error "no __int128 here: {code} takes gcc or clang for a 64-bit target"\n#endif\n{UNCAST}\n#include "{code}"'
+    for call in calls:
+        yield from bodies(call)
+    yield f"#ifdef __cplusplus\n#pragma GCC diagnostic pop\n#endif\n#endif\n\n#ifdef LNC_{upper}_CHECKED"
+    for call in calls:
+        yield from (f"#define ln_{call.name}{end} lc_{call.name}{end}" for end in CALLS)
+    yield "#endif"
 
 
 ABOUT = """/* lnc_{stem}.h: written by header.py, so change {stem}.ln and not this file.
    {stem}.ln has the SHA-256 {source},
-   and {code}, which lnc_exact writes of it, {made}.
+   and {code}, which {program} writes of it, {made}.
 
    Two files are enough, this one and {code}. In one C file of your program, compiled by gcc or clang for a 64-bit target:
 
        #define LNC_{upper}_IMPLEMENTATION
        #include "lnc_{stem}.h"
 
-   and in all others, C or C++, the second line alone. ({code} can be compiled by itself too; then ln_NAME is there, and ln_NAME_plain and
-   ln_NAME_rows aren't.) For each predicate NAME there are
+   and in all others, C or C++, the second line alone. For each predicate NAME there are
 
-   ln_NAME(x, v)                1 or -1, the sign at the moved points; with params it may be 0. x has the indices of the sites, which have to differ,
-                                from 0 to 2^63 - 1, v the values, each in its range: the order is that of the comments below. Nothing is checked
-   ln_NAME_plain(v)             1, 0 or -1, the sign at the points themselves, 0 where they are degenerate
+   ln_NAME_at(&p, ..)           1 or -1, the sign at the moved points; with params it may be 0. The indices of the sites have to differ and are from 0 to
+                                2^63 - 1, the values are each in its range. Nothing is checked (but see below). In C++ lnc::NAME(p, ..)
+   ln_NAME_plain_at(&p, ..)     1, 0 or -1, the sign at the points themselves, 0 where they are degenerate. In C++ lnc::NAME_plain(p, ..)
+   ln_NAME(x, v)                the same of arrays: x has the indices of the sites, v the values, in the order of the comments below; ln_NAME_plain(v)
    ln_NAME_rows(n, x, v, signs) ln_NAME of n rows, each after the other in x and in v, into signs
-   ln_NAME_at(&p, ..)           ln_NAME of points; ln_NAME_plain_at; in C++ lnc::NAME(p, ..) and lnc::NAME_plain(p, ..)
 
    and for each type of points SITE, with a member for the index and one for each coordinate, in the order in which the type declares them,
 
-   ln_SITE_in_range(&p)         whether index and coordinates are in range; in C++ lnc::in_range(p). Test each point once, where it is made */"""
+   ln_SITE_in_range(&p)         whether index and coordinates are in range; in C++ lnc::in_range(p). Test each point once, where it is made
+
+   With `#define LNC_CHECKED` before the header is included, all these calls test what they are given. At the first value out of range, negative index or
+   index twice they call ln_on_refusal, a pointer that you may set, with the names of predicate and argument; else they print these and abort */"""
 
 
-def header(path, code):
-    text = path.read_text()
-    source, stem = Source(text), path.stem
-    made = f"the SHA-256 {hashlib.sha256(code.read_bytes()).hexdigest()}" if code else "is beside it"
-    code_name = code.name if code else stem + ".c"
-    upper = stem.upper()
-    yield ABOUT.format(stem=stem, upper=upper, code=code_name, made=made, source=hashlib.sha256(text.encode()).hexdigest())
-    yield f"#ifndef LNC_{upper}_H\n#define LNC_{upper}_H\n#include <stddef.h>\n#include <stdint.h>\n\n#ifdef __cplusplus\nextern \"C\" {{\n#endif\n"
+def header(stem, data, source, code):
+    """The lines of the header; code is none where the C isn't there yet."""
+    upper, calls = stem.upper(), [Call(source, name) for name in source.predicates]
+    made = f"the SHA-256 {hashlib.sha256(code.text.encode('latin-1')).hexdigest()}" if code else "is beside it"
+    code_name, program = (code.name, code.program) if code else (stem + ".c", "lnc_exact or lnc emit")
+    yield ABOUT.format(stem=stem, upper=upper, code=code_name, program=program, made=made, source=hashlib.sha256(data).hexdigest())
+    yield f"#ifndef LNC_{upper}_H\n#define LNC_{upper}_H\n#include <stddef.h>\n#include <stdint.h>\n{REFUSAL}"
+    yield '#ifdef __cplusplus\nextern "C" {\n#endif\n'
     yield from ranges(source)
-    yield from prototypes(source)
-    yield from thin(source)
-    yield "\n#ifdef __cplusplus\n}\n\n#include <cstdint>\nnamespace lnc {"
-    yield from overloads(source)
-    yield f"}}\n#endif\n#endif\n\n#if defined(LNC_{upper}_IMPLEMENTATION) && !defined(LNC_{upper}_IMPLEMENTED)\n#define LNC_{upper}_IMPLEMENTED"
-    yield from implementation(source, code_name)
-    yield "#endif"
+    yield from prototypes(source, calls)
+    yield f"#ifdef LNC_CHECKED\n#define LNC_{upper}_CHECKED"
+    for call in calls:
+        yield from checked(call)
+    yield "#endif\n\n#ifdef __cplusplus\n}\n\n#include <cstdint>"
+    yield from overloads(source, calls)
+    yield "#endif\n#endif"
+    yield from implementation(upper, calls, code_name)
 
 
-def narrower(text, bits):
-    """The source with ranges of this many bits and other names."""
-    source = Source(text)
+def narrower(source, bits):
+    """The source with ranges of this many bits and other names. In comments, where names are also those of others' predicates, nothing changes."""
+    changes = []
+    for coordinates in source.sites.values():
+        for c, it in coordinates:
+            changes.append((it.begin, it.end, f"0 .. {2**(2 * bits)}" if c == "w" else f"-{2**bits} .. {2**bits}"))
+    items = {*source.sites, *source.params, *source.predicates}
+    changes += [(token.at, token.at + len(token.text), f"{token.text}_{bits}") for token in source.tokens if token.text in items]
+    text, at = f"// Coordinates from -2^{bits} to 2^{bits}, written by header.py --grid {bits} from a source whose own ranges are these:\n", 0
+    for begin, end, now in sorted(changes):
+        text, at = text + source.text[at:begin] + now, end
+    return text + source.text[at:]
 
-    def site(match):
-        body = re.sub(r"(\w+): -?\d+ \.\. \d+;", lambda c: f"w: 0 .. {2**(2 * bits)};" if c[1] == "w" else f"{c[1]}: -{2**bits} .. {2**bits};", match[2])
-        return f"site {match[1]} {{{body}}}"
-    text = re.sub(r"\bsite (\w+) \{([^}]*)\}", site, text)
-    # in comments the names of others' predicates are the same, so there nothing changes
-    names = "|".join([*source.sites, *source.predicates])
-    text = "\n".join(re.sub(r"^[^/]*", lambda line: re.sub(rf"\b({names})\b", rf"\1_{bits}", line[0]), line) for line in text.split("\n"))
-    return f"// Coordinates from -2^{bits} to 2^{bits}, written by header.py --grid {bits} from a source whose own ranges are these:\n" + text
+
+def program():
+    """The program whose `check` is asked: that in LNC, of this checkout, or on the path."""
+    here = Path(__file__).resolve().parent.parent / "bin" / "lnc"
+    found = os.environ.get("LNC") or (str(here) if here.exists() else shutil.which("lnc"))
+    if not found:
+        raise Fault(None, "lnc, which has to take the source, isn't on the path: put its place into LNC")
+    return found
+
+
+def accepted(data):
+    """Asks `lnc check`, which says why a source is refused and where."""
+    run = subprocess.run([program(), "check", "/dev/stdin"], input=data, capture_output=True)
+    if run.returncode:
+        said = (run.stderr.decode().strip().splitlines() or [f"status {run.returncode}"])[-1]
+        kind = re.fullmatch(r"error (\w+) (\d+:\d+)", said)
+        raise Fault(kind[2], f"lnc check refuses the source: {kind[1]} (docs/LANGUAGE.md)") if kind else Fault(None, f"lnc check: {said}")
+
+
+def read(path):
+    try:
+        return path.read_bytes()
+    except OSError as error:
+        raise Fault(None, f"can't be read: {error.strerror}") from None
+
+
+def written(words):
+    """What is written for the words: a text; or the fault, with the file that has it."""
+    grid = words[0] == "--grid"
+    path, data, text = Path(words[-1] if grid else words[0]), b"", ""
+    try:
+        data = read(path)
+        text = data.decode("latin-1")
+        accepted(data)
+        source = Source(text)
+        if grid:
+            return narrower(source, int(words[1]))
+        if not re.fullmatch(r"[A-Za-z0-9_]+", path.stem):
+            raise Fault(None, "the header's macros have the name of the file, which has to be of letters, digits and _")
+        Names(source)
+        for line in (line for lines in source.comments.values() for line in lines):
+            for end in re.finditer(r"\*/|/\*", line.text):
+                raise Fault(line.at + end.start(), f"the comment goes into one of C, where {end[0]} can't stand")
+        code = None
+        if len(words) == 2:
+            path = Path(words[1])
+            text = read(path).decode("latin-1")
+            code = Code(path, text, source)
+        return "\n".join(header(Path(words[0]).stem, data, source, code)) + "\n"
+    except Fault as fault:
+        place = place_of(text, fault.place) if isinstance(fault.place, int) else fault.place
+        sys.exit(f"{path}:{place + ':' if place else ''} {fault}")
 
 
 def main(words):
-    if len(words) == 3 and words[0] == "--grid" and words[1].isdigit():
-        sys.stdout.write(narrower(Path(words[2]).read_text(), int(words[1])))
-    elif len(words) in (1, 2) and not words[0].startswith("-"):
-        print("\n".join(header(Path(words[0]), Path(words[1]) if len(words) == 2 else None)))
+    if (len(words) == 3 and words[0] == "--grid" and words[1].isdigit()) or (len(words) in (1, 2) and not words[0].startswith("-")):
+        sys.stdout.write(written(words))
     else:
         sys.exit(__doc__)
 

@@ -6,10 +6,12 @@
     lnc.insphere.plain(..the same..)                           # at the points themselves: 1, 0 or -1
     lnc.insphere.rows(x, v)                                    # n rows: x has an index for each site, v the values; a sign for each row
 
-Functions, sites and ranges are read from the headers that header.py wrote, so it serves for a library of one's own predicates too. A value that is
-out of range, an index that is negative and two that are equal raise ValueError. `rows` takes and returns numpy arrays where numpy is there,
-otherwise sequences of rows and a list."""
+Functions, sites and ranges are read from the headers that header.py wrote, so it serves for a library of one's own predicates too. Every call tests what
+it is given: ValueError says which argument is out of range, has a negative index, the index of another or too few or too many numbers, TypeError which is
+no integer. `rows` takes numpy arrays of int64 and no other type, which would have to be cut, or sequences of rows; it returns a numpy array where numpy is
+there, otherwise a list."""
 import ctypes
+import operator
 import re
 from pathlib import Path
 
@@ -18,7 +20,7 @@ try:
 except ImportError:
     numpy = None
 
-INT64 = ctypes.POINTER(ctypes.c_int64)
+INT64, INT8 = ctypes.POINTER(ctypes.c_int64), ctypes.POINTER(ctypes.c_int8)
 
 
 class Predicate:
@@ -26,35 +28,53 @@ class Predicate:
 
     def __init__(self, name, indices, values, arguments, ranges, library):
         self.__name__, self.indices, self.values, self.arguments, self.ranges = name, indices, values, arguments, ranges
+        self._width = {argument: sum(value.split(".")[0] == argument for value in values) for argument in arguments}
         self._sign, self._plain, self._rows = (getattr(library, "ln_" + name + end) for end in ("", "_plain", "_rows"))
         self._sign.argtypes, self._plain.argtypes = [INT64, INT64], [INT64]
-        self._rows.argtypes, self._rows.restype = [ctypes.c_size_t, INT64, INT64, ctypes.POINTER(ctypes.c_int8)], None
+        self._rows.argtypes, self._rows.restype = [ctypes.c_size_t, INT64, INT64, INT8], None
 
     def __call__(self, *arguments):
         x, v = self._row(arguments)
-        return self._sign(*self._checked([x], [v]))
+        return self._sign(_flat([x]), _flat([v]))
 
     def plain(self, *arguments):
         """The sign at the points themselves, 0 where they are degenerate."""
-        x, v = self._row(arguments)
-        return self._plain(self._checked([x], [v])[1])
+        return self._plain(_flat([self._row(arguments)[1]]))
 
     def rows(self, x, v):
         """A sign for each row of x and v."""
         if numpy is None:
+            x, v = ([list(row) for row in rows] for rows in (x, v))
+            if len(x) != len(v):
+                raise ValueError(f"{self.__name__}: as many rows of indices as of values")
+            for k, (indices, values) in enumerate(zip(x, v)):
+                self._test(f"{self.__name__}, row {k}", indices, values)
             signs = (ctypes.c_int8 * len(x))()
-            self._rows(len(x), *self._checked(x, v), signs)
+            self._rows(len(x), _flat(x), _flat(v), signs)
             return list(signs)
-        x, v = (numpy.ascontiguousarray(a, dtype=numpy.int64) for a in (x, v))
-        if x.shape != (len(x), len(self.indices)) or v.shape != (len(x), len(self.values)):
-            raise ValueError(f"{self.__name__}: rows of {len(self.indices)} indices and of {len(self.values)} values")
-        low, high = (numpy.array([r[k] for r in self.ranges]) for k in (0, 1))
-        sorted_ = numpy.sort(x, axis=1)
-        if ((v < low) | (v > high)).any() or (x < 0).any() or (sorted_[:, 1:] == sorted_[:, :-1]).any():
-            raise ValueError(f"{self.__name__}: a value out of range, or indices that don't differ")
+        x, v = self._array(x, self.indices), self._array(v, self.values)
+        if len(x) != len(v):
+            raise ValueError(f"{self.__name__}: as many rows of indices as of values")
+        low, high = (numpy.array([r[k] for r in self.ranges], dtype=numpy.int64) for k in (0, 1))
+        ordered = numpy.sort(x, axis=1)
+        wrong = ((v < low) | (v > high)).any(axis=1) | (x < 0).any(axis=1) | (ordered[:, 1:] == ordered[:, :-1]).any(axis=1)
+        for k in numpy.flatnonzero(wrong)[:1]:
+            self._test(f"{self.__name__}, row {k}", x[k].tolist(), v[k].tolist())
         signs = numpy.empty(len(x), dtype=numpy.int8)
-        self._rows(len(x), x.ctypes.data_as(INT64), v.ctypes.data_as(INT64), signs.ctypes.data_as(ctypes.POINTER(ctypes.c_int8)))
+        self._rows(len(x), x.ctypes.data_as(INT64), v.ctypes.data_as(INT64), signs.ctypes.data_as(INT8))
         return signs
+
+    def _array(self, rows, columns):
+        """Rows as an array of int64 with these columns."""
+        given = isinstance(rows, numpy.ndarray)
+        array = rows if given else numpy.array(rows)
+        if not given and array.size == 0:
+            array = numpy.empty((0 if columns else len(rows), len(columns)), dtype=numpy.int64)
+        if array.dtype != numpy.int64:
+            raise TypeError(f"{self.__name__}: an array of {array.dtype}, and not of int64")
+        if array.ndim != 2 or array.shape[1] != len(columns):
+            raise ValueError(f"{self.__name__}: rows of {len(self.indices)} indices and of {len(self.values)} values")
+        return numpy.ascontiguousarray(array)
 
     def _row(self, arguments):
         """The indices and the values of a call."""
@@ -62,27 +82,40 @@ class Predicate:
             raise ValueError(f"{self.__name__} takes {', '.join(self.arguments)}")
         x, v = [], []
         for name, argument in zip(self.arguments, arguments):
-            if name in self.indices:
-                x.append(argument[0])
-                v.extend(argument[1:])
-            else:
+            if name not in self.indices:
                 v.append(argument)
-        return x, v
+                continue
+            if len(argument) != 1 + self._width[name]:
+                raise ValueError(f"{self.__name__}: {name} has an index and {self._width[name]} coordinates, and not {len(argument)} numbers")
+            x.append(argument[0])
+            v.extend(argument[1:])
+        return self._test(self.__name__, x, v)
 
-    def _checked(self, x, v):
-        """Rows as arrays of C."""
-        if len(x) != len(v):
-            raise ValueError(f"{self.__name__}: as many rows of indices as of values")
-        for indices, values in zip(x, v):
-            if len(indices) != len(self.indices) or len(values) != len(self.values):
-                raise ValueError(f"{self.__name__}: rows of {len(self.indices)} indices and of {len(self.values)} values")
-            for value, name, (low, high) in zip(values, self.values, self.ranges):
-                if not low <= value <= high:
-                    raise ValueError(f"{self.__name__}: {name} is not from {low} to {high}")
-            if len(set(indices)) < len(indices) or not all(0 <= index < 2**63 for index in indices):
-                raise ValueError(f"{self.__name__}: indices differ and are from 0 to 2^63 - 1")
-        flat = [[number for row in rows for number in row] for rows in (x, v)]
-        return [(ctypes.c_int64 * len(numbers))(*numbers) for numbers in flat]
+    def _test(self, call, indices, values):
+        """The numbers of a row as integers, each in its range, and the indices differ."""
+        if len(indices) != len(self.indices) or len(values) != len(self.values):
+            raise ValueError(f"{call}: {len(self.indices)} indices and {len(self.values)} values")
+        tested = [[], []]
+        names = [*((name + " (its index)", 0, 2**63 - 1) for name in self.indices), *((name, *ends) for name, ends in zip(self.values, self.ranges))]
+        for k, ((name, low, high), number) in enumerate(zip(names, [*indices, *values])):
+            try:
+                number = operator.index(number)
+            except TypeError:
+                raise TypeError(f"{call}: {name} is {number!r}, and no integer") from None
+            if not low <= number <= high:
+                raise ValueError(f"{call}: {name} is {number}, not from {low} to {high}")
+            tested[k >= len(indices)].append(number)
+        for k, name in enumerate(self.indices):
+            for j in range(k):
+                if tested[0][j] == tested[0][k]:
+                    raise ValueError(f"{call}: {name} has the index of {self.indices[j]} too")
+        return tested
+
+
+def _flat(rows):
+    """Rows as an array of C."""
+    numbers = [number for row in rows for number in row]
+    return (ctypes.c_int64 * len(numbers))(*numbers)
 
 
 class Library:
@@ -95,7 +128,7 @@ class Library:
 
     def _read(self, text):
         ends = {name: int(number) for name, number in re.findall(r"#define LN_(\w+) INT64_C\((-?\d+)\)", text)}
-        calls = {name: [a.split() for a in taken.split(",")] for name, taken in re.findall(r"^static inline int ln_(\w+)_at\((.*)\) \{$", text, flags=re.M)}
+        calls = {name: [a.split() for a in taken.split(",")] for name, taken in re.findall(r"^int ln_(\w+)_at\((.*)\);$", text, flags=re.M)}
         for x, v, name in re.findall(r"/\* x: ([^\n]*)\n   v: ([^\n]*) \*/\nint ln_(\w+)\(const int64_t \*x", text):
             kinds = {a[-1].lstrip("*"): a[1][len("ln_"):] if a[0] == "const" else None for a in calls[name]}
             values = v.split(", ")

@@ -7,22 +7,49 @@
        #define LNC_SPACE_IMPLEMENTATION
        #include "lnc_space.h"
 
-   and in all others, C or C++, the second line alone. (space.c can be compiled by itself too; then ln_NAME is there, and ln_NAME_plain and
-   ln_NAME_rows aren't.) For each predicate NAME there are
+   and in all others, C or C++, the second line alone. For each predicate NAME there are
 
-   ln_NAME(x, v)                1 or -1, the sign at the moved points; with params it may be 0. x has the indices of the sites, which have to differ,
-                                from 0 to 2^63 - 1, v the values, each in its range: the order is that of the comments below. Nothing is checked
-   ln_NAME_plain(v)             1, 0 or -1, the sign at the points themselves, 0 where they are degenerate
+   ln_NAME_at(&p, ..)           1 or -1, the sign at the moved points; with params it may be 0. The indices of the sites have to differ and are from 0 to
+                                2^63 - 1, the values are each in its range. Nothing is checked (but see below). In C++ lnc::NAME(p, ..)
+   ln_NAME_plain_at(&p, ..)     1, 0 or -1, the sign at the points themselves, 0 where they are degenerate. In C++ lnc::NAME_plain(p, ..)
+   ln_NAME(x, v)                the same of arrays: x has the indices of the sites, v the values, in the order of the comments below; ln_NAME_plain(v)
    ln_NAME_rows(n, x, v, signs) ln_NAME of n rows, each after the other in x and in v, into signs
-   ln_NAME_at(&p, ..)           ln_NAME of points; ln_NAME_plain_at; in C++ lnc::NAME(p, ..) and lnc::NAME_plain(p, ..)
 
    and for each type of points SITE, with a member for the index and one for each coordinate, in the order in which the type declares them,
 
-   ln_SITE_in_range(&p)         whether index and coordinates are in range; in C++ lnc::in_range(p). Test each point once, where it is made */
+   ln_SITE_in_range(&p)         whether index and coordinates are in range; in C++ lnc::in_range(p). Test each point once, where it is made
+
+   With `#define LNC_CHECKED` before the header is included, all these calls test what they are given. At the first value out of range, negative index or
+   index twice they call ln_on_refusal, a pointer that you may set, with the names of predicate and argument; else they print these and abort */
 #ifndef LNC_SPACE_H
 #define LNC_SPACE_H
 #include <stddef.h>
 #include <stdint.h>
+
+#if defined(LNC_CHECKED) && !defined(LNC_HAS_REFUSAL)
+#define LNC_HAS_REFUSAL
+#include <stdio.h>
+#include <stdlib.h>
+#ifdef __cplusplus
+extern "C" {
+#endif
+/* told of the first fault of a call: the predicate, the argument ("p" for its index, "p.x"), what is wrong with it, and of ln_NAME_rows the row,
+   from 0, otherwise SIZE_MAX. Where it returns, the call returns 0, or writes 0 for the row. Without another it prints this and aborts */
+typedef void ln_refusal(const char *predicate, const char *argument, const char *fault, size_t row);
+static inline void lr_aborts(const char *predicate, const char *argument, const char *fault, size_t row) {
+  if (row == SIZE_MAX) fprintf(stderr, "lnc: %s: %s %s\n", predicate, argument, fault);
+  else fprintf(stderr, "lnc: %s, row %zu: %s %s\n", predicate, row, argument, fault);
+  abort();
+}
+__attribute__((weak)) ln_refusal *ln_on_refusal = lr_aborts;
+static inline int lr_is(int right, const char *predicate, const char *argument, const char *fault, size_t row) {
+  if (!right) ln_on_refusal(predicate, argument, fault, row);
+  return right;
+}
+#ifdef __cplusplus
+}
+#endif
+#endif
 
 #ifdef __cplusplus
 extern "C" {
@@ -48,6 +75,8 @@ static inline int ln_point3_in_range(const ln_point3 *p) {
 int ln_orient3(const int64_t *x, const int64_t *v);
 int ln_orient3_plain(const int64_t *v);
 void ln_orient3_rows(size_t n, const int64_t *x, const int64_t *v, int8_t *signs);
+int ln_orient3_at(const ln_point3 *a, const ln_point3 *b, const ln_point3 *c, const ln_point3 *d);
+int ln_orient3_plain_at(const ln_point3 *a, const ln_point3 *b, const ln_point3 *c, const ln_point3 *d);
 
 /* + where e is inside the sphere of a, b, c, d and orient3 of these is +, - where it is -: the sign of Shewchuk's
    insphere, the opposite of CGAL's side_of_oriented_sphere. */
@@ -56,6 +85,8 @@ void ln_orient3_rows(size_t n, const int64_t *x, const int64_t *v, int8_t *signs
 int ln_insphere(const int64_t *x, const int64_t *v);
 int ln_insphere_plain(const int64_t *v);
 void ln_insphere_rows(size_t n, const int64_t *x, const int64_t *v, int8_t *signs);
+int ln_insphere_at(const ln_point3 *a, const ln_point3 *b, const ln_point3 *c, const ln_point3 *d, const ln_point3 *e);
+int ln_insphere_plain_at(const ln_point3 *a, const ln_point3 *b, const ln_point3 *c, const ln_point3 *d, const ln_point3 *e);
 
 /* + where r is inside the sphere whose diameter is from p to q (the angle at r is obtuse): the sign of CGAL's
    side_of_bounded_sphere(p, q, r). */
@@ -64,6 +95,8 @@ void ln_insphere_rows(size_t n, const int64_t *x, const int64_t *v, int8_t *sign
 int ln_diametral3(const int64_t *x, const int64_t *v);
 int ln_diametral3_plain(const int64_t *v);
 void ln_diametral3_rows(size_t n, const int64_t *x, const int64_t *v, int8_t *signs);
+int ln_diametral3_at(const ln_point3 *p, const ln_point3 *q, const ln_point3 *r);
+int ln_diametral3_plain_at(const ln_point3 *p, const ln_point3 *q, const ln_point3 *r);
 
 /* + where p is beyond q along an axis: the sign of CGAL's compare_x, compare_y and compare_z. */
 /* x: p, q
@@ -71,18 +104,24 @@ void ln_diametral3_rows(size_t n, const int64_t *x, const int64_t *v, int8_t *si
 int ln_compare_x3(const int64_t *x, const int64_t *v);
 int ln_compare_x3_plain(const int64_t *v);
 void ln_compare_x3_rows(size_t n, const int64_t *x, const int64_t *v, int8_t *signs);
+int ln_compare_x3_at(const ln_point3 *p, const ln_point3 *q);
+int ln_compare_x3_plain_at(const ln_point3 *p, const ln_point3 *q);
 
 /* x: p, q
    v: p.x, p.y, p.z, q.x, q.y, q.z */
 int ln_compare_y3(const int64_t *x, const int64_t *v);
 int ln_compare_y3_plain(const int64_t *v);
 void ln_compare_y3_rows(size_t n, const int64_t *x, const int64_t *v, int8_t *signs);
+int ln_compare_y3_at(const ln_point3 *p, const ln_point3 *q);
+int ln_compare_y3_plain_at(const ln_point3 *p, const ln_point3 *q);
 
 /* x: p, q
    v: p.x, p.y, p.z, q.x, q.y, q.z */
 int ln_compare_z3(const int64_t *x, const int64_t *v);
 int ln_compare_z3_plain(const int64_t *v);
 void ln_compare_z3_rows(size_t n, const int64_t *x, const int64_t *v, int8_t *signs);
+int ln_compare_z3_at(const ln_point3 *p, const ln_point3 *q);
+int ln_compare_z3_plain_at(const ln_point3 *p, const ln_point3 *q);
 
 /* + where p is after q by x, by y where x is equal, and by z where both are: the sign of CGAL's compare_xyz. At
    the moved points it is their order along the direction (m^2, m, 1) with m = 2^24 + 1, so a sweep by it is one
@@ -92,156 +131,538 @@ void ln_compare_z3_rows(size_t n, const int64_t *x, const int64_t *v, int8_t *si
 int ln_lexicographic3(const int64_t *x, const int64_t *v);
 int ln_lexicographic3_plain(const int64_t *v);
 void ln_lexicographic3_rows(size_t n, const int64_t *x, const int64_t *v, int8_t *signs);
+int ln_lexicographic3_at(const ln_point3 *p, const ln_point3 *q);
+int ln_lexicographic3_plain_at(const ln_point3 *p, const ln_point3 *q);
 
-static inline int ln_orient3_at(const ln_point3 *a, const ln_point3 *b, const ln_point3 *c, const ln_point3 *d) {
+#ifdef LNC_CHECKED
+#define LNC_SPACE_CHECKED
+static inline int lv_orient3(const int64_t *v, size_t row) {
+  return lr_is(LN_POINT3_X_MIN <= v[0] && v[0] <= LN_POINT3_X_MAX, "orient3", "a.x", "is out of range", row) &&
+    lr_is(LN_POINT3_Y_MIN <= v[1] && v[1] <= LN_POINT3_Y_MAX, "orient3", "a.y", "is out of range", row) &&
+    lr_is(LN_POINT3_Z_MIN <= v[2] && v[2] <= LN_POINT3_Z_MAX, "orient3", "a.z", "is out of range", row) &&
+    lr_is(LN_POINT3_X_MIN <= v[3] && v[3] <= LN_POINT3_X_MAX, "orient3", "b.x", "is out of range", row) &&
+    lr_is(LN_POINT3_Y_MIN <= v[4] && v[4] <= LN_POINT3_Y_MAX, "orient3", "b.y", "is out of range", row) &&
+    lr_is(LN_POINT3_Z_MIN <= v[5] && v[5] <= LN_POINT3_Z_MAX, "orient3", "b.z", "is out of range", row) &&
+    lr_is(LN_POINT3_X_MIN <= v[6] && v[6] <= LN_POINT3_X_MAX, "orient3", "c.x", "is out of range", row) &&
+    lr_is(LN_POINT3_Y_MIN <= v[7] && v[7] <= LN_POINT3_Y_MAX, "orient3", "c.y", "is out of range", row) &&
+    lr_is(LN_POINT3_Z_MIN <= v[8] && v[8] <= LN_POINT3_Z_MAX, "orient3", "c.z", "is out of range", row) &&
+    lr_is(LN_POINT3_X_MIN <= v[9] && v[9] <= LN_POINT3_X_MAX, "orient3", "d.x", "is out of range", row) &&
+    lr_is(LN_POINT3_Y_MIN <= v[10] && v[10] <= LN_POINT3_Y_MAX, "orient3", "d.y", "is out of range", row) &&
+    lr_is(LN_POINT3_Z_MIN <= v[11] && v[11] <= LN_POINT3_Z_MAX, "orient3", "d.z", "is out of range", row);
+}
+static inline int li_orient3(const int64_t *x, size_t row) {
+  return lr_is(0 <= x[0], "orient3", "a", "has a negative index", row) &&
+    lr_is(0 <= x[1], "orient3", "b", "has a negative index", row) &&
+    lr_is(0 <= x[2], "orient3", "c", "has a negative index", row) &&
+    lr_is(0 <= x[3], "orient3", "d", "has a negative index", row) &&
+    lr_is(x[0] != x[1], "orient3", "b", "has the index of a too", row) &&
+    lr_is(x[0] != x[2], "orient3", "c", "has the index of a too", row) &&
+    lr_is(x[1] != x[2], "orient3", "c", "has the index of b too", row) &&
+    lr_is(x[0] != x[3], "orient3", "d", "has the index of a too", row) &&
+    lr_is(x[1] != x[3], "orient3", "d", "has the index of b too", row) &&
+    lr_is(x[2] != x[3], "orient3", "d", "has the index of c too", row);
+}
+static inline int lc_orient3(const int64_t *x, const int64_t *v) { return lv_orient3(v, SIZE_MAX) && li_orient3(x, SIZE_MAX) ? ln_orient3(x, v) : 0; }
+static inline int lc_orient3_plain(const int64_t *v) { return lv_orient3(v, SIZE_MAX) ? ln_orient3_plain(v) : 0; }
+static inline void lc_orient3_rows(size_t n, const int64_t *x, const int64_t *v, int8_t *signs) {
+  for (size_t i = 0; i < n; i++) {
+    signs[i] = 0;
+    if (lv_orient3(v + 12 * i, i) && li_orient3(x + 4 * i, i)) ln_orient3_rows(1, x + 4 * i, v + 12 * i, signs + i);
+  }
+}
+static inline int lc_orient3_at(const ln_point3 *a, const ln_point3 *b, const ln_point3 *c, const ln_point3 *d) {
   const int64_t x[] = {a->index, b->index, c->index, d->index};
   const int64_t v[] = {a->x, a->y, a->z, b->x, b->y, b->z, c->x, c->y, c->z, d->x, d->y, d->z};
-  return ln_orient3(x, v);
+  return lv_orient3(v, SIZE_MAX) && li_orient3(x, SIZE_MAX) ? ln_orient3_at(a, b, c, d) : 0;
 }
-static inline int ln_orient3_plain_at(const ln_point3 *a, const ln_point3 *b, const ln_point3 *c, const ln_point3 *d) {
+static inline int lc_orient3_plain_at(const ln_point3 *a, const ln_point3 *b, const ln_point3 *c, const ln_point3 *d) {
   const int64_t v[] = {a->x, a->y, a->z, b->x, b->y, b->z, c->x, c->y, c->z, d->x, d->y, d->z};
-  return ln_orient3_plain(v);
+  return lv_orient3(v, SIZE_MAX) ? ln_orient3_plain_at(a, b, c, d) : 0;
 }
-static inline int ln_insphere_at(const ln_point3 *a, const ln_point3 *b, const ln_point3 *c, const ln_point3 *d, const ln_point3 *e) {
+static inline int lv_insphere(const int64_t *v, size_t row) {
+  return lr_is(LN_POINT3_X_MIN <= v[0] && v[0] <= LN_POINT3_X_MAX, "insphere", "a.x", "is out of range", row) &&
+    lr_is(LN_POINT3_Y_MIN <= v[1] && v[1] <= LN_POINT3_Y_MAX, "insphere", "a.y", "is out of range", row) &&
+    lr_is(LN_POINT3_Z_MIN <= v[2] && v[2] <= LN_POINT3_Z_MAX, "insphere", "a.z", "is out of range", row) &&
+    lr_is(LN_POINT3_X_MIN <= v[3] && v[3] <= LN_POINT3_X_MAX, "insphere", "b.x", "is out of range", row) &&
+    lr_is(LN_POINT3_Y_MIN <= v[4] && v[4] <= LN_POINT3_Y_MAX, "insphere", "b.y", "is out of range", row) &&
+    lr_is(LN_POINT3_Z_MIN <= v[5] && v[5] <= LN_POINT3_Z_MAX, "insphere", "b.z", "is out of range", row) &&
+    lr_is(LN_POINT3_X_MIN <= v[6] && v[6] <= LN_POINT3_X_MAX, "insphere", "c.x", "is out of range", row) &&
+    lr_is(LN_POINT3_Y_MIN <= v[7] && v[7] <= LN_POINT3_Y_MAX, "insphere", "c.y", "is out of range", row) &&
+    lr_is(LN_POINT3_Z_MIN <= v[8] && v[8] <= LN_POINT3_Z_MAX, "insphere", "c.z", "is out of range", row) &&
+    lr_is(LN_POINT3_X_MIN <= v[9] && v[9] <= LN_POINT3_X_MAX, "insphere", "d.x", "is out of range", row) &&
+    lr_is(LN_POINT3_Y_MIN <= v[10] && v[10] <= LN_POINT3_Y_MAX, "insphere", "d.y", "is out of range", row) &&
+    lr_is(LN_POINT3_Z_MIN <= v[11] && v[11] <= LN_POINT3_Z_MAX, "insphere", "d.z", "is out of range", row) &&
+    lr_is(LN_POINT3_X_MIN <= v[12] && v[12] <= LN_POINT3_X_MAX, "insphere", "e.x", "is out of range", row) &&
+    lr_is(LN_POINT3_Y_MIN <= v[13] && v[13] <= LN_POINT3_Y_MAX, "insphere", "e.y", "is out of range", row) &&
+    lr_is(LN_POINT3_Z_MIN <= v[14] && v[14] <= LN_POINT3_Z_MAX, "insphere", "e.z", "is out of range", row);
+}
+static inline int li_insphere(const int64_t *x, size_t row) {
+  return lr_is(0 <= x[0], "insphere", "a", "has a negative index", row) &&
+    lr_is(0 <= x[1], "insphere", "b", "has a negative index", row) &&
+    lr_is(0 <= x[2], "insphere", "c", "has a negative index", row) &&
+    lr_is(0 <= x[3], "insphere", "d", "has a negative index", row) &&
+    lr_is(0 <= x[4], "insphere", "e", "has a negative index", row) &&
+    lr_is(x[0] != x[1], "insphere", "b", "has the index of a too", row) &&
+    lr_is(x[0] != x[2], "insphere", "c", "has the index of a too", row) &&
+    lr_is(x[1] != x[2], "insphere", "c", "has the index of b too", row) &&
+    lr_is(x[0] != x[3], "insphere", "d", "has the index of a too", row) &&
+    lr_is(x[1] != x[3], "insphere", "d", "has the index of b too", row) &&
+    lr_is(x[2] != x[3], "insphere", "d", "has the index of c too", row) &&
+    lr_is(x[0] != x[4], "insphere", "e", "has the index of a too", row) &&
+    lr_is(x[1] != x[4], "insphere", "e", "has the index of b too", row) &&
+    lr_is(x[2] != x[4], "insphere", "e", "has the index of c too", row) &&
+    lr_is(x[3] != x[4], "insphere", "e", "has the index of d too", row);
+}
+static inline int lc_insphere(const int64_t *x, const int64_t *v) { return lv_insphere(v, SIZE_MAX) && li_insphere(x, SIZE_MAX) ? ln_insphere(x, v) : 0; }
+static inline int lc_insphere_plain(const int64_t *v) { return lv_insphere(v, SIZE_MAX) ? ln_insphere_plain(v) : 0; }
+static inline void lc_insphere_rows(size_t n, const int64_t *x, const int64_t *v, int8_t *signs) {
+  for (size_t i = 0; i < n; i++) {
+    signs[i] = 0;
+    if (lv_insphere(v + 15 * i, i) && li_insphere(x + 5 * i, i)) ln_insphere_rows(1, x + 5 * i, v + 15 * i, signs + i);
+  }
+}
+static inline int lc_insphere_at(const ln_point3 *a, const ln_point3 *b, const ln_point3 *c, const ln_point3 *d, const ln_point3 *e) {
   const int64_t x[] = {a->index, b->index, c->index, d->index, e->index};
   const int64_t v[] = {a->x, a->y, a->z, b->x, b->y, b->z, c->x, c->y, c->z, d->x, d->y, d->z, e->x, e->y, e->z};
-  return ln_insphere(x, v);
+  return lv_insphere(v, SIZE_MAX) && li_insphere(x, SIZE_MAX) ? ln_insphere_at(a, b, c, d, e) : 0;
 }
-static inline int ln_insphere_plain_at(const ln_point3 *a, const ln_point3 *b, const ln_point3 *c, const ln_point3 *d, const ln_point3 *e) {
+static inline int lc_insphere_plain_at(const ln_point3 *a, const ln_point3 *b, const ln_point3 *c, const ln_point3 *d, const ln_point3 *e) {
   const int64_t v[] = {a->x, a->y, a->z, b->x, b->y, b->z, c->x, c->y, c->z, d->x, d->y, d->z, e->x, e->y, e->z};
-  return ln_insphere_plain(v);
+  return lv_insphere(v, SIZE_MAX) ? ln_insphere_plain_at(a, b, c, d, e) : 0;
 }
-static inline int ln_diametral3_at(const ln_point3 *p, const ln_point3 *q, const ln_point3 *r) {
+static inline int lv_diametral3(const int64_t *v, size_t row) {
+  return lr_is(LN_POINT3_X_MIN <= v[0] && v[0] <= LN_POINT3_X_MAX, "diametral3", "p.x", "is out of range", row) &&
+    lr_is(LN_POINT3_Y_MIN <= v[1] && v[1] <= LN_POINT3_Y_MAX, "diametral3", "p.y", "is out of range", row) &&
+    lr_is(LN_POINT3_Z_MIN <= v[2] && v[2] <= LN_POINT3_Z_MAX, "diametral3", "p.z", "is out of range", row) &&
+    lr_is(LN_POINT3_X_MIN <= v[3] && v[3] <= LN_POINT3_X_MAX, "diametral3", "q.x", "is out of range", row) &&
+    lr_is(LN_POINT3_Y_MIN <= v[4] && v[4] <= LN_POINT3_Y_MAX, "diametral3", "q.y", "is out of range", row) &&
+    lr_is(LN_POINT3_Z_MIN <= v[5] && v[5] <= LN_POINT3_Z_MAX, "diametral3", "q.z", "is out of range", row) &&
+    lr_is(LN_POINT3_X_MIN <= v[6] && v[6] <= LN_POINT3_X_MAX, "diametral3", "r.x", "is out of range", row) &&
+    lr_is(LN_POINT3_Y_MIN <= v[7] && v[7] <= LN_POINT3_Y_MAX, "diametral3", "r.y", "is out of range", row) &&
+    lr_is(LN_POINT3_Z_MIN <= v[8] && v[8] <= LN_POINT3_Z_MAX, "diametral3", "r.z", "is out of range", row);
+}
+static inline int li_diametral3(const int64_t *x, size_t row) {
+  return lr_is(0 <= x[0], "diametral3", "p", "has a negative index", row) &&
+    lr_is(0 <= x[1], "diametral3", "q", "has a negative index", row) &&
+    lr_is(0 <= x[2], "diametral3", "r", "has a negative index", row) &&
+    lr_is(x[0] != x[1], "diametral3", "q", "has the index of p too", row) &&
+    lr_is(x[0] != x[2], "diametral3", "r", "has the index of p too", row) &&
+    lr_is(x[1] != x[2], "diametral3", "r", "has the index of q too", row);
+}
+static inline int lc_diametral3(const int64_t *x, const int64_t *v) { return lv_diametral3(v, SIZE_MAX) && li_diametral3(x, SIZE_MAX) ? ln_diametral3(x, v) : 0; }
+static inline int lc_diametral3_plain(const int64_t *v) { return lv_diametral3(v, SIZE_MAX) ? ln_diametral3_plain(v) : 0; }
+static inline void lc_diametral3_rows(size_t n, const int64_t *x, const int64_t *v, int8_t *signs) {
+  for (size_t i = 0; i < n; i++) {
+    signs[i] = 0;
+    if (lv_diametral3(v + 9 * i, i) && li_diametral3(x + 3 * i, i)) ln_diametral3_rows(1, x + 3 * i, v + 9 * i, signs + i);
+  }
+}
+static inline int lc_diametral3_at(const ln_point3 *p, const ln_point3 *q, const ln_point3 *r) {
   const int64_t x[] = {p->index, q->index, r->index};
   const int64_t v[] = {p->x, p->y, p->z, q->x, q->y, q->z, r->x, r->y, r->z};
-  return ln_diametral3(x, v);
+  return lv_diametral3(v, SIZE_MAX) && li_diametral3(x, SIZE_MAX) ? ln_diametral3_at(p, q, r) : 0;
 }
-static inline int ln_diametral3_plain_at(const ln_point3 *p, const ln_point3 *q, const ln_point3 *r) {
+static inline int lc_diametral3_plain_at(const ln_point3 *p, const ln_point3 *q, const ln_point3 *r) {
   const int64_t v[] = {p->x, p->y, p->z, q->x, q->y, q->z, r->x, r->y, r->z};
-  return ln_diametral3_plain(v);
+  return lv_diametral3(v, SIZE_MAX) ? ln_diametral3_plain_at(p, q, r) : 0;
 }
-static inline int ln_compare_x3_at(const ln_point3 *p, const ln_point3 *q) {
+static inline int lv_compare_x3(const int64_t *v, size_t row) {
+  return lr_is(LN_POINT3_X_MIN <= v[0] && v[0] <= LN_POINT3_X_MAX, "compare_x3", "p.x", "is out of range", row) &&
+    lr_is(LN_POINT3_Y_MIN <= v[1] && v[1] <= LN_POINT3_Y_MAX, "compare_x3", "p.y", "is out of range", row) &&
+    lr_is(LN_POINT3_Z_MIN <= v[2] && v[2] <= LN_POINT3_Z_MAX, "compare_x3", "p.z", "is out of range", row) &&
+    lr_is(LN_POINT3_X_MIN <= v[3] && v[3] <= LN_POINT3_X_MAX, "compare_x3", "q.x", "is out of range", row) &&
+    lr_is(LN_POINT3_Y_MIN <= v[4] && v[4] <= LN_POINT3_Y_MAX, "compare_x3", "q.y", "is out of range", row) &&
+    lr_is(LN_POINT3_Z_MIN <= v[5] && v[5] <= LN_POINT3_Z_MAX, "compare_x3", "q.z", "is out of range", row);
+}
+static inline int li_compare_x3(const int64_t *x, size_t row) {
+  return lr_is(0 <= x[0], "compare_x3", "p", "has a negative index", row) &&
+    lr_is(0 <= x[1], "compare_x3", "q", "has a negative index", row) &&
+    lr_is(x[0] != x[1], "compare_x3", "q", "has the index of p too", row);
+}
+static inline int lc_compare_x3(const int64_t *x, const int64_t *v) { return lv_compare_x3(v, SIZE_MAX) && li_compare_x3(x, SIZE_MAX) ? ln_compare_x3(x, v) : 0; }
+static inline int lc_compare_x3_plain(const int64_t *v) { return lv_compare_x3(v, SIZE_MAX) ? ln_compare_x3_plain(v) : 0; }
+static inline void lc_compare_x3_rows(size_t n, const int64_t *x, const int64_t *v, int8_t *signs) {
+  for (size_t i = 0; i < n; i++) {
+    signs[i] = 0;
+    if (lv_compare_x3(v + 6 * i, i) && li_compare_x3(x + 2 * i, i)) ln_compare_x3_rows(1, x + 2 * i, v + 6 * i, signs + i);
+  }
+}
+static inline int lc_compare_x3_at(const ln_point3 *p, const ln_point3 *q) {
   const int64_t x[] = {p->index, q->index};
   const int64_t v[] = {p->x, p->y, p->z, q->x, q->y, q->z};
-  return ln_compare_x3(x, v);
+  return lv_compare_x3(v, SIZE_MAX) && li_compare_x3(x, SIZE_MAX) ? ln_compare_x3_at(p, q) : 0;
 }
-static inline int ln_compare_x3_plain_at(const ln_point3 *p, const ln_point3 *q) {
+static inline int lc_compare_x3_plain_at(const ln_point3 *p, const ln_point3 *q) {
   const int64_t v[] = {p->x, p->y, p->z, q->x, q->y, q->z};
-  return ln_compare_x3_plain(v);
+  return lv_compare_x3(v, SIZE_MAX) ? ln_compare_x3_plain_at(p, q) : 0;
 }
-static inline int ln_compare_y3_at(const ln_point3 *p, const ln_point3 *q) {
+static inline int lv_compare_y3(const int64_t *v, size_t row) {
+  return lr_is(LN_POINT3_X_MIN <= v[0] && v[0] <= LN_POINT3_X_MAX, "compare_y3", "p.x", "is out of range", row) &&
+    lr_is(LN_POINT3_Y_MIN <= v[1] && v[1] <= LN_POINT3_Y_MAX, "compare_y3", "p.y", "is out of range", row) &&
+    lr_is(LN_POINT3_Z_MIN <= v[2] && v[2] <= LN_POINT3_Z_MAX, "compare_y3", "p.z", "is out of range", row) &&
+    lr_is(LN_POINT3_X_MIN <= v[3] && v[3] <= LN_POINT3_X_MAX, "compare_y3", "q.x", "is out of range", row) &&
+    lr_is(LN_POINT3_Y_MIN <= v[4] && v[4] <= LN_POINT3_Y_MAX, "compare_y3", "q.y", "is out of range", row) &&
+    lr_is(LN_POINT3_Z_MIN <= v[5] && v[5] <= LN_POINT3_Z_MAX, "compare_y3", "q.z", "is out of range", row);
+}
+static inline int li_compare_y3(const int64_t *x, size_t row) {
+  return lr_is(0 <= x[0], "compare_y3", "p", "has a negative index", row) &&
+    lr_is(0 <= x[1], "compare_y3", "q", "has a negative index", row) &&
+    lr_is(x[0] != x[1], "compare_y3", "q", "has the index of p too", row);
+}
+static inline int lc_compare_y3(const int64_t *x, const int64_t *v) { return lv_compare_y3(v, SIZE_MAX) && li_compare_y3(x, SIZE_MAX) ? ln_compare_y3(x, v) : 0; }
+static inline int lc_compare_y3_plain(const int64_t *v) { return lv_compare_y3(v, SIZE_MAX) ? ln_compare_y3_plain(v) : 0; }
+static inline void lc_compare_y3_rows(size_t n, const int64_t *x, const int64_t *v, int8_t *signs) {
+  for (size_t i = 0; i < n; i++) {
+    signs[i] = 0;
+    if (lv_compare_y3(v + 6 * i, i) && li_compare_y3(x + 2 * i, i)) ln_compare_y3_rows(1, x + 2 * i, v + 6 * i, signs + i);
+  }
+}
+static inline int lc_compare_y3_at(const ln_point3 *p, const ln_point3 *q) {
   const int64_t x[] = {p->index, q->index};
   const int64_t v[] = {p->x, p->y, p->z, q->x, q->y, q->z};
-  return ln_compare_y3(x, v);
+  return lv_compare_y3(v, SIZE_MAX) && li_compare_y3(x, SIZE_MAX) ? ln_compare_y3_at(p, q) : 0;
 }
-static inline int ln_compare_y3_plain_at(const ln_point3 *p, const ln_point3 *q) {
+static inline int lc_compare_y3_plain_at(const ln_point3 *p, const ln_point3 *q) {
   const int64_t v[] = {p->x, p->y, p->z, q->x, q->y, q->z};
-  return ln_compare_y3_plain(v);
+  return lv_compare_y3(v, SIZE_MAX) ? ln_compare_y3_plain_at(p, q) : 0;
 }
-static inline int ln_compare_z3_at(const ln_point3 *p, const ln_point3 *q) {
+static inline int lv_compare_z3(const int64_t *v, size_t row) {
+  return lr_is(LN_POINT3_X_MIN <= v[0] && v[0] <= LN_POINT3_X_MAX, "compare_z3", "p.x", "is out of range", row) &&
+    lr_is(LN_POINT3_Y_MIN <= v[1] && v[1] <= LN_POINT3_Y_MAX, "compare_z3", "p.y", "is out of range", row) &&
+    lr_is(LN_POINT3_Z_MIN <= v[2] && v[2] <= LN_POINT3_Z_MAX, "compare_z3", "p.z", "is out of range", row) &&
+    lr_is(LN_POINT3_X_MIN <= v[3] && v[3] <= LN_POINT3_X_MAX, "compare_z3", "q.x", "is out of range", row) &&
+    lr_is(LN_POINT3_Y_MIN <= v[4] && v[4] <= LN_POINT3_Y_MAX, "compare_z3", "q.y", "is out of range", row) &&
+    lr_is(LN_POINT3_Z_MIN <= v[5] && v[5] <= LN_POINT3_Z_MAX, "compare_z3", "q.z", "is out of range", row);
+}
+static inline int li_compare_z3(const int64_t *x, size_t row) {
+  return lr_is(0 <= x[0], "compare_z3", "p", "has a negative index", row) &&
+    lr_is(0 <= x[1], "compare_z3", "q", "has a negative index", row) &&
+    lr_is(x[0] != x[1], "compare_z3", "q", "has the index of p too", row);
+}
+static inline int lc_compare_z3(const int64_t *x, const int64_t *v) { return lv_compare_z3(v, SIZE_MAX) && li_compare_z3(x, SIZE_MAX) ? ln_compare_z3(x, v) : 0; }
+static inline int lc_compare_z3_plain(const int64_t *v) { return lv_compare_z3(v, SIZE_MAX) ? ln_compare_z3_plain(v) : 0; }
+static inline void lc_compare_z3_rows(size_t n, const int64_t *x, const int64_t *v, int8_t *signs) {
+  for (size_t i = 0; i < n; i++) {
+    signs[i] = 0;
+    if (lv_compare_z3(v + 6 * i, i) && li_compare_z3(x + 2 * i, i)) ln_compare_z3_rows(1, x + 2 * i, v + 6 * i, signs + i);
+  }
+}
+static inline int lc_compare_z3_at(const ln_point3 *p, const ln_point3 *q) {
   const int64_t x[] = {p->index, q->index};
   const int64_t v[] = {p->x, p->y, p->z, q->x, q->y, q->z};
-  return ln_compare_z3(x, v);
+  return lv_compare_z3(v, SIZE_MAX) && li_compare_z3(x, SIZE_MAX) ? ln_compare_z3_at(p, q) : 0;
 }
-static inline int ln_compare_z3_plain_at(const ln_point3 *p, const ln_point3 *q) {
+static inline int lc_compare_z3_plain_at(const ln_point3 *p, const ln_point3 *q) {
   const int64_t v[] = {p->x, p->y, p->z, q->x, q->y, q->z};
-  return ln_compare_z3_plain(v);
+  return lv_compare_z3(v, SIZE_MAX) ? ln_compare_z3_plain_at(p, q) : 0;
 }
-static inline int ln_lexicographic3_at(const ln_point3 *p, const ln_point3 *q) {
+static inline int lv_lexicographic3(const int64_t *v, size_t row) {
+  return lr_is(LN_POINT3_X_MIN <= v[0] && v[0] <= LN_POINT3_X_MAX, "lexicographic3", "p.x", "is out of range", row) &&
+    lr_is(LN_POINT3_Y_MIN <= v[1] && v[1] <= LN_POINT3_Y_MAX, "lexicographic3", "p.y", "is out of range", row) &&
+    lr_is(LN_POINT3_Z_MIN <= v[2] && v[2] <= LN_POINT3_Z_MAX, "lexicographic3", "p.z", "is out of range", row) &&
+    lr_is(LN_POINT3_X_MIN <= v[3] && v[3] <= LN_POINT3_X_MAX, "lexicographic3", "q.x", "is out of range", row) &&
+    lr_is(LN_POINT3_Y_MIN <= v[4] && v[4] <= LN_POINT3_Y_MAX, "lexicographic3", "q.y", "is out of range", row) &&
+    lr_is(LN_POINT3_Z_MIN <= v[5] && v[5] <= LN_POINT3_Z_MAX, "lexicographic3", "q.z", "is out of range", row);
+}
+static inline int li_lexicographic3(const int64_t *x, size_t row) {
+  return lr_is(0 <= x[0], "lexicographic3", "p", "has a negative index", row) &&
+    lr_is(0 <= x[1], "lexicographic3", "q", "has a negative index", row) &&
+    lr_is(x[0] != x[1], "lexicographic3", "q", "has the index of p too", row);
+}
+static inline int lc_lexicographic3(const int64_t *x, const int64_t *v) { return lv_lexicographic3(v, SIZE_MAX) && li_lexicographic3(x, SIZE_MAX) ? ln_lexicographic3(x, v) : 0; }
+static inline int lc_lexicographic3_plain(const int64_t *v) { return lv_lexicographic3(v, SIZE_MAX) ? ln_lexicographic3_plain(v) : 0; }
+static inline void lc_lexicographic3_rows(size_t n, const int64_t *x, const int64_t *v, int8_t *signs) {
+  for (size_t i = 0; i < n; i++) {
+    signs[i] = 0;
+    if (lv_lexicographic3(v + 6 * i, i) && li_lexicographic3(x + 2 * i, i)) ln_lexicographic3_rows(1, x + 2 * i, v + 6 * i, signs + i);
+  }
+}
+static inline int lc_lexicographic3_at(const ln_point3 *p, const ln_point3 *q) {
   const int64_t x[] = {p->index, q->index};
   const int64_t v[] = {p->x, p->y, p->z, q->x, q->y, q->z};
-  return ln_lexicographic3(x, v);
+  return lv_lexicographic3(v, SIZE_MAX) && li_lexicographic3(x, SIZE_MAX) ? ln_lexicographic3_at(p, q) : 0;
 }
-static inline int ln_lexicographic3_plain_at(const ln_point3 *p, const ln_point3 *q) {
+static inline int lc_lexicographic3_plain_at(const ln_point3 *p, const ln_point3 *q) {
   const int64_t v[] = {p->x, p->y, p->z, q->x, q->y, q->z};
-  return ln_lexicographic3_plain(v);
+  return lv_lexicographic3(v, SIZE_MAX) ? ln_lexicographic3_plain_at(p, q) : 0;
 }
+#endif
 
 #ifdef __cplusplus
 }
 
 #include <cstdint>
+#ifdef LNC_CHECKED
+#define LNC_CALL(name) ::lc_##name
+#else
+#define LNC_CALL(name) ::ln_##name
+#endif
 namespace lnc {
 typedef ::ln_point3 point3;
 inline bool in_range(const point3 &p) { return ::ln_point3_in_range(&p) != 0; }
+#ifdef LNC_CHECKED
+inline namespace checked {
+#endif
 inline int orient3(const point3 &a, const point3 &b, const point3 &c, const point3 &d) {
-  return ::ln_orient3_at(&a, &b, &c, &d);
+  return LNC_CALL(orient3_at)(&a, &b, &c, &d);
 }
 inline int orient3_plain(const point3 &a, const point3 &b, const point3 &c, const point3 &d) {
-  return ::ln_orient3_plain_at(&a, &b, &c, &d);
+  return LNC_CALL(orient3_plain_at)(&a, &b, &c, &d);
 }
 inline int insphere(const point3 &a, const point3 &b, const point3 &c, const point3 &d, const point3 &e) {
-  return ::ln_insphere_at(&a, &b, &c, &d, &e);
+  return LNC_CALL(insphere_at)(&a, &b, &c, &d, &e);
 }
 inline int insphere_plain(const point3 &a, const point3 &b, const point3 &c, const point3 &d, const point3 &e) {
-  return ::ln_insphere_plain_at(&a, &b, &c, &d, &e);
+  return LNC_CALL(insphere_plain_at)(&a, &b, &c, &d, &e);
 }
 inline int diametral3(const point3 &p, const point3 &q, const point3 &r) {
-  return ::ln_diametral3_at(&p, &q, &r);
+  return LNC_CALL(diametral3_at)(&p, &q, &r);
 }
 inline int diametral3_plain(const point3 &p, const point3 &q, const point3 &r) {
-  return ::ln_diametral3_plain_at(&p, &q, &r);
+  return LNC_CALL(diametral3_plain_at)(&p, &q, &r);
 }
 inline int compare_x3(const point3 &p, const point3 &q) {
-  return ::ln_compare_x3_at(&p, &q);
+  return LNC_CALL(compare_x3_at)(&p, &q);
 }
 inline int compare_x3_plain(const point3 &p, const point3 &q) {
-  return ::ln_compare_x3_plain_at(&p, &q);
+  return LNC_CALL(compare_x3_plain_at)(&p, &q);
 }
 inline int compare_y3(const point3 &p, const point3 &q) {
-  return ::ln_compare_y3_at(&p, &q);
+  return LNC_CALL(compare_y3_at)(&p, &q);
 }
 inline int compare_y3_plain(const point3 &p, const point3 &q) {
-  return ::ln_compare_y3_plain_at(&p, &q);
+  return LNC_CALL(compare_y3_plain_at)(&p, &q);
 }
 inline int compare_z3(const point3 &p, const point3 &q) {
-  return ::ln_compare_z3_at(&p, &q);
+  return LNC_CALL(compare_z3_at)(&p, &q);
 }
 inline int compare_z3_plain(const point3 &p, const point3 &q) {
-  return ::ln_compare_z3_plain_at(&p, &q);
+  return LNC_CALL(compare_z3_plain_at)(&p, &q);
 }
 inline int lexicographic3(const point3 &p, const point3 &q) {
-  return ::ln_lexicographic3_at(&p, &q);
+  return LNC_CALL(lexicographic3_at)(&p, &q);
 }
 inline int lexicographic3_plain(const point3 &p, const point3 &q) {
-  return ::ln_lexicographic3_plain_at(&p, &q);
+  return LNC_CALL(lexicographic3_plain_at)(&p, &q);
 }
+#ifdef LNC_CHECKED
 }
+#endif
+}
+#undef LNC_CALL
 #endif
 #endif
 
 #if defined(LNC_SPACE_IMPLEMENTATION) && !defined(LNC_SPACE_IMPLEMENTED)
 #define LNC_SPACE_IMPLEMENTED
+#undef ln_orient3
+#undef ln_orient3_plain
+#undef ln_orient3_rows
+#undef ln_orient3_at
+#undef ln_orient3_plain_at
+#undef ln_insphere
+#undef ln_insphere_plain
+#undef ln_insphere_rows
+#undef ln_insphere_at
+#undef ln_insphere_plain_at
+#undef ln_diametral3
+#undef ln_diametral3_plain
+#undef ln_diametral3_rows
+#undef ln_diametral3_at
+#undef ln_diametral3_plain_at
+#undef ln_compare_x3
+#undef ln_compare_x3_plain
+#undef ln_compare_x3_rows
+#undef ln_compare_x3_at
+#undef ln_compare_x3_plain_at
+#undef ln_compare_y3
+#undef ln_compare_y3_plain
+#undef ln_compare_y3_rows
+#undef ln_compare_y3_at
+#undef ln_compare_y3_plain_at
+#undef ln_compare_z3
+#undef ln_compare_z3_plain
+#undef ln_compare_z3_rows
+#undef ln_compare_z3_at
+#undef ln_compare_z3_plain_at
+#undef ln_lexicographic3
+#undef ln_lexicographic3_plain
+#undef ln_lexicographic3_rows
+#undef ln_lexicographic3_at
+#undef ln_lexicographic3_plain_at
 #ifndef __SIZEOF_INT128__
 #error "no __int128 here: space.c takes gcc or clang for a 64-bit target"
+#endif
+#ifdef __cplusplus
+#pragma GCC diagnostic push
+#pragma GCC diagnostic ignored "-Wold-style-cast"
 #endif
 #include "space.c"
 int ln_orient3_plain(const int64_t *v) { return lb0_orient3(v); }
 void ln_orient3_rows(size_t n, const int64_t *x, const int64_t *v, int8_t *signs) {
   for (size_t i = 0; i < n; i++) signs[i] = (int8_t)ln_orient3(x + 4 * i, v + 12 * i);
 }
+static __attribute__((noinline)) int lm_orient3(const ln_point3 *a, const ln_point3 *b, const ln_point3 *c, const ln_point3 *d) {
+  const int64_t x[] = {a->index, b->index, c->index, d->index};
+  const int64_t v[] = {a->x, a->y, a->z, b->x, b->y, b->z, c->x, c->y, c->z, d->x, d->y, d->z};
+  return ln_orient3(x, v);
+}
+__attribute__((flatten)) int ln_orient3_plain_at(const ln_point3 *a, const ln_point3 *b, const ln_point3 *c, const ln_point3 *d) {
+  const int64_t v[] = {a->x, a->y, a->z, b->x, b->y, b->z, c->x, c->y, c->z, d->x, d->y, d->z};
+  return lb0_orient3(v);
+}
+__attribute__((flatten)) int ln_orient3_at(const ln_point3 *a, const ln_point3 *b, const ln_point3 *c, const ln_point3 *d) {
+  const int64_t v[] = {a->x, a->y, a->z, b->x, b->y, b->z, c->x, c->y, c->z, d->x, d->y, d->z};
+  const int sign = lb0_orient3(v);
+  return sign != 0 ? sign : lm_orient3(a, b, c, d);
+}
 int ln_insphere_plain(const int64_t *v) { return lb0_insphere(v); }
 void ln_insphere_rows(size_t n, const int64_t *x, const int64_t *v, int8_t *signs) {
   for (size_t i = 0; i < n; i++) signs[i] = (int8_t)ln_insphere(x + 5 * i, v + 15 * i);
+}
+static __attribute__((noinline)) int lm_insphere(const ln_point3 *a, const ln_point3 *b, const ln_point3 *c, const ln_point3 *d, const ln_point3 *e) {
+  const int64_t x[] = {a->index, b->index, c->index, d->index, e->index};
+  const int64_t v[] = {a->x, a->y, a->z, b->x, b->y, b->z, c->x, c->y, c->z, d->x, d->y, d->z, e->x, e->y, e->z};
+  return ln_insphere(x, v);
+}
+__attribute__((flatten)) int ln_insphere_plain_at(const ln_point3 *a, const ln_point3 *b, const ln_point3 *c, const ln_point3 *d, const ln_point3 *e) {
+  const int64_t v[] = {a->x, a->y, a->z, b->x, b->y, b->z, c->x, c->y, c->z, d->x, d->y, d->z, e->x, e->y, e->z};
+  return lb0_insphere(v);
+}
+__attribute__((flatten)) int ln_insphere_at(const ln_point3 *a, const ln_point3 *b, const ln_point3 *c, const ln_point3 *d, const ln_point3 *e) {
+  const int64_t v[] = {a->x, a->y, a->z, b->x, b->y, b->z, c->x, c->y, c->z, d->x, d->y, d->z, e->x, e->y, e->z};
+  const int sign = lb0_insphere(v);
+  return sign != 0 ? sign : lm_insphere(a, b, c, d, e);
 }
 int ln_diametral3_plain(const int64_t *v) { return lb0_diametral3(v); }
 void ln_diametral3_rows(size_t n, const int64_t *x, const int64_t *v, int8_t *signs) {
   for (size_t i = 0; i < n; i++) signs[i] = (int8_t)ln_diametral3(x + 3 * i, v + 9 * i);
 }
+static __attribute__((noinline)) int lm_diametral3(const ln_point3 *p, const ln_point3 *q, const ln_point3 *r) {
+  const int64_t x[] = {p->index, q->index, r->index};
+  const int64_t v[] = {p->x, p->y, p->z, q->x, q->y, q->z, r->x, r->y, r->z};
+  return ln_diametral3(x, v);
+}
+__attribute__((flatten)) int ln_diametral3_plain_at(const ln_point3 *p, const ln_point3 *q, const ln_point3 *r) {
+  const int64_t v[] = {p->x, p->y, p->z, q->x, q->y, q->z, r->x, r->y, r->z};
+  return lb0_diametral3(v);
+}
+__attribute__((flatten)) int ln_diametral3_at(const ln_point3 *p, const ln_point3 *q, const ln_point3 *r) {
+  const int64_t v[] = {p->x, p->y, p->z, q->x, q->y, q->z, r->x, r->y, r->z};
+  const int sign = lb0_diametral3(v);
+  return sign != 0 ? sign : lm_diametral3(p, q, r);
+}
 int ln_compare_x3_plain(const int64_t *v) { return lb0_compare_x3(v); }
 void ln_compare_x3_rows(size_t n, const int64_t *x, const int64_t *v, int8_t *signs) {
   for (size_t i = 0; i < n; i++) signs[i] = (int8_t)ln_compare_x3(x + 2 * i, v + 6 * i);
+}
+static __attribute__((noinline)) int lm_compare_x3(const ln_point3 *p, const ln_point3 *q) {
+  const int64_t x[] = {p->index, q->index};
+  const int64_t v[] = {p->x, p->y, p->z, q->x, q->y, q->z};
+  return ln_compare_x3(x, v);
+}
+__attribute__((flatten)) int ln_compare_x3_plain_at(const ln_point3 *p, const ln_point3 *q) {
+  const int64_t v[] = {p->x, p->y, p->z, q->x, q->y, q->z};
+  return lb0_compare_x3(v);
+}
+__attribute__((flatten)) int ln_compare_x3_at(const ln_point3 *p, const ln_point3 *q) {
+  const int64_t v[] = {p->x, p->y, p->z, q->x, q->y, q->z};
+  const int sign = lb0_compare_x3(v);
+  return sign != 0 ? sign : lm_compare_x3(p, q);
 }
 int ln_compare_y3_plain(const int64_t *v) { return lb0_compare_y3(v); }
 void ln_compare_y3_rows(size_t n, const int64_t *x, const int64_t *v, int8_t *signs) {
   for (size_t i = 0; i < n; i++) signs[i] = (int8_t)ln_compare_y3(x + 2 * i, v + 6 * i);
 }
+static __attribute__((noinline)) int lm_compare_y3(const ln_point3 *p, const ln_point3 *q) {
+  const int64_t x[] = {p->index, q->index};
+  const int64_t v[] = {p->x, p->y, p->z, q->x, q->y, q->z};
+  return ln_compare_y3(x, v);
+}
+__attribute__((flatten)) int ln_compare_y3_plain_at(const ln_point3 *p, const ln_point3 *q) {
+  const int64_t v[] = {p->x, p->y, p->z, q->x, q->y, q->z};
+  return lb0_compare_y3(v);
+}
+__attribute__((flatten)) int ln_compare_y3_at(const ln_point3 *p, const ln_point3 *q) {
+  const int64_t v[] = {p->x, p->y, p->z, q->x, q->y, q->z};
+  const int sign = lb0_compare_y3(v);
+  return sign != 0 ? sign : lm_compare_y3(p, q);
+}
 int ln_compare_z3_plain(const int64_t *v) { return lb0_compare_z3(v); }
 void ln_compare_z3_rows(size_t n, const int64_t *x, const int64_t *v, int8_t *signs) {
   for (size_t i = 0; i < n; i++) signs[i] = (int8_t)ln_compare_z3(x + 2 * i, v + 6 * i);
+}
+static __attribute__((noinline)) int lm_compare_z3(const ln_point3 *p, const ln_point3 *q) {
+  const int64_t x[] = {p->index, q->index};
+  const int64_t v[] = {p->x, p->y, p->z, q->x, q->y, q->z};
+  return ln_compare_z3(x, v);
+}
+__attribute__((flatten)) int ln_compare_z3_plain_at(const ln_point3 *p, const ln_point3 *q) {
+  const int64_t v[] = {p->x, p->y, p->z, q->x, q->y, q->z};
+  return lb0_compare_z3(v);
+}
+__attribute__((flatten)) int ln_compare_z3_at(const ln_point3 *p, const ln_point3 *q) {
+  const int64_t v[] = {p->x, p->y, p->z, q->x, q->y, q->z};
+  const int sign = lb0_compare_z3(v);
+  return sign != 0 ? sign : lm_compare_z3(p, q);
 }
 int ln_lexicographic3_plain(const int64_t *v) { return lb0_lexicographic3(v); }
 void ln_lexicographic3_rows(size_t n, const int64_t *x, const int64_t *v, int8_t *signs) {
   for (size_t i = 0; i < n; i++) signs[i] = (int8_t)ln_lexicographic3(x + 2 * i, v + 6 * i);
 }
+static __attribute__((noinline)) int lm_lexicographic3(const ln_point3 *p, const ln_point3 *q) {
+  const int64_t x[] = {p->index, q->index};
+  const int64_t v[] = {p->x, p->y, p->z, q->x, q->y, q->z};
+  return ln_lexicographic3(x, v);
+}
+__attribute__((flatten)) int ln_lexicographic3_plain_at(const ln_point3 *p, const ln_point3 *q) {
+  const int64_t v[] = {p->x, p->y, p->z, q->x, q->y, q->z};
+  return lb0_lexicographic3(v);
+}
+__attribute__((flatten)) int ln_lexicographic3_at(const ln_point3 *p, const ln_point3 *q) {
+  const int64_t v[] = {p->x, p->y, p->z, q->x, q->y, q->z};
+  const int sign = lb0_lexicographic3(v);
+  return sign != 0 ? sign : lm_lexicographic3(p, q);
+}
+#ifdef __cplusplus
+#pragma GCC diagnostic pop
+#endif
+#endif
+
+#ifdef LNC_SPACE_CHECKED
+#define ln_orient3 lc_orient3
+#define ln_orient3_plain lc_orient3_plain
+#define ln_orient3_rows lc_orient3_rows
+#define ln_orient3_at lc_orient3_at
+#define ln_orient3_plain_at lc_orient3_plain_at
+#define ln_insphere lc_insphere
+#define ln_insphere_plain lc_insphere_plain
+#define ln_insphere_rows lc_insphere_rows
+#define ln_insphere_at lc_insphere_at
+#define ln_insphere_plain_at lc_insphere_plain_at
+#define ln_diametral3 lc_diametral3
+#define ln_diametral3_plain lc_diametral3_plain
+#define ln_diametral3_rows lc_diametral3_rows
+#define ln_diametral3_at lc_diametral3_at
+#define ln_diametral3_plain_at lc_diametral3_plain_at
+#define ln_compare_x3 lc_compare_x3
+#define ln_compare_x3_plain lc_compare_x3_plain
+#define ln_compare_x3_rows lc_compare_x3_rows
+#define ln_compare_x3_at lc_compare_x3_at
+#define ln_compare_x3_plain_at lc_compare_x3_plain_at
+#define ln_compare_y3 lc_compare_y3
+#define ln_compare_y3_plain lc_compare_y3_plain
+#define ln_compare_y3_rows lc_compare_y3_rows
+#define ln_compare_y3_at lc_compare_y3_at
+#define ln_compare_y3_plain_at lc_compare_y3_plain_at
+#define ln_compare_z3 lc_compare_z3
+#define ln_compare_z3_plain lc_compare_z3_plain
+#define ln_compare_z3_rows lc_compare_z3_rows
+#define ln_compare_z3_at lc_compare_z3_at
+#define ln_compare_z3_plain_at lc_compare_z3_plain_at
+#define ln_lexicographic3 lc_lexicographic3
+#define ln_lexicographic3_plain lc_lexicographic3_plain
+#define ln_lexicographic3_rows lc_lexicographic3_rows
+#define ln_lexicographic3_at lc_lexicographic3_at
+#define ln_lexicographic3_plain_at lc_lexicographic3_plain_at
 #endif

@@ -7,22 +7,49 @@
        #define LNC_WEIGHTED_SPACE_IMPLEMENTATION
        #include "lnc_weighted_space.h"
 
-   and in all others, C or C++, the second line alone. (weighted_space.c can be compiled by itself too; then ln_NAME is there, and ln_NAME_plain and
-   ln_NAME_rows aren't.) For each predicate NAME there are
+   and in all others, C or C++, the second line alone. For each predicate NAME there are
 
-   ln_NAME(x, v)                1 or -1, the sign at the moved points; with params it may be 0. x has the indices of the sites, which have to differ,
-                                from 0 to 2^63 - 1, v the values, each in its range: the order is that of the comments below. Nothing is checked
-   ln_NAME_plain(v)             1, 0 or -1, the sign at the points themselves, 0 where they are degenerate
+   ln_NAME_at(&p, ..)           1 or -1, the sign at the moved points; with params it may be 0. The indices of the sites have to differ and are from 0 to
+                                2^63 - 1, the values are each in its range. Nothing is checked (but see below). In C++ lnc::NAME(p, ..)
+   ln_NAME_plain_at(&p, ..)     1, 0 or -1, the sign at the points themselves, 0 where they are degenerate. In C++ lnc::NAME_plain(p, ..)
+   ln_NAME(x, v)                the same of arrays: x has the indices of the sites, v the values, in the order of the comments below; ln_NAME_plain(v)
    ln_NAME_rows(n, x, v, signs) ln_NAME of n rows, each after the other in x and in v, into signs
-   ln_NAME_at(&p, ..)           ln_NAME of points; ln_NAME_plain_at; in C++ lnc::NAME(p, ..) and lnc::NAME_plain(p, ..)
 
    and for each type of points SITE, with a member for the index and one for each coordinate, in the order in which the type declares them,
 
-   ln_SITE_in_range(&p)         whether index and coordinates are in range; in C++ lnc::in_range(p). Test each point once, where it is made */
+   ln_SITE_in_range(&p)         whether index and coordinates are in range; in C++ lnc::in_range(p). Test each point once, where it is made
+
+   With `#define LNC_CHECKED` before the header is included, all these calls test what they are given. At the first value out of range, negative index or
+   index twice they call ln_on_refusal, a pointer that you may set, with the names of predicate and argument; else they print these and abort */
 #ifndef LNC_WEIGHTED_SPACE_H
 #define LNC_WEIGHTED_SPACE_H
 #include <stddef.h>
 #include <stdint.h>
+
+#if defined(LNC_CHECKED) && !defined(LNC_HAS_REFUSAL)
+#define LNC_HAS_REFUSAL
+#include <stdio.h>
+#include <stdlib.h>
+#ifdef __cplusplus
+extern "C" {
+#endif
+/* told of the first fault of a call: the predicate, the argument ("p" for its index, "p.x"), what is wrong with it, and of ln_NAME_rows the row,
+   from 0, otherwise SIZE_MAX. Where it returns, the call returns 0, or writes 0 for the row. Without another it prints this and aborts */
+typedef void ln_refusal(const char *predicate, const char *argument, const char *fault, size_t row);
+static inline void lr_aborts(const char *predicate, const char *argument, const char *fault, size_t row) {
+  if (row == SIZE_MAX) fprintf(stderr, "lnc: %s: %s %s\n", predicate, argument, fault);
+  else fprintf(stderr, "lnc: %s, row %zu: %s %s\n", predicate, row, argument, fault);
+  abort();
+}
+__attribute__((weak)) ln_refusal *ln_on_refusal = lr_aborts;
+static inline int lr_is(int right, const char *predicate, const char *argument, const char *fault, size_t row) {
+  if (!right) ln_on_refusal(predicate, argument, fault, row);
+  return right;
+}
+#ifdef __cplusplus
+}
+#endif
+#endif
 
 #ifdef __cplusplus
 extern "C" {
@@ -51,6 +78,8 @@ static inline int ln_weighted3_in_range(const ln_weighted3 *p) {
 int ln_worient3(const int64_t *x, const int64_t *v);
 int ln_worient3_plain(const int64_t *v);
 void ln_worient3_rows(size_t n, const int64_t *x, const int64_t *v, int8_t *signs);
+int ln_worient3_at(const ln_weighted3 *a, const ln_weighted3 *b, const ln_weighted3 *c, const ln_weighted3 *d);
+int ln_worient3_plain_at(const ln_weighted3 *a, const ln_weighted3 *b, const ln_weighted3 *c, const ln_weighted3 *d);
 
 /* + where e is in conflict with a, b, c, d and worient3 of these is +, - where it is -: e's power to the sphere
    orthogonal to theirs is negative. The opposite of CGAL's power_side_of_oriented_power_sphere; where each w is 0,
@@ -60,6 +89,8 @@ void ln_worient3_rows(size_t n, const int64_t *x, const int64_t *v, int8_t *sign
 int ln_power3(const int64_t *x, const int64_t *v);
 int ln_power3_plain(const int64_t *v);
 void ln_power3_rows(size_t n, const int64_t *x, const int64_t *v, int8_t *signs);
+int ln_power3_at(const ln_weighted3 *a, const ln_weighted3 *b, const ln_weighted3 *c, const ln_weighted3 *d, const ln_weighted3 *e);
+int ln_power3_plain_at(const ln_weighted3 *a, const ln_weighted3 *b, const ln_weighted3 *c, const ln_weighted3 *d, const ln_weighted3 *e);
 
 /* + where r is inside the sphere whose diameter is from p to q, whatever the weights. */
 /* x: p, q, r
@@ -67,6 +98,8 @@ void ln_power3_rows(size_t n, const int64_t *x, const int64_t *v, int8_t *signs)
 int ln_wdiametral3(const int64_t *x, const int64_t *v);
 int ln_wdiametral3_plain(const int64_t *v);
 void ln_wdiametral3_rows(size_t n, const int64_t *x, const int64_t *v, int8_t *signs);
+int ln_wdiametral3_at(const ln_weighted3 *p, const ln_weighted3 *q, const ln_weighted3 *r);
+int ln_wdiametral3_plain_at(const ln_weighted3 *p, const ln_weighted3 *q, const ln_weighted3 *r);
 
 /* + where p is beyond q along an axis, or has the larger weight. */
 /* x: p, q
@@ -74,24 +107,32 @@ void ln_wdiametral3_rows(size_t n, const int64_t *x, const int64_t *v, int8_t *s
 int ln_wcompare_x3(const int64_t *x, const int64_t *v);
 int ln_wcompare_x3_plain(const int64_t *v);
 void ln_wcompare_x3_rows(size_t n, const int64_t *x, const int64_t *v, int8_t *signs);
+int ln_wcompare_x3_at(const ln_weighted3 *p, const ln_weighted3 *q);
+int ln_wcompare_x3_plain_at(const ln_weighted3 *p, const ln_weighted3 *q);
 
 /* x: p, q
    v: p.x, p.y, p.z, p.w, q.x, q.y, q.z, q.w */
 int ln_wcompare_y3(const int64_t *x, const int64_t *v);
 int ln_wcompare_y3_plain(const int64_t *v);
 void ln_wcompare_y3_rows(size_t n, const int64_t *x, const int64_t *v, int8_t *signs);
+int ln_wcompare_y3_at(const ln_weighted3 *p, const ln_weighted3 *q);
+int ln_wcompare_y3_plain_at(const ln_weighted3 *p, const ln_weighted3 *q);
 
 /* x: p, q
    v: p.x, p.y, p.z, p.w, q.x, q.y, q.z, q.w */
 int ln_wcompare_z3(const int64_t *x, const int64_t *v);
 int ln_wcompare_z3_plain(const int64_t *v);
 void ln_wcompare_z3_rows(size_t n, const int64_t *x, const int64_t *v, int8_t *signs);
+int ln_wcompare_z3_at(const ln_weighted3 *p, const ln_weighted3 *q);
+int ln_wcompare_z3_plain_at(const ln_weighted3 *p, const ln_weighted3 *q);
 
 /* x: p, q
    v: p.x, p.y, p.z, p.w, q.x, q.y, q.z, q.w */
 int ln_wcompare_w3(const int64_t *x, const int64_t *v);
 int ln_wcompare_w3_plain(const int64_t *v);
 void ln_wcompare_w3_rows(size_t n, const int64_t *x, const int64_t *v, int8_t *signs);
+int ln_wcompare_w3_at(const ln_weighted3 *p, const ln_weighted3 *q);
+int ln_wcompare_w3_plain_at(const ln_weighted3 *p, const ln_weighted3 *q);
 
 /* + where p is after q by x, by y where x is equal, and by z where both are (the order along the direction (m^2,
    m, 1) with m = 2^24 + 1). */
@@ -100,175 +141,624 @@ void ln_wcompare_w3_rows(size_t n, const int64_t *x, const int64_t *v, int8_t *s
 int ln_wlexicographic3(const int64_t *x, const int64_t *v);
 int ln_wlexicographic3_plain(const int64_t *v);
 void ln_wlexicographic3_rows(size_t n, const int64_t *x, const int64_t *v, int8_t *signs);
+int ln_wlexicographic3_at(const ln_weighted3 *p, const ln_weighted3 *q);
+int ln_wlexicographic3_plain_at(const ln_weighted3 *p, const ln_weighted3 *q);
 
-static inline int ln_worient3_at(const ln_weighted3 *a, const ln_weighted3 *b, const ln_weighted3 *c, const ln_weighted3 *d) {
+#ifdef LNC_CHECKED
+#define LNC_WEIGHTED_SPACE_CHECKED
+static inline int lv_worient3(const int64_t *v, size_t row) {
+  return lr_is(LN_WEIGHTED3_X_MIN <= v[0] && v[0] <= LN_WEIGHTED3_X_MAX, "worient3", "a.x", "is out of range", row) &&
+    lr_is(LN_WEIGHTED3_Y_MIN <= v[1] && v[1] <= LN_WEIGHTED3_Y_MAX, "worient3", "a.y", "is out of range", row) &&
+    lr_is(LN_WEIGHTED3_Z_MIN <= v[2] && v[2] <= LN_WEIGHTED3_Z_MAX, "worient3", "a.z", "is out of range", row) &&
+    lr_is(LN_WEIGHTED3_W_MIN <= v[3] && v[3] <= LN_WEIGHTED3_W_MAX, "worient3", "a.w", "is out of range", row) &&
+    lr_is(LN_WEIGHTED3_X_MIN <= v[4] && v[4] <= LN_WEIGHTED3_X_MAX, "worient3", "b.x", "is out of range", row) &&
+    lr_is(LN_WEIGHTED3_Y_MIN <= v[5] && v[5] <= LN_WEIGHTED3_Y_MAX, "worient3", "b.y", "is out of range", row) &&
+    lr_is(LN_WEIGHTED3_Z_MIN <= v[6] && v[6] <= LN_WEIGHTED3_Z_MAX, "worient3", "b.z", "is out of range", row) &&
+    lr_is(LN_WEIGHTED3_W_MIN <= v[7] && v[7] <= LN_WEIGHTED3_W_MAX, "worient3", "b.w", "is out of range", row) &&
+    lr_is(LN_WEIGHTED3_X_MIN <= v[8] && v[8] <= LN_WEIGHTED3_X_MAX, "worient3", "c.x", "is out of range", row) &&
+    lr_is(LN_WEIGHTED3_Y_MIN <= v[9] && v[9] <= LN_WEIGHTED3_Y_MAX, "worient3", "c.y", "is out of range", row) &&
+    lr_is(LN_WEIGHTED3_Z_MIN <= v[10] && v[10] <= LN_WEIGHTED3_Z_MAX, "worient3", "c.z", "is out of range", row) &&
+    lr_is(LN_WEIGHTED3_W_MIN <= v[11] && v[11] <= LN_WEIGHTED3_W_MAX, "worient3", "c.w", "is out of range", row) &&
+    lr_is(LN_WEIGHTED3_X_MIN <= v[12] && v[12] <= LN_WEIGHTED3_X_MAX, "worient3", "d.x", "is out of range", row) &&
+    lr_is(LN_WEIGHTED3_Y_MIN <= v[13] && v[13] <= LN_WEIGHTED3_Y_MAX, "worient3", "d.y", "is out of range", row) &&
+    lr_is(LN_WEIGHTED3_Z_MIN <= v[14] && v[14] <= LN_WEIGHTED3_Z_MAX, "worient3", "d.z", "is out of range", row) &&
+    lr_is(LN_WEIGHTED3_W_MIN <= v[15] && v[15] <= LN_WEIGHTED3_W_MAX, "worient3", "d.w", "is out of range", row);
+}
+static inline int li_worient3(const int64_t *x, size_t row) {
+  return lr_is(0 <= x[0], "worient3", "a", "has a negative index", row) &&
+    lr_is(0 <= x[1], "worient3", "b", "has a negative index", row) &&
+    lr_is(0 <= x[2], "worient3", "c", "has a negative index", row) &&
+    lr_is(0 <= x[3], "worient3", "d", "has a negative index", row) &&
+    lr_is(x[0] != x[1], "worient3", "b", "has the index of a too", row) &&
+    lr_is(x[0] != x[2], "worient3", "c", "has the index of a too", row) &&
+    lr_is(x[1] != x[2], "worient3", "c", "has the index of b too", row) &&
+    lr_is(x[0] != x[3], "worient3", "d", "has the index of a too", row) &&
+    lr_is(x[1] != x[3], "worient3", "d", "has the index of b too", row) &&
+    lr_is(x[2] != x[3], "worient3", "d", "has the index of c too", row);
+}
+static inline int lc_worient3(const int64_t *x, const int64_t *v) { return lv_worient3(v, SIZE_MAX) && li_worient3(x, SIZE_MAX) ? ln_worient3(x, v) : 0; }
+static inline int lc_worient3_plain(const int64_t *v) { return lv_worient3(v, SIZE_MAX) ? ln_worient3_plain(v) : 0; }
+static inline void lc_worient3_rows(size_t n, const int64_t *x, const int64_t *v, int8_t *signs) {
+  for (size_t i = 0; i < n; i++) {
+    signs[i] = 0;
+    if (lv_worient3(v + 16 * i, i) && li_worient3(x + 4 * i, i)) ln_worient3_rows(1, x + 4 * i, v + 16 * i, signs + i);
+  }
+}
+static inline int lc_worient3_at(const ln_weighted3 *a, const ln_weighted3 *b, const ln_weighted3 *c, const ln_weighted3 *d) {
   const int64_t x[] = {a->index, b->index, c->index, d->index};
   const int64_t v[] = {a->x, a->y, a->z, a->w, b->x, b->y, b->z, b->w, c->x, c->y, c->z, c->w, d->x, d->y, d->z, d->w};
-  return ln_worient3(x, v);
+  return lv_worient3(v, SIZE_MAX) && li_worient3(x, SIZE_MAX) ? ln_worient3_at(a, b, c, d) : 0;
 }
-static inline int ln_worient3_plain_at(const ln_weighted3 *a, const ln_weighted3 *b, const ln_weighted3 *c, const ln_weighted3 *d) {
+static inline int lc_worient3_plain_at(const ln_weighted3 *a, const ln_weighted3 *b, const ln_weighted3 *c, const ln_weighted3 *d) {
   const int64_t v[] = {a->x, a->y, a->z, a->w, b->x, b->y, b->z, b->w, c->x, c->y, c->z, c->w, d->x, d->y, d->z, d->w};
-  return ln_worient3_plain(v);
+  return lv_worient3(v, SIZE_MAX) ? ln_worient3_plain_at(a, b, c, d) : 0;
 }
-static inline int ln_power3_at(const ln_weighted3 *a, const ln_weighted3 *b, const ln_weighted3 *c, const ln_weighted3 *d, const ln_weighted3 *e) {
+static inline int lv_power3(const int64_t *v, size_t row) {
+  return lr_is(LN_WEIGHTED3_X_MIN <= v[0] && v[0] <= LN_WEIGHTED3_X_MAX, "power3", "a.x", "is out of range", row) &&
+    lr_is(LN_WEIGHTED3_Y_MIN <= v[1] && v[1] <= LN_WEIGHTED3_Y_MAX, "power3", "a.y", "is out of range", row) &&
+    lr_is(LN_WEIGHTED3_Z_MIN <= v[2] && v[2] <= LN_WEIGHTED3_Z_MAX, "power3", "a.z", "is out of range", row) &&
+    lr_is(LN_WEIGHTED3_W_MIN <= v[3] && v[3] <= LN_WEIGHTED3_W_MAX, "power3", "a.w", "is out of range", row) &&
+    lr_is(LN_WEIGHTED3_X_MIN <= v[4] && v[4] <= LN_WEIGHTED3_X_MAX, "power3", "b.x", "is out of range", row) &&
+    lr_is(LN_WEIGHTED3_Y_MIN <= v[5] && v[5] <= LN_WEIGHTED3_Y_MAX, "power3", "b.y", "is out of range", row) &&
+    lr_is(LN_WEIGHTED3_Z_MIN <= v[6] && v[6] <= LN_WEIGHTED3_Z_MAX, "power3", "b.z", "is out of range", row) &&
+    lr_is(LN_WEIGHTED3_W_MIN <= v[7] && v[7] <= LN_WEIGHTED3_W_MAX, "power3", "b.w", "is out of range", row) &&
+    lr_is(LN_WEIGHTED3_X_MIN <= v[8] && v[8] <= LN_WEIGHTED3_X_MAX, "power3", "c.x", "is out of range", row) &&
+    lr_is(LN_WEIGHTED3_Y_MIN <= v[9] && v[9] <= LN_WEIGHTED3_Y_MAX, "power3", "c.y", "is out of range", row) &&
+    lr_is(LN_WEIGHTED3_Z_MIN <= v[10] && v[10] <= LN_WEIGHTED3_Z_MAX, "power3", "c.z", "is out of range", row) &&
+    lr_is(LN_WEIGHTED3_W_MIN <= v[11] && v[11] <= LN_WEIGHTED3_W_MAX, "power3", "c.w", "is out of range", row) &&
+    lr_is(LN_WEIGHTED3_X_MIN <= v[12] && v[12] <= LN_WEIGHTED3_X_MAX, "power3", "d.x", "is out of range", row) &&
+    lr_is(LN_WEIGHTED3_Y_MIN <= v[13] && v[13] <= LN_WEIGHTED3_Y_MAX, "power3", "d.y", "is out of range", row) &&
+    lr_is(LN_WEIGHTED3_Z_MIN <= v[14] && v[14] <= LN_WEIGHTED3_Z_MAX, "power3", "d.z", "is out of range", row) &&
+    lr_is(LN_WEIGHTED3_W_MIN <= v[15] && v[15] <= LN_WEIGHTED3_W_MAX, "power3", "d.w", "is out of range", row) &&
+    lr_is(LN_WEIGHTED3_X_MIN <= v[16] && v[16] <= LN_WEIGHTED3_X_MAX, "power3", "e.x", "is out of range", row) &&
+    lr_is(LN_WEIGHTED3_Y_MIN <= v[17] && v[17] <= LN_WEIGHTED3_Y_MAX, "power3", "e.y", "is out of range", row) &&
+    lr_is(LN_WEIGHTED3_Z_MIN <= v[18] && v[18] <= LN_WEIGHTED3_Z_MAX, "power3", "e.z", "is out of range", row) &&
+    lr_is(LN_WEIGHTED3_W_MIN <= v[19] && v[19] <= LN_WEIGHTED3_W_MAX, "power3", "e.w", "is out of range", row);
+}
+static inline int li_power3(const int64_t *x, size_t row) {
+  return lr_is(0 <= x[0], "power3", "a", "has a negative index", row) &&
+    lr_is(0 <= x[1], "power3", "b", "has a negative index", row) &&
+    lr_is(0 <= x[2], "power3", "c", "has a negative index", row) &&
+    lr_is(0 <= x[3], "power3", "d", "has a negative index", row) &&
+    lr_is(0 <= x[4], "power3", "e", "has a negative index", row) &&
+    lr_is(x[0] != x[1], "power3", "b", "has the index of a too", row) &&
+    lr_is(x[0] != x[2], "power3", "c", "has the index of a too", row) &&
+    lr_is(x[1] != x[2], "power3", "c", "has the index of b too", row) &&
+    lr_is(x[0] != x[3], "power3", "d", "has the index of a too", row) &&
+    lr_is(x[1] != x[3], "power3", "d", "has the index of b too", row) &&
+    lr_is(x[2] != x[3], "power3", "d", "has the index of c too", row) &&
+    lr_is(x[0] != x[4], "power3", "e", "has the index of a too", row) &&
+    lr_is(x[1] != x[4], "power3", "e", "has the index of b too", row) &&
+    lr_is(x[2] != x[4], "power3", "e", "has the index of c too", row) &&
+    lr_is(x[3] != x[4], "power3", "e", "has the index of d too", row);
+}
+static inline int lc_power3(const int64_t *x, const int64_t *v) { return lv_power3(v, SIZE_MAX) && li_power3(x, SIZE_MAX) ? ln_power3(x, v) : 0; }
+static inline int lc_power3_plain(const int64_t *v) { return lv_power3(v, SIZE_MAX) ? ln_power3_plain(v) : 0; }
+static inline void lc_power3_rows(size_t n, const int64_t *x, const int64_t *v, int8_t *signs) {
+  for (size_t i = 0; i < n; i++) {
+    signs[i] = 0;
+    if (lv_power3(v + 20 * i, i) && li_power3(x + 5 * i, i)) ln_power3_rows(1, x + 5 * i, v + 20 * i, signs + i);
+  }
+}
+static inline int lc_power3_at(const ln_weighted3 *a, const ln_weighted3 *b, const ln_weighted3 *c, const ln_weighted3 *d, const ln_weighted3 *e) {
   const int64_t x[] = {a->index, b->index, c->index, d->index, e->index};
   const int64_t v[] = {a->x, a->y, a->z, a->w, b->x, b->y, b->z, b->w, c->x, c->y, c->z, c->w, d->x, d->y, d->z, d->w, e->x, e->y, e->z, e->w};
-  return ln_power3(x, v);
+  return lv_power3(v, SIZE_MAX) && li_power3(x, SIZE_MAX) ? ln_power3_at(a, b, c, d, e) : 0;
 }
-static inline int ln_power3_plain_at(const ln_weighted3 *a, const ln_weighted3 *b, const ln_weighted3 *c, const ln_weighted3 *d, const ln_weighted3 *e) {
+static inline int lc_power3_plain_at(const ln_weighted3 *a, const ln_weighted3 *b, const ln_weighted3 *c, const ln_weighted3 *d, const ln_weighted3 *e) {
   const int64_t v[] = {a->x, a->y, a->z, a->w, b->x, b->y, b->z, b->w, c->x, c->y, c->z, c->w, d->x, d->y, d->z, d->w, e->x, e->y, e->z, e->w};
-  return ln_power3_plain(v);
+  return lv_power3(v, SIZE_MAX) ? ln_power3_plain_at(a, b, c, d, e) : 0;
 }
-static inline int ln_wdiametral3_at(const ln_weighted3 *p, const ln_weighted3 *q, const ln_weighted3 *r) {
+static inline int lv_wdiametral3(const int64_t *v, size_t row) {
+  return lr_is(LN_WEIGHTED3_X_MIN <= v[0] && v[0] <= LN_WEIGHTED3_X_MAX, "wdiametral3", "p.x", "is out of range", row) &&
+    lr_is(LN_WEIGHTED3_Y_MIN <= v[1] && v[1] <= LN_WEIGHTED3_Y_MAX, "wdiametral3", "p.y", "is out of range", row) &&
+    lr_is(LN_WEIGHTED3_Z_MIN <= v[2] && v[2] <= LN_WEIGHTED3_Z_MAX, "wdiametral3", "p.z", "is out of range", row) &&
+    lr_is(LN_WEIGHTED3_W_MIN <= v[3] && v[3] <= LN_WEIGHTED3_W_MAX, "wdiametral3", "p.w", "is out of range", row) &&
+    lr_is(LN_WEIGHTED3_X_MIN <= v[4] && v[4] <= LN_WEIGHTED3_X_MAX, "wdiametral3", "q.x", "is out of range", row) &&
+    lr_is(LN_WEIGHTED3_Y_MIN <= v[5] && v[5] <= LN_WEIGHTED3_Y_MAX, "wdiametral3", "q.y", "is out of range", row) &&
+    lr_is(LN_WEIGHTED3_Z_MIN <= v[6] && v[6] <= LN_WEIGHTED3_Z_MAX, "wdiametral3", "q.z", "is out of range", row) &&
+    lr_is(LN_WEIGHTED3_W_MIN <= v[7] && v[7] <= LN_WEIGHTED3_W_MAX, "wdiametral3", "q.w", "is out of range", row) &&
+    lr_is(LN_WEIGHTED3_X_MIN <= v[8] && v[8] <= LN_WEIGHTED3_X_MAX, "wdiametral3", "r.x", "is out of range", row) &&
+    lr_is(LN_WEIGHTED3_Y_MIN <= v[9] && v[9] <= LN_WEIGHTED3_Y_MAX, "wdiametral3", "r.y", "is out of range", row) &&
+    lr_is(LN_WEIGHTED3_Z_MIN <= v[10] && v[10] <= LN_WEIGHTED3_Z_MAX, "wdiametral3", "r.z", "is out of range", row) &&
+    lr_is(LN_WEIGHTED3_W_MIN <= v[11] && v[11] <= LN_WEIGHTED3_W_MAX, "wdiametral3", "r.w", "is out of range", row);
+}
+static inline int li_wdiametral3(const int64_t *x, size_t row) {
+  return lr_is(0 <= x[0], "wdiametral3", "p", "has a negative index", row) &&
+    lr_is(0 <= x[1], "wdiametral3", "q", "has a negative index", row) &&
+    lr_is(0 <= x[2], "wdiametral3", "r", "has a negative index", row) &&
+    lr_is(x[0] != x[1], "wdiametral3", "q", "has the index of p too", row) &&
+    lr_is(x[0] != x[2], "wdiametral3", "r", "has the index of p too", row) &&
+    lr_is(x[1] != x[2], "wdiametral3", "r", "has the index of q too", row);
+}
+static inline int lc_wdiametral3(const int64_t *x, const int64_t *v) { return lv_wdiametral3(v, SIZE_MAX) && li_wdiametral3(x, SIZE_MAX) ? ln_wdiametral3(x, v) : 0; }
+static inline int lc_wdiametral3_plain(const int64_t *v) { return lv_wdiametral3(v, SIZE_MAX) ? ln_wdiametral3_plain(v) : 0; }
+static inline void lc_wdiametral3_rows(size_t n, const int64_t *x, const int64_t *v, int8_t *signs) {
+  for (size_t i = 0; i < n; i++) {
+    signs[i] = 0;
+    if (lv_wdiametral3(v + 12 * i, i) && li_wdiametral3(x + 3 * i, i)) ln_wdiametral3_rows(1, x + 3 * i, v + 12 * i, signs + i);
+  }
+}
+static inline int lc_wdiametral3_at(const ln_weighted3 *p, const ln_weighted3 *q, const ln_weighted3 *r) {
   const int64_t x[] = {p->index, q->index, r->index};
   const int64_t v[] = {p->x, p->y, p->z, p->w, q->x, q->y, q->z, q->w, r->x, r->y, r->z, r->w};
-  return ln_wdiametral3(x, v);
+  return lv_wdiametral3(v, SIZE_MAX) && li_wdiametral3(x, SIZE_MAX) ? ln_wdiametral3_at(p, q, r) : 0;
 }
-static inline int ln_wdiametral3_plain_at(const ln_weighted3 *p, const ln_weighted3 *q, const ln_weighted3 *r) {
+static inline int lc_wdiametral3_plain_at(const ln_weighted3 *p, const ln_weighted3 *q, const ln_weighted3 *r) {
   const int64_t v[] = {p->x, p->y, p->z, p->w, q->x, q->y, q->z, q->w, r->x, r->y, r->z, r->w};
-  return ln_wdiametral3_plain(v);
+  return lv_wdiametral3(v, SIZE_MAX) ? ln_wdiametral3_plain_at(p, q, r) : 0;
 }
-static inline int ln_wcompare_x3_at(const ln_weighted3 *p, const ln_weighted3 *q) {
+static inline int lv_wcompare_x3(const int64_t *v, size_t row) {
+  return lr_is(LN_WEIGHTED3_X_MIN <= v[0] && v[0] <= LN_WEIGHTED3_X_MAX, "wcompare_x3", "p.x", "is out of range", row) &&
+    lr_is(LN_WEIGHTED3_Y_MIN <= v[1] && v[1] <= LN_WEIGHTED3_Y_MAX, "wcompare_x3", "p.y", "is out of range", row) &&
+    lr_is(LN_WEIGHTED3_Z_MIN <= v[2] && v[2] <= LN_WEIGHTED3_Z_MAX, "wcompare_x3", "p.z", "is out of range", row) &&
+    lr_is(LN_WEIGHTED3_W_MIN <= v[3] && v[3] <= LN_WEIGHTED3_W_MAX, "wcompare_x3", "p.w", "is out of range", row) &&
+    lr_is(LN_WEIGHTED3_X_MIN <= v[4] && v[4] <= LN_WEIGHTED3_X_MAX, "wcompare_x3", "q.x", "is out of range", row) &&
+    lr_is(LN_WEIGHTED3_Y_MIN <= v[5] && v[5] <= LN_WEIGHTED3_Y_MAX, "wcompare_x3", "q.y", "is out of range", row) &&
+    lr_is(LN_WEIGHTED3_Z_MIN <= v[6] && v[6] <= LN_WEIGHTED3_Z_MAX, "wcompare_x3", "q.z", "is out of range", row) &&
+    lr_is(LN_WEIGHTED3_W_MIN <= v[7] && v[7] <= LN_WEIGHTED3_W_MAX, "wcompare_x3", "q.w", "is out of range", row);
+}
+static inline int li_wcompare_x3(const int64_t *x, size_t row) {
+  return lr_is(0 <= x[0], "wcompare_x3", "p", "has a negative index", row) &&
+    lr_is(0 <= x[1], "wcompare_x3", "q", "has a negative index", row) &&
+    lr_is(x[0] != x[1], "wcompare_x3", "q", "has the index of p too", row);
+}
+static inline int lc_wcompare_x3(const int64_t *x, const int64_t *v) { return lv_wcompare_x3(v, SIZE_MAX) && li_wcompare_x3(x, SIZE_MAX) ? ln_wcompare_x3(x, v) : 0; }
+static inline int lc_wcompare_x3_plain(const int64_t *v) { return lv_wcompare_x3(v, SIZE_MAX) ? ln_wcompare_x3_plain(v) : 0; }
+static inline void lc_wcompare_x3_rows(size_t n, const int64_t *x, const int64_t *v, int8_t *signs) {
+  for (size_t i = 0; i < n; i++) {
+    signs[i] = 0;
+    if (lv_wcompare_x3(v + 8 * i, i) && li_wcompare_x3(x + 2 * i, i)) ln_wcompare_x3_rows(1, x + 2 * i, v + 8 * i, signs + i);
+  }
+}
+static inline int lc_wcompare_x3_at(const ln_weighted3 *p, const ln_weighted3 *q) {
   const int64_t x[] = {p->index, q->index};
   const int64_t v[] = {p->x, p->y, p->z, p->w, q->x, q->y, q->z, q->w};
-  return ln_wcompare_x3(x, v);
+  return lv_wcompare_x3(v, SIZE_MAX) && li_wcompare_x3(x, SIZE_MAX) ? ln_wcompare_x3_at(p, q) : 0;
 }
-static inline int ln_wcompare_x3_plain_at(const ln_weighted3 *p, const ln_weighted3 *q) {
+static inline int lc_wcompare_x3_plain_at(const ln_weighted3 *p, const ln_weighted3 *q) {
   const int64_t v[] = {p->x, p->y, p->z, p->w, q->x, q->y, q->z, q->w};
-  return ln_wcompare_x3_plain(v);
+  return lv_wcompare_x3(v, SIZE_MAX) ? ln_wcompare_x3_plain_at(p, q) : 0;
 }
-static inline int ln_wcompare_y3_at(const ln_weighted3 *p, const ln_weighted3 *q) {
+static inline int lv_wcompare_y3(const int64_t *v, size_t row) {
+  return lr_is(LN_WEIGHTED3_X_MIN <= v[0] && v[0] <= LN_WEIGHTED3_X_MAX, "wcompare_y3", "p.x", "is out of range", row) &&
+    lr_is(LN_WEIGHTED3_Y_MIN <= v[1] && v[1] <= LN_WEIGHTED3_Y_MAX, "wcompare_y3", "p.y", "is out of range", row) &&
+    lr_is(LN_WEIGHTED3_Z_MIN <= v[2] && v[2] <= LN_WEIGHTED3_Z_MAX, "wcompare_y3", "p.z", "is out of range", row) &&
+    lr_is(LN_WEIGHTED3_W_MIN <= v[3] && v[3] <= LN_WEIGHTED3_W_MAX, "wcompare_y3", "p.w", "is out of range", row) &&
+    lr_is(LN_WEIGHTED3_X_MIN <= v[4] && v[4] <= LN_WEIGHTED3_X_MAX, "wcompare_y3", "q.x", "is out of range", row) &&
+    lr_is(LN_WEIGHTED3_Y_MIN <= v[5] && v[5] <= LN_WEIGHTED3_Y_MAX, "wcompare_y3", "q.y", "is out of range", row) &&
+    lr_is(LN_WEIGHTED3_Z_MIN <= v[6] && v[6] <= LN_WEIGHTED3_Z_MAX, "wcompare_y3", "q.z", "is out of range", row) &&
+    lr_is(LN_WEIGHTED3_W_MIN <= v[7] && v[7] <= LN_WEIGHTED3_W_MAX, "wcompare_y3", "q.w", "is out of range", row);
+}
+static inline int li_wcompare_y3(const int64_t *x, size_t row) {
+  return lr_is(0 <= x[0], "wcompare_y3", "p", "has a negative index", row) &&
+    lr_is(0 <= x[1], "wcompare_y3", "q", "has a negative index", row) &&
+    lr_is(x[0] != x[1], "wcompare_y3", "q", "has the index of p too", row);
+}
+static inline int lc_wcompare_y3(const int64_t *x, const int64_t *v) { return lv_wcompare_y3(v, SIZE_MAX) && li_wcompare_y3(x, SIZE_MAX) ? ln_wcompare_y3(x, v) : 0; }
+static inline int lc_wcompare_y3_plain(const int64_t *v) { return lv_wcompare_y3(v, SIZE_MAX) ? ln_wcompare_y3_plain(v) : 0; }
+static inline void lc_wcompare_y3_rows(size_t n, const int64_t *x, const int64_t *v, int8_t *signs) {
+  for (size_t i = 0; i < n; i++) {
+    signs[i] = 0;
+    if (lv_wcompare_y3(v + 8 * i, i) && li_wcompare_y3(x + 2 * i, i)) ln_wcompare_y3_rows(1, x + 2 * i, v + 8 * i, signs + i);
+  }
+}
+static inline int lc_wcompare_y3_at(const ln_weighted3 *p, const ln_weighted3 *q) {
   const int64_t x[] = {p->index, q->index};
   const int64_t v[] = {p->x, p->y, p->z, p->w, q->x, q->y, q->z, q->w};
-  return ln_wcompare_y3(x, v);
+  return lv_wcompare_y3(v, SIZE_MAX) && li_wcompare_y3(x, SIZE_MAX) ? ln_wcompare_y3_at(p, q) : 0;
 }
-static inline int ln_wcompare_y3_plain_at(const ln_weighted3 *p, const ln_weighted3 *q) {
+static inline int lc_wcompare_y3_plain_at(const ln_weighted3 *p, const ln_weighted3 *q) {
   const int64_t v[] = {p->x, p->y, p->z, p->w, q->x, q->y, q->z, q->w};
-  return ln_wcompare_y3_plain(v);
+  return lv_wcompare_y3(v, SIZE_MAX) ? ln_wcompare_y3_plain_at(p, q) : 0;
 }
-static inline int ln_wcompare_z3_at(const ln_weighted3 *p, const ln_weighted3 *q) {
+static inline int lv_wcompare_z3(const int64_t *v, size_t row) {
+  return lr_is(LN_WEIGHTED3_X_MIN <= v[0] && v[0] <= LN_WEIGHTED3_X_MAX, "wcompare_z3", "p.x", "is out of range", row) &&
+    lr_is(LN_WEIGHTED3_Y_MIN <= v[1] && v[1] <= LN_WEIGHTED3_Y_MAX, "wcompare_z3", "p.y", "is out of range", row) &&
+    lr_is(LN_WEIGHTED3_Z_MIN <= v[2] && v[2] <= LN_WEIGHTED3_Z_MAX, "wcompare_z3", "p.z", "is out of range", row) &&
+    lr_is(LN_WEIGHTED3_W_MIN <= v[3] && v[3] <= LN_WEIGHTED3_W_MAX, "wcompare_z3", "p.w", "is out of range", row) &&
+    lr_is(LN_WEIGHTED3_X_MIN <= v[4] && v[4] <= LN_WEIGHTED3_X_MAX, "wcompare_z3", "q.x", "is out of range", row) &&
+    lr_is(LN_WEIGHTED3_Y_MIN <= v[5] && v[5] <= LN_WEIGHTED3_Y_MAX, "wcompare_z3", "q.y", "is out of range", row) &&
+    lr_is(LN_WEIGHTED3_Z_MIN <= v[6] && v[6] <= LN_WEIGHTED3_Z_MAX, "wcompare_z3", "q.z", "is out of range", row) &&
+    lr_is(LN_WEIGHTED3_W_MIN <= v[7] && v[7] <= LN_WEIGHTED3_W_MAX, "wcompare_z3", "q.w", "is out of range", row);
+}
+static inline int li_wcompare_z3(const int64_t *x, size_t row) {
+  return lr_is(0 <= x[0], "wcompare_z3", "p", "has a negative index", row) &&
+    lr_is(0 <= x[1], "wcompare_z3", "q", "has a negative index", row) &&
+    lr_is(x[0] != x[1], "wcompare_z3", "q", "has the index of p too", row);
+}
+static inline int lc_wcompare_z3(const int64_t *x, const int64_t *v) { return lv_wcompare_z3(v, SIZE_MAX) && li_wcompare_z3(x, SIZE_MAX) ? ln_wcompare_z3(x, v) : 0; }
+static inline int lc_wcompare_z3_plain(const int64_t *v) { return lv_wcompare_z3(v, SIZE_MAX) ? ln_wcompare_z3_plain(v) : 0; }
+static inline void lc_wcompare_z3_rows(size_t n, const int64_t *x, const int64_t *v, int8_t *signs) {
+  for (size_t i = 0; i < n; i++) {
+    signs[i] = 0;
+    if (lv_wcompare_z3(v + 8 * i, i) && li_wcompare_z3(x + 2 * i, i)) ln_wcompare_z3_rows(1, x + 2 * i, v + 8 * i, signs + i);
+  }
+}
+static inline int lc_wcompare_z3_at(const ln_weighted3 *p, const ln_weighted3 *q) {
   const int64_t x[] = {p->index, q->index};
   const int64_t v[] = {p->x, p->y, p->z, p->w, q->x, q->y, q->z, q->w};
-  return ln_wcompare_z3(x, v);
+  return lv_wcompare_z3(v, SIZE_MAX) && li_wcompare_z3(x, SIZE_MAX) ? ln_wcompare_z3_at(p, q) : 0;
 }
-static inline int ln_wcompare_z3_plain_at(const ln_weighted3 *p, const ln_weighted3 *q) {
+static inline int lc_wcompare_z3_plain_at(const ln_weighted3 *p, const ln_weighted3 *q) {
   const int64_t v[] = {p->x, p->y, p->z, p->w, q->x, q->y, q->z, q->w};
-  return ln_wcompare_z3_plain(v);
+  return lv_wcompare_z3(v, SIZE_MAX) ? ln_wcompare_z3_plain_at(p, q) : 0;
 }
-static inline int ln_wcompare_w3_at(const ln_weighted3 *p, const ln_weighted3 *q) {
+static inline int lv_wcompare_w3(const int64_t *v, size_t row) {
+  return lr_is(LN_WEIGHTED3_X_MIN <= v[0] && v[0] <= LN_WEIGHTED3_X_MAX, "wcompare_w3", "p.x", "is out of range", row) &&
+    lr_is(LN_WEIGHTED3_Y_MIN <= v[1] && v[1] <= LN_WEIGHTED3_Y_MAX, "wcompare_w3", "p.y", "is out of range", row) &&
+    lr_is(LN_WEIGHTED3_Z_MIN <= v[2] && v[2] <= LN_WEIGHTED3_Z_MAX, "wcompare_w3", "p.z", "is out of range", row) &&
+    lr_is(LN_WEIGHTED3_W_MIN <= v[3] && v[3] <= LN_WEIGHTED3_W_MAX, "wcompare_w3", "p.w", "is out of range", row) &&
+    lr_is(LN_WEIGHTED3_X_MIN <= v[4] && v[4] <= LN_WEIGHTED3_X_MAX, "wcompare_w3", "q.x", "is out of range", row) &&
+    lr_is(LN_WEIGHTED3_Y_MIN <= v[5] && v[5] <= LN_WEIGHTED3_Y_MAX, "wcompare_w3", "q.y", "is out of range", row) &&
+    lr_is(LN_WEIGHTED3_Z_MIN <= v[6] && v[6] <= LN_WEIGHTED3_Z_MAX, "wcompare_w3", "q.z", "is out of range", row) &&
+    lr_is(LN_WEIGHTED3_W_MIN <= v[7] && v[7] <= LN_WEIGHTED3_W_MAX, "wcompare_w3", "q.w", "is out of range", row);
+}
+static inline int li_wcompare_w3(const int64_t *x, size_t row) {
+  return lr_is(0 <= x[0], "wcompare_w3", "p", "has a negative index", row) &&
+    lr_is(0 <= x[1], "wcompare_w3", "q", "has a negative index", row) &&
+    lr_is(x[0] != x[1], "wcompare_w3", "q", "has the index of p too", row);
+}
+static inline int lc_wcompare_w3(const int64_t *x, const int64_t *v) { return lv_wcompare_w3(v, SIZE_MAX) && li_wcompare_w3(x, SIZE_MAX) ? ln_wcompare_w3(x, v) : 0; }
+static inline int lc_wcompare_w3_plain(const int64_t *v) { return lv_wcompare_w3(v, SIZE_MAX) ? ln_wcompare_w3_plain(v) : 0; }
+static inline void lc_wcompare_w3_rows(size_t n, const int64_t *x, const int64_t *v, int8_t *signs) {
+  for (size_t i = 0; i < n; i++) {
+    signs[i] = 0;
+    if (lv_wcompare_w3(v + 8 * i, i) && li_wcompare_w3(x + 2 * i, i)) ln_wcompare_w3_rows(1, x + 2 * i, v + 8 * i, signs + i);
+  }
+}
+static inline int lc_wcompare_w3_at(const ln_weighted3 *p, const ln_weighted3 *q) {
   const int64_t x[] = {p->index, q->index};
   const int64_t v[] = {p->x, p->y, p->z, p->w, q->x, q->y, q->z, q->w};
-  return ln_wcompare_w3(x, v);
+  return lv_wcompare_w3(v, SIZE_MAX) && li_wcompare_w3(x, SIZE_MAX) ? ln_wcompare_w3_at(p, q) : 0;
 }
-static inline int ln_wcompare_w3_plain_at(const ln_weighted3 *p, const ln_weighted3 *q) {
+static inline int lc_wcompare_w3_plain_at(const ln_weighted3 *p, const ln_weighted3 *q) {
   const int64_t v[] = {p->x, p->y, p->z, p->w, q->x, q->y, q->z, q->w};
-  return ln_wcompare_w3_plain(v);
+  return lv_wcompare_w3(v, SIZE_MAX) ? ln_wcompare_w3_plain_at(p, q) : 0;
 }
-static inline int ln_wlexicographic3_at(const ln_weighted3 *p, const ln_weighted3 *q) {
+static inline int lv_wlexicographic3(const int64_t *v, size_t row) {
+  return lr_is(LN_WEIGHTED3_X_MIN <= v[0] && v[0] <= LN_WEIGHTED3_X_MAX, "wlexicographic3", "p.x", "is out of range", row) &&
+    lr_is(LN_WEIGHTED3_Y_MIN <= v[1] && v[1] <= LN_WEIGHTED3_Y_MAX, "wlexicographic3", "p.y", "is out of range", row) &&
+    lr_is(LN_WEIGHTED3_Z_MIN <= v[2] && v[2] <= LN_WEIGHTED3_Z_MAX, "wlexicographic3", "p.z", "is out of range", row) &&
+    lr_is(LN_WEIGHTED3_W_MIN <= v[3] && v[3] <= LN_WEIGHTED3_W_MAX, "wlexicographic3", "p.w", "is out of range", row) &&
+    lr_is(LN_WEIGHTED3_X_MIN <= v[4] && v[4] <= LN_WEIGHTED3_X_MAX, "wlexicographic3", "q.x", "is out of range", row) &&
+    lr_is(LN_WEIGHTED3_Y_MIN <= v[5] && v[5] <= LN_WEIGHTED3_Y_MAX, "wlexicographic3", "q.y", "is out of range", row) &&
+    lr_is(LN_WEIGHTED3_Z_MIN <= v[6] && v[6] <= LN_WEIGHTED3_Z_MAX, "wlexicographic3", "q.z", "is out of range", row) &&
+    lr_is(LN_WEIGHTED3_W_MIN <= v[7] && v[7] <= LN_WEIGHTED3_W_MAX, "wlexicographic3", "q.w", "is out of range", row);
+}
+static inline int li_wlexicographic3(const int64_t *x, size_t row) {
+  return lr_is(0 <= x[0], "wlexicographic3", "p", "has a negative index", row) &&
+    lr_is(0 <= x[1], "wlexicographic3", "q", "has a negative index", row) &&
+    lr_is(x[0] != x[1], "wlexicographic3", "q", "has the index of p too", row);
+}
+static inline int lc_wlexicographic3(const int64_t *x, const int64_t *v) { return lv_wlexicographic3(v, SIZE_MAX) && li_wlexicographic3(x, SIZE_MAX) ? ln_wlexicographic3(x, v) : 0; }
+static inline int lc_wlexicographic3_plain(const int64_t *v) { return lv_wlexicographic3(v, SIZE_MAX) ? ln_wlexicographic3_plain(v) : 0; }
+static inline void lc_wlexicographic3_rows(size_t n, const int64_t *x, const int64_t *v, int8_t *signs) {
+  for (size_t i = 0; i < n; i++) {
+    signs[i] = 0;
+    if (lv_wlexicographic3(v + 8 * i, i) && li_wlexicographic3(x + 2 * i, i)) ln_wlexicographic3_rows(1, x + 2 * i, v + 8 * i, signs + i);
+  }
+}
+static inline int lc_wlexicographic3_at(const ln_weighted3 *p, const ln_weighted3 *q) {
   const int64_t x[] = {p->index, q->index};
   const int64_t v[] = {p->x, p->y, p->z, p->w, q->x, q->y, q->z, q->w};
-  return ln_wlexicographic3(x, v);
+  return lv_wlexicographic3(v, SIZE_MAX) && li_wlexicographic3(x, SIZE_MAX) ? ln_wlexicographic3_at(p, q) : 0;
 }
-static inline int ln_wlexicographic3_plain_at(const ln_weighted3 *p, const ln_weighted3 *q) {
+static inline int lc_wlexicographic3_plain_at(const ln_weighted3 *p, const ln_weighted3 *q) {
   const int64_t v[] = {p->x, p->y, p->z, p->w, q->x, q->y, q->z, q->w};
-  return ln_wlexicographic3_plain(v);
+  return lv_wlexicographic3(v, SIZE_MAX) ? ln_wlexicographic3_plain_at(p, q) : 0;
 }
+#endif
 
 #ifdef __cplusplus
 }
 
 #include <cstdint>
+#ifdef LNC_CHECKED
+#define LNC_CALL(name) ::lc_##name
+#else
+#define LNC_CALL(name) ::ln_##name
+#endif
 namespace lnc {
 typedef ::ln_weighted3 weighted3;
 inline bool in_range(const weighted3 &p) { return ::ln_weighted3_in_range(&p) != 0; }
+#ifdef LNC_CHECKED
+inline namespace checked {
+#endif
 inline int worient3(const weighted3 &a, const weighted3 &b, const weighted3 &c, const weighted3 &d) {
-  return ::ln_worient3_at(&a, &b, &c, &d);
+  return LNC_CALL(worient3_at)(&a, &b, &c, &d);
 }
 inline int worient3_plain(const weighted3 &a, const weighted3 &b, const weighted3 &c, const weighted3 &d) {
-  return ::ln_worient3_plain_at(&a, &b, &c, &d);
+  return LNC_CALL(worient3_plain_at)(&a, &b, &c, &d);
 }
 inline int power3(const weighted3 &a, const weighted3 &b, const weighted3 &c, const weighted3 &d, const weighted3 &e) {
-  return ::ln_power3_at(&a, &b, &c, &d, &e);
+  return LNC_CALL(power3_at)(&a, &b, &c, &d, &e);
 }
 inline int power3_plain(const weighted3 &a, const weighted3 &b, const weighted3 &c, const weighted3 &d, const weighted3 &e) {
-  return ::ln_power3_plain_at(&a, &b, &c, &d, &e);
+  return LNC_CALL(power3_plain_at)(&a, &b, &c, &d, &e);
 }
 inline int wdiametral3(const weighted3 &p, const weighted3 &q, const weighted3 &r) {
-  return ::ln_wdiametral3_at(&p, &q, &r);
+  return LNC_CALL(wdiametral3_at)(&p, &q, &r);
 }
 inline int wdiametral3_plain(const weighted3 &p, const weighted3 &q, const weighted3 &r) {
-  return ::ln_wdiametral3_plain_at(&p, &q, &r);
+  return LNC_CALL(wdiametral3_plain_at)(&p, &q, &r);
 }
 inline int wcompare_x3(const weighted3 &p, const weighted3 &q) {
-  return ::ln_wcompare_x3_at(&p, &q);
+  return LNC_CALL(wcompare_x3_at)(&p, &q);
 }
 inline int wcompare_x3_plain(const weighted3 &p, const weighted3 &q) {
-  return ::ln_wcompare_x3_plain_at(&p, &q);
+  return LNC_CALL(wcompare_x3_plain_at)(&p, &q);
 }
 inline int wcompare_y3(const weighted3 &p, const weighted3 &q) {
-  return ::ln_wcompare_y3_at(&p, &q);
+  return LNC_CALL(wcompare_y3_at)(&p, &q);
 }
 inline int wcompare_y3_plain(const weighted3 &p, const weighted3 &q) {
-  return ::ln_wcompare_y3_plain_at(&p, &q);
+  return LNC_CALL(wcompare_y3_plain_at)(&p, &q);
 }
 inline int wcompare_z3(const weighted3 &p, const weighted3 &q) {
-  return ::ln_wcompare_z3_at(&p, &q);
+  return LNC_CALL(wcompare_z3_at)(&p, &q);
 }
 inline int wcompare_z3_plain(const weighted3 &p, const weighted3 &q) {
-  return ::ln_wcompare_z3_plain_at(&p, &q);
+  return LNC_CALL(wcompare_z3_plain_at)(&p, &q);
 }
 inline int wcompare_w3(const weighted3 &p, const weighted3 &q) {
-  return ::ln_wcompare_w3_at(&p, &q);
+  return LNC_CALL(wcompare_w3_at)(&p, &q);
 }
 inline int wcompare_w3_plain(const weighted3 &p, const weighted3 &q) {
-  return ::ln_wcompare_w3_plain_at(&p, &q);
+  return LNC_CALL(wcompare_w3_plain_at)(&p, &q);
 }
 inline int wlexicographic3(const weighted3 &p, const weighted3 &q) {
-  return ::ln_wlexicographic3_at(&p, &q);
+  return LNC_CALL(wlexicographic3_at)(&p, &q);
 }
 inline int wlexicographic3_plain(const weighted3 &p, const weighted3 &q) {
-  return ::ln_wlexicographic3_plain_at(&p, &q);
+  return LNC_CALL(wlexicographic3_plain_at)(&p, &q);
 }
+#ifdef LNC_CHECKED
 }
+#endif
+}
+#undef LNC_CALL
 #endif
 #endif
 
 #if defined(LNC_WEIGHTED_SPACE_IMPLEMENTATION) && !defined(LNC_WEIGHTED_SPACE_IMPLEMENTED)
 #define LNC_WEIGHTED_SPACE_IMPLEMENTED
+#undef ln_worient3
+#undef ln_worient3_plain
+#undef ln_worient3_rows
+#undef ln_worient3_at
+#undef ln_worient3_plain_at
+#undef ln_power3
+#undef ln_power3_plain
+#undef ln_power3_rows
+#undef ln_power3_at
+#undef ln_power3_plain_at
+#undef ln_wdiametral3
+#undef ln_wdiametral3_plain
+#undef ln_wdiametral3_rows
+#undef ln_wdiametral3_at
+#undef ln_wdiametral3_plain_at
+#undef ln_wcompare_x3
+#undef ln_wcompare_x3_plain
+#undef ln_wcompare_x3_rows
+#undef ln_wcompare_x3_at
+#undef ln_wcompare_x3_plain_at
+#undef ln_wcompare_y3
+#undef ln_wcompare_y3_plain
+#undef ln_wcompare_y3_rows
+#undef ln_wcompare_y3_at
+#undef ln_wcompare_y3_plain_at
+#undef ln_wcompare_z3
+#undef ln_wcompare_z3_plain
+#undef ln_wcompare_z3_rows
+#undef ln_wcompare_z3_at
+#undef ln_wcompare_z3_plain_at
+#undef ln_wcompare_w3
+#undef ln_wcompare_w3_plain
+#undef ln_wcompare_w3_rows
+#undef ln_wcompare_w3_at
+#undef ln_wcompare_w3_plain_at
+#undef ln_wlexicographic3
+#undef ln_wlexicographic3_plain
+#undef ln_wlexicographic3_rows
+#undef ln_wlexicographic3_at
+#undef ln_wlexicographic3_plain_at
 #ifndef __SIZEOF_INT128__
 #error "no __int128 here: weighted_space.c takes gcc or clang for a 64-bit target"
+#endif
+#ifdef __cplusplus
+#pragma GCC diagnostic push
+#pragma GCC diagnostic ignored "-Wold-style-cast"
 #endif
 #include "weighted_space.c"
 int ln_worient3_plain(const int64_t *v) { return lb0_worient3(v); }
 void ln_worient3_rows(size_t n, const int64_t *x, const int64_t *v, int8_t *signs) {
   for (size_t i = 0; i < n; i++) signs[i] = (int8_t)ln_worient3(x + 4 * i, v + 16 * i);
 }
+static __attribute__((noinline)) int lm_worient3(const ln_weighted3 *a, const ln_weighted3 *b, const ln_weighted3 *c, const ln_weighted3 *d) {
+  const int64_t x[] = {a->index, b->index, c->index, d->index};
+  const int64_t v[] = {a->x, a->y, a->z, a->w, b->x, b->y, b->z, b->w, c->x, c->y, c->z, c->w, d->x, d->y, d->z, d->w};
+  return ln_worient3(x, v);
+}
+__attribute__((flatten)) int ln_worient3_plain_at(const ln_weighted3 *a, const ln_weighted3 *b, const ln_weighted3 *c, const ln_weighted3 *d) {
+  const int64_t v[] = {a->x, a->y, a->z, a->w, b->x, b->y, b->z, b->w, c->x, c->y, c->z, c->w, d->x, d->y, d->z, d->w};
+  return lb0_worient3(v);
+}
+__attribute__((flatten)) int ln_worient3_at(const ln_weighted3 *a, const ln_weighted3 *b, const ln_weighted3 *c, const ln_weighted3 *d) {
+  const int64_t v[] = {a->x, a->y, a->z, a->w, b->x, b->y, b->z, b->w, c->x, c->y, c->z, c->w, d->x, d->y, d->z, d->w};
+  const int sign = lb0_worient3(v);
+  return sign != 0 ? sign : lm_worient3(a, b, c, d);
+}
 int ln_power3_plain(const int64_t *v) { return lb0_power3(v); }
 void ln_power3_rows(size_t n, const int64_t *x, const int64_t *v, int8_t *signs) {
   for (size_t i = 0; i < n; i++) signs[i] = (int8_t)ln_power3(x + 5 * i, v + 20 * i);
+}
+static __attribute__((noinline)) int lm_power3(const ln_weighted3 *a, const ln_weighted3 *b, const ln_weighted3 *c, const ln_weighted3 *d, const ln_weighted3 *e) {
+  const int64_t x[] = {a->index, b->index, c->index, d->index, e->index};
+  const int64_t v[] = {a->x, a->y, a->z, a->w, b->x, b->y, b->z, b->w, c->x, c->y, c->z, c->w, d->x, d->y, d->z, d->w, e->x, e->y, e->z, e->w};
+  return ln_power3(x, v);
+}
+__attribute__((flatten)) int ln_power3_plain_at(const ln_weighted3 *a, const ln_weighted3 *b, const ln_weighted3 *c, const ln_weighted3 *d, const ln_weighted3 *e) {
+  const int64_t v[] = {a->x, a->y, a->z, a->w, b->x, b->y, b->z, b->w, c->x, c->y, c->z, c->w, d->x, d->y, d->z, d->w, e->x, e->y, e->z, e->w};
+  return lb0_power3(v);
+}
+__attribute__((flatten)) int ln_power3_at(const ln_weighted3 *a, const ln_weighted3 *b, const ln_weighted3 *c, const ln_weighted3 *d, const ln_weighted3 *e) {
+  const int64_t v[] = {a->x, a->y, a->z, a->w, b->x, b->y, b->z, b->w, c->x, c->y, c->z, c->w, d->x, d->y, d->z, d->w, e->x, e->y, e->z, e->w};
+  const int sign = lb0_power3(v);
+  return sign != 0 ? sign : lm_power3(a, b, c, d, e);
 }
 int ln_wdiametral3_plain(const int64_t *v) { return lb0_wdiametral3(v); }
 void ln_wdiametral3_rows(size_t n, const int64_t *x, const int64_t *v, int8_t *signs) {
   for (size_t i = 0; i < n; i++) signs[i] = (int8_t)ln_wdiametral3(x + 3 * i, v + 12 * i);
 }
+static __attribute__((noinline)) int lm_wdiametral3(const ln_weighted3 *p, const ln_weighted3 *q, const ln_weighted3 *r) {
+  const int64_t x[] = {p->index, q->index, r->index};
+  const int64_t v[] = {p->x, p->y, p->z, p->w, q->x, q->y, q->z, q->w, r->x, r->y, r->z, r->w};
+  return ln_wdiametral3(x, v);
+}
+__attribute__((flatten)) int ln_wdiametral3_plain_at(const ln_weighted3 *p, const ln_weighted3 *q, const ln_weighted3 *r) {
+  const int64_t v[] = {p->x, p->y, p->z, p->w, q->x, q->y, q->z, q->w, r->x, r->y, r->z, r->w};
+  return lb0_wdiametral3(v);
+}
+__attribute__((flatten)) int ln_wdiametral3_at(const ln_weighted3 *p, const ln_weighted3 *q, const ln_weighted3 *r) {
+  const int64_t v[] = {p->x, p->y, p->z, p->w, q->x, q->y, q->z, q->w, r->x, r->y, r->z, r->w};
+  const int sign = lb0_wdiametral3(v);
+  return sign != 0 ? sign : lm_wdiametral3(p, q, r);
+}
 int ln_wcompare_x3_plain(const int64_t *v) { return lb0_wcompare_x3(v); }
 void ln_wcompare_x3_rows(size_t n, const int64_t *x, const int64_t *v, int8_t *signs) {
   for (size_t i = 0; i < n; i++) signs[i] = (int8_t)ln_wcompare_x3(x + 2 * i, v + 8 * i);
+}
+static __attribute__((noinline)) int lm_wcompare_x3(const ln_weighted3 *p, const ln_weighted3 *q) {
+  const int64_t x[] = {p->index, q->index};
+  const int64_t v[] = {p->x, p->y, p->z, p->w, q->x, q->y, q->z, q->w};
+  return ln_wcompare_x3(x, v);
+}
+__attribute__((flatten)) int ln_wcompare_x3_plain_at(const ln_weighted3 *p, const ln_weighted3 *q) {
+  const int64_t v[] = {p->x, p->y, p->z, p->w, q->x, q->y, q->z, q->w};
+  return lb0_wcompare_x3(v);
+}
+__attribute__((flatten)) int ln_wcompare_x3_at(const ln_weighted3 *p, const ln_weighted3 *q) {
+  const int64_t v[] = {p->x, p->y, p->z, p->w, q->x, q->y, q->z, q->w};
+  const int sign = lb0_wcompare_x3(v);
+  return sign != 0 ? sign : lm_wcompare_x3(p, q);
 }
 int ln_wcompare_y3_plain(const int64_t *v) { return lb0_wcompare_y3(v); }
 void ln_wcompare_y3_rows(size_t n, const int64_t *x, const int64_t *v, int8_t *signs) {
   for (size_t i = 0; i < n; i++) signs[i] = (int8_t)ln_wcompare_y3(x + 2 * i, v + 8 * i);
 }
+static __attribute__((noinline)) int lm_wcompare_y3(const ln_weighted3 *p, const ln_weighted3 *q) {
+  const int64_t x[] = {p->index, q->index};
+  const int64_t v[] = {p->x, p->y, p->z, p->w, q->x, q->y, q->z, q->w};
+  return ln_wcompare_y3(x, v);
+}
+__attribute__((flatten)) int ln_wcompare_y3_plain_at(const ln_weighted3 *p, const ln_weighted3 *q) {
+  const int64_t v[] = {p->x, p->y, p->z, p->w, q->x, q->y, q->z, q->w};
+  return lb0_wcompare_y3(v);
+}
+__attribute__((flatten)) int ln_wcompare_y3_at(const ln_weighted3 *p, const ln_weighted3 *q) {
+  const int64_t v[] = {p->x, p->y, p->z, p->w, q->x, q->y, q->z, q->w};
+  const int sign = lb0_wcompare_y3(v);
+  return sign != 0 ? sign : lm_wcompare_y3(p, q);
+}
 int ln_wcompare_z3_plain(const int64_t *v) { return lb0_wcompare_z3(v); }
 void ln_wcompare_z3_rows(size_t n, const int64_t *x, const int64_t *v, int8_t *signs) {
   for (size_t i = 0; i < n; i++) signs[i] = (int8_t)ln_wcompare_z3(x + 2 * i, v + 8 * i);
+}
+static __attribute__((noinline)) int lm_wcompare_z3(const ln_weighted3 *p, const ln_weighted3 *q) {
+  const int64_t x[] = {p->index, q->index};
+  const int64_t v[] = {p->x, p->y, p->z, p->w, q->x, q->y, q->z, q->w};
+  return ln_wcompare_z3(x, v);
+}
+__attribute__((flatten)) int ln_wcompare_z3_plain_at(const ln_weighted3 *p, const ln_weighted3 *q) {
+  const int64_t v[] = {p->x, p->y, p->z, p->w, q->x, q->y, q->z, q->w};
+  return lb0_wcompare_z3(v);
+}
+__attribute__((flatten)) int ln_wcompare_z3_at(const ln_weighted3 *p, const ln_weighted3 *q) {
+  const int64_t v[] = {p->x, p->y, p->z, p->w, q->x, q->y, q->z, q->w};
+  const int sign = lb0_wcompare_z3(v);
+  return sign != 0 ? sign : lm_wcompare_z3(p, q);
 }
 int ln_wcompare_w3_plain(const int64_t *v) { return lb0_wcompare_w3(v); }
 void ln_wcompare_w3_rows(size_t n, const int64_t *x, const int64_t *v, int8_t *signs) {
   for (size_t i = 0; i < n; i++) signs[i] = (int8_t)ln_wcompare_w3(x + 2 * i, v + 8 * i);
 }
+static __attribute__((noinline)) int lm_wcompare_w3(const ln_weighted3 *p, const ln_weighted3 *q) {
+  const int64_t x[] = {p->index, q->index};
+  const int64_t v[] = {p->x, p->y, p->z, p->w, q->x, q->y, q->z, q->w};
+  return ln_wcompare_w3(x, v);
+}
+__attribute__((flatten)) int ln_wcompare_w3_plain_at(const ln_weighted3 *p, const ln_weighted3 *q) {
+  const int64_t v[] = {p->x, p->y, p->z, p->w, q->x, q->y, q->z, q->w};
+  return lb0_wcompare_w3(v);
+}
+__attribute__((flatten)) int ln_wcompare_w3_at(const ln_weighted3 *p, const ln_weighted3 *q) {
+  const int64_t v[] = {p->x, p->y, p->z, p->w, q->x, q->y, q->z, q->w};
+  const int sign = lb0_wcompare_w3(v);
+  return sign != 0 ? sign : lm_wcompare_w3(p, q);
+}
 int ln_wlexicographic3_plain(const int64_t *v) { return lb0_wlexicographic3(v); }
 void ln_wlexicographic3_rows(size_t n, const int64_t *x, const int64_t *v, int8_t *signs) {
   for (size_t i = 0; i < n; i++) signs[i] = (int8_t)ln_wlexicographic3(x + 2 * i, v + 8 * i);
 }
+static __attribute__((noinline)) int lm_wlexicographic3(const ln_weighted3 *p, const ln_weighted3 *q) {
+  const int64_t x[] = {p->index, q->index};
+  const int64_t v[] = {p->x, p->y, p->z, p->w, q->x, q->y, q->z, q->w};
+  return ln_wlexicographic3(x, v);
+}
+__attribute__((flatten)) int ln_wlexicographic3_plain_at(const ln_weighted3 *p, const ln_weighted3 *q) {
+  const int64_t v[] = {p->x, p->y, p->z, p->w, q->x, q->y, q->z, q->w};
+  return lb0_wlexicographic3(v);
+}
+__attribute__((flatten)) int ln_wlexicographic3_at(const ln_weighted3 *p, const ln_weighted3 *q) {
+  const int64_t v[] = {p->x, p->y, p->z, p->w, q->x, q->y, q->z, q->w};
+  const int sign = lb0_wlexicographic3(v);
+  return sign != 0 ? sign : lm_wlexicographic3(p, q);
+}
+#ifdef __cplusplus
+#pragma GCC diagnostic pop
+#endif
+#endif
+
+#ifdef LNC_WEIGHTED_SPACE_CHECKED
+#define ln_worient3 lc_worient3
+#define ln_worient3_plain lc_worient3_plain
+#define ln_worient3_rows lc_worient3_rows
+#define ln_worient3_at lc_worient3_at
+#define ln_worient3_plain_at lc_worient3_plain_at
+#define ln_power3 lc_power3
+#define ln_power3_plain lc_power3_plain
+#define ln_power3_rows lc_power3_rows
+#define ln_power3_at lc_power3_at
+#define ln_power3_plain_at lc_power3_plain_at
+#define ln_wdiametral3 lc_wdiametral3
+#define ln_wdiametral3_plain lc_wdiametral3_plain
+#define ln_wdiametral3_rows lc_wdiametral3_rows
+#define ln_wdiametral3_at lc_wdiametral3_at
+#define ln_wdiametral3_plain_at lc_wdiametral3_plain_at
+#define ln_wcompare_x3 lc_wcompare_x3
+#define ln_wcompare_x3_plain lc_wcompare_x3_plain
+#define ln_wcompare_x3_rows lc_wcompare_x3_rows
+#define ln_wcompare_x3_at lc_wcompare_x3_at
+#define ln_wcompare_x3_plain_at lc_wcompare_x3_plain_at
+#define ln_wcompare_y3 lc_wcompare_y3
+#define ln_wcompare_y3_plain lc_wcompare_y3_plain
+#define ln_wcompare_y3_rows lc_wcompare_y3_rows
+#define ln_wcompare_y3_at lc_wcompare_y3_at
+#define ln_wcompare_y3_plain_at lc_wcompare_y3_plain_at
+#define ln_wcompare_z3 lc_wcompare_z3
+#define ln_wcompare_z3_plain lc_wcompare_z3_plain
+#define ln_wcompare_z3_rows lc_wcompare_z3_rows
+#define ln_wcompare_z3_at lc_wcompare_z3_at
+#define ln_wcompare_z3_plain_at lc_wcompare_z3_plain_at
+#define ln_wcompare_w3 lc_wcompare_w3
+#define ln_wcompare_w3_plain lc_wcompare_w3_plain
+#define ln_wcompare_w3_rows lc_wcompare_w3_rows
+#define ln_wcompare_w3_at lc_wcompare_w3_at
+#define ln_wcompare_w3_plain_at lc_wcompare_w3_plain_at
+#define ln_wlexicographic3 lc_wlexicographic3
+#define ln_wlexicographic3_plain lc_wlexicographic3_plain
+#define ln_wlexicographic3_rows lc_wlexicographic3_rows
+#define ln_wlexicographic3_at lc_wlexicographic3_at
+#define ln_wlexicographic3_plain_at lc_wlexicographic3_plain_at
 #endif

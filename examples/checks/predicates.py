@@ -2,9 +2,10 @@
 
 predicates.py signs LNC PREFIX FAMILY COUNT    COUNT rows for the family's predicates together, of which every second is near 0: the library's signs,
                                                from Python by whole batches, are those that the program LNC prints, and its plain signs are those of
-                                               the source's expression over Python's integers
+                                               the source's expression over Python's integers; and so are those of the calls over points
 predicates.py meanings PREFIX                  what + means: signs of a table by hand
 predicates.py rust                             the Rust crate has the predicates, arguments and ranges of the sources"""
+import ctypes
 import random
 import re
 import subprocess
@@ -82,10 +83,21 @@ def row(source, name, near):
     """Indices and values of a row: near 0, or of the whole range with its ends."""
     least = random.choice((0, 2**63 - 9))
     x = [least + number for number in random.sample(range(9), len(source.indices(name)))]
-    ends = [(low, high) for _, kind in source.predicates[name] for _, low, high in source.sites[kind]]
+    ends = [(it.low, it.high) for _, kind in source.predicates[name] for _, it in source.sites[kind]]
     if near:
         return x, [random.randint(max(low, -2), min(high, 2)) for low, high in ends]
     return x, [random.choice((low, high)) if random.random() < 0.1 else random.randint(low, high) for low, high in ends]
+
+
+def over_points(calls, name, sites):
+    """The calls of C that take points, which have code of their own: of a row the two signs."""
+    def ask(row):
+        points = [(ctypes.c_int64 * len(site))(*site) for site in row]
+        return [call(*map(ctypes.byref, points)) for call in asked]
+    asked = [getattr(calls.library, f"ln_{name}{end}") for end in ("_at", "_plain_at")]
+    for call in asked:
+        call.argtypes = [ctypes.c_void_p] * sites
+    return ask
 
 
 def signs(lnc, prefix, family, count):
@@ -105,12 +117,13 @@ def signs(lnc, prefix, family, count):
             run = subprocess.run([lnc, "run", path, name, file.name], capture_output=True, text=True, check=True).stdout.split("\n")[:-1]
         call = getattr(calls, name)
         got = call.rows([x for x, _ in rows], [v for _, v in rows])
-        value = expression(text, name)
+        value, at = expression(text, name), over_points(calls, name, len(source.indices(name)))
         for (x, v), line, sign in zip(rows, run, got, strict=True):
-            exact = value(v)
-            plain = call.plain(*((index, *v[width * k:width * (k + 1)]) for k, index in enumerate(x)))
+            exact, sites = value(v), [(index, *v[width * k:width * (k + 1)]) for k, index in enumerate(x)]
+            plain = call.plain(*sites)
             total += 1
-            wrong += "-0+".index(line[0]) - 1 != sign or plain != (exact > 0) - (exact < 0) or sign == 0 or (plain and plain != sign)
+            wrong += ("-0+".index(line[0]) - 1 != sign or plain != (exact > 0) - (exact < 0) or sign == 0 or (plain != 0 and plain != sign)
+                      or at(sites) != [sign, plain])
     print(f"{total} rows, {wrong} wrong")
 
 
@@ -135,7 +148,7 @@ def rust():
         one, _, times = ranges[1:-1].partition("; ")
         ends = eval(f"[{one}]{' * ' + times if times else ''}", {})
         taken = {name: [a for a, _ in arguments] for name, arguments in source.predicates.items()}
-        same = calls == taken and ends == [(low, high) for _, low, high in coordinates]
+        same = calls == taken and ends == [(it.low, it.high) for _, it in coordinates]
         print(f"{family}: {'the same' if same else 'NOT the same'}")
 
 

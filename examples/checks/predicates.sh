@@ -10,9 +10,9 @@ for family in $families; do
   else
     skipped=$((skipped + 1)); echo "predicates.sh: skipped: the kept C of $family, since lnc_exact is not built"
   fi
-  case_ "the header of $family" 0 'equal' '' "python3 predicates/header.py $text predicates/$family.c | cmp - predicates/lnc_$family.h && echo equal"
+  case_ "the header of $family" 0 'equal' '' "LNC=$lnc python3 predicates/header.py $text predicates/$family.c | cmp - predicates/lnc_$family.h && echo equal"
   case_ "no larger power of 2 for $family" 1 '' 'error bound' \
-    "bits=30; case $family in *space) bits=24 ;; esac; python3 predicates/header.py --grid \$bits $text >$scratch/next.ln; $lnc check $scratch/next.ln 2>$scratch/said; s=\$?
+    "bits=30; case $family in *space) bits=24 ;; esac; LNC=$lnc python3 predicates/header.py --grid \$bits $text >$scratch/next.ln; $lnc check $scratch/next.ln 2>$scratch/said; s=\$?
     cut -d' ' -f1,2 $scratch/said >&2; exit \$s"
 done
 for family in plane weighted_plane segments; do
@@ -20,7 +20,7 @@ for family in plane weighted_plane segments; do
 done
 case_ 'at most 10 MB are kept' 0 'yes' '' "[ \$(cat predicates/*.{c,h,list} | wc -c) -le 10000000 ] && echo yes"
 if [ -x "$exact" ]; then
-  case_ 'a second set for grids of 2^20, beside the first' 0 '1 1' '' "make -s -C predicates grid20 FAMILIES=plane O=$scratch/grid LNC_EXACT=$exact &&
+  case_ 'a second set for grids of 2^20, beside the first' 0 '1 1' '' "make -s -C predicates grid20 FAMILIES=plane O=$scratch/grid LNC=$lnc LNC_EXACT=$exact &&
     printf '#define LNC_PLANE_IMPLEMENTATION\n#include \"lnc_plane.h\"\n#define LNC_PLANE_20_IMPLEMENTATION\n#include \"lnc_plane_20.h\"\n#include <stdio.h>\n
     int main(void) { int64_t x[] = {1, 2, 3}, v[] = {0, 0, 1, 1, 2, 2}; printf(\"%%d %%d\\\\n\", ln_orient2(x, v), ln_orient2_20(x, v)); }\n' >$scratch/both.c &&
     gcc -std=gnu99 -Wall -Wextra -Werror -Ipredicates -I$scratch/grid $scratch/both.c -o $scratch/both && $scratch/both"

@@ -1,6 +1,12 @@
 //! Exact, robust geometric predicates, in families over one type of sites each. A function of sites returns the sign at the moved sites, 1 or -1; the
 //! one of the same name in `plain` returns the sign at the sites themselves, 0 where they are degenerate. What + means is in the headers
-//! `lnc_FAMILY.h`. The indices of a call have to differ: with one index twice the sign is that of some order of the sites.
+//! `lnc_FAMILY.h`. A site that is out of range can't be made. The indices of a call have to differ, which a debug build asserts; otherwise, with one
+//! index twice, the sign is that of some order of the sites.
+
+#[allow(dead_code)]
+fn differ(indices: &[i64]) -> bool {
+    indices.iter().enumerate().all(|(k, index)| !indices[..k].contains(index))
+}
 
 macro_rules! family {
     ($feature:literal $family:ident: $site:ident $count:literal $ranges:expr; $($name:ident($($p:ident)*))*) => {
@@ -8,6 +14,7 @@ macro_rules! family {
         pub mod $family {
             /// A site: its index, from 0 on, and its coordinates, each in its range.
             #[derive(Clone, Copy, Debug, PartialEq, Eq)]
+            #[repr(C)]
             pub struct $site {
                 index: i64,
                 coordinates: [i64; $count],
@@ -35,11 +42,12 @@ macro_rules! family {
             $(
                 pub fn $name($($p: &$site),*) -> i32 {
                     extern "C" {
-                        #[link_name = concat!("ln_", stringify!($name))]
-                        fn call(x: *const i64, v: *const i64) -> i32;
+                        #[link_name = concat!("ln_", stringify!($name), "_at")]
+                        fn call($($p: &$site),*) -> i32;
                     }
-                    // the call reads an index and $count values of each site, which are in range, and writes nothing
-                    unsafe { call([$($p.index),*].as_ptr(), [$($p.coordinates),*].as_ptr().cast()) }
+                    debug_assert!(crate::differ(&[$($p.index),*]), concat!(stringify!($name), ": the indices of a call differ"));
+                    // the sites are laid out as those of C and are in range; the call reads them and writes nothing
+                    unsafe { call($($p),*) }
                 }
             )*
 
@@ -49,11 +57,11 @@ macro_rules! family {
                 $(
                     pub fn $name($($p: &$site),*) -> i32 {
                         extern "C" {
-                            #[link_name = concat!("ln_", stringify!($name), "_plain")]
-                            fn call(v: *const i64) -> i32;
+                            #[link_name = concat!("ln_", stringify!($name), "_plain_at")]
+                            fn call($($p: &$site),*) -> i32;
                         }
                         // as above
-                        unsafe { call([$($p.coordinates),*].as_ptr().cast()) }
+                        unsafe { call($($p),*) }
                     }
                 )*
             }
