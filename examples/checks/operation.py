@@ -14,7 +14,7 @@ COMMENT = re.compile(r"(?:--|//).*")
 OF_TREES = re.compile(r"(?<!\bOp::)(?<!\bVerb::)(?<!\bop\.)(?<!\bverb\.)(?<![\w'])(?:[TFW]?Neg'?)(?![\w'(])|\b(?:Node|FitOp)::Neg\b|\bNeg\(Box|\bFNeg\b")
 OF_MACHINE = re.compile(r"\b(?:Op::|Verb::|op\.|verb\.)Neg\b|\bNegOp\b|\bNeg\(Width\)")
 OP_IMPORTED = re.compile(r"\b(?:Op|Verb)\.TheVariants\.\{[^}]*\bNeg\b(?! as)")
-TOKENS, MACHINE = {"ln_syntax", "ln_names", "ln_parse"}, {"ln_code", "ln_cemit", "ln_cert", "ln_verify"}
+TOKENS, MACHINE = {"ln_lex", "ln_syntax", "ln_names", "ln_parse"}, {"ln_code", "ln_cemit", "ln_cert", "ln_verify"}
 
 
 def arms(crate, path):

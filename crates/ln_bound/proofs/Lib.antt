@@ -1,4 +1,3 @@
 pub mod Soundness
 pub mod Measures
 pub mod Trees
-pub mod Intervals

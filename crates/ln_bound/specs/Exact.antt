@@ -3,7 +3,7 @@ use Rattle.std.specs.Prelude.{◌≡◌, ℕ, ◌≤◌, List, [], ◌∷◌, �
 use Rattle.ln_tree.specs.declared.shape.VarInfo.{VarInfo}
 use Rattle.ln_bound.specs.declared.fitted.Width.{Width}
 use Rattle.ln_bound.specs.Widths.{least, wider}
-use Rattle.ln_bound.specs.Intervals.Range.{Range, point, opposite, power, magnitude}
+use Rattle.ln_interval.specs.Range.{Range, point, opposite, power, magnitude}
 use Rattle.ln_bound.specs.Ranges.{ranges}
 use Rattle.ln_bound.specs.Typed.{Typed, TNum, TInput, TLet, TNeg, TTwo, TPow, pair, width, range_of}
 

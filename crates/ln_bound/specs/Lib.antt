@@ -12,4 +12,3 @@ pub mod Ranges
 pub mod Loads
 pub mod Measures
 pub mod Weighed
-pub mod Intervals

@@ -1,8 +1,8 @@
 -- Measures of nodes in code: a pair and a size.
 use Rattle.std.specs.Prelude.{◌≡◌, ℕ, ◌≤◌, max, Option, Some, None}
 use Rattle.ln_bound.specs.declared.measure.Measure.{Measure}
-use Rattle.ln_bound.specs.Intervals.Range.{Range, magnitude, most}
-use Rattle.ln_bound.specs.Intervals.View.{range}
+use Rattle.ln_interval.specs.Range.{Range, magnitude, most}
+use Rattle.ln_interval.specs.View.{range}
 
 -- the range of a measure
 abbrev pub range_in : Measure → Range

@@ -5,7 +5,7 @@ use Rattle.ln_tree.specs.declared.shape.VarInfo.{VarInfo}
 use Rattle.ln_algebra.specs.Sizes.{two}
 use Rattle.ln_bound.specs.UpTo.{AreUpTo}
 use Rattle.ln_bound.specs.Value.{value, weight_over}
-use Rattle.ln_bound.specs.Intervals.Range.{most, Range, Holds, point, sum, difference, opposite, product, power, magnitude}
+use Rattle.ln_interval.specs.Range.{most, Range, Holds, point, sum, difference, opposite, product, power, magnitude}
 
 -- the range of an expression where variable v has the range r v, and let j the range of number j in the list
 abbrev pub range_over : (ℕ → Range) → List Range → Tree → Range

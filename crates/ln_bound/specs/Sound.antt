@@ -7,7 +7,7 @@ use Rattle.ln_bound.specs.declared.fitted.Width.{Width}
 use Rattle.ln_bound.specs.Value.{value, weight_over}
 use Rattle.ln_bound.specs.Room.{HasRoom, let_bounds}
 use Rattle.ln_bound.specs.Widths.{limit, no_wider}
-use Rattle.ln_bound.specs.Intervals.Range.{Range, Holds, Covers, IsOrdered, opposite, power, magnitude, most}
+use Rattle.ln_interval.specs.Range.{Range, Holds, Covers, IsOrdered, opposite, power, magnitude, most}
 use Rattle.ln_bound.specs.Ranges.{ranges}
 use Rattle.ln_algebra.specs.Sizes.{one}
 use Rattle.ln_bound.specs.Typed.{Typed, TNum, TInput, TLet, TNeg, TTwo, TPow, pair, width, untyped, range_of, need}

@@ -5,7 +5,7 @@ use Rattle.ln_algebra.specs.Coefficient.{Series, normal_coefficient}
 use Rattle.ln_base.specs.declared.span.Span.{Span}
 use Rattle.ln_tree.specs.Formula.{Formula, FNum, FInput, FName, FNeg, FAdd, FSub, FMul, FPow}
 use Rattle.ln_bound.specs.declared.fitted.Width.{Width}
-use Rattle.ln_bound.specs.Intervals.Range.{Range, sum, difference, product}
+use Rattle.ln_interval.specs.Range.{Range, sum, difference, product}
 use Rattle.ln_bound.specs.declared.fitted.Two.{Two}
 use Rattle.ln_bound.specs.declared.fitted.Two.TheVariants.{Plus, Minus, Times}
 

@@ -4,7 +4,7 @@ use Rattle.std.specs.Prelude.{unsigned_abs, List, Option, Some, None, slice_get,
 use Rattle.ln_algebra.specs.Tree.{Tree, Num, Input, Name, Neg, Add, Sub, Mul, Pow}
 use Rattle.ln_tree.specs.declared.shape.VarInfo.{VarInfo}
 pub use Rattle.ln_tree.specs.Row.{values}
-pub use Rattle.ln_bound.specs.Intervals.Number.{power}
+pub use Rattle.ln_interval.specs.Number.{power}
 
 -- the value of an expression where variable v has the value x v, and let j the value of number j in the list
 abbrev pub value : (ℕ → ℤ) → List ℤ → Tree → ℤ

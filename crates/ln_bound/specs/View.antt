@@ -4,8 +4,8 @@ use Rattle.ln_bound.specs.declared.fitted.Two.TheVariants.{Plus, Minus, Times}
 use Rattle.ln_bound.specs.declared.fitted.Fitted.{Fitted}
 use Rattle.ln_bound.specs.declared.fitted.FitOp.{FitOp}
 use Rattle.ln_bound.specs.declared.fitted.FitOp.TheVariants.{Num, Input, Let, Neg', Add', Sub', Mul', Pow'}
-use Rattle.ln_bound.specs.Intervals.Range.{Range}
-use Rattle.ln_bound.specs.Intervals.View.{range}
+use Rattle.ln_interval.specs.Range.{Range}
+use Rattle.ln_interval.specs.View.{range}
 use Rattle.ln_bound.specs.Typed.{Typed, TNum, TInput, TLet, TNeg, TTwo, TPow}
 
 -- the tree with this operation of the program at its root, this range and this width

@@ -4,7 +4,7 @@ ghost use Rattle.ln_bound.specs.Typed.{operation};
 ghost use Rattle.ln_bound.specs.View.{typed};
 ghost use Rattle.ln_bound.specs.Widths.{limit, least, wider};
 
-use crate::interval::Pair;
+use ln_interval::Pair;
 
 /// How wide a value is: 64 or 128 bits with a sign.
 #[derive(Clone, Copy, Debug, PartialEq, Eq, Hash)]

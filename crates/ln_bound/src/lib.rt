@@ -3,12 +3,11 @@
 //! `weigh` returns the ranges and sizes of a predicate's nodes, or the first node whose range or size exceeds `2^127 - 1`; `size` returns the
 //! predicate's trees with a range and a width at each node, exactly. On every row in range each node's value is between its two ends and fits
 //! its width: that is the law `sound_trees_hold_their_values`. No range and no size exceeds the limit where no node's weight does: that is the
-//! law `light_nodes_stay_light`. `interval` has the ranges and their operations.
+//! law `light_nodes_stay_light`.
 #![tactic(auto)]
 
 pub mod fitted;
 pub mod fitted_pred;
-pub mod interval;
 pub mod laws;
 pub mod measure;
 pub mod ranges;

@@ -1,7 +1,7 @@
 //! The measure of a node.
 ghost use Rattle.std.specs.Prelude.{◌≡◌, ◌≤ℤ◌};
 
-use crate::interval::Pair;
+use ln_interval::Pair;
 use ln_tree::VarInfo;
 
 /// What is known of a node before any row is seen: the range of its values, and its size, which bounds the coefficients of

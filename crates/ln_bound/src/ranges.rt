@@ -1,7 +1,7 @@
 //! Laws of ranges and loads.
 ghost use Rattle.std.specs.Prelude.{◌≡◌, ◌-◌, ℕ, ℤ, List, [], map, true, length, slice_index_or};
 ghost use Rattle.ln_algebra.specs.Tree.{Tree, inlined, inlined_after};
-ghost use Rattle.ln_bound.specs.Intervals.Range.{Range, Holds};
+ghost use Rattle.ln_interval.specs.Range.{Range, Holds};
 ghost use Rattle.ln_tree.specs.Fits.{is_fit, lets_fit};
 ghost use Rattle.ln_tree.specs.Formula.{Formula, tree};
 ghost use Rattle.ln_tree.specs.Row.{AreWithin};

@@ -1,8 +1,8 @@
 //! The ranges and widths of a predicate's nodes.
 ghost use Rattle.std.specs.Prelude.{◌≡◌, ◌≤◌, ◌<◌, [], ℕ, true, IfOk, length, map, unsigned_abs};
 ghost use Rattle.ln_algebra.specs.Tree.{Name};
-ghost use Rattle.ln_bound.specs.Intervals.Range.{IsOrdered, magnitude, most, opposite, point, power};
-ghost use Rattle.ln_bound.specs.Intervals.View.{range};
+ghost use Rattle.ln_interval.specs.Range.{IsOrdered, magnitude, most, opposite, point, power};
+ghost use Rattle.ln_interval.specs.View.{range};
 ghost use Rattle.ln_tree.specs.Fits.{is_fit, lets_fit};
 ghost use Rattle.ln_tree.specs.Formula.{formula, tree_of};
 ghost use Rattle.ln_bound.specs.Light.{AreLight};
@@ -15,9 +15,9 @@ ghost use Rattle.ln_bound.specs.Widths.{least, wider};
 
 use crate::fitted::{FitOp, Fitted, Two, Width};
 use crate::fitted_pred::FittedPred;
-use crate::interval::Pair;
 use crate::measure::declared;
 use ln_base::{NoMemory, Seq};
+use ln_interval::Pair;
 use ln_tree::layout::number_in;
 use ln_tree::{Expr, Node, Pred, VarInfo};
 use std::alloc::Global;

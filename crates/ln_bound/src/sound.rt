@@ -1,7 +1,7 @@
 //! What sound trees over ranges promise, and that exact trees are sound.
 ghost use Rattle.std.specs.Prelude.{◌≡◌, true, ℕ, ℤ, [], List, Some, length, map, slice_get};
 ghost use Rattle.ln_algebra.specs.Tree.{InputsBelow};
-ghost use Rattle.ln_bound.specs.Intervals.Range.{IsOrdered};
+ghost use Rattle.ln_interval.specs.Range.{IsOrdered};
 ghost use Rattle.ln_tree.specs.Row.{AreWithin};
 ghost use Rattle.ln_tree.specs.declared.shape.VarInfo.{VarInfo as Info};
 ghost use Rattle.ln_bound.specs.Value.{values};

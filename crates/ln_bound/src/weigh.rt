@@ -3,8 +3,8 @@ ghost use Rattle.std.specs.Prelude.{◌≡◌, ◌≤◌, ◌<◌, ◌++◌, ◌
 ghost use Rattle.std.specs.Prelude.{MatchOption, MatchResult, Some, length, map, max, slice_index_or, unsigned_abs, pos};
 ghost use Rattle.ln_tree.specs.Formula.{formula, tree};
 ghost use Rattle.ln_tree.specs.Variables.{number_or_end};
-ghost use Rattle.ln_bound.specs.Intervals.Range.{IsOrdered, magnitude, most, opposite, point, product, power, sum, difference};
-ghost use Rattle.ln_bound.specs.Intervals.View.{range};
+ghost use Rattle.ln_interval.specs.Range.{IsOrdered, magnitude, most, opposite, point, product, power, sum, difference};
+ghost use Rattle.ln_interval.specs.View.{range};
 ghost use Rattle.ln_bound.specs.Light.{AreLight};
 ghost use Rattle.ln_bound.specs.Loads.{loaded, loaded_lets, loaded_pred, measured, measured_lets};
 ghost use Rattle.ln_bound.specs.Loads.{measured_pred, node_measures, ranges_of_lets, sizes_of_lets};
@@ -15,11 +15,11 @@ ghost use Rattle.ln_bound.specs.Stop.{StopsWeighing, IsHeavyOrNoMemory};
 ghost use Rattle.ln_bound.specs.Weighed.{IsWeighed};
 
 use crate::fitted::Two;
-use crate::interval::Pair;
-use crate::interval::pair::MOST;
 use crate::measure::{Measure, declared};
 use crate::size::kind_of;
 use ln_base::{NoMemory, Seq, Span};
+use ln_interval::Pair;
+use ln_interval::pair::MOST;
 use ln_tree::layout::number_in;
 use ln_tree::{Expr, Node, Pred, Var, VarInfo};
 use std::alloc::Global;
@@ -55,7 +55,7 @@ pub struct Weights {
 impl Model for Weights {
     ghost use Rattle.std.specs.Prelude.{ℕ, ◌<◌, List, length, map};
     ghost use Rattle.ln_bound.specs.Measures.{seen};
-    ghost use Rattle.ln_bound.specs.Intervals.Range.{Range};
+    ghost use Rattle.ln_interval.specs.Range.{Range};
 
     ghost Value = { List (Range × ℕ) };
 

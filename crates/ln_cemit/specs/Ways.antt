@@ -1,7 +1,7 @@
 -- Defines what emission has to know of a line: by which power of 2 a pushed number is divided, and the width of what is pushed from
 -- outside. So blocks and filters are emitted alike.
 use Rattle.std.specs.Prelude.{List, [], ◌∷◌}
-use Rattle.ln_bound.specs.Intervals.Range.{Range, magnitude}
+use Rattle.ln_interval.specs.Range.{Range, magnitude}
 use Rattle.ln_bound.specs.declared.fitted.Width.TheVariants.{W64}
 use Rattle.ln_bound.specs.Widths.{least}
 use Rattle.ln_code.specs.declared.op.Triple.{Triple}

@@ -4,7 +4,7 @@ ghost use Rattle.ln_csyn.specs.Spelling.{Goes, Puts, lexeme, spell, spell_body, 
 ghost use Rattle.ln_csyn.specs.Tree.{Body, End, Inner, Minus, Number, Two};
 ghost use Rattle.ln_csyn.specs.declared.tree.CType.TheVariants.{Int};
 ghost use Rattle.ln_csyn.specs.declared.tree.COp.TheVariants.{Less, More};
-ghost use Rattle.ln_bound.specs.Intervals.View.{range};
+ghost use Rattle.ln_interval.specs.View.{range};
 ghost use Rattle.ln_code.specs.Numbers.{no_locals};
 ghost use Rattle.ln_code.specs.Part.{lines_of};
 ghost use Rattle.ln_code.specs.declared.op.Op.TheVariants.{Set};
@@ -20,10 +20,10 @@ use crate::put::{put_decl_name, put_number_of, put_operand, put_operation};
 use crate::slot::{Slot, Way};
 use ln_base::NoMemory;
 use ln_bound::Width;
-use ln_bound::interval::Pair;
 use ln_code::{Block, FilterBlock, Op, Triple};
 use ln_csyn::COp;
 use ln_csyn::spell::{put, put_op, put_tokens};
+use ln_interval::Pair;
 use std::alloc::Global;
 
 fn put_minus(out: &mut Vec<u8>, width: Width, e: u64) -> Result<(), NoMemory>

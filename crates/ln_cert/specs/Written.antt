@@ -1,6 +1,6 @@
 -- The listing of compiled programs.
 use Rattle.std.specs.Prelude.{◌≡◌, ℕ, suc, pos, ◌<◌, ◌≤◌, ◌^◌, unsigned_abs, true, List, [], ◌∷◌, ◌++◌, length, map, Option, Some, None, IfSome}
-use Rattle.ln_bound.specs.Intervals.Range.{Range}
+use Rattle.ln_interval.specs.Range.{Range}
 use Rattle.ln_tree.specs.declared.shape.VarInfo.{VarInfo}
 use Rattle.ln_tree.specs.Exps.{IsRising}
 use Rattle.ln_tree.specs.Names.{name_bytes}

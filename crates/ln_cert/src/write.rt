@@ -1,7 +1,7 @@
 //! Writing the listing of programs.
 ghost use Rattle.std.specs.Prelude.{◌≡◌, ◌<◌, ◌≤◌, ◌∷◌, ◌++◌, [], ℕ, List, Some, IfOk, IfSome, OnErr, decimal, length, map};
 ghost use Rattle.ln_base.specs.Limits.{most_stages};
-ghost use Rattle.ln_bound.specs.Intervals.View.{range};
+ghost use Rattle.ln_interval.specs.View.{range};
 ghost use Rattle.ln_order.specs.Orders.{IsOrderOf, orders_of};
 ghost use Rattle.ln_order.specs.Places.{order_places};
 ghost use Rattle.ln_tree.specs.Exps.{IsRising};
@@ -24,8 +24,8 @@ use crate::put::{
 };
 use ln_base::NoMemory;
 use ln_base::put::{put, put_word};
-use ln_bound::interval::Pair;
 use ln_code::{Block, FilterBlock, Op, Program, Programs, Triple};
+use ln_interval::Pair;
 use ln_order::{Order, all_orders};
 use ln_tree::{Exps, Name};
 use std::alloc::Global;

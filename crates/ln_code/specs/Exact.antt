@@ -1,7 +1,7 @@
 -- What a block and a filter mean: the machine over unbounded integers. It has no result where a value is outside its
 -- operation's range, in a filter above its bound, or leaves its width.
 use Rattle.std.specs.Prelude.{ℕ, ◌&&◌, nat_le, true, ℤ, neg_ℤ, unsigned_abs, List, Option, None, slice_get}
-use Rattle.ln_bound.specs.Intervals.Range.{Range}
+use Rattle.ln_interval.specs.Range.{Range}
 use Rattle.ln_bound.specs.Sound.{holds}
 use Rattle.ln_bound.specs.declared.fitted.Width.{Width}
 use Rattle.ln_bound.specs.declared.fitted.Width.TheVariants.{W64, W128}

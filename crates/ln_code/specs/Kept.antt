@@ -2,7 +2,7 @@
 use Rattle.std.specs.Prelude.{◌≡◌, ◌≢◌, ℕ, pos, ◌^◌, ◌<◌, ◌≤◌, Bool, true, false, List, [], ◌∷◌, length}
 use Rattle.std.specs.Prelude.{All, AllPairs, Option, Some, None, IsSome, is_some, IfSome, slice_get}
 use Rattle.ln_base.specs.Limits.{most_stages}
-use Rattle.ln_bound.specs.Intervals.Range.{Range, point}
+use Rattle.ln_interval.specs.Range.{Range, point}
 use Rattle.ln_tree.specs.Exps.{Pairs}
 use Rattle.ln_tree.specs.Names.{name_bytes}
 use Rattle.ln_tree.specs.declared.shape.VarInfo.{VarInfo}

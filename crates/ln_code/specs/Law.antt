@@ -1,6 +1,6 @@
 -- What the rules promise of every row in range.
 use Rattle.std.specs.Prelude.{◌≡◌, ◌<◌, ◌≤◌, ℤ, pos, ◌<ℤ◌, unsigned_abs, List, [], Some}
-use Rattle.ln_bound.specs.Intervals.Range.{Holds, magnitude}
+use Rattle.ln_interval.specs.Range.{Holds, magnitude}
 use Rattle.ln_tree.specs.declared.shape.VarInfo.{VarInfo}
 use Rattle.ln_tree.specs.Row.{AreWithin}
 use Rattle.ln_bound.specs.Value.{value, values}

@@ -1,6 +1,6 @@
 -- Parts: what a program is, and what one predicate of a listing is.
 use Rattle.std.specs.Prelude.{ℕ, ◌+◌, Bool, true, false, List, [], ◌∷◌, length, count_by, slice_get, Option, Some, None}
-use Rattle.ln_bound.specs.Intervals.Range.{Range}
+use Rattle.ln_interval.specs.Range.{Range}
 use Rattle.ln_tree.specs.Exps.{Pairs}
 use Rattle.ln_tree.specs.declared.shape.Shape.{Shape}
 use Rattle.ln_tree.specs.declared.shape.VarInfo.{VarInfo}

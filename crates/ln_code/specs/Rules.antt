@@ -3,7 +3,7 @@
 use Rattle.std.specs.Prelude.{ℕ, ◌&&◌, nat_le, unsigned_abs, List, Option, None, slice_get, if◌then◌else◌}
 use Rattle.ln_algebra.specs.Tree as tree
 use Rattle.ln_algebra.specs.Tree.{Tree}
-use Rattle.ln_bound.specs.Intervals.Range.{Range, point, opposite, magnitude, most}
+use Rattle.ln_interval.specs.Range.{Range, point, opposite, magnitude, most}
 use Rattle.ln_tree.specs.declared.shape.VarInfo.{VarInfo}
 use Rattle.ln_bound.specs.declared.fitted.Width.{Width}
 use Rattle.ln_bound.specs.Sound.{covers, is_in}

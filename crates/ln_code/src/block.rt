@@ -1,13 +1,13 @@
 //! Defines blocks: the operations that compute one scaled derivative, sealed with the ranges that bound each value.
 ghost use Rattle.std.specs.Prelude.{◌≡◌, ◌<◌, map, IfOk};
-ghost use Rattle.ln_bound.specs.Intervals.View.{range};
+ghost use Rattle.ln_interval.specs.View.{range};
 ghost use Rattle.ln_code.specs.Part.{Code, is_wide, wide_in};
 ghost use Rattle.ln_code.specs.Kept.{IsBlock};
 
 use crate::op::Op;
 use ln_base::{NoMemory, Seq};
 use ln_bound::Width;
-use ln_bound::interval::Pair;
+use ln_interval::Pair;
 use ln_tree::Exps;
 use std::alloc::Global;
 use std::marker::Model;
@@ -27,7 +27,7 @@ pub struct Block {
 
 impl Model for Block {
     ghost use Rattle.std.specs.Prelude.{◌≡◌, map};
-    ghost use Rattle.ln_bound.specs.Intervals.View.{range};
+    ghost use Rattle.ln_interval.specs.View.{range};
     ghost use Rattle.ln_code.specs.Part.{Code, wide_in};
     ghost use Rattle.ln_code.specs.Kept.{IsBlock};
 

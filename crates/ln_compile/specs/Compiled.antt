@@ -19,8 +19,8 @@ use Rattle.ln_code.specs.Carried.{Carries, vectors}
 use Rattle.ln_code.specs.Lists.{lists_of}
 use Rattle.ln_code.specs.Part.{Code, FilterCode, Part, filter_value, lines_of, ops_in_filter}
 use Rattle.ln_due.specs.Small.{PushesSmall}
-use Rattle.ln_lower.specs.Filters.Steady.{HasFilter}
-use Rattle.ln_lower.specs.Filters.Truncated.{root_number, root_triple}
+use Rattle.ln_filter.specs.Steady.{HasFilter}
+use Rattle.ln_filter.specs.Truncated.{root_number, root_triple}
 use Rattle.ln_lower.specs.StackCode.{IsCodeOf}
 use Rattle.ln_nest.specs.Nested.{nested_form}
 use Rattle.ln_compile.specs.Accepted.{lets_of, own_root, root_of}

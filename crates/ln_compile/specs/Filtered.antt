@@ -12,8 +12,8 @@ use Rattle.ln_code.specs.Part.{Part}
 use Rattle.ln_code.specs.Verdict.{IsVerdict}
 use Rattle.ln_due.specs.Due.{Filtering, NoFilter, Decided, Undecided, Due}
 use Rattle.ln_due.specs.DueLaw.{Agree}
-use Rattle.ln_lower.specs.Filters.Steady.{HasFilter}
-use Rattle.ln_lower.specs.Filters.Truncated.{Decides}
+use Rattle.ln_filter.specs.Steady.{HasFilter}
+use Rattle.ln_filter.specs.Truncated.{Decides}
 use Rattle.ln_compile.specs.Accepted.{lets_of, own_root, root_of}
 use Rattle.ln_compile.specs.Compiled.{IsFilterOf, IsProgramOf}
 

@@ -23,7 +23,7 @@ use crate::blocks::{blocks_after, first_block};
 use ln_base::{NoMemory, Seq};
 use ln_bound::size::size;
 use ln_code::{Block, FilterBlock, Program};
-use ln_lower::filter::plan;
+use ln_filter::plan;
 use ln_poly::Poly;
 use ln_stage::Stages;
 use ln_tree::Pred;

@@ -2,4 +2,3 @@
 pub mod Verdicts
 pub mod Parts
 pub mod Derivatives
-pub mod Products

@@ -4,5 +4,4 @@ pub mod AlongLemmas
 pub mod Composition
 pub mod DueLemmas
 pub mod PlainLemmas
-pub mod SeveralLemmas
 pub mod UniqueLemmas

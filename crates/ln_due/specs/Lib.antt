@@ -5,6 +5,4 @@ pub mod Due
 pub mod DueLaw
 pub mod Plain
 pub mod Run
-pub mod Several
 pub mod Small
-pub mod Products

@@ -2,7 +2,6 @@
 ghost use Rattle.ln_due.specs.DueLaw.{BlocksRun, CutLosesNothing, DueIsUnique, PlainBlocksCarryTheWhole};
 ghost use Rattle.ln_due.specs.DueLaw.{SignsArePerturbed, StagesAreCoefficients, VerdictsAreDue, WithoutParamsNeverZero};
 ghost use Rattle.ln_due.specs.Plain.{PlainValuesDecide, ZerosHaveTheValue};
-ghost use Rattle.ln_due.specs.Several.{SignsMultiply};
 
 /// In a part that carries an expression each block has, on every row in range, the perturbed coefficient at its stage; and the
 /// stages of a row's order lose nothing. A block without exponents has the polynomial of the whole.
@@ -51,11 +50,4 @@ pub fn plain_values_decide()
 /// On it rests that what is printed for a row is the only right output.
 pub fn due_is_unique()
     ensures { DueIsUnique }
-{}
-
-/// The product of the signs of several parts' verdicts on a row is the sign of the product of the expressions that they carry.
-///
-/// On it rests the sign of a product that isn't formed.
-pub fn signs_multiply()
-    ensures { SignsMultiply }
 {}

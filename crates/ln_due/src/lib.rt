@@ -7,17 +7,16 @@
 //! of a listing that are judged valid both come here.
 //!
 //! The laws hold in either order of infinitesimals, by the smallest one that differs and by total degree first; `run` has those of
-//! the first under names of their own. Nothing runs but the factors of a product (`factors`).
+//! the first under names of their own. Nothing runs.
 #![tactic(auto)]
 
 pub mod due;
-pub mod factors;
 pub mod run;
 pub mod steps;
 
 pub use due::{
-    blocks_run, due_is_unique, plain_values_decide, signs_multiply, stages_are_coefficients,
-    verdicts_are_due, without_params_never_zero,
+    blocks_run, due_is_unique, plain_values_decide, stages_are_coefficients, verdicts_are_due,
+    without_params_never_zero,
 };
 pub use run::run_is_due;
 pub use steps::verdicts_are_told;

@@ -1,3 +1,2 @@
 pub mod Subtrees
 pub mod Operations
-pub mod Filters

@@ -1,6 +1,6 @@
 -- The distinct subtrees of a block's trees, by number: each has its operation over the numbers of its operands, its range and its width.
 use Rattle.std.specs.Prelude.{◌≡◌, ℕ, List, [], ◌∷◌, Option, Some, None, slice_get}
-use Rattle.ln_bound.specs.Intervals.Range.{Range}
+use Rattle.ln_interval.specs.Range.{Range}
 use Rattle.ln_bound.specs.declared.fitted.Width.{Width}
 use Rattle.ln_bound.specs.Typed.{Typed, TNum, TInput, TLet, TNeg, TTwo, TPow}
 use Rattle.ln_lower.specs.declared.distinct.Key.{Key}

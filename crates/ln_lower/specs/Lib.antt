@@ -4,4 +4,3 @@ pub mod Distinct
 pub mod Written
 pub mod StackCode
 pub mod Wrote
-pub mod Filters

@@ -1,6 +1,6 @@
 -- The operations that are written for a node.
 use Rattle.std.specs.Prelude.{ℕ, zero, suc, ◌≤◌, List, [], ◌∷◌}
-use Rattle.ln_bound.specs.Intervals.Range.{Range, magnitude, most, power}
+use Rattle.ln_interval.specs.Range.{Range, magnitude, most, power}
 use Rattle.ln_bound.specs.declared.fitted.Width.{Width}
 use Rattle.ln_bound.specs.Typed.{Typed, TNum, TInput, TLet, TNeg, TTwo, TPow, pair}
 use Rattle.ln_code.specs.declared.op.Op.{Op}

@@ -1,7 +1,7 @@
 -- What a draft has more.
 use Rattle.std.specs.Prelude.{◌≡◌, ◌⊎◌, ℕ, ◌+◌, List, [], ◌∷◌, ◌++◌, length, map}
-use Rattle.ln_bound.specs.Intervals.Range.{Range}
-use Rattle.ln_bound.specs.Intervals.View.{range}
+use Rattle.ln_interval.specs.Range.{Range}
+use Rattle.ln_interval.specs.View.{range}
 use Rattle.ln_bound.specs.Typed.{Typed}
 use Rattle.ln_code.specs.Engine.{Line}
 use Rattle.ln_lower.specs.declared.distinct.Key.{Key}

@@ -1,8 +1,8 @@
 //! Writes the block of a tree with its lets: stack code that computes equal subtrees once, while there are locals for them.
 ghost use Rattle.std.specs.Prelude.{◌≡◌, ℕ, ◌+◌, ◌*◌, ◌<◌, ◌≤◌, [], All, IfOk, IfSome, OnOk, Some, List, ℤ, length, map, slice_get};
 ghost use Rattle.ln_algebra.specs.Coefficient.{normal_coefficient};
-ghost use Rattle.ln_bound.specs.Intervals.Range.{Covers, magnitude, most, power, product};
-ghost use Rattle.ln_bound.specs.Intervals.View.{range};
+ghost use Rattle.ln_interval.specs.Range.{Covers, magnitude, most, power, product};
+ghost use Rattle.ln_interval.specs.View.{range};
 ghost use Rattle.ln_tree.specs.Row.{AreWithin};
 ghost use Rattle.ln_bound.specs.Value.{value, values};
 ghost use Rattle.ln_bound.specs.Light.{let_values};
@@ -24,9 +24,9 @@ ghost use Rattle.ln_lower.specs.Wrote.{Drafted, MayKeep, Puts, PutsLast, PutsLet
 use crate::distinct::{Distinct, number};
 use crate::draft::{Draft, nothing};
 use ln_base::{NoMemory, Seq};
-use ln_bound::interval::Pair;
 use ln_bound::{FitOp, Fitted, Two, Width};
 use ln_code::{Block, Op};
+use ln_interval::Pair;
 use ln_tree::{Exps, Shape};
 use std::alloc::Global;
 

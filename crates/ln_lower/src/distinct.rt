@@ -1,6 +1,6 @@
 //! Numbers the distinct subtrees of trees, and counts the places at which each is used.
 ghost use Rattle.std.specs.Prelude.{◌≡◌, IfOk, slice_get};
-ghost use Rattle.ln_bound.specs.Intervals.View.{range};
+ghost use Rattle.ln_interval.specs.View.{range};
 ghost use Rattle.ln_bound.specs.View.{typed};
 ghost use Rattle.ln_lower.specs.Distinct.{Added, Numbered, key, operand_or, right_or};
 

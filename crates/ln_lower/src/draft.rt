@@ -1,12 +1,12 @@
 //! Operations as they are written.
 ghost use Rattle.std.specs.Prelude.{◌≡◌, ◌+◌, ◌<◌, ◌∷◌, [], IfSome, OnOk, ℕ, slice_get, Some};
-ghost use Rattle.ln_bound.specs.Intervals.View.{range};
+ghost use Rattle.ln_interval.specs.View.{range};
 ghost use Rattle.ln_lower.specs.Lowered.{line, nothing};
 ghost use Rattle.ln_lower.specs.Wrote.{MayKeep, Wrote};
 
 use ln_base::{NoMemory, Seq};
-use ln_bound::interval::Pair;
 use ln_code::Op;
+use ln_interval::Pair;
 
 /// Operations with their pairs, and the numbers of the subtrees that are kept, from local 65 on.
 #[derive(Drop)]

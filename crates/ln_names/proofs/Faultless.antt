@@ -8,7 +8,7 @@ use Rattle.std.proofs.lemmas.List.Sums.{sum_by-append}
 use Rattle.std.proofs.lemmas.Bool.{ltb-false}
 use Rattle.std.proofs.lemmas.Bool.Decides.{nat_tests}
 use Rattle.std.proofs.lemmas.Int.{ints}
-use Rattle.ln_syntax.specs.declared.lex.token.Token.{Token}
+use Rattle.ln_lex.specs.declared.token.Token.{Token}
 use Rattle.ln_syntax.specs.declared.raw.RawRange.{RawRange}
 use Rattle.ln_syntax.specs.declared.raw.RawCoord.{RawCoord}
 use Rattle.ln_syntax.specs.declared.raw.RawArg.{RawArg}

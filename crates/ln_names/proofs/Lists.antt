@@ -8,8 +8,8 @@ use Rattle.std.proofs.Math.ListN.{get_or-map}
 use Rattle.std.proofs.lemmas.List.{take_all, drop_all}
 use Rattle.ln_base.proofs.Counting.{counted_more, counted_fits}
 use Rattle.ln_syntax.specs.declared.raw.RawItem.{RawItem}
-use Rattle.ln_syntax.specs.declared.lex.token.Kind.{Kind}
-use Rattle.ln_syntax.specs.declared.lex.token.Token.{Token}
+use Rattle.ln_lex.specs.declared.token.Kind.{Kind}
+use Rattle.ln_lex.specs.declared.token.Token.{Token}
 use Rattle.ln_syntax.specs.Raw.{Item, item, items, kind_at}
 use Rattle.ln_names.specs.Numbers.{decimal}
 

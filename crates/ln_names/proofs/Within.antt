@@ -1,6 +1,6 @@
 -- An expression doesn't end before it begins.
 use Rattle.std.proofs.Common.{ℕ, ◌≤◌, List, arith}
-use Rattle.ln_syntax.specs.declared.lex.token.Token.{Token}
+use Rattle.ln_lex.specs.declared.token.Token.{Token}
 use Rattle.ln_syntax.specs.Expression.{Derives, Sort, Tree}
 use Rattle.ln_syntax.proofs.Spellings.PlacesWithin.{grows}
 

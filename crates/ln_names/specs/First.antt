@@ -1,6 +1,6 @@
 -- The first fault of a file: a token that has one, after tokens that have none.
 use Rattle.std.specs.Prelude.{◌≡◌, ℕ, List, [], ◌∷◌, ◌++◌, Some, None}
-use Rattle.ln_syntax.specs.declared.lex.token.Token.{Token}
+use Rattle.ln_lex.specs.declared.token.Token.{Token}
 use Rattle.ln_syntax.specs.Raw.{Item}
 use Rattle.ln_names.specs.declared.faults.Found.{Found}
 use Rattle.ln_names.specs.Rules.{Use, fault_at}

@@ -3,7 +3,7 @@ ghost use Rattle.std.specs.Prelude.{◌≡◌, ◌<◌};
 ghost use Rattle.ln_syntax.specs.Raw.{kind_at};
 ghost use Rattle.ln_names.specs.Visits.{is_dot, is_caret, role_at, is_node};
 
-use ln_syntax::lex::{Kind, Token};
+use ln_lex::{Kind, Token};
 
 /// What a token of an expression is; parentheses and the dot are nothing.
 #[derive(Clone, Copy)]

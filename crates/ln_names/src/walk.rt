@@ -1,6 +1,6 @@
 //! The first fault of a file: its tokens in order of the text.
 ghost use Rattle.std.specs.Prelude.{◌≡◌, ◌+◌, ◌<◌, ◌≤◌, [], None, Some, IfOk, IfErr, IfNone, OnOk, ℕ, List};
-ghost use Rattle.ln_syntax.specs.declared.lex.token.Token.{Token as Tok};
+ghost use Rattle.ln_lex.specs.declared.token.Token.{Token as Tok};
 ghost use Rattle.ln_syntax.specs.Raw.{Item, items, item, span_at};
 ghost use Rattle.ln_names.specs.declared.faults.Found.{Found as Fnd};
 ghost use Rattle.ln_names.specs.Along.{JudgesInOrder};
@@ -17,8 +17,8 @@ use crate::resolve::Visible;
 use crate::roles::{Role, node_of, role_at};
 use crate::tokens;
 use ln_base::Span;
+use ln_lex::Token;
 use ln_syntax::items::span_of;
-use ln_syntax::lex::Token;
 use ln_syntax::{Places, RawArg, RawCoord, RawItem, RawLet, RawRange};
 
 /// The first fault of names and limits.

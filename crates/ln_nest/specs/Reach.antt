@@ -1,7 +1,7 @@
 -- How much a closed tree weighs, and how far its range reaches.
 use Rattle.std.specs.Prelude.{ℕ, []}
 use Rattle.ln_algebra.specs.Tree.{Tree}
-use Rattle.ln_bound.specs.Intervals.Range.{Range, magnitude}
+use Rattle.ln_interval.specs.Range.{Range, magnitude}
 use Rattle.ln_bound.specs.Ranges.{range_over}
 use Rattle.ln_bound.specs.Value.{weight_over}
 

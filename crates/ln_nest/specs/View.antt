@@ -2,7 +2,7 @@
 use Rattle.std.specs.Prelude.{◌≡◌, ℕ, ◌+◌, ◌≤◌, max, pos, negsuc, List, [], ◌∷◌, unsigned_abs, map, if◌then◌else◌}
 use Rattle.ln_algebra.specs.Terms.{Term}
 use Rattle.ln_algebra.specs.Tree.{Tree}
-use Rattle.ln_bound.specs.Intervals.Range.{magnitude, opposite, product, sum}
+use Rattle.ln_interval.specs.Range.{magnitude, opposite, product, sum}
 use Rattle.ln_tree.specs.declared.shape.VarInfo.{VarInfo}
 use Rattle.ln_bound.specs.Exact.{IsExact}
 use Rattle.ln_bound.specs.Typed.{Typed, TNeg, TTwo, pair, untyped, width}

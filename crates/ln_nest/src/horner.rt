@@ -2,7 +2,7 @@
 ghost use Rattle.std.specs.Prelude.{◌≡◌, ℕ, List, ◌+◌, ◌-◌, ◌*◌, ◌<◌, ◌≤◌, max, [], All, IfOk, length};
 ghost use Rattle.ln_algebra.specs.Vector.{degree};
 ghost use Rattle.ln_algebra.specs.Weights.{weighted_sum};
-ghost use Rattle.ln_bound.specs.Intervals.Range.{IsOrdered, magnitude, product};
+ghost use Rattle.ln_interval.specs.Range.{IsOrdered, magnitude, product};
 ghost use Rattle.ln_tree.specs.Exps.{vector};
 ghost use Rattle.ln_bound.specs.Light.{most};
 ghost use Rattle.ln_bound.specs.Exact.{AreWithinPairs, IsExact};

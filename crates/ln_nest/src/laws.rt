@@ -4,7 +4,7 @@ ghost use Rattle.ln_algebra.specs.Sizes.{one};
 ghost use Rattle.ln_algebra.specs.Terms.{IsCollected, IsNormalOf, Term};
 ghost use Rattle.ln_algebra.specs.Tree.{Tree};
 ghost use Rattle.ln_algebra.specs.Weights.{weighted_sum};
-ghost use Rattle.ln_bound.specs.Intervals.Range.{IsOrdered, Range, magnitude, most};
+ghost use Rattle.ln_interval.specs.Range.{IsOrdered, Range, magnitude, most};
 ghost use Rattle.ln_tree.specs.declared.shape.VarInfo.{VarInfo as Info};
 ghost use Rattle.ln_bound.specs.Exact.{AreWithinPairs, IsExact};
 ghost use Rattle.ln_bound.specs.Sound.{Sound};

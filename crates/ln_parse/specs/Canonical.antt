@@ -1,7 +1,7 @@
 -- The canonical text of a table.
 use Rattle.std.specs.Prelude.{ℕ, Bool, true, false, if◌then◌else◌, List, [], ◌∷◌, codes, slice_get}
-use Rattle.ln_syntax.specs.declared.lex.token.Kind.TheVariants.{Site, Param, Predicate, Let, Sign, BraceL, BraceR, ParL, ParR}
-use Rattle.ln_syntax.specs.declared.lex.token.Kind.TheVariants.{Colon, Semi, Comma, Dot, Dots, Plus, Minus, Star, Caret, Equals}
+use Rattle.ln_lex.specs.declared.token.Kind.TheVariants.{Site, Param, Predicate, Let, Sign, BraceL, BraceR, ParL, ParR}
+use Rattle.ln_lex.specs.declared.token.Kind.TheVariants.{Colon, Semi, Comma, Dot, Dots, Plus, Minus, Star, Caret, Equals}
 use Rattle.ln_tree.specs.Formula.{Formula, FAdd, FSub, FMul}
 use Rattle.ln_tree.specs.Table.{CoordOf, SiteOf, ArgOf, SiteArg, ParamArg, PredOf, TableOf}
 use Rattle.ln_parse.specs.declared.printer.Room.{Room}

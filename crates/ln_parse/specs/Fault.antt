@@ -3,8 +3,8 @@ use Rattle.std.specs.Prelude.{◌≡◌, ℕ, suc, ◌≤◌, ◌⊎◌, nat_lt,
 use Rattle.ln_base.specs.Limits.{most_tokens}
 use Rattle.ln_base.specs.Outside.{refused}
 use Rattle.ln_base.specs.declared.span.Span.{Span}
-use Rattle.ln_syntax.specs.declared.lex.token.Token.{Token}
-use Rattle.ln_syntax.specs.Lexing.Tokens.{Lexed, IsLexFault, IsLexLimit}
+use Rattle.ln_lex.specs.declared.token.Token.{Token}
+use Rattle.ln_lex.specs.Tokens.{Lexed, IsLexFault, IsLexLimit}
 use Rattle.ln_syntax.specs.Raw.{Item, span_at}
 use Rattle.ln_syntax.specs.File.{Spelt}
 use Rattle.ln_syntax.specs.Place.{IsShallow, IsSyntaxFault, IsNestingFault}

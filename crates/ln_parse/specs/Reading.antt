@@ -1,6 +1,6 @@
 -- What the reader of an expression returns.
 use Rattle.std.specs.Prelude.{◌≡◌, ℕ, ◌≤◌, List, length}
-use Rattle.ln_syntax.specs.declared.lex.token.Token.{Token}
+use Rattle.ln_lex.specs.declared.token.Token.{Token}
 use Rattle.ln_syntax.specs.Expression.{Tree, Sort, Derives}
 use Rattle.ln_syntax.specs.Stops.{Stops}
 use Rattle.ln_names.specs.Rules.{Scope}

@@ -4,8 +4,8 @@ use Rattle.std.specs.Prelude.{◌≤◌, ◌^◌, ◌||◌, Bool, true, List, []
 use Rattle.std.specs.List.{list_any, list_all}
 use Rattle.ln_base.specs.declared.span.Span.{Span}
 use Rattle.ln_base.specs.Words.{is_name}
-use Rattle.ln_syntax.specs.declared.lex.token.Token.{Token}
-use Rattle.ln_syntax.specs.declared.lex.token.Kind.TheVariants.{Semi}
+use Rattle.ln_lex.specs.declared.token.Token.{Token}
+use Rattle.ln_lex.specs.declared.token.Kind.TheVariants.{Semi}
 use Rattle.ln_syntax.specs.declared.raw.RawCoord.{RawCoord}
 use Rattle.ln_syntax.specs.declared.raw.RawRange.{RawRange}
 use Rattle.ln_syntax.specs.declared.raw.RawArg.{RawArg}

@@ -10,10 +10,10 @@ ghost use Rattle.ln_parse.specs.Ready.{HasTree, ReadyValue, IsNarrow};
 ghost use Rattle.ln_parse.specs.Reading.{Reads};
 
 use ln_base::{NoMemory, Span};
+use ln_lex::{Kind, Token};
 use ln_names::resolve::{arg_coords, coord_at, let_place, literal, param_at, site_at};
 use ln_names::spans::number;
 use ln_syntax::items::{is, span_of};
-use ln_syntax::lex::{Kind, Token};
 use ln_syntax::{Places, RawArg, RawItem, RawLet};
 use ln_tree::{Expr, Node, Var};
 use std::alloc::Global;

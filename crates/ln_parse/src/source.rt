@@ -1,7 +1,7 @@
 //! Parses a source: it returns the table, or the first fault of the text and its place.
 ghost use Rattle.std.specs.Prelude.{◌≡◌, ◌≤◌, ◌<◌, ◌^◌, ◌⊎◌, ℕ, List, All, length, IfOk, IfErr};
 ghost use Rattle.ln_base.specs.Limits.{most_source, most_tokens};
-ghost use Rattle.ln_syntax.specs.Lexing.Tokens.{IsSlice, Lexed};
+ghost use Rattle.ln_lex.specs.Tokens.{IsSlice, Lexed};
 ghost use Rattle.ln_syntax.specs.Raw.{items};
 ghost use Rattle.ln_tree.specs.Table.{TableOf, table_of};
 ghost use Rattle.ln_parse.specs.declared.source.ParseStop.{ParseStop as Stop};
@@ -10,9 +10,9 @@ ghost use Rattle.ln_parse.specs.Fault.{one_byte, place_of, stop_of, TextFault, I
 
 use crate::build::build;
 use ln_base::{NoMemory, Seq, Span};
+use ln_lex::{LexStop, Token, tokens};
 use ln_names::{Fault, Found, LimitWhat, NameWhat, check_names};
 use ln_syntax::items::span_of;
-use ln_syntax::lex::{LexStop, Token, tokens};
 use ln_syntax::{RawItem, nesting_fault, read_items, syntax_fault};
 use ln_tree::Table;
 use std::alloc::Global;

@@ -8,7 +8,7 @@ ghost use Rattle.ln_poly.specs.Sparse.{AreBelow, terms_of};
 ghost use Rattle.ln_poly.specs.Weight.{grown, term_weight};
 
 use crate::poly::Poly;
-use ln_bound::interval::pair::MOST;
+use ln_interval::pair::MOST;
 use ln_tree::{Exps, Shape, VarInfo};
 
 // M of a variable, the largest absolute value of its range and at least 1, and `more`.

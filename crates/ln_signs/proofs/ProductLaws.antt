@@ -21,7 +21,7 @@ use Rattle.ln_code.specs.declared.verdict.Verdict.{Verdict}
 use Rattle.ln_due.specs.Due.{sign_number}
 use Rattle.ln_due.specs.DueLaw.{Agree}
 use Rattle.ln_due.proofs.Verdicts.UniqueLemmas.{sign-number-same}
-use Rattle.ln_due.specs.Products.Factors.{numbers_of}
+use Rattle.ln_factor.specs.Factors.{numbers_of}
 use Rattle.ln_compile.proofs.Listing.FilteredLemmas.{one_due}
 use Rattle.ln_rows.proofs.Fields.RangeLemmas.{row_in_range}
 use Rattle.ln_parse.specs.ReadsBack.{Every}

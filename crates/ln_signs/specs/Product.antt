@@ -3,7 +3,7 @@ use Rattle.std.specs.Prelude.{◌≡◌, ℕ, List, [], codes, true, None, Resul
 use Rattle.ln_algebra.specs.Product.{multiplied_numbers}
 use Rattle.ln_tree.specs.Table.{PredOf}
 use Rattle.ln_due.specs.Due.{sign_number}
-use Rattle.ln_due.specs.Products.Factors.{numbers_of}
+use Rattle.ln_factor.specs.Factors.{numbers_of}
 use Rattle.ln_rows.specs.declared.record.RowStop.{RowStop}
 use Rattle.ln_target.specs.Alike.{are_alike}
 pub use Rattle.ln_target.specs.Factors.{AreDue}

@@ -1,9 +1,9 @@
 -- The automaton that recognises a file: a state, a count of open parentheses, and the step at a token.
 use Rattle.std.specs.Prelude.{ℕ, zero, suc, Bool, true, false, List, [], ◌∷◌, Option, Some, None}
-use Rattle.ln_syntax.specs.declared.lex.token.Token.{Token}
-use Rattle.ln_syntax.specs.declared.lex.token.Kind.{Kind}
-use Rattle.ln_syntax.specs.declared.lex.token.Kind.TheVariants.{Name, Number, Site, Param, Predicate, Let, Sign, BraceL, BraceR, ParL}
-use Rattle.ln_syntax.specs.declared.lex.token.Kind.TheVariants.{ParR, Colon, Semi, Comma, Dot, Dots, Plus, Minus, Star, Caret, Equals}
+use Rattle.ln_lex.specs.declared.token.Token.{Token}
+use Rattle.ln_lex.specs.declared.token.Kind.{Kind}
+use Rattle.ln_lex.specs.declared.token.Kind.TheVariants.{Name, Number, Site, Param, Predicate, Let, Sign, BraceL, BraceR, ParL}
+use Rattle.ln_lex.specs.declared.token.Kind.TheVariants.{ParR, Colon, Semi, Comma, Dot, Dots, Plus, Minus, Star, Caret, Equals}
 use Rattle.ln_syntax.specs.declared.place.Ranged.{Ranged}
 use Rattle.ln_syntax.specs.declared.place.Ranged.TheVariants.{Coordinate, Parameter}
 use Rattle.ln_syntax.specs.declared.place.Part.{Part}

@@ -6,4 +6,3 @@ pub mod Reading
 pub mod Within
 pub mod Automaton
 pub mod Stops
-pub mod Lexing

@@ -1,8 +1,8 @@
 -- Where tokens stop being a prefix of a file, and where parentheses are nested too deep.
 use Rattle.std.specs.Prelude.{◌≡◌, ℕ, suc, ◌-◌, ◌<◌, ◌≤◌, ◌++◌, List, [], ◌∷◌, length, take}
-use Rattle.ln_syntax.specs.declared.lex.token.Token.{Token}
-use Rattle.ln_syntax.specs.declared.lex.token.Kind.{Kind}
-use Rattle.ln_syntax.specs.declared.lex.token.Kind.TheVariants.{ParL, ParR}
+use Rattle.ln_lex.specs.declared.token.Token.{Token}
+use Rattle.ln_lex.specs.declared.token.Kind.{Kind}
+use Rattle.ln_lex.specs.declared.token.Kind.TheVariants.{ParL, ParR}
 use Rattle.ln_syntax.specs.Raw.{Item, Is}
 use Rattle.ln_syntax.specs.File.{Spelt}
 

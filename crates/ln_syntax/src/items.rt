@@ -8,9 +8,9 @@ ghost use Rattle.ln_syntax.specs.Place.{IsText};
 ghost use Rattle.ln_syntax.specs.Reading.{HasEnd, HasRange, HasCoords, HasArg, HasArgs, HasLets, HasExpr, HasItem};
 ghost use Rattle.ln_syntax.specs.Within.{IsWithin};
 
-use crate::lex::{Kind, Token};
 use crate::raw::{Places, RawArg, RawCoord, RawEnd, RawItem, RawLet, RawRange};
 use ln_base::{NoMemory, Span};
+use ln_lex::{Kind, Token};
 use std::alloc::Global;
 
 /// What was read, and the place of the token after it.

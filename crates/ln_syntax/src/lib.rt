@@ -2,11 +2,10 @@
 //!
 //! `read_items` returns the items of a file with the spans of their names and numbers and the token places of
 //! their expressions, or the first fault: a parenthesis that is nested too deep, else the first token that
-//! no file goes on with. `lex` has the tokens.
+//! no file goes on with.
 #![tactic(auto)]
 
 pub mod items;
-pub mod lex;
 pub mod nesting;
 pub mod place;
 pub mod raw;

@@ -1,10 +1,10 @@
 //! The check on nesting: no parenthesis is nested deeper than 64, so that what reads expressions may recurse.
 ghost use Rattle.std.specs.Prelude.{◌≡◌, ◌<◌, ◌≤◌, ◌^◌, length, IfSome, IfNone, ◌⊎◌, ℕ, List};
-ghost use Rattle.ln_syntax.specs.declared.lex.token.Token.{Token as AToken};
-ghost use Rattle.ln_syntax.specs.declared.lex.token.Kind.TheVariants.{ParL};
+ghost use Rattle.ln_lex.specs.declared.token.Token.{Token as AToken};
+ghost use Rattle.ln_lex.specs.declared.token.Kind.TheVariants.{ParL};
 ghost use Rattle.ln_syntax.specs.Place.{depth_behind, IsShallow, IsNestingFault};
 
-use crate::lex::{Kind, Token};
+use ln_lex::{Kind, Token};
 
 /// How deep parentheses may be nested.
 const DEEPEST: usize = 64;

@@ -1,10 +1,10 @@
 //! The place of a syntax fault: the tokens are recognised in one loop, and no tree is built.
 ghost use Rattle.std.specs.Prelude.{◌≡◌, ◌<◌, ◌^◌, length, IfSome, IfNone, ◌⊎◌, ◌+◌, ◌≤◌, ℕ, List};
-ghost use Rattle.ln_syntax.specs.declared.lex.token.Token.{Token as AToken};
+ghost use Rattle.ln_lex.specs.declared.token.Token.{Token as AToken};
 ghost use Rattle.ln_syntax.specs.Place.{IsText, IsSyntaxFault};
 ghost use Rattle.ln_syntax.specs.Automaton.{next_of, behind, closed, ended, range_ended, is_end};
 
-use crate::lex::{Kind, Token};
+use ln_lex::{Kind, Token};
 
 /// Whose range it is.
 #[derive(Clone, Copy)]

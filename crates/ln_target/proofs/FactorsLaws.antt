@@ -35,7 +35,7 @@ use Rattle.ln_compile.specs.Compiled.{AreNumbered, IsProgramAt, IsProgramOf}
 use Rattle.ln_compile.proofs.Making.BuildingLemmas.{names-differ}
 use Rattle.ln_compile.proofs.Listing.FilteredLemmas.{programs_answer}
 use Rattle.ln_compile.proofs.Numbers.{same_at}
-use Rattle.ln_due.specs.Products.Factors.{AreMadeFor, AreOver, AreVerdicts, IsFactor, IsRowOfFactors}
+use Rattle.ln_factor.specs.Factors.{AreMadeFor, AreOver, AreVerdicts, IsFactor, IsRowOfFactors}
 use Rattle.ln_target.specs.Alike.{are_alike, same_arg, same_args}
 use Rattle.ln_target.specs.Factors.{AreDue, AreFactors, AreMade, AreMadeAt, AreProgramsAt}
 use Rattle.ln_target.specs.Factors.{FactorsOf, Grows, HaveOneShape, IsInRangeOf, IsMadeOf, IsRoomFor, StandAt, factors_of}

@@ -12,7 +12,7 @@ use Rattle.ln_code.specs.Part.{Part}
 use Rattle.ln_code.specs.RowOf.{row_of}
 use Rattle.ln_compile.specs.Compiled.{AreNumbered, IsProgramOf}
 use Rattle.ln_compile.specs.Filtered.{IsDue}
-use Rattle.ln_due.specs.Products.Factors.{AreMadeFor, AreOver}
+use Rattle.ln_factor.specs.Factors.{AreMadeFor, AreOver}
 use Rattle.ln_rows.specs.Record.{IsReadAs}
 use Rattle.ln_rows.specs.declared.record.RowStop.{RowStop}
 use Rattle.ln_target.specs.Alike.{are_alike}

@@ -1,6 +1,6 @@
 //! Tests the sizes, ranges and widths of predicates' nodes, and the refusal of a node that is too large.
 ghost use Rattle.std.specs.Prelude.{◌≤◌, unsigned_abs};
-ghost use Rattle.ln_bound.specs.Intervals.Range.{most};
+ghost use Rattle.ln_interval.specs.Range.{most};
 
 use crate::sources::table;
 use ln_base::NoMemory;

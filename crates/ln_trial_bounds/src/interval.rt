@@ -1,6 +1,6 @@
 //! Pairs of ends, and what their operations return.
-use ln_bound::interval::Pair;
-use ln_bound::interval::pair::MOST;
+use ln_interval::Pair;
+use ln_interval::pair::MOST;
 
 const TOP: i128 = 170141183460469231731687303715884105727;
 

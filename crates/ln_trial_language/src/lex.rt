@@ -1,6 +1,6 @@
 //! Tests the tokens of sources, their first faults and the limit of their number.
 use ln_base::limits::MOST_SOURCE;
-use ln_syntax::lex::{Kind, LexStop, Token, tokens};
+use ln_lex::{Kind, LexStop, Token, tokens};
 use std::alloc::Global;
 use std::test::Fail;
 

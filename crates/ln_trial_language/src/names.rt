@@ -3,9 +3,9 @@ ghost use Rattle.std.specs.Prelude.{◌≤◌, length};
 ghost use Rattle.ln_base.specs.Limits.{most_tokens};
 
 use ln_base::limits::MOST_SOURCE;
+use ln_lex::{Token, tokens};
 use ln_names::{Fault, LimitWhat, check_names};
 use ln_parse::parse;
-use ln_syntax::lex::{Token, tokens};
 use ln_syntax::{RawItem, read_items, syntax_fault};
 use ln_tree::Table;
 use std::alloc::Global;

@@ -4,7 +4,7 @@ ghost use Rattle.ln_base.specs.Limits.{most_tokens};
 
 use ln_base::limits::MOST_SOURCE;
 use ln_base::{NoMemory, Span};
-use ln_syntax::lex::{Token, tokens};
+use ln_lex::{Token, tokens};
 use ln_syntax::{RawArg, RawCoord, RawItem, RawLet, nesting_fault, read_items, syntax_fault};
 use std::alloc::Global;
 use std::test::Fail;

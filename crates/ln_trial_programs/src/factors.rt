@@ -5,7 +5,7 @@ use crate::sample::{ORIENT, compiled};
 use ln_base::{NoMemory, Sign};
 use ln_code::{By, Program, Programs, Row, Scratch, Verdict};
 use ln_compile::Compiled;
-use ln_due::factors::product_row;
+use ln_factor::product_row;
 use ln_rows::Rows;
 use ln_tree::Pred;
 use std::alloc::Global;

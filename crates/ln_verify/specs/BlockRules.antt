@@ -2,7 +2,7 @@
 -- and in the running size of an input. A bound b of version 1 stands for the range -b .. b.
 use Rattle.std.specs.Prelude.{ℕ, ◌+◌, ◌/◌, ◌^◌, ◌&&◌, nat_le, pos, neg_ℤ, unsigned_abs, List, Option, None, slice_get, if◌then◌else◌}
 use Rattle.ln_algebra.specs.Tree as tree
-use Rattle.ln_bound.specs.Intervals.Range.{Range, magnitude, opposite, point}
+use Rattle.ln_interval.specs.Range.{Range, magnitude, opposite, point}
 use Rattle.ln_tree.specs.declared.shape.VarInfo.{VarInfo}
 use Rattle.ln_bound.specs.declared.fitted.Width.TheVariants.{W64}
 use Rattle.ln_bound.specs.Typed.{range_of}

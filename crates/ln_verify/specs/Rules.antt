@@ -2,9 +2,9 @@
 use Rattle.std.specs.Prelude.{◌≡◌, ℕ, ◌≤◌, nat_le, List, Option, None, Some, MatchOption, refl, slice_get}
 use Rattle.std.proofs.Common.{ap, sym}
 use Rattle.ln_algebra.specs.Tree.{Tree, Input}
-use Rattle.ln_bound.specs.declared.interval.pair.Pair.{Pair}
-use Rattle.ln_bound.specs.Intervals.Range.{Range, most, magnitude}
-use Rattle.ln_bound.specs.Intervals.View.{range}
+use Rattle.ln_interval.specs.declared.pair.Pair.{Pair}
+use Rattle.ln_interval.specs.Range.{Range, most, magnitude}
+use Rattle.ln_interval.specs.View.{range}
 use Rattle.ln_tree.specs.declared.shape.VarInfo.{VarInfo}
 use Rattle.ln_bound.specs.declared.fitted.Width.TheVariants.{W128}
 use Rattle.ln_bound.specs.Sound.{IsIn}

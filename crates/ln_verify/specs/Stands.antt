@@ -1,7 +1,7 @@
 -- Defines what the parts of a listing hold whose lines don't fail.
 use Rattle.std.specs.Prelude.{◌≡◌, ℕ, ◌<◌, ◌≤◌, All, List, [], ◌∷◌, length, unsigned_abs, slice_get, Some, IfSome}
 use Rattle.ln_algebra.specs.Terms.{IsNormalOf, derived}
-use Rattle.ln_bound.specs.Intervals.Range.{Range}
+use Rattle.ln_interval.specs.Range.{Range}
 use Rattle.ln_tree.specs.Exps.{IsRising, vector}
 use Rattle.ln_bound.specs.declared.fitted.Width.TheVariants.{W64}
 use Rattle.ln_bound.specs.Widths.{limit}

@@ -1,5 +1,5 @@
 -- Defines what the code tests of a rule on a range.
-use Rattle.ln_bound.specs.Intervals.Range.{Covers, Range}
+use Rattle.ln_interval.specs.Range.{Covers, Range}
 use Rattle.ln_bound.specs.declared.fitted.Width.{Width}
 use Rattle.ln_bound.specs.Sound.{IsIn}
 use Rattle.ln_verify.specs.BlockRules.{Version, version_1, version_2}

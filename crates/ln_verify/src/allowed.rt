@@ -1,7 +1,7 @@
 //! The tests of the rules on ranges.
 ghost use Rattle.std.specs.Prelude.{◌≡◌, ◌↔◌, ◌≤◌, ◌<◌, ◌-◌, ◌^◌, ◌≤ℤ◌, IsTrue, MatchOption, min, slice_get};
-ghost use Rattle.ln_bound.specs.Intervals.Range.{Covers, IsOrdered, Range, magnitude, most, point};
-ghost use Rattle.ln_bound.specs.Intervals.View.{range};
+ghost use Rattle.ln_interval.specs.Range.{Covers, IsOrdered, Range, magnitude, most, point};
+ghost use Rattle.ln_interval.specs.View.{range};
 ghost use Rattle.ln_bound.specs.Typed.{bound_of, range_of};
 ghost use Rattle.ln_bound.specs.Value.{size_of};
 ghost use Rattle.ln_code.specs.Rules.{declared};
@@ -9,8 +9,8 @@ ghost use Rattle.ln_verify.specs.BlockRules.{balanced};
 ghost use Rattle.ln_verify.specs.Versions.{Allows, version_of};
 
 use crate::form::Form;
-use ln_bound::interval::Pair;
 use ln_bound::{Two, Width};
+use ln_interval::Pair;
 use ln_tree::VarInfo;
 
 /// Does the pair cover that of an operation? None is past the limit, which no pair covers.

@@ -1,6 +1,6 @@
 //! The polynomial of what an operation makes of two.
 ghost use Rattle.std.specs.Prelude.{◌+◌, ◌*◌, ◌<◌, ◌≤◌, ◌^◌, IfOk};
-ghost use Rattle.ln_bound.specs.Intervals.Range.{most};
+ghost use Rattle.ln_interval.specs.Range.{most};
 ghost use Rattle.ln_bound.specs.declared.fitted.Two.TheVariants.{Minus, Plus, Times};
 ghost use Rattle.ln_bound.specs.Typed.{bound_of};
 ghost use Rattle.ln_poly.specs.Sparse.{size_of};

@@ -3,7 +3,7 @@
 //! The rules on limits and running sizes are tested first, then exponents; only then a polynomial is worked out, which is known to fit.
 ghost use Rattle.std.specs.Prelude.{◌≤◌, ℕ, List, Option, IfOk, OnSome, length, Some};
 ghost use Rattle.ln_algebra.specs.Tree.{Tree};
-ghost use Rattle.ln_bound.specs.Intervals.Range.{most};
+ghost use Rattle.ln_interval.specs.Range.{most};
 ghost use Rattle.ln_tree.specs.declared.shape.VarInfo.{VarInfo as Info};
 ghost use Rattle.ln_poly.specs.Expansion.{IsNormal};
 ghost use Rattle.ln_poly.specs.Sparse.{size_of};
@@ -20,8 +20,8 @@ use crate::shared_poly;
 use crate::shared_poly::{SharedPoly, opposite, power};
 use crate::value::Value;
 use ln_base::NoMemory;
-use ln_bound::interval::pair::MOST;
 use ln_bound::{Two, Width};
+use ln_interval::pair::MOST;
 use ln_tree::VarInfo;
 use std::alloc::Global;
 

@@ -1,8 +1,8 @@
 //! Limits of values in a block: a range and a width.
 ghost use Rattle.std.specs.Prelude.{◌≡◌, ◌↔◌, ℕ, IsTrue};
 ghost use Rattle.ln_algebra.specs.Tree.{Tree};
-ghost use Rattle.ln_bound.specs.Intervals.Range.{Covers, Range};
-ghost use Rattle.ln_bound.specs.Intervals.View.{range};
+ghost use Rattle.ln_interval.specs.Range.{Covers, Range};
+ghost use Rattle.ln_interval.specs.View.{range};
 ghost use Rattle.ln_bound.specs.Widths.{no_wider};
 ghost use Rattle.ln_code.specs.Rules.{known};
 ghost use Rattle.ln_verify.specs.BlockRules.{balanced};
@@ -13,9 +13,9 @@ use crate::form::Form;
 use crate::limits::Limits;
 use crate::stacks::Stack;
 use crate::value::Value;
-use ln_bound::interval::Pair;
-use ln_bound::interval::pair::MOST;
 use ln_bound::{Two, Width};
+use ln_interval::Pair;
+use ln_interval::pair::MOST;
 use ln_tree::VarInfo;
 
 /// The range and the width of a value in a block.

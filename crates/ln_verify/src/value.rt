@@ -1,6 +1,6 @@
 //! Values on the judge's stack, in a block and in a filter.
 ghost use Rattle.std.specs.Prelude.{◌≤◌};
-ghost use Rattle.ln_bound.specs.Intervals.Range.{most};
+ghost use Rattle.ln_interval.specs.Range.{most};
 ghost use Rattle.ln_poly.specs.Sparse.{size_of};
 
 use crate::shared_poly::SharedPoly;

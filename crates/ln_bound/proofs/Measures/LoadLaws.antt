@@ -13,10 +13,10 @@ use Rattle.ln_bound.specs.Light.{most, weight_of, weighed, weighed_lets, weighed
 use Rattle.ln_bound.proofs.Measures.Fitting.{light_parts}
 use Rattle.ln_bound.proofs.Measures.Weighing.{light_both}
 use Rattle.ln_bound.proofs.Soundness.WidthLaws.{lt_test}
-use Rattle.ln_bound.specs.Intervals.Range.{Range, point, magnitude}
+use Rattle.ln_interval.specs.Range.{Range, point, magnitude}
 use Rattle.ln_bound.specs.Ranges.{range_over, size_over, range_or, ranges}
 use Rattle.ln_bound.specs.Loads.{nodes_by, load_of, loaded, loaded_lets, loaded_pred, ranges_of_lets, sizes_of_lets}
-use Rattle.ln_bound.proofs.Intervals.Magnitudes.{sum_magnitude, difference_magnitude, opposite_magnitude, product_magnitude, power_magnitude}
+use Rattle.ln_interval.proofs.Magnitudes.{sum_magnitude, difference_magnitude, opposite_magnitude, product_magnitude, power_magnitude}
 
 -- ---- one node
 -- the magnitude of a range is at most the weight, where those of variables and lets are

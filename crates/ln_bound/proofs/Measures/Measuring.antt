@@ -10,7 +10,7 @@ use Rattle.ln_tree.specs.declared.shape.VarInfo.{VarInfo}
 use Rattle.ln_tree.specs.Formula.{Formula, FNum, FInput, FName, FNeg, FAdd, FSub, FMul, FPow, tree}
 use Rattle.ln_tree.specs.Variables.{has_range, is_laid_out}
 use Rattle.ln_tree.proofs.KeptLemmas.{laid_out}
-use Rattle.ln_bound.specs.Intervals.Range.{IsOrdered, Range}
+use Rattle.ln_interval.specs.Range.{IsOrdered, Range}
 use Rattle.ln_bound.specs.declared.measure.Measure.{Measure}
 use Rattle.ln_bound.specs.declared.weigh.BoundStop.{BoundStop}
 use Rattle.ln_bound.specs.Light.{AreLight}

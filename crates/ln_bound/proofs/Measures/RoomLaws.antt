@@ -5,9 +5,9 @@ use Rattle.ln_algebra.specs.Sizes.{one, two}
 use Rattle.ln_algebra.specs.Tree.{Tree, Num, Input, Name, Neg, Add, Sub, Mul, Pow}
 use Rattle.ln_tree.specs.declared.shape.VarInfo.{VarInfo}
 use Rattle.ln_tree.specs.Formula.{Formula, FNum, FInput, FName, FNeg, FAdd, FSub, FMul, FPow, tree}
-use Rattle.ln_bound.specs.Intervals.Range.{Range, Holds, magnitude, power}
-use Rattle.ln_bound.proofs.Intervals.Magnitudes.{holds_magnitude, power_magnitude}
-use Rattle.ln_bound.proofs.Intervals.Pairs.{power_holds}
+use Rattle.ln_interval.specs.Range.{Range, Holds, magnitude, power}
+use Rattle.ln_interval.proofs.Magnitudes.{holds_magnitude, power_magnitude}
+use Rattle.ln_interval.proofs.Pairs.{power_holds}
 use Rattle.ln_bound.specs.Light.{most, AreLight, LetsFit, ValuesFit, let_values}
 use Rattle.ln_bound.specs.Loads.{load_of, loaded, loaded_lets, loaded_pred, nodes_by, ranges_of_lets, sizes_of_lets}
 use Rattle.ln_bound.specs.Ranges.{HaveRange, LetsHaveRange, let_ranges, range_over, ranges, size_over}

@@ -12,13 +12,13 @@ use Rattle.ln_bound.specs.declared.fitted.Two.{Two}
 use Rattle.ln_bound.specs.declared.fitted.Two.TheVariants.{Plus, Minus, Times}
 use Rattle.ln_bound.specs.Widths.{least, wider}
 use Rattle.ln_bound.proofs.Soundness.WidthLaws.{least_fits, wider_fits, left_no_wider, first_no_wider, second_no_wider, lt_test}
-use Rattle.ln_bound.specs.Intervals.Range.{Range, Holds, Covers, IsOrdered, point, sum, difference, product, opposite, power, magnitude, most}
+use Rattle.ln_interval.specs.Range.{Range, Holds, Covers, IsOrdered, point, sum, difference, product, opposite, power, magnitude, most}
 use Rattle.ln_bound.specs.Ranges.{HaveRange, LetsHaveRange, let_ranges, ranges, range_over}
 use Rattle.ln_bound.specs.Typed.{Typed, TNum, TInput, TLet, TNeg, TTwo, TPow, pair, width, two_of, untyped, range_of}
 use Rattle.ln_bound.specs.Sound.{IsIn, CoversLet, SoundNodes}
 use Rattle.ln_bound.specs.Exact.{AreExact, IsExact, IsOfLet}
-use Rattle.ln_bound.proofs.Intervals.Monotone.{covers_self}
-use Rattle.ln_bound.proofs.Intervals.Magnitudes.{sum_ordered, difference_ordered, opposite_ordered, product_ordered, power_ordered}
+use Rattle.ln_interval.proofs.Monotone.{covers_self}
+use Rattle.ln_interval.proofs.Magnitudes.{sum_ordered, difference_ordered, opposite_ordered, product_ordered, power_ordered}
 
 -- the range of a let in the list of ranges
 let_range : (lets : List Typed) (j : ℕ) (u : Typed) → slice_get lets j ≡ Some u → slice_index_or (map pair lets) j (point (pos 0)) ≡ pair u

@@ -4,7 +4,7 @@ use Rattle.std.specs.Prelude.{Some, slice_get}
 use Rattle.std.proofs.lemmas.Bool.{and_parts}
 use Rattle.ln_algebra.specs.Sizes.{one}
 use Rattle.ln_algebra.specs.Tree.{Tree}
-use Rattle.ln_bound.specs.Intervals.Range.{IsOrdered}
+use Rattle.ln_interval.specs.Range.{IsOrdered}
 use Rattle.ln_tree.specs.declared.items.Arg.{Arg}
 use Rattle.ln_tree.specs.declared.expr.Expr.{Expr}
 use Rattle.ln_tree.specs.declared.shape.VarInfo.{VarInfo}

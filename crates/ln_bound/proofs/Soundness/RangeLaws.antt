@@ -7,9 +7,9 @@ use Rattle.ln_tree.specs.declared.shape.VarInfo.{VarInfo}
 use Rattle.ln_tree.specs.Row.{AreWithin}
 use Rattle.ln_bound.specs.Value.{value, values}
 use Rattle.ln_bound.specs.Light.{let_values}
-use Rattle.ln_bound.specs.Intervals.Range.{Range, Holds, point, sum, difference, opposite, product, power}
+use Rattle.ln_interval.specs.Range.{Range, Holds, point, sum, difference, opposite, product, power}
 use Rattle.ln_bound.specs.Ranges.{range_over, ranges, let_ranges, AreHeld, LetsAreHeld}
-use Rattle.ln_bound.proofs.Intervals.Pairs.{sum_holds, difference_holds, opposite_holds, product_holds, power_holds}
+use Rattle.ln_interval.proofs.Pairs.{sum_holds, difference_holds, opposite_holds, product_holds, power_holds}
 
 -- each number of the first list is in the range of the second
 abbrev pub AllHold : List Range → List ℤ → Type 0

@@ -15,15 +15,15 @@ use Rattle.ln_bound.specs.Light.{let_values}
 use Rattle.ln_bound.specs.Room.{HasRoom}
 use Rattle.ln_bound.specs.Widths.{no_wider}
 use Rattle.ln_bound.proofs.Soundness.WidthLaws.{le_test, lt_test}
-use Rattle.ln_bound.specs.Intervals.Range.{Range, Holds, Covers, point, opposite, power}
+use Rattle.ln_interval.specs.Range.{Range, Holds, Covers, point, opposite, power}
 use Rattle.ln_bound.specs.Ranges.{ranges}
 use Rattle.ln_algebra.specs.Sizes.{one}
 use Rattle.ln_bound.specs.Typed.{Typed, TNum, TInput, TLet, TNeg, TTwo, TPow, pair, width, untyped, two_of, range_of}
 use Rattle.ln_bound.specs.Sound.{CoversLet, IsIn, SoundNodes, Sound, AreSound, running, holds, covers, covers_let, is_in, has_room}
 use Rattle.ln_bound.specs.Sound.{sound_nodes, is_sound, are_sound, Fits, IsBounded, AreBounded}
-use Rattle.ln_bound.proofs.Intervals.Magnitudes.{holds_magnitude, covers_holds}
+use Rattle.ln_interval.proofs.Magnitudes.{holds_magnitude, covers_holds}
 use Rattle.ln_bound.proofs.Soundness.RangeLaws.{AllHold, in_ranges, more_held, more_long}
-use Rattle.ln_bound.proofs.Intervals.Pairs.{sum_holds, difference_holds, opposite_holds, product_holds, power_holds}
+use Rattle.ln_interval.proofs.Pairs.{sum_holds, difference_holds, opposite_holds, product_holds, power_holds}
 
 -- ---- the tests say what they test
 le_says : (a b : ℤ) → int_le a b ≡ true → a ≤ℤ b

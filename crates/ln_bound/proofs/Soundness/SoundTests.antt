@@ -5,7 +5,7 @@ use Rattle.std.proofs.lemmas.Int.{ints}
 use Rattle.ln_algebra.specs.Sizes.{one}
 use Rattle.ln_algebra.specs.Tree.{Tree, Num, Input, Name, Neg, Add, Sub, Mul, Pow}
 use Rattle.ln_tree.specs.declared.shape.VarInfo.{VarInfo}
-use Rattle.ln_bound.specs.Intervals.Range.{Range, Holds, Covers, opposite, power}
+use Rattle.ln_interval.specs.Range.{Range, Holds, Covers, opposite, power}
 use Rattle.ln_bound.specs.declared.fitted.Width.{Width}
 use Rattle.ln_bound.specs.Sound.{AreSound, CoversLet, IsIn, Sound, SoundNodes, are_sound, covers, covers_let, has_room, holds, is_in}
 use Rattle.ln_bound.specs.Sound.{is_sound, running, sound_nodes}

@@ -1,7 +1,7 @@
 -- Typed trees with two operands, by their operation.
 use Rattle.std.proofs.Common.{◌≡◌, ℕ, ◌<◌, ◌+◌, arith, refl, ap}
 use mathlib.Core.Logic.{◌⊎◌, inl, inr}
-use Rattle.ln_bound.specs.Intervals.Range.{Range}
+use Rattle.ln_interval.specs.Range.{Range}
 use Rattle.ln_bound.specs.declared.fitted.Width.{Width}
 use Rattle.ln_bound.specs.declared.fitted.FitOp.{FitOp}
 use Rattle.ln_bound.specs.declared.fitted.Two.{Two}

@@ -8,8 +8,8 @@ use Rattle.ln_bound.specs.Widths.{least, wider}
 use Rattle.ln_bound.specs.declared.fitted.Fitted.{Fitted}
 use Rattle.ln_bound.specs.declared.fitted.FitOp.{FitOp}
 use Rattle.ln_bound.specs.declared.fitted.FitOp.TheVariants.{Num, Input, Let, Neg', Add', Sub', Mul', Pow'}
-use Rattle.ln_bound.specs.Intervals.Range.{Range, magnitude, opposite, power}
-use Rattle.ln_bound.specs.Intervals.View.{range}
+use Rattle.ln_interval.specs.Range.{Range, magnitude, opposite, power}
+use Rattle.ln_interval.specs.View.{range}
 use Rattle.ln_bound.specs.Typed.{Typed, TNeg, TPow, TTwo, pair, width, range_of}
 use Rattle.ln_bound.specs.View.{op_typed, typed}
 

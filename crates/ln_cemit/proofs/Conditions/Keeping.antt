@@ -14,8 +14,8 @@ use Rattle.ln_code.specs.declared.op.Op.TheVariants.{Push, Input, Get, Set, Add,
 use Rattle.ln_code.specs.declared.op.Triple.{Triple}
 use Rattle.ln_code.specs.Engine.{Engine, State, Line, step, run, only, pushed}
 use Rattle.ln_code.specs.Numbers.{cut_by, no_locals}
-use Rattle.ln_bound.specs.Intervals.Range.{Range, point, magnitude}
-use Rattle.ln_bound.proofs.Intervals.Magnitudes.{holds_magnitude, covers_holds}
+use Rattle.ln_interval.specs.Range.{Range, point, magnitude}
+use Rattle.ln_interval.proofs.Magnitudes.{holds_magnitude, covers_holds}
 use Rattle.ln_code.specs.Rules.{declared, known, rules}
 use Rattle.ln_code.specs.FilterRules.{FilterKnown, filter_known, filter_rules, push_error}
 use Rattle.ln_code.specs.Part.{lines_of, known_of, filter_known_of}

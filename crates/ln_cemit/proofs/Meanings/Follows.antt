@@ -5,9 +5,9 @@ use Rattle.std.proofs.lemmas.Bool.{and_parts}
 use Rattle.std.proofs.lemmas.Int.{ints}
 use Rattle.ln_algebra.specs.Tree as tree
 use Rattle.ln_algebra.specs.Tree.{Tree}
-use Rattle.ln_bound.specs.Intervals.Range.{Range, Holds, point, opposite, magnitude}
-use Rattle.ln_bound.proofs.Intervals.Magnitudes.{holds_magnitude, covers_holds}
-use Rattle.ln_bound.proofs.Intervals.Pairs.{opposite_holds}
+use Rattle.ln_interval.specs.Range.{Range, Holds, point, opposite, magnitude}
+use Rattle.ln_interval.proofs.Magnitudes.{holds_magnitude, covers_holds}
+use Rattle.ln_interval.proofs.Pairs.{opposite_holds}
 use Rattle.ln_tree.specs.declared.shape.VarInfo.{VarInfo}
 use Rattle.ln_tree.specs.Row.{AreWithin}
 use Rattle.ln_bound.specs.declared.fitted.Width.{Width}

@@ -3,7 +3,7 @@ use Rattle.std.proofs.Common.{◌≡◌, ℕ, ◌≤◌, unsigned_abs, true, Lis
 use Rattle.std.specs.Prelude.{if◌then◌else◌, slice_get, IsSome}
 use Rattle.std.proofs.lemmas.Option.{slice_get_within}
 use Rattle.ln_algebra.specs.Tree as tree
-use Rattle.ln_bound.specs.Intervals.Range.{Range, magnitude, point}
+use Rattle.ln_interval.specs.Range.{Range, magnitude, point}
 use Rattle.ln_tree.specs.declared.shape.VarInfo.{VarInfo}
 use Rattle.ln_bound.specs.declared.fitted.Two.{Two}
 use Rattle.ln_bound.specs.declared.fitted.Two.TheVariants.{Plus, Minus, Times}

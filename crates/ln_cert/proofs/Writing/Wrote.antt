@@ -2,8 +2,8 @@
 use Rattle.std.proofs.Common.{◌≡◌, ℕ, zero, suc, ◌+◌, ◌≤◌, ◌<◌, List, [], ◌∷◌, ◌++◌, length, get_or, drop, map, Some, refl, sym, ap, ◌∙◌}
 use Rattle.std.proofs.Common.{subst, arith, append_assoc, append-nil, drop-cons}
 use Rattle.std.proofs.lemmas.List.{drop_all}
-use Rattle.ln_bound.specs.declared.interval.pair.Pair.{Pair}
-use Rattle.ln_bound.specs.Intervals.View.{range}
+use Rattle.ln_interval.specs.declared.pair.Pair.{Pair}
+use Rattle.ln_interval.specs.View.{range}
 use Rattle.ln_code.specs.declared.op.Op.{Op}
 use Rattle.ln_code.specs.declared.op.Triple.{Triple}
 use Rattle.ln_code.specs.Engine.{Line}

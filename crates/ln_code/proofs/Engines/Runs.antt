@@ -1,7 +1,7 @@
 -- What follows from one engine's result for another's, and what the lines of code are.
 use Rattle.std.proofs.Common.{◌≡◌, ℕ, ℤ, ◌≤◌, List, [], ◌∷◌, length, refl, ap, arith}
 use Rattle.std.specs.Prelude.{Option, Some, None, IsSome}
-use Rattle.ln_bound.specs.Intervals.Range.{Range}
+use Rattle.ln_interval.specs.Range.{Range}
 use Rattle.ln_tree.specs.declared.shape.VarInfo.{VarInfo}
 use Rattle.ln_tree.specs.Row.{AreWithin}
 use Rattle.ln_bound.specs.Value.{value, values}

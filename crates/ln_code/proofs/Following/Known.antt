@@ -19,12 +19,12 @@ use Rattle.ln_code.specs.Numbers.{result_of, cut_by, fits, with_local}
 use Rattle.ln_code.specs.Bare.{bare}
 use Rattle.ln_code.proofs.Engines.Follow.{Reaches, Follows, when_some}
 use Rattle.ln_code.proofs.Filters.Cutting.{cut_none}
-use Rattle.ln_bound.specs.Intervals.Range.{Range, Holds, Covers, point, opposite, magnitude, most}
+use Rattle.ln_interval.specs.Range.{Range, Holds, Covers, point, opposite, magnitude, most}
 use Rattle.ln_bound.specs.Sound.{IsIn, holds, covers, is_in}
 use Rattle.ln_code.specs.Exact.{exact, within}
 use Rattle.ln_code.specs.Rules.{Known, known, declared, rules}
-use Rattle.ln_bound.proofs.Intervals.Magnitudes.{holds_magnitude, covers_holds}
-use Rattle.ln_bound.proofs.Intervals.Pairs.{sum_holds, difference_holds, opposite_holds, product_holds}
+use Rattle.ln_interval.proofs.Magnitudes.{holds_magnitude, covers_holds}
+use Rattle.ln_interval.proofs.Pairs.{sum_holds, difference_holds, opposite_holds, product_holds}
 use Rattle.ln_bound.proofs.Soundness.SoundLaws.{covers_say, is_in_says}
 
 -- z is the value that is known by k

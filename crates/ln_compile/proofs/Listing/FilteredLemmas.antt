@@ -13,7 +13,7 @@ use Rattle.ln_due.specs.Due.{Filtering, NoFilter, Decided, Undecided, Due}
 use Rattle.ln_due.specs.DueLaw.{FilterDoes}
 use Rattle.ln_due.proofs.Verdicts.Composition.{verdicts-due}
 use Rattle.ln_due.proofs.Verdicts.UniqueLemmas.{due-unique}
-use Rattle.ln_lower.specs.Filters.Truncated.{root_number, root_triple}
+use Rattle.ln_filter.specs.Truncated.{root_number, root_triple}
 use Rattle.ln_compile.specs.Accepted.{lets_of, own_root, root_of}
 use Rattle.ln_compile.specs.Compiled.{IsFilterOf, IsProgramOf}
 use Rattle.ln_compile.specs.Filtered.{AnswersFor, Does, OneIsDue, OneIsDueIn, PartsAnswerDue, ProgramsAnswerDue}

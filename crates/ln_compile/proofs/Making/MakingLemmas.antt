@@ -30,8 +30,8 @@ use Rattle.ln_due.specs.Small.{BlockPushesSmall}
 use Rattle.ln_due.proofs.Derivatives.Blocks.{carrying}
 use Rattle.ln_lower.specs.StackCode.{IsCodeOf}
 use Rattle.ln_nest.specs.Nested.{nested_form}
-use Rattle.ln_lower.specs.Filters.Steady.{HasFilter}
-use Rattle.ln_lower.specs.Filters.Truncated.{root_number, root_triple}
+use Rattle.ln_filter.specs.Steady.{HasFilter}
+use Rattle.ln_filter.specs.Truncated.{root_number, root_triple}
 use Rattle.ln_compile.specs.Accepted.{lets_of, own_root, root_of}
 use Rattle.ln_compile.specs.Compiled.{IsFilterOf, IsFromExact, IsOwn}
 use Rattle.ln_poly.specs.Derivative.{IsDerivative}

@@ -4,7 +4,7 @@ use Rattle.ln_algebra.specs.Tree.{Tree}
 use Rattle.ln_bound.specs.declared.fitted.Width.{Width}
 use Rattle.ln_code.specs.FilterRules.{FilterKnown}
 use Rattle.ln_code.specs.Pushes.{Pushed}
-use Rattle.ln_lower.specs.Filters.Nodes as filter
+use Rattle.ln_filter.specs.Nodes as filter
 use Rattle.ln_due.specs.Small.{AreSmall, IsSmall, filter_tree}
 use Rattle.ln_due.proofs.Parts.Smallness.{small-same}
 

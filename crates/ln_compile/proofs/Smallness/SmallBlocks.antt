@@ -18,7 +18,7 @@ use Rattle.ln_code.specs.Nodes.{IsNodeOf}
 use Rattle.ln_code.specs.Part.{Code, FilterCode}
 use Rattle.ln_due.specs.Small.{BlockPushesSmall, FilterPushesSmall}
 use Rattle.ln_lower.specs.Nodes as lower
-use Rattle.ln_lower.specs.Filters.Nodes as filter
+use Rattle.ln_filter.specs.Nodes as filter
 use Rattle.ln_compile.specs.Accepted.{expanded_of, root_of, loaded_of}
 use Rattle.ln_due.proofs.Derivatives.NodesIn.{NodeIn}
 use Rattle.ln_due.proofs.Derivatives.Blocks.{pushes-small}

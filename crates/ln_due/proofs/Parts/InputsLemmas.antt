@@ -4,7 +4,7 @@ use Rattle.std.specs.Prelude.{Option, Some, if◌then◌else◌, ◌==◌, slice
 use Rattle.std.proofs.lemmas.Option.{slice_get_within}
 use Rattle.ln_algebra.specs.Tree.{InputsBelow, Tree}
 use Rattle.ln_algebra.specs.Tree as tree
-use Rattle.ln_bound.specs.Intervals.Range.{Range, magnitude, opposite, point}
+use Rattle.ln_interval.specs.Range.{Range, magnitude, opposite, point}
 use Rattle.ln_tree.specs.declared.shape.VarInfo.{VarInfo}
 use Rattle.ln_bound.specs.Typed.{range_of, bound_of, two_of}
 use Rattle.ln_bound.specs.Value.{size_of}

@@ -1,7 +1,7 @@
 -- What is written is stack code, with the kept subtrees in place of their numbers.
 use Rattle.std.proofs.Common.{◌≡◌, ℕ, ◌+◌, Bool, true, false, List, [], ◌∷◌, ◌++◌, length, refl, zero, suc, ap, sym, subst}
 use Rattle.std.specs.Prelude.{Some, slice_get}
-use Rattle.ln_bound.specs.Intervals.Range.{Range}
+use Rattle.ln_interval.specs.Range.{Range}
 use Rattle.ln_bound.specs.Typed.{Typed, pair}
 use Rattle.ln_code.specs.Engine.{Line}
 use Rattle.ln_lower.specs.declared.distinct.Key.{Key}

@@ -4,8 +4,8 @@ use Rattle.std.specs.Prelude.{Option, Some, map}
 use Rattle.ln_algebra.specs.Sizes.{one}
 use Rattle.ln_algebra.specs.Tree.{Tree, inlined, inlined_after}
 use Rattle.ln_tree.specs.declared.shape.VarInfo.{VarInfo}
-use Rattle.ln_bound.specs.Intervals.Range.{Range, Covers, IsOrdered, most}
-use Rattle.ln_bound.proofs.Intervals.Monotone.{covers_self, covers_then}
+use Rattle.ln_interval.specs.Range.{Range, Covers, IsOrdered, most}
+use Rattle.ln_interval.proofs.Monotone.{covers_self, covers_then}
 use Rattle.ln_bound.specs.declared.fitted.Width.{Width}
 use Rattle.ln_bound.specs.Sound.{IsIn, running}
 use Rattle.ln_bound.specs.Typed.{Typed, pair, width, untyped}

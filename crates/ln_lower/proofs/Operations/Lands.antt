@@ -5,8 +5,8 @@ use Rattle.std.specs.Prelude.{Some, slice_get}
 use Rattle.std.proofs.lemmas.Bool.{le-leb}
 use Rattle.ln_algebra.specs.Tree as tree
 use Rattle.ln_tree.specs.declared.shape.VarInfo.{VarInfo}
-use Rattle.ln_bound.specs.Intervals.Range.{Range, Covers, opposite, point, magnitude}
-use Rattle.ln_bound.proofs.Intervals.Monotone.{covers_then, opposite_covers}
+use Rattle.ln_interval.specs.Range.{Range, Covers, opposite, point, magnitude}
+use Rattle.ln_interval.proofs.Monotone.{covers_then, opposite_covers}
 use Rattle.ln_bound.specs.declared.fitted.Width.{Width}
 use Rattle.ln_bound.specs.declared.fitted.Two.{Two}
 use Rattle.ln_bound.specs.declared.fitted.Two.TheVariants.{Plus, Minus, Times}

@@ -3,9 +3,9 @@ use Rattle.std.proofs.Common.{◌≡◌, ℕ, ◌+◌, ◌*◌, ◌^◌, ◌≤�
 use Rattle.std.proofs.Math.Nat.{pow-suc}
 use Rattle.ln_algebra.specs.Tree as tree
 use Rattle.ln_algebra.specs.Tree.{Tree}
-use Rattle.ln_bound.specs.Intervals.Range.{Range, Covers, IsOrdered, power, magnitude, most}
-use Rattle.ln_bound.proofs.Intervals.Magnitudes.{power_ordered}
-use Rattle.ln_bound.proofs.Intervals.Monotone.{covers_self, lower_power}
+use Rattle.ln_interval.specs.Range.{Range, Covers, IsOrdered, power, magnitude, most}
+use Rattle.ln_interval.proofs.Magnitudes.{power_ordered}
+use Rattle.ln_interval.proofs.Monotone.{covers_self, lower_power}
 use Rattle.ln_bound.specs.declared.fitted.Width.{Width}
 use Rattle.ln_bound.specs.declared.fitted.Two.TheVariants.{Times}
 use Rattle.ln_bound.specs.Sound.{IsIn}

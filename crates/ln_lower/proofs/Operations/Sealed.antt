@@ -16,9 +16,9 @@ use Rattle.ln_bound.specs.Light.{let_values}
 use Rattle.ln_bound.specs.Typed.{Typed, TNum, TInput, TLet, TNeg, TTwo, TPow, pair, width, cost, costs, untyped}
 use Rattle.ln_bound.specs.Sound.{Sound, SoundNodes, AreSound}
 use Rattle.ln_bound.specs.View.{typed}
-use Rattle.ln_bound.specs.Intervals.Range.{Range, Covers, power}
-use Rattle.ln_bound.specs.Intervals.View.{range}
-use Rattle.ln_bound.proofs.Intervals.Magnitudes.{covers_magnitude, power_ordered}
+use Rattle.ln_interval.specs.Range.{Range, Covers, power}
+use Rattle.ln_interval.specs.View.{range}
+use Rattle.ln_interval.proofs.Magnitudes.{covers_magnitude, power_ordered}
 use Rattle.ln_bound.proofs.Trees.Whole.{whole_value}
 use Rattle.ln_code.specs.Engine.{Line}
 use Rattle.ln_code.specs.Rules.{Known}

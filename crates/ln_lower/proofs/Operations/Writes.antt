@@ -3,10 +3,10 @@ use Rattle.std.proofs.Common.{◌≡◌, ◌≢◌, inl, inr, ℕ, ◌+◌, ◌�
 use Rattle.std.proofs.Common.{ap, ap₂, arith, ◌∙◌, sym, subst, append_assoc, append-nil}
 use Rattle.std.specs.Prelude.{OnOk, Result, Ok, Err, Some, slice_get, pos}
 use Rattle.std.proofs.lemmas.List.{take_more, map-append, length-map, length-take-le}
-use Rattle.ln_bound.specs.Intervals.Range.{Range, magnitude, most, power, product}
-use Rattle.ln_bound.specs.Intervals.View.{range}
-use Rattle.ln_bound.proofs.Intervals.Monotone.{covers_self, lower_power}
-use Rattle.ln_bound.specs.declared.interval.pair.Pair.{Pair}
+use Rattle.ln_interval.specs.Range.{Range, magnitude, most, power, product}
+use Rattle.ln_interval.specs.View.{range}
+use Rattle.ln_interval.proofs.Monotone.{covers_self, lower_power}
+use Rattle.ln_interval.specs.declared.pair.Pair.{Pair}
 use Rattle.ln_bound.specs.declared.fitted.Width.{Width}
 use Rattle.ln_bound.specs.declared.fitted.Fitted.{Fitted}
 use Rattle.ln_bound.specs.Typed.{Typed, TNeg, TPow, TTwo, pair, operation}

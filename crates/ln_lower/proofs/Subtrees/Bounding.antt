@@ -5,8 +5,8 @@ use Rattle.std.proofs.lemmas.Int.{ints, clamps}
 use Rattle.std.proofs.lemmas.Bool.{leb-true, le-leb}
 use Rattle.std.proofs.Math.Nat.{pow-suc, pow-zero}
 use Rattle.ln_algebra.specs.Tree.{Tree}
-use Rattle.ln_bound.specs.Intervals.Range.{Range, Covers, IsOrdered, power, magnitude, most, least_of, greatest_of}
-use Rattle.ln_bound.proofs.Intervals.Monotone.{difference_covers, product_covers, sum_covers}
+use Rattle.ln_interval.specs.Range.{Range, Covers, IsOrdered, power, magnitude, most, least_of, greatest_of}
+use Rattle.ln_interval.proofs.Monotone.{difference_covers, product_covers, sum_covers}
 use Rattle.ln_bound.specs.declared.fitted.Width.{Width}
 use Rattle.ln_bound.specs.declared.fitted.Width.TheVariants.{W64, W128}
 use Rattle.ln_bound.specs.declared.fitted.Two.{Two}

@@ -1,7 +1,7 @@
 -- Proves that a number stands for one tree alone, and still does when more subtrees are numbered.
 use Rattle.std.proofs.Common.{◌≡◌, ℕ, List, [], ◌∷◌, ◌++◌, refl, zero, suc, ap, arith, ◌∙◌, sym, subst, length, map, get_or, ◌<◌}
 use Rattle.std.specs.Prelude.{Some, slice_get}
-use Rattle.ln_bound.specs.Intervals.Range.{Range}
+use Rattle.ln_interval.specs.Range.{Range}
 use Rattle.ln_bound.specs.declared.fitted.Width.{Width}
 use Rattle.ln_bound.specs.declared.fitted.Two.{Two}
 use Rattle.ln_bound.specs.Typed.{Typed, TNum, TInput, TLet, TNeg, TTwo, TPow, operation}

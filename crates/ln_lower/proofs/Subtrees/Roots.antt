@@ -1,6 +1,6 @@
 -- Trees by their roots.
 use Rattle.std.proofs.Common.{◌≡◌}
-use Rattle.ln_bound.specs.Intervals.Range.{Range}
+use Rattle.ln_interval.specs.Range.{Range}
 use Rattle.ln_bound.specs.declared.fitted.Width.{Width}
 use Rattle.ln_bound.specs.Typed.{Typed}
 

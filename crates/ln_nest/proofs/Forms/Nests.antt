@@ -17,7 +17,7 @@ use Rattle.ln_nest.proofs.Terms.Scaled.{scaled_cases}
 use Rattle.ln_nest.proofs.Forms.Steps.{range_scale, scale_some}
 use Rattle.ln_nest.proofs.Forms.Leans.{nested_inputs}
 use Rattle.ln_nest.specs.View.{scale}
-use Rattle.ln_bound.specs.Intervals.Range.{Range, IsOrdered, magnitude}
+use Rattle.ln_interval.specs.Range.{Range, IsOrdered, magnitude}
 use Rattle.ln_bound.specs.Ranges.{ranges, HaveRange}
 use Rattle.ln_bound.specs.Typed.{Typed, TNum, TInput, TLet, TNeg, TTwo, TPow, need, pair, untyped}
 use Rattle.ln_bound.specs.declared.fitted.Two.TheVariants.{Plus, Minus, Times}

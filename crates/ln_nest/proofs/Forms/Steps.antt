@@ -10,8 +10,8 @@ use Rattle.std.proofs.lemmas.List.{nil_from_length}
 use Rattle.ln_algebra.specs.Terms.{Term}
 use Rattle.ln_algebra.specs.Tree.{Tree, Num, Input, Neg, Add, Mul}
 use Rattle.ln_algebra.specs.Weights.{weighted_sum}
-use Rattle.ln_bound.specs.Intervals.Range.{Range, point, magnitude, product, sum}
-use Rattle.ln_bound.proofs.Intervals.Magnitudes.{sum_magnitude, opposite_magnitude, product_magnitude}
+use Rattle.ln_interval.specs.Range.{Range, point, magnitude, product, sum}
+use Rattle.ln_interval.proofs.Magnitudes.{sum_magnitude, opposite_magnitude, product_magnitude}
 use Rattle.ln_tree.specs.declared.shape.VarInfo.{VarInfo}
 use Rattle.ln_bound.specs.Light.{most}
 use Rattle.ln_bound.specs.Exact.{IsExact}

@@ -9,7 +9,7 @@ use Rattle.ln_algebra.specs.Vector.{degree}
 use Rattle.ln_algebra.specs.Weights.{weighted_sum}
 use Rattle.ln_algebra.proofs.Expanded.Normal.{normal_is}
 use Rattle.ln_tree.specs.declared.shape.VarInfo.{VarInfo}
-use Rattle.ln_bound.specs.Intervals.Range.{IsOrdered}
+use Rattle.ln_interval.specs.Range.{IsOrdered}
 use Rattle.ln_tree.specs.Exps.{Pairs, exponent, exponents_from, vector}
 use Rattle.ln_bound.specs.Light.{most}
 use Rattle.ln_bound.specs.Sound.{Sound}

@@ -1,7 +1,7 @@
 -- Predicates: one among the items of a text, and two that agree.
 use Rattle.std.specs.Prelude.{◌≡◌, ℕ, List, refl}
 use Rattle.ln_base.specs.declared.span.Span.{Span}
-use Rattle.ln_syntax.specs.declared.lex.token.Token.{Token}
+use Rattle.ln_lex.specs.declared.token.Token.{Token}
 use Rattle.ln_syntax.specs.declared.raw.RawArg.{RawArg}
 use Rattle.ln_syntax.specs.declared.raw.RawLet.{RawLet}
 use Rattle.ln_syntax.specs.declared.raw.Places.{Places}

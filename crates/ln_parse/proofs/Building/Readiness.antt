@@ -4,9 +4,9 @@ use Rattle.std.specs.Prelude.{count_by, is_some, All}
 use Rattle.std.specs.List.{list_all}
 use Rattle.std.proofs.lemmas.Bool.{and_from, le-leb}
 use Rattle.std.proofs.lemmas.List.Folds.{list_all-append}
-use Rattle.ln_syntax.specs.declared.lex.token.Token.{Token}
-use Rattle.ln_syntax.specs.Lexing.Tokens.{IsSlice}
-use Rattle.ln_syntax.specs.declared.lex.token.Kind.TheVariants.{Equals, Sign, Semi}
+use Rattle.ln_lex.specs.declared.token.Token.{Token}
+use Rattle.ln_lex.specs.Tokens.{IsSlice}
+use Rattle.ln_lex.specs.declared.token.Kind.TheVariants.{Equals, Sign, Semi}
 use Rattle.ln_syntax.specs.declared.raw.RawCoord.{RawCoord}
 use Rattle.ln_syntax.specs.declared.raw.RawArg.{RawArg}
 use Rattle.ln_syntax.specs.declared.raw.RawLet.{RawLet}

@@ -1,7 +1,7 @@
 -- How many nodes an expression has, by its tokens.
 use Rattle.std.proofs.Common.{◌≡◌, ℕ, zero, suc, ◌+◌, ◌-◌, List, ◌++◌, Option, Some, None, ap, sym, ◌∙◌, subst, arith, append_assoc, refl}
 use Rattle.ln_base.specs.declared.span.Span.{Span}
-use Rattle.ln_syntax.specs.declared.lex.token.Token.{Token}
+use Rattle.ln_lex.specs.declared.token.Token.{Token}
 use Rattle.ln_syntax.specs.Expression.{Tree}
 use Rattle.ln_names.specs.declared.roles.Role.{Role}
 use Rattle.ln_names.specs.declared.roles.Role.TheVariants.{Value, AfterCaret, Bare, Input, AfterDot, Operator}

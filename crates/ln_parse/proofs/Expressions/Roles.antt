@@ -1,9 +1,9 @@
 -- What each token of an expression is, by its derivation.
 use Rattle.std.proofs.Common.{◌≡◌, ℕ, suc, ◌+◌, ◌-◌, ◌<◌, ◌≤◌, Bool, true, false, cond, List, Option, Some, None, refl, ap, ◌∙◌, subst, arith}
 use Rattle.std.specs.List.{list_any}
-use Rattle.ln_syntax.specs.declared.lex.token.Token.{Token}
-use Rattle.ln_syntax.specs.declared.lex.token.Kind.{Kind}
-use Rattle.ln_syntax.specs.declared.lex.token.Kind.TheVariants.{Name, Number, ParL, ParR, Dot, Plus, Minus, Star, Caret, Semi}
+use Rattle.ln_lex.specs.declared.token.Token.{Token}
+use Rattle.ln_lex.specs.declared.token.Kind.{Kind}
+use Rattle.ln_lex.specs.declared.token.Kind.TheVariants.{Name, Number, ParL, ParR, Dot, Plus, Minus, Star, Caret, Semi}
 use Rattle.ln_syntax.specs.Raw.{Is, kind_at, span_at, same}
 use Rattle.ln_syntax.specs.Expression.{Tree, TNum, TName, TInput, TNeg, TAdd, TSub, TMul, TPow, Sort, Atom, Power, Term, Sum, Factors, Terms}
 use Rattle.ln_syntax.specs.Expression.{Derives, number, name, input, parens, plain, power, base, minus, term, no_factor, times, sum}

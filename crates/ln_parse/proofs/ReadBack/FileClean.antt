@@ -8,8 +8,8 @@ use Rattle.std.proofs.lemmas.Int.{ints}
 use Rattle.std.proofs.lemmas.List.{length-map}
 use Rattle.std.proofs.lemmas.List.Elements.{filter_map-append}
 use Rattle.ln_base.specs.declared.span.Span.{Span}
-use Rattle.ln_syntax.specs.declared.lex.token.Token.{Token}
-use Rattle.ln_syntax.specs.declared.lex.token.Kind.TheVariants.{Sign}
+use Rattle.ln_lex.specs.declared.token.Token.{Token}
+use Rattle.ln_lex.specs.declared.token.Kind.TheVariants.{Sign}
 use Rattle.ln_syntax.specs.declared.raw.RawRange.{RawRange}
 use Rattle.ln_syntax.specs.declared.raw.RawCoord.{RawCoord}
 use Rattle.ln_syntax.specs.Raw.{Item, item_name, is_site, is_param, is_pred, text, same}

@@ -2,11 +2,11 @@
 use Rattle.std.proofs.Common.{◌≡◌, ℕ, suc, ◌≤◌, ◌⊎◌, inl, inr, List, [], ◌∷◌, ◌++◌, length, map, Option, Some, None, refl}
 use Rattle.std.specs.Prelude.{count_by}
 use Rattle.ln_base.specs.Limits.{most_tokens}
-use Rattle.ln_syntax.specs.declared.lex.token.Token.{Token}
-use Rattle.ln_syntax.specs.declared.lex.token.Kind.TheVariants.{Semi}
-use Rattle.ln_syntax.specs.Lexing.Answers as lexed
-use Rattle.ln_syntax.specs.Lexing.Tokens.{Lexed}
-use Rattle.ln_syntax.proofs.Lexing.HasAnswer.{has_answer}
+use Rattle.ln_lex.specs.declared.token.Token.{Token}
+use Rattle.ln_lex.specs.declared.token.Kind.TheVariants.{Semi}
+use Rattle.ln_lex.specs.Answers as lexed
+use Rattle.ln_lex.specs.Tokens.{Lexed}
+use Rattle.ln_lex.proofs.HasAnswer.{has_answer}
 use Rattle.ln_syntax.specs.declared.raw.RawArg.{RawArg}
 use Rattle.ln_syntax.specs.declared.raw.RawLet.{RawLet}
 use Rattle.ln_syntax.specs.Raw.{Item, Is, item_name, text}

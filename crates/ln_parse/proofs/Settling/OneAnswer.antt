@@ -1,8 +1,8 @@
 -- A text has one result: one table, or one fault, and not both.
 use Rattle.std.proofs.Common.{◌≡◌, inl, inr, ℕ, List, [], ◌∷◌, ◌++◌, refl, ap, sym, ◌∙◌, subst}
 use Rattle.std.specs.Prelude.{count_by}
-use Rattle.ln_syntax.specs.declared.lex.token.Token.{Token}
-use Rattle.ln_syntax.proofs.Lexing.OneAnswer.{one_list, one_fault as one_lex_fault, one_limit, list_or_fault, list_or_limit, fault_or_limit}
+use Rattle.ln_lex.specs.declared.token.Token.{Token}
+use Rattle.ln_lex.proofs.OneAnswer.{one_list, one_fault as one_lex_fault, one_limit, list_or_fault, list_or_limit, fault_or_limit}
 use Rattle.ln_syntax.specs.declared.raw.RawArg.{RawArg}
 use Rattle.ln_syntax.specs.declared.raw.RawLet.{RawLet}
 use Rattle.ln_syntax.specs.declared.raw.Places.{Places}

@@ -1,7 +1,7 @@
 -- No token of a canonical text runs on into what follows it.
 use Rattle.std.proofs.Common.{ℕ, ◌<◌, ◌^◌, Bool, true, false, ℤ, pos, List, [], ◌∷◌, refl, codes, arith}
 use Rattle.std.specs.Prelude.{int_lt, unsigned_abs, slice_get}
-use Rattle.ln_syntax.specs.declared.lex.token.Kind.TheVariants.{Semi, BraceL, BraceR, ParR, Comma, Dots}
+use Rattle.ln_lex.specs.declared.token.Kind.TheVariants.{Semi, BraceL, BraceR, ParR, Comma, Dots}
 use Rattle.ln_tree.specs.Formula.{Formula}
 use Rattle.ln_tree.specs.Table.{CoordOf, SiteOf, ArgOf, SiteArg, ParamArg, PredOf, TableOf}
 use Rattle.ln_parse.specs.Lexemes.{Lexeme, gap, line, word, signed, minus_if, number, each}

@@ -4,8 +4,8 @@ use Rattle.std.proofs.Common.{ap, sym, ◌∙◌, arith, length-drop, codes, ◌
 use Rattle.ln_base.specs.Words.{is_name, is_letter}
 use Rattle.std.proofs.lemmas.Bool.{and_parts}
 use Rattle.std.proofs.lemmas.Bool.Decides.{nat_tests}
-use Rattle.ln_syntax.specs.declared.lex.token.Kind.TheVariants.{Number, ParL, ParR, Plus, Minus, Star, Caret}
-use Rattle.ln_syntax.specs.declared.lex.token.Token.{Token}
+use Rattle.ln_lex.specs.declared.token.Kind.TheVariants.{Number, ParL, ParR, Plus, Minus, Star, Caret}
+use Rattle.ln_lex.specs.declared.token.Token.{Token}
 use Rattle.ln_parse.specs.declared.printer.Room.{Room}
 use Rattle.ln_parse.specs.declared.printer.Room.TheVariants.{OfSum, OfProduct, OfUnary, OfAtom}
 use Rattle.ln_parse.specs.Written.{Written, WNum, WName, WInput, WNeg, WAdd, WSub, WMul, WPow, spelling, IsNamed}

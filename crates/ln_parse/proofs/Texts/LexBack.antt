@@ -4,11 +4,11 @@ use Rattle.std.proofs.Common.{drop, Some, None, refl, ap, sym, ◌∙◌, subst,
 use Rattle.std.specs.Prelude.{bytes_eq, if◌then◌else◌}
 use Rattle.std.proofs.lemmas.Bool.{not-true, eqb-true}
 use Rattle.std.proofs.lemmas.List.{drop-drop}
-use Rattle.ln_syntax.specs.declared.lex.token.Kind.{Kind}
-use Rattle.ln_syntax.specs.declared.lex.token.Kind.TheVariants.{Name, Number, Site, Param, Predicate, Let, Sign, Dot}
-use Rattle.ln_syntax.specs.declared.lex.token.Token.{Token}
+use Rattle.ln_lex.specs.declared.token.Kind.{Kind}
+use Rattle.ln_lex.specs.declared.token.Kind.TheVariants.{Name, Number, Site, Param, Predicate, Let, Sign, Dot}
+use Rattle.ln_lex.specs.declared.token.Token.{Token}
 use Rattle.ln_base.specs.Words.{is_digit, is_letter, is_name_byte, every}
-use Rattle.ln_syntax.specs.Lexing.Tokens.{kind_of, word_kind, sign_kind, sign_of, IsFirst, is_blank, begins_blank, Skips, nothing, blank, Stand, Lexed}
+use Rattle.ln_lex.specs.Tokens.{kind_of, word_kind, sign_kind, sign_of, IsFirst, is_blank, begins_blank, Skips, nothing, blank, Stand, Lexed}
 use Rattle.ln_parse.specs.Lexemes.{Lexeme, gap, line, word, text_of}
 
 -- no byte of a name or a number begins these bytes

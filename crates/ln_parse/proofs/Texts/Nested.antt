@@ -3,7 +3,7 @@ use Rattle.std.proofs.Common.{◌≡◌, ℕ, zero, suc, ◌+◌, ◌-◌, ◌*�
 use Rattle.std.proofs.Common.{Some, None, refl, ap, sym, ◌∙◌, subst, arith, codes}
 use Rattle.std.specs.Prelude.{nat_le, slice_get}
 use Rattle.std.proofs.lemmas.Bool.{le-leb}
-use Rattle.ln_syntax.specs.declared.lex.token.Kind.TheVariants.{ParL, ParR, Plus, Minus, Star}
+use Rattle.ln_lex.specs.declared.token.Kind.TheVariants.{ParL, ParR, Plus, Minus, Star}
 use Rattle.ln_syntax.specs.Raw.{Is}
 use Rattle.ln_syntax.specs.Place.{depth_behind, depth_after, IsShallow}
 use Rattle.ln_tree.specs.Formula.{Formula, FNum, FInput, FName, FNeg, FAdd, FSub, FMul, FPow}

@@ -4,9 +4,9 @@ use Rattle.std.proofs.Common.{append_assoc, subst, codes, decimal, Some, None, â
 use Rattle.std.specs.Prelude.{slice_get, option_map}
 use Rattle.std.proofs.lemmas.Option.{slice_get-map}
 use Rattle.std.proofs.lemmas.List.{append-nil, drop_all}
-use Rattle.ln_syntax.specs.declared.lex.token.Kind.{Kind}
+use Rattle.ln_lex.specs.declared.token.Kind.{Kind}
 use Rattle.ln_base.specs.declared.span.Span.{Span}
-use Rattle.ln_syntax.specs.declared.lex.token.Kind.TheVariants.{ParR, Plus, Minus, Star}
+use Rattle.ln_lex.specs.declared.token.Kind.TheVariants.{ParR, Plus, Minus, Star}
 use Rattle.ln_tree.specs.declared.expr.Expr.{Expr}
 use Rattle.ln_tree.specs.declared.expr.Node.{Node}
 use Rattle.ln_tree.specs.declared.name.Name.{Name}

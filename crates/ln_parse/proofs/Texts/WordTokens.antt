@@ -11,9 +11,9 @@ use Rattle.std.proofs.lemmas.Bool.Decides.{nat_tests}
 use Rattle.ln_base.specs.Words.{is_digit, is_letter, is_name_byte, every, is_name, is_word, is_keyword}
 use Rattle.ln_base.specs.Decimal.{decimal_value}
 use Rattle.ln_base.proofs.DecimalLemmas.{value_of_text}
-use Rattle.ln_syntax.specs.declared.lex.token.Kind.{Kind}
-use Rattle.ln_syntax.specs.declared.lex.token.Kind.TheVariants.{Name, Number, Site, Param, Predicate, Let, Sign}
-use Rattle.ln_syntax.specs.Lexing.Tokens.{kind_of, word_kind}
+use Rattle.ln_lex.specs.declared.token.Kind.{Kind}
+use Rattle.ln_lex.specs.declared.token.Kind.TheVariants.{Name, Number, Site, Param, Predicate, Let, Sign}
+use Rattle.ln_lex.specs.Tokens.{kind_of, word_kind}
 use Rattle.ln_names.specs.Numbers as names
 
 digit : (c : ℕ) → 48 ≤ c → c ≤ 57 → is_digit c ≡ true

@@ -1,7 +1,7 @@
 -- The canonical text of a whole table has few tokens, and no parenthesis of it is nested too deep.
 use Rattle.std.proofs.Common.{◌≡◌, ℕ, suc, ◌+◌, ◌*◌, ◌<◌, ◌≤◌, Bool, true, false, List, [], ◌∷◌, length, refl, arith, codes}
 use Rattle.std.specs.Prelude.{ℤ, pos, int_lt, unsigned_abs}
-use Rattle.ln_syntax.specs.declared.lex.token.Kind.TheVariants.{ParR, BraceL, BraceR, Semi, Dots}
+use Rattle.ln_lex.specs.declared.token.Kind.TheVariants.{ParR, BraceL, BraceR, Semi, Dots}
 use Rattle.ln_tree.specs.Formula.{Formula}
 use Rattle.ln_tree.specs.Table.{CoordOf, SiteOf, ArgOf, SiteArg, ParamArg, PredOf, TableOf}
 use Rattle.ln_tree.specs.Whole.{nesting, tokens_of, total, end_tokens, range_tokens, site_tokens, param_tokens, pred_tokens, text_tokens}

@@ -21,7 +21,7 @@ use Rattle.ln_poly.specs.Sparse.{Sparse, terms_of}
 use Rattle.ln_poly.proofs.Expansions.Lets.{pred-fit, root-degrees, root-weight}
 use Rattle.ln_poly.specs.Ready.{AreLight, IsLight, LetsAreLight}
 use Rattle.ln_poly.proofs.Loads.Lightness.{AreClosed, closed-more, inputs-inlined, lets-closed, next-weights, weight-inlined, whole-light}
-use Rattle.ln_bound.specs.Intervals.Range.{Range}
+use Rattle.ln_interval.specs.Range.{Range}
 use Rattle.ln_algebra.specs.Sizes.{two}
 use Rattle.ln_bound.specs.Ranges.{range_over, ranges}
 use Rattle.ln_bound.specs.Loads.{load_of, loaded, loaded_lets, loaded_pred, ranges_of_lets, sizes_of_lets}

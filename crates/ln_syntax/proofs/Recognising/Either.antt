@@ -1,9 +1,9 @@
 -- Tokens have a fault of nesting or none, and of syntax.
 use Rattle.std.proofs.Common.{◌≡◌, ℕ, zero, suc, ◌+◌, ◌<◌, ◌≤◌, ◌⊎◌, inl, inr, Bool, true, false, List, [], ◌∷◌, length, take, Option, Some}
 use Rattle.std.proofs.Common.{None, refl, arith, subst}
-use Rattle.ln_syntax.specs.declared.lex.token.Token.{Token}
-use Rattle.ln_syntax.specs.declared.lex.token.Kind.{Kind}
-use Rattle.ln_syntax.specs.declared.lex.token.Kind.TheVariants.{ParL, ParR}
+use Rattle.ln_lex.specs.declared.token.Token.{Token}
+use Rattle.ln_lex.specs.declared.token.Kind.{Kind}
+use Rattle.ln_lex.specs.declared.token.Kind.TheVariants.{ParL, ParR}
 use Rattle.ln_syntax.specs.declared.place.State.{State}
 use Rattle.ln_syntax.specs.declared.place.State.TheVariants.{AnItem}
 use Rattle.ln_syntax.specs.Raw.{Is}

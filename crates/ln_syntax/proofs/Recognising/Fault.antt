@@ -3,9 +3,9 @@ use Rattle.std.proofs.Common.{◌≡◌, ℕ, zero, suc, ◌+◌, ◌<◌, ◌�
 use Rattle.std.proofs.Common.{None, refl, ap, sym, ◌∙◌, subst, arith, inl, inr}
 use Rattle.std.proofs.lemmas.Bool.{cases_lt}
 use Rattle.std.proofs.lemmas.List.{append-nil}
-use Rattle.ln_syntax.specs.declared.lex.token.Token.{Token}
-use Rattle.ln_syntax.specs.declared.lex.token.Kind.{Kind}
-use Rattle.ln_syntax.specs.declared.lex.token.Kind.TheVariants.{Name, Number, Sign, BraceL, BraceR, ParL, ParR, Colon, Semi, Dots, Equals}
+use Rattle.ln_lex.specs.declared.token.Token.{Token}
+use Rattle.ln_lex.specs.declared.token.Kind.{Kind}
+use Rattle.ln_lex.specs.declared.token.Kind.TheVariants.{Name, Number, Sign, BraceL, BraceR, ParL, ParR, Colon, Semi, Dots, Equals}
 use Rattle.ln_syntax.specs.declared.place.Ranged.{Ranged}
 use Rattle.ln_syntax.specs.declared.place.Ranged.TheVariants.{Coordinate, Parameter}
 use Rattle.ln_syntax.specs.declared.place.Part.{Part}

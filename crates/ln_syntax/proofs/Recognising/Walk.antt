@@ -1,9 +1,9 @@
 -- A derivation of a file takes the automaton from its start to its end.
 use Rattle.std.proofs.Common.{◌≡◌, ℕ, zero, suc, List, [], ◌∷◌, ◌++◌, length, drop, Some, None, refl, ap, ◌∙◌}
-use Rattle.ln_syntax.specs.declared.lex.token.Token.{Token}
-use Rattle.ln_syntax.specs.declared.lex.token.Kind.{Kind}
-use Rattle.ln_syntax.specs.declared.lex.token.Kind.TheVariants.{Name, Number, Site, Param, Predicate, Let, Sign, BraceL, BraceR, ParL, ParR, Colon}
-use Rattle.ln_syntax.specs.declared.lex.token.Kind.TheVariants.{Semi, Comma, Dot, Dots, Plus, Minus, Star, Caret, Equals}
+use Rattle.ln_lex.specs.declared.token.Token.{Token}
+use Rattle.ln_lex.specs.declared.token.Kind.{Kind}
+use Rattle.ln_lex.specs.declared.token.Kind.TheVariants.{Name, Number, Site, Param, Predicate, Let, Sign, BraceL, BraceR, ParL, ParR, Colon}
+use Rattle.ln_lex.specs.declared.token.Kind.TheVariants.{Semi, Comma, Dot, Dots, Plus, Minus, Star, Caret, Equals}
 use Rattle.ln_syntax.specs.declared.raw.RawEnd.{RawEnd}
 use Rattle.ln_syntax.specs.declared.raw.RawRange.{RawRange}
 use Rattle.ln_syntax.specs.declared.raw.RawCoord.{RawCoord}

@@ -1,7 +1,7 @@
 -- No tokens spell two lists of items: each part of an item has one end and one value.
 use Rattle.std.proofs.Common.{◌≡◌, ℕ, suc, List, [], ◌∷◌, length, None, refl, ap, sym, subst}
-use Rattle.ln_syntax.specs.declared.lex.token.Token.{Token}
-use Rattle.ln_syntax.specs.declared.lex.token.Kind.TheVariants.{Sign, BraceR, ParR}
+use Rattle.ln_lex.specs.declared.token.Token.{Token}
+use Rattle.ln_lex.specs.declared.token.Kind.TheVariants.{Sign, BraceR, ParR}
 use Rattle.ln_syntax.specs.declared.raw.RawEnd.{RawEnd}
 use Rattle.ln_syntax.specs.declared.raw.RawRange.{RawRange}
 use Rattle.ln_syntax.specs.declared.raw.RawCoord.{RawCoord}

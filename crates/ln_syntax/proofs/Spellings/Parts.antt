@@ -2,9 +2,9 @@
 use Rattle.std.proofs.Common.{◌≡◌, true, false, ℕ, zero, suc, ◌+◌, ◌<◌, ◌≤◌, inl, inr, List, [], ◌∷◌, ◌++◌, length, refl, ap, sym, ◌∙◌}
 use Rattle.std.proofs.Common.{subst, arith, append_assoc, ◌^◌, Fits, w64}
 use Rattle.ln_base.specs.declared.span.Span.{Span}
-use Rattle.ln_syntax.specs.declared.lex.token.Token.{Token}
-use Rattle.ln_syntax.specs.declared.lex.token.Kind.{Kind}
-use Rattle.ln_syntax.specs.declared.lex.token.Kind.TheVariants.{Name, Number, Site, Param, Let, Sign, BraceR, ParR, Colon, Semi, Comma, Dots, Minus}
+use Rattle.ln_lex.specs.declared.token.Token.{Token}
+use Rattle.ln_lex.specs.declared.token.Kind.{Kind}
+use Rattle.ln_lex.specs.declared.token.Kind.TheVariants.{Name, Number, Site, Param, Let, Sign, BraceR, ParR, Colon, Semi, Comma, Dots, Minus}
 use Rattle.ln_syntax.specs.declared.raw.RawEnd.{RawEnd}
 use Rattle.ln_syntax.specs.declared.raw.RawRange.{RawRange}
 use Rattle.ln_syntax.specs.declared.raw.RawCoord.{RawCoord}

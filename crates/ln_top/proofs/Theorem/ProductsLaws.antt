@@ -23,9 +23,9 @@ use Rattle.ln_parse.specs.ReadsBack.{Every}
 use Rattle.ln_code.specs.declared.verdict.Verdict.{Verdict}
 use Rattle.ln_due.specs.Due.{sign_number}
 use Rattle.ln_due.proofs.Verdicts.UniqueLemmas.{due-sign, sign-number-same}
-use Rattle.ln_due.specs.Products.Factors.{numbers_of}
-use Rattle.ln_due.specs.Products.Law.{AreRowSigns}
-use Rattle.ln_due.proofs.Products.Sums.{firsts-are-sums, signs-are-products, zero-where-one-is}
+use Rattle.ln_factor.specs.Factors.{numbers_of}
+use Rattle.ln_factor.specs.Law.{AreRowSigns}
+use Rattle.ln_factor.proofs.Sums.{firsts-are-sums, signs-are-products, zero-where-one-is}
 use Rattle.ln_compile.specs.Accepted.{root_of}
 use Rattle.ln_compile.specs.Filtered.{IsDue}
 use Rattle.ln_rows.specs.Left.{Records}

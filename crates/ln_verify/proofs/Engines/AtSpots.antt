@@ -12,7 +12,7 @@ use Rattle.ln_verify.specs.Line.{fresh}
 use Rattle.ln_verify.specs.declared.progress.At.{At}
 use Rattle.ln_code.specs.declared.op.Op.{Op}
 use Rattle.ln_code.specs.declared.op.Triple.{Triple}
-use Rattle.ln_bound.specs.Intervals.Range.{Range}
+use Rattle.ln_interval.specs.Range.{Range}
 use Rattle.ln_code.specs.Rules.{Known}
 use Rattle.ln_code.proofs.Exponents.{sites-above}
 use Rattle.ln_verify.specs.BlockRules.{Version, balanced}

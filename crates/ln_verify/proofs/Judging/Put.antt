@@ -12,7 +12,7 @@ use Rattle.ln_code.specs.FilterRules.{FilterKnown}
 use Rattle.ln_code.specs.Kept.{stores}
 use Rattle.ln_code.specs.Pushes.{Pushed, after, newest, pushes}
 use Rattle.ln_base.proofs.Forms.Judging.{go_append}
-use Rattle.ln_bound.specs.Intervals.Range.{Range}
+use Rattle.ln_interval.specs.Range.{Range}
 use Rattle.ln_code.specs.Rules.{Known}
 use Rattle.ln_due.specs.Small.{AreSmall}
 use Rattle.ln_verify.specs.BlockRules.{block_rules, triple_rules, version_2}

@@ -7,7 +7,7 @@ use Rattle.std.proofs.lemmas.Option.{slice_get-get_or, slice_get_within}
 use Rattle.ln_algebra.specs.Orders.{BySmallest}
 use Rattle.ln_algebra.specs.Terms.{IsNormalOf, derived}
 use Rattle.ln_algebra.specs.Tree.{InputsBelow, Tree}
-use Rattle.ln_bound.specs.Intervals.Range.{Range}
+use Rattle.ln_interval.specs.Range.{Range}
 use Rattle.ln_tree.specs.declared.shape.Shape.{Shape}
 use Rattle.ln_tree.specs.declared.shape.VarInfo.{VarInfo}
 use Rattle.ln_tree.specs.Exps.{Pairs, vector}

@@ -8,7 +8,7 @@ use Rattle.ln_code.specs.Engine.{Line, run}
 use Rattle.ln_code.specs.Kept.{AreOfSites}
 use Rattle.ln_code.specs.Numbers.{no_locals}
 use Rattle.ln_due.proofs.Parts.BlockLemmas.{some-same}
-use Rattle.ln_bound.specs.Intervals.Range.{Range}
+use Rattle.ln_interval.specs.Range.{Range}
 use Rattle.ln_verify.specs.BlockRules.{Version, balanced, block_rules, triple_rules}
 use Rattle.ln_verify.specs.Line.{Between, InBlock, InFilter, LineRule, Named, OrderLine, Ordering, Outside, PartRule, Piece, Place, Rule}
 use Rattle.ln_verify.specs.Line.{Spot, Subject, Within, Written, fresh}

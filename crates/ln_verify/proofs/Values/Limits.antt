@@ -2,9 +2,9 @@
 use Rattle.std.proofs.Common.{◌≡◌, ℕ, ◌+◌, ◌*◌, ◌≤◌, ◌&&◌, Bool, true, false, refl, sym, ap, arith, subst}
 use Rattle.std.specs.Prelude.{Option, Some, None, if◌then◌else◌, ◌==◌, nat_le}
 use Rattle.ln_algebra.specs.Tree.{Tree}
-use Rattle.ln_bound.specs.declared.interval.pair.Pair.{Pair}
-use Rattle.ln_bound.specs.Intervals.Range.{Range, most}
-use Rattle.ln_bound.specs.Intervals.View.{range}
+use Rattle.ln_interval.specs.declared.pair.Pair.{Pair}
+use Rattle.ln_interval.specs.Range.{Range, most}
+use Rattle.ln_interval.specs.View.{range}
 use Rattle.ln_bound.specs.declared.fitted.Two.{Two}
 use Rattle.ln_bound.specs.declared.fitted.Two.TheVariants.{Minus, Plus, Times}
 use Rattle.ln_bound.specs.declared.fitted.Width.{Width}

@@ -4,7 +4,7 @@ use Rattle.std.specs.Prelude.{Option, Some, None, OnSome, ℤ, min, nat_le, pos}
 use Rattle.std.proofs.lemmas.Bool.{le-leb, leb-true}
 use Rattle.ln_algebra.specs.Tree.{Tree}
 use Rattle.ln_algebra.proofs.Expanded.Normal.{zero_cases}
-use Rattle.ln_bound.specs.Intervals.Range.{most}
+use Rattle.ln_interval.specs.Range.{most}
 use Rattle.ln_poly.specs.Sparse.{Sparse, size_of}
 use Rattle.ln_poly.proofs.TermLists.Coefficients.{size-cons, size-nil}
 use Rattle.ln_code.specs.Engine.{when}

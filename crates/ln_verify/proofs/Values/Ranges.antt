@@ -4,7 +4,7 @@ use Rattle.std.specs.Prelude.{Some, nat_le, int_le, ◌≤ℤ◌}
 use Rattle.std.proofs.lemmas.Bool.{and_parts, leb-true, le-leb}
 use Rattle.std.proofs.lemmas.Int.{ints}
 use Rattle.ln_algebra.specs.Tree.{Tree}
-use Rattle.ln_bound.specs.Intervals.Range.{Covers, Range, magnitude, most}
+use Rattle.ln_interval.specs.Range.{Covers, Range, magnitude, most}
 use Rattle.ln_bound.specs.declared.fitted.Width.{Width}
 use Rattle.ln_bound.specs.Sound.{IsIn, covers, is_in}
 use Rattle.ln_bound.specs.Widths.{least, limit}

@@ -1,5 +1,5 @@
 use Rattle.std.proofs.Common.{ap}
-use Rattle.ln_bound.specs.Intervals.View.{range}
+use Rattle.ln_interval.specs.View.{range}
 use Rattle.ln_bound.specs.View.{typed}
 use Rattle.ln_bound.proofs.Trees.Views.{pair_typed, power_made}
 use Rattle.ln_bound.proofs.size.raised.Goals as goal

@@ -1,7 +1,7 @@
 -- What the search leaves open in `two`.
 use Rattle.std.proofs.Common.{ap}
 use Rattle.ln_bound.specs.declared.fitted.Two.TheVariants.{Plus, Minus, Times}
-use Rattle.ln_bound.specs.Intervals.View.{range}
+use Rattle.ln_interval.specs.View.{range}
 use Rattle.ln_bound.specs.View.{typed}
 use Rattle.ln_bound.proofs.Trees.Views.{two_made}
 use Rattle.ln_bound.proofs.size.two.Goals as goal

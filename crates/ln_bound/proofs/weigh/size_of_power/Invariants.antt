@@ -1,6 +1,6 @@
 -- What `size_of_power` keeps, or what it measures.
 use Rattle.std.proofs.Common.{◌≡◌, ◌≤◌, ◌^◌}
-use Rattle.ln_bound.specs.Intervals.Range.{most}
+use Rattle.ln_interval.specs.Range.{most}
 use Rattle.ln_bound.proofs.weigh.size_of_power.Given as goal
 
 abbrev pub invariant-factors : goal.invariant-factors

@@ -1,5 +1,5 @@
 use Rattle.std.proofs.Common.{◌≡◌, ◌++◌, drop, map}
-use Rattle.ln_bound.specs.Intervals.View.{range}
+use Rattle.ln_interval.specs.View.{range}
 use Rattle.ln_cemit.specs.Ways.{block_way}
 use Rattle.ln_cemit.proofs.body.block_ways.Given as goal
 

@@ -1,6 +1,6 @@
 -- Answers to the goals of `put_range_lines` in src/write.rt.
 use Rattle.std.proofs.Common.{arith, map}
-use Rattle.ln_bound.specs.Intervals.View.{range}
+use Rattle.ln_interval.specs.View.{range}
 use Rattle.ln_cert.specs.Written.{range_line}
 use Rattle.ln_cert.proofs.Writing.Wrote.{more_lines, no_lines, range_at, range_wrote}
 use Rattle.ln_cert.proofs.write.put_range_lines.Goals as goal

@@ -1,6 +1,6 @@
 use Rattle.std.proofs.Common.{◌≡◌, ◌+◌, ◌-◌, arith, refl}
-use Rattle.ln_bound.specs.Intervals.Range.{power}
-use Rattle.ln_bound.specs.Intervals.View.{range}
+use Rattle.ln_interval.specs.Range.{power}
+use Rattle.ln_interval.specs.View.{range}
 use Rattle.ln_lower.proofs.Operations.Writes.{factors_more, next_fits, next_power, power_below, wrote_more}
 use Rattle.ln_lower.proofs.blocks.+put_factors.Goals as goal
 

@@ -1,6 +1,6 @@
 use Rattle.std.proofs.Common.{rules, ◌≡◌, ◌+◌, ◌-◌, ◌≤◌, [], ◌∷◌, arith, refl, sym}
-use Rattle.ln_bound.specs.Intervals.Range.{Range, magnitude, most, power}
-use Rattle.ln_bound.specs.Intervals.View.{range}
+use Rattle.ln_interval.specs.Range.{Range, magnitude, most, power}
+use Rattle.ln_interval.specs.View.{range}
 use Rattle.ln_bound.specs.declared.fitted.Width.{Width}
 use Rattle.ln_bound.specs.Typed.{TNum, TInput, TLet, TNeg, TTwo, TPow, operation, pair}
 use Rattle.ln_bound.specs.View.{typed}

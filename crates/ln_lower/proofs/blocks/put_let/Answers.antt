@@ -1,4 +1,4 @@
-use Rattle.ln_bound.specs.Intervals.View.{range}
+use Rattle.ln_interval.specs.View.{range}
 use Rattle.ln_bound.specs.View.{typed}
 use Rattle.ln_lower.proofs.Operations.Writes.{ok_then, let_put}
 use Rattle.ln_lower.proofs.blocks.put_let.Goals as goal

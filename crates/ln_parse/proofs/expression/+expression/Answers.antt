@@ -1,6 +1,6 @@
 use Rattle.std.proofs.Common.{inl, inr, refl, sym, ◌∙◌, true≢false, arith}
 use Rattle.std.proofs.lemmas.Result.{IfOk-weaker}
-use Rattle.ln_syntax.specs.declared.lex.token.Kind.TheVariants.{ParL, Minus, Star}
+use Rattle.ln_lex.specs.declared.token.Kind.TheVariants.{ParL, Minus, Star}
 use Rattle.ln_syntax.proofs.Spellings.Parts.{is_within}
 use Rattle.ln_parse.proofs.Expressions.Steps.{both_ok, par_here, par_tree, parens_read, atom_tree, power_plain, exponent_fit, power_read}
 use Rattle.ln_parse.proofs.Expressions.Steps.{power_tree, unary_tree, unary_plain, unary_minus, unary_first, factor_tree, term_first}

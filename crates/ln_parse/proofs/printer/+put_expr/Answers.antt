@@ -3,7 +3,7 @@ use Rattle.std.proofs.lemmas.Int.{to_z-of_z}
 use mir.Syntax.{w128}
 use Rattle.std.specs.Prelude.{IfOk, unsigned_abs, unwrap_or, slice_get, map}
 use Rattle.std.proofs.lemmas.Result.{IfOk-weaker}
-use Rattle.ln_syntax.specs.declared.lex.token.Kind.TheVariants.{Minus, Caret}
+use Rattle.ln_lex.specs.declared.token.Kind.TheVariants.{Minus, Caret}
 use Rattle.ln_tree.specs.declared.expr.Expr.{Expr}
 use Rattle.ln_tree.specs.Names.{name_bytes}
 use Rattle.ln_tree.specs.Formula.{formula}

@@ -1,7 +1,7 @@
 use Rattle.std.proofs.Common.{List, ◌∷◌, map, refl, codes}
 use Rattle.std.specs.Prelude.{slice_get}
 use Rattle.std.proofs.lemmas.Result.{IfOk-weaker}
-use Rattle.ln_syntax.specs.declared.lex.token.Kind.TheVariants.{Colon, Param}
+use Rattle.ln_lex.specs.declared.token.Kind.TheVariants.{Colon, Param}
 use Rattle.ln_tree.specs.Names.{name_bytes}
 use Rattle.ln_tree.specs.Table.{site_of, param_of}
 use Rattle.ln_parse.specs.Lexemes.{Lexeme, gap, word}

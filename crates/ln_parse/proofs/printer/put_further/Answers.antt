@@ -1,5 +1,5 @@
 use Rattle.std.proofs.Common.{List, ◌∷◌, refl, codes, arith}
-use Rattle.ln_syntax.specs.declared.lex.token.Kind.TheVariants.{Comma}
+use Rattle.ln_lex.specs.declared.token.Kind.TheVariants.{Comma}
 use Rattle.ln_tree.specs.Table.{arg_of, table_of}
 use Rattle.ln_parse.specs.Canonical.{further}
 use Rattle.ln_parse.specs.Lexemes.{Lexeme, gap, word}

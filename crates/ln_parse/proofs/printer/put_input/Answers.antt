@@ -2,7 +2,7 @@ use Rattle.std.proofs.Common.{◌≡◌, List, ◌∷◌, ℕ, refl, codes, ap, 
 use Rattle.std.specs.Prelude.{slice_get, option_map}
 use Rattle.std.proofs.lemmas.Option.{slice_get-map}
 use Rattle.std.proofs.lemmas.Result.{IfOk-weaker}
-use Rattle.ln_syntax.specs.declared.lex.token.Kind.TheVariants.{Dot}
+use Rattle.ln_lex.specs.declared.token.Kind.TheVariants.{Dot}
 use Rattle.ln_tree.specs.Names.{name_bytes}
 use Rattle.ln_tree.specs.Table.{arg_of, site_of, param_of}
 use Rattle.ln_parse.specs.Lexemes.{Lexeme, word}

@@ -1,6 +1,6 @@
 use Rattle.std.proofs.Common.{List, ◌∷◌, refl, codes}
 use Rattle.std.proofs.lemmas.Result.{IfOk-weaker}
-use Rattle.ln_syntax.specs.declared.lex.token.Kind.TheVariants.{Let, Equals, Semi}
+use Rattle.ln_lex.specs.declared.token.Kind.TheVariants.{Let, Equals, Semi}
 use Rattle.ln_tree.specs.Names.{name_bytes}
 use Rattle.ln_parse.specs.Lexemes.{Lexeme, gap, word}
 use Rattle.ln_parse.proofs.Texts.Putting.{then, puts_name, puts_fixed}

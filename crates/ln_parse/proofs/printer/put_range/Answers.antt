@@ -2,7 +2,7 @@ use Rattle.std.proofs.Common.{List, ◌∷◌, refl, codes, rules, FitsSigned}
 use Rattle.std.proofs.lemmas.Int.{to_z-of_z}
 use mir.Syntax.{w64}
 use Rattle.std.proofs.lemmas.Result.{IfOk-weaker}
-use Rattle.ln_syntax.specs.declared.lex.token.Kind.TheVariants.{Colon, Semi, Dots}
+use Rattle.ln_lex.specs.declared.token.Kind.TheVariants.{Colon, Semi, Dots}
 use Rattle.ln_tree.specs.Names.{name_bytes}
 use Rattle.ln_parse.specs.Lexemes.{Lexeme, gap, word}
 use Rattle.ln_parse.proofs.Texts.Putting.{then, puts_name, puts_fixed}

@@ -2,7 +2,7 @@ use Rattle.std.proofs.Common.{FitsSigned, to_z, ◌≡◌, ◌<◌, arith, rules
 use Rattle.std.proofs.lemmas.Int.{to_z-of_z}
 use Rattle.std.proofs.Math.IntN.{◌*ℤ◌}
 use mir.Syntax.{w64, w128}
-use Rattle.ln_bound.proofs.Intervals.Ends.{fit}
+use Rattle.ln_interval.proofs.Ends.{fit}
 use Rattle.ln_poly.proofs.Evaluations.Room.{raised-end, raised-fits, raised-on}
 use Rattle.ln_poly.proofs.values.raised.Goals as goal
 

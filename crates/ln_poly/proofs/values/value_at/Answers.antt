@@ -4,7 +4,7 @@ use Rattle.std.proofs.Math.IntN.{ℤ, ◌+ℤ◌}
 use mir.Syntax.{w128}
 use Rattle.ln_bound.specs.Light.{most}
 use Rattle.ln_bound.specs.Value.{weights}
-use Rattle.ln_bound.proofs.Intervals.Ends.{fit}
+use Rattle.ln_interval.proofs.Ends.{fit}
 use Rattle.ln_tree.specs.Exps.{IsAbove, IsRising, Pairs}
 use Rattle.ln_tree.specs.Row.{values}
 use Rattle.ln_poly.specs.Sparse.{AreBelow, AreRising}

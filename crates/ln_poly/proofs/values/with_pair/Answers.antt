@@ -3,7 +3,7 @@ use Rattle.std.proofs.lemmas.Int.{to_z-of_z}
 use Rattle.std.proofs.Math.IntN.{◌*ℤ◌}
 use mir.Syntax.{w64, w128}
 use Rattle.ln_algebra.specs.Terms.{binomial}
-use Rattle.ln_bound.proofs.Intervals.Ends.{fit}
+use Rattle.ln_interval.proofs.Ends.{fit}
 use Rattle.ln_poly.proofs.Evaluations.Room.{pair-fits, pair-room, pair-value, ways-fit}
 use Rattle.ln_poly.proofs.values.with_pair.Goals as goal
 

@@ -1,5 +1,5 @@
 use Rattle.std.proofs.Common.{◌+◌, sym, ◌∙◌, true≢false, arith}
-use Rattle.ln_syntax.specs.declared.lex.token.Kind.TheVariants.{Comma}
+use Rattle.ln_lex.specs.declared.token.Kind.TheVariants.{Comma}
 use Rattle.ln_syntax.proofs.Spellings.Parts.{is_within, arg_first, arg_fits, args_begin, args_last, args_more, args_stop}
 use Rattle.ln_syntax.proofs.items.args_at.Goals as goal
 

@@ -1,5 +1,5 @@
 use Rattle.std.proofs.Common.{arith}
-use Rattle.ln_syntax.specs.declared.lex.token.Kind.TheVariants.{Name, Semi}
+use Rattle.ln_lex.specs.declared.token.Kind.TheVariants.{Name, Semi}
 use Rattle.ln_syntax.proofs.Spellings.Parts.{is_within, range_rises, coords_begin, coord_range, coord_semi, coord_more}
 use Rattle.ln_syntax.proofs.items.coords_at.Goals as goal
 

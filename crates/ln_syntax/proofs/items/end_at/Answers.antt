@@ -1,5 +1,5 @@
 use Rattle.std.proofs.Common.{sym, ◌∙◌, true≢false, arith}
-use Rattle.ln_syntax.specs.declared.lex.token.Kind.TheVariants.{Minus}
+use Rattle.ln_lex.specs.declared.token.Kind.TheVariants.{Minus}
 use Rattle.ln_syntax.proofs.Spellings.Parts.{near_fits, end_minus, end_plain, end_fits}
 use Rattle.ln_syntax.proofs.items.end_at.Goals as goal
 

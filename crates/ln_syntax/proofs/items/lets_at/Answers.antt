@@ -1,5 +1,5 @@
 use Rattle.std.proofs.Common.{sym, ◌∙◌, true≢false, arith}
-use Rattle.ln_syntax.specs.declared.lex.token.Kind.TheVariants.{Let, Semi}
+use Rattle.ln_lex.specs.declared.token.Kind.TheVariants.{Let, Semi}
 use Rattle.ln_syntax.proofs.Recognising.Ahead.{no_semi}
 use Rattle.ln_syntax.proofs.Spellings.Parts.{is_within, let_expr, let_more, lets_begin, lets_stop}
 use Rattle.ln_syntax.proofs.items.lets_at.Goals as goal

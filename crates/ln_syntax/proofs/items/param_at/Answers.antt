@@ -1,5 +1,5 @@
 use Rattle.std.proofs.Common.{arith}
-use Rattle.ln_syntax.specs.declared.lex.token.Kind.TheVariants.{Param, Semi}
+use Rattle.ln_lex.specs.declared.token.Kind.TheVariants.{Param, Semi}
 use Rattle.ln_syntax.proofs.Spellings.Parts.{is_within, near_fits, param_range, param_semi, param_read}
 use Rattle.ln_syntax.proofs.items.param_at.Goals as goal
 

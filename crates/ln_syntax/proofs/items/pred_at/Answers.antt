@@ -1,5 +1,5 @@
 use Rattle.std.proofs.Common.{arith}
-use Rattle.ln_syntax.specs.declared.lex.token.Kind.TheVariants.{ParR, Sign, Semi}
+use Rattle.ln_lex.specs.declared.token.Kind.TheVariants.{ParR, Sign, Semi}
 use Rattle.ln_syntax.proofs.Spellings.Parts.{is_within, pred_args, pred_lets, pred_expr, pred_read}
 use Rattle.ln_syntax.proofs.items.pred_at.Goals as goal
 

@@ -1,5 +1,5 @@
 use Rattle.std.proofs.Common.{arith}
-use Rattle.ln_syntax.specs.declared.lex.token.Kind.TheVariants.{BraceR, Site}
+use Rattle.ln_lex.specs.declared.token.Kind.TheVariants.{BraceR, Site}
 use Rattle.ln_syntax.proofs.Spellings.Parts.{is_within, near_fits, site_coords, site_read}
 use Rattle.ln_syntax.proofs.items.site_at.Goals as goal
 

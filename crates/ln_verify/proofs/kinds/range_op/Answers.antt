@@ -1,7 +1,7 @@
 -- Answers to the goals of `range_op` in src/kinds.rt.
 use Rattle.std.proofs.Common.{ap}
 use Rattle.std.proofs.lemmas.Result.{IfOk-weaker}
-use Rattle.ln_bound.specs.Intervals.Range.{Range}
+use Rattle.ln_interval.specs.Range.{Range}
 use Rattle.ln_verify.specs.Here.{subject_of}
 use Rattle.ln_verify.specs.Versions.{version_of}
 use Rattle.ln_verify.specs.declared.form.Form.{Form}

@@ -1,6 +1,6 @@
 -- Answers to the goals of `ruled` in src/ranged.rt.
 use Rattle.std.proofs.Common.{◌∙◌, sym}
-use Rattle.ln_bound.specs.Intervals.View.{range}
+use Rattle.ln_interval.specs.View.{range}
 use Rattle.ln_verify.proofs.Values.Limits.{is-ruled, not-ruled}
 use Rattle.ln_verify.proofs.Values.Ranges.{not-true}
 use Rattle.ln_verify.proofs.ranged.ruled.Goals as goal

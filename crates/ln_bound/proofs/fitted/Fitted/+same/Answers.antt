@@ -1,7 +1,7 @@
 use Rattle.std.proofs.Common.{◌≡◌, ◌∙◌, sym, subst, ap, refl}
 use Rattle.std.specs.Prelude.{IsTrue}
-use Rattle.ln_bound.specs.Intervals.Range.{Range}
-use Rattle.ln_bound.specs.Intervals.View.{range}
+use Rattle.ln_interval.specs.Range.{Range}
+use Rattle.ln_interval.specs.View.{range}
 use Rattle.ln_bound.specs.declared.fitted.Fitted.{Fitted}
 use Rattle.ln_bound.specs.Typed.{pair, width}
 use Rattle.ln_bound.specs.View.{typed}

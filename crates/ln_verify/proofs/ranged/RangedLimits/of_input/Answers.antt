@@ -2,8 +2,8 @@
 use Rattle.std.proofs.Common.{◌≡◌, ◌∙◌, ap, subst, sym}
 use Rattle.std.specs.Prelude.{Option}
 use Rattle.ln_algebra.specs.Tree.{Input}
-use Rattle.ln_bound.specs.Intervals.Range.{Range, magnitude}
-use Rattle.ln_bound.specs.Intervals.View.{range}
+use Rattle.ln_interval.specs.Range.{Range, magnitude}
+use Rattle.ln_interval.specs.View.{range}
 use Rattle.ln_tree.specs.declared.shape.VarInfo.{VarInfo}
 use Rattle.ln_bound.specs.Widths.{least}
 use Rattle.ln_bound.specs.declared.fitted.Width.{Width}

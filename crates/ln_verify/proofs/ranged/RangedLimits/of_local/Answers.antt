@@ -1,7 +1,7 @@
 -- Answers to the goals of `of_local` in src/ranged.rt.
 use Rattle.std.proofs.Common.{◌≡◌, ◌∙◌, ap, subst}
-use Rattle.ln_bound.specs.Intervals.Range.{Range, magnitude}
-use Rattle.ln_bound.specs.Intervals.View.{range}
+use Rattle.ln_interval.specs.Range.{Range, magnitude}
+use Rattle.ln_interval.specs.View.{range}
 use Rattle.ln_bound.specs.Widths.{least, wider}
 use Rattle.ln_bound.specs.declared.fitted.Width.{Width}
 use Rattle.ln_code.specs.Rules.{known}

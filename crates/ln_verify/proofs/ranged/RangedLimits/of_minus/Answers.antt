@@ -2,8 +2,8 @@
 use Rattle.std.proofs.Common.{◌↔◌, ◌∙◌, refl, subst, sym}
 use Rattle.std.specs.Prelude.{IsTrue}
 use Rattle.ln_algebra.specs.Tree.{Neg}
-use Rattle.ln_bound.specs.Intervals.Range.{Covers, Range, opposite}
-use Rattle.ln_bound.specs.Intervals.View.{range}
+use Rattle.ln_interval.specs.Range.{Covers, Range, opposite}
+use Rattle.ln_interval.specs.View.{range}
 use Rattle.ln_bound.specs.Widths.{no_wider}
 use Rattle.ln_code.specs.Rules.{known}
 use Rattle.ln_verify.specs.Rules.{IsRule, in_range}

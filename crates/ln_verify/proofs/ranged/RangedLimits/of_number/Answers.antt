@@ -3,8 +3,8 @@ use Rattle.std.proofs.Common.{◌≡◌, ◌∙◌, ap, rules, subst, unsigned_a
 use Rattle.std.proofs.lemmas.Int.{to_z-of_z}
 use mir.Syntax.{w128}
 use Rattle.ln_algebra.specs.Tree.{Num}
-use Rattle.ln_bound.specs.Intervals.Range.{Range, magnitude, point}
-use Rattle.ln_bound.specs.Intervals.View.{range}
+use Rattle.ln_interval.specs.Range.{Range, magnitude, point}
+use Rattle.ln_interval.specs.View.{range}
 use Rattle.ln_bound.specs.Widths.{least}
 use Rattle.ln_bound.specs.declared.fitted.Width.{Width}
 use Rattle.ln_code.specs.Rules.{known}

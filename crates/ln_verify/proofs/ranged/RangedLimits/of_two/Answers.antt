@@ -1,7 +1,7 @@
 -- Answers to the goals of `of_two` in src/ranged.rt.
 use Rattle.std.proofs.Common.{◌∙◌, ◌&&◌, refl, subst, sym}
-use Rattle.ln_bound.specs.Intervals.Range.{Range}
-use Rattle.ln_bound.specs.Intervals.View.{range}
+use Rattle.ln_interval.specs.Range.{Range}
+use Rattle.ln_interval.specs.View.{range}
 use Rattle.ln_bound.specs.Typed.{bound_of, range_of, two_of}
 use Rattle.ln_bound.specs.Widths.{no_wider}
 use Rattle.ln_code.specs.Rules.{known}

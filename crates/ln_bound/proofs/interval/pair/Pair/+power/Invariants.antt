@@ -1,5 +1,0 @@
--- What `power` keeps, or what it measures.
-use Rattle.ln_bound.proofs.interval.pair.Pair.+power.Given as goal
-
-abbrev pub decreases-power : goal.decreases-power
-decreases-power l = l.n

@@ -1,7 +1,0 @@
--- Pairs of the program, seen as ranges.
-use Rattle.ln_bound.specs.Intervals.Range.{Range}
-use Rattle.ln_bound.specs.declared.interval.pair.Pair.{Pair}
-
--- the range of a pair
-abbrev pub range : Pair → Range
-range p = record { low = p.low; high = p.high }

@@ -1,4 +1,0 @@
--- The files of this folder.
-pub mod Places
-pub mod Answered
-pub mod Sums

@@ -1,0 +1,331 @@
+-- Triples that are worked out: where there is a result each node is steady, and where each is there is one.
+use Rattle.std.proofs.Common.{◌≡◌, ◌⊎◌, inl, inr, ℕ, ◌≤◌, ◌<◌, true, List, [], ◌∷◌, ◌++◌, refl, zero, suc, ap, arith, ap₂, subst, ℤ, ◌^◌, sym, ◌∙◌, nat_le, ◌-◌}
+use Rattle.std.specs.Prelude.{Option, Some, None, All, IfSome, slice_index_or, unsigned_abs, ◌≢◌}
+use Rattle.std.proofs.lemmas.Bool.{leb-true, le-leb, and_parts, cases_lt}
+use Rattle.ln_algebra.specs.Tree.{Tree, Num, Input, Name, Neg, Add, Sub, Mul, Pow}
+use Rattle.ln_tree.specs.declared.shape.VarInfo.{VarInfo}
+use Rattle.ln_bound.specs.declared.fitted.Two.{Two}
+use Rattle.ln_bound.specs.declared.fitted.Two.TheVariants.{Plus, Minus, Times}
+use Rattle.ln_bound.specs.Typed.{two_of}
+use Rattle.ln_bound.specs.Value.{sizes}
+use Rattle.ln_code.specs.declared.op.Triple.{Triple}
+use Rattle.ln_code.specs.Engine.{next}
+use Rattle.ln_code.specs.Kept.{no_triple}
+use Rattle.ln_code.proofs.Engines.Follow.{when_some}
+use Rattle.ln_code.proofs.Following.Known.{next_some}
+use Rattle.ln_filter.specs.Triples.{bits, both, whole, leaf, trimmed, added, multiplied, powered, triple, let_triples}
+use Rattle.ln_filter.specs.Steady.{IsSteady, ArePowersSteady, AreSteady, AreLetsSteady, HasFilter}
+use Rattle.ln_filter.specs.Tried.{is_steady, settled, power_tried, tried, lets_tried, AreNarrow, IsSmall, IsTried}
+use Rattle.ln_filter.proofs.Truncation.Bits.{excess_leaves}
+
+-- a steady triple passes the test
+pub test_of : (a : Triple) → IsSteady a → is_steady a ≡ true
+test_of a s = rw (le-leb a.e 2147483647 s.error, le-leb a.k 255 s.power) refl
+
+-- a triple that passes the test is steady
+pub steady_by : (a : Triple) → is_steady a ≡ true → IsSteady a
+steady_by a h =
+    let p = and_parts (nat_le a.e 2147483647) (nat_le a.k 255) h in
+    record { error = leb-true _ _ p.0; power = leb-true _ _ p.1 }
+
+-- `settled` of a steady triple is that triple
+pub settled_is : (a : Triple) → IsSteady a → settled a ≡ Some a
+settled_is a s = rw (test_of a s) refl
+
+-- what `settled` returns is steady, and is the triple that it was given
+pub settled_some : (a b : Triple) → settled a ≡ Some b → IsSteady a × (a ≡ b)
+settled_some a b h = let w = when_some (is_steady a) a b h in (steady_by a w.0, w.1)
+
+-- the number 1
+pub one_steady : IsSteady (leaf 1)
+unfolding bits
+one_steady = record { error = omega arith; power = omega arith }
+
+-- ---- powers
+
+-- where the products on the way to a power are steady, its triple is worked out
+pub powers_tried : (a : Triple) (n : ℕ) → ArePowersSteady a n → power_tried a n ≡ Some (powered a n)
+powers_tried a zero s = settled_is (leaf 1) one_steady
+powers_tried a (suc zero) s = refl
+powers_tried a (suc (suc n)) s =
+    let h : power_tried a (suc n) ≡ Some (powered a (suc n)) = powers_tried a (suc n) (λ m l k. s m l (omega arith)) in
+    rw h (settled_is (multiplied (powered a (suc n)) a) (s (suc (suc n)) (omega arith) (omega arith)))
+
+-- one step of the way to a power
+pub power_step : (a p : Triple) (n : ℕ) (o : Option Triple) → n ≢ 0 → n ≢ 1 → Some p ≡ power_tried a (n - 1)
+    → o ≡ settled (multiplied p a) → o ≡ power_tried a n
+power_step a p zero o y z h k = absurd (y refl)
+power_step a p (suc zero) o y z h k = absurd (z refl)
+power_step a p (suc (suc n)) o y z h k =
+    let e : suc (suc n) - 1 ≡ suc n = omega arith in
+    let f : Some p ≡ power_tried a (suc n) = rw e at h in
+    rw (← f) k
+
+one_more : (a : Triple) (n j : ℕ) → j ≡ suc n → ArePowersSteady a n → IsSteady (powered a j) → ArePowersSteady a j
+one_more a n j e h s m l k = by_case (cases_lt m j)
+  where
+    by_case : (m < j) ⊎ (j ≤ m) → IsSteady (powered a m)
+    by_case (inl p) = h m l (omega arith)
+    by_case (inr p) = let q : m ≡ j = omega arith in rw q s
+
+-- the products on the way to the power are steady, and this is its triple
+pub record PowerTried (a p : Triple) (n : ℕ) : Type 0 where
+  pub steady : ArePowersSteady a n
+  pub is : powered a n ≡ p
+
+-- where a triple is worked out for a power, the products on the way are steady, and it is the power's
+pub tried_powers : (a p : Triple) (n : ℕ) → power_tried a n ≡ Some p → PowerTried a p n
+tried_powers a p zero h = let w = settled_some (leaf 1) p h in record { steady = λ m l k. absurd (omega arith); is = w.1 }
+tried_powers a p (suc zero) h = record { steady = λ m l k. absurd (omega arith); is = cc }
+tried_powers a p (suc (suc n)) h =
+    let w = next_some (power_tried a (suc n)) (λ (q : Triple). settled (multiplied q a)) p h in
+    let r = tried_powers a w.0 (suc n) w.1 in
+    let v = settled_some (multiplied w.0 a) p w.2 in
+    let s : IsSteady (multiplied (powered a (suc n)) a) = rw r.is v.0 in
+    let e : multiplied (powered a (suc n)) a ≡ p = rw r.is v.1 in
+    record { steady = one_more a (suc n) (suc (suc n)) refl r.steady s; is = e }
+
+-- ---- trees
+
+-- where the nodes of an expression are steady, its triple is worked out
+pub steady_tried : (vars : List VarInfo) (lets : List Triple) (t : Tree) → AreSteady vars lets t → tried vars lets t ≡ Some (triple vars lets t)
+steady_tried vars lets (Num c) s = settled_is _ s
+steady_tried vars lets (Input v) s = settled_is _ s
+steady_tried vars lets (Name j) s = refl
+steady_tried vars lets (Neg e) s = steady_tried vars lets e s
+steady_tried vars lets (Add e f) s = rw (steady_tried vars lets e s.0, steady_tried vars lets f s.1) (settled_is _ s.2)
+steady_tried vars lets (Sub e f) s = rw (steady_tried vars lets e s.0, steady_tried vars lets f s.1) (settled_is _ s.2)
+steady_tried vars lets (Mul e f) s = rw (steady_tried vars lets e s.0, steady_tried vars lets f s.1) (settled_is _ s.2)
+steady_tried vars lets (Pow e n) s = rw (steady_tried vars lets e s.0) (powers_tried (triple vars lets e) n s.1)
+
+-- the nodes of the expression are steady, and this is its triple
+pub record Tried (vars : List VarInfo) (lets : List Triple) (t : Tree) (a : Triple) : Type 0 where
+  pub steady : AreSteady vars lets t
+  pub is : triple vars lets t ≡ a
+
+record TwoTried (o p : Option Triple) (join : Triple → Triple → Triple) (x : Triple) : Type 0 where
+  left : Triple
+  right : Triple
+  left_is : o ≡ Some left
+  right_is : p ≡ Some right
+  steady : IsSteady (join left right)
+  is : join left right ≡ x
+
+two_tried : (o p : Option Triple) (join : Triple → Triple → Triple) (x : Triple) → next o (λ a. next p (λ b. settled (join a b))) ≡ Some x → TwoTried o p join x
+two_tried None p join x h = cc
+two_tried (Some a) None join x h = cc
+two_tried (Some a) (Some b) join x h =
+    let w = settled_some (join a b) x h in
+    record { left = a; right = b; left_is = refl; right_is = refl; steady = w.0; is = w.1 }
+
+-- where a triple is worked out for an expression, its nodes are steady, and it is the expression's
+pub tried_steady : (vars : List VarInfo) (lets : List Triple) (t : Tree) (a : Triple) → tried vars lets t ≡ Some a → Tried vars lets t a
+tried_steady vars lets (Num c) a h = let w = settled_some _ a h in record { steady = w.0; is = w.1 }
+tried_steady vars lets (Input v) a h = let w = settled_some _ a h in record { steady = w.0; is = w.1 }
+tried_steady vars lets (Name j) a h = record { steady = tt; is = cc }
+tried_steady vars lets (Neg e) a h = let r = tried_steady vars lets e a h in record { steady = r.steady; is = r.is }
+tried_steady vars lets (Add e f) a h =
+    let w = two_tried (tried vars lets e) (tried vars lets f) added a h in
+    let r = tried_steady vars lets e w.left w.left_is in
+    let s = tried_steady vars lets f w.right w.right_is in
+    let z : IsSteady (added (triple vars lets e) (triple vars lets f)) = rw (r.is, s.is) w.steady in
+    let i : added (triple vars lets e) (triple vars lets f) ≡ a = rw (r.is, s.is) w.is in
+    record { steady = (r.steady, s.steady, z); is = i }
+tried_steady vars lets (Sub e f) a h =
+    let w = two_tried (tried vars lets e) (tried vars lets f) added a h in
+    let r = tried_steady vars lets e w.left w.left_is in
+    let s = tried_steady vars lets f w.right w.right_is in
+    let z : IsSteady (added (triple vars lets e) (triple vars lets f)) = rw (r.is, s.is) w.steady in
+    let i : added (triple vars lets e) (triple vars lets f) ≡ a = rw (r.is, s.is) w.is in
+    record { steady = (r.steady, s.steady, z); is = i }
+tried_steady vars lets (Mul e f) a h =
+    let w = two_tried (tried vars lets e) (tried vars lets f) multiplied a h in
+    let r = tried_steady vars lets e w.left w.left_is in
+    let s = tried_steady vars lets f w.right w.right_is in
+    let z : IsSteady (multiplied (triple vars lets e) (triple vars lets f)) = rw (r.is, s.is) w.steady in
+    let i : multiplied (triple vars lets e) (triple vars lets f) ≡ a = rw (r.is, s.is) w.is in
+    record { steady = (r.steady, s.steady, z); is = i }
+tried_steady vars lets (Pow e n) a h =
+    let w = next_some (tried vars lets e) (λ (b : Triple). power_tried b n) a h in
+    let r = tried_steady vars lets e w.0 w.1 in
+    let p = tried_powers w.0 a n w.2 in
+    let z : ArePowersSteady (triple vars lets e) n = rw r.is p.steady in
+    let i : powered (triple vars lets e) n ≡ a = rw r.is p.is in
+    record { steady = (r.steady, z); is = i }
+
+-- where some triple is worked out for an expression, the expression's own is
+pub tried_again : (vars : List VarInfo) (lets : List Triple) (t : Tree) (x a : Triple) → Some x ≡ tried vars lets t → a ≡ triple vars lets t
+    → Some a ≡ tried vars lets t
+tried_again vars lets t x a h k =
+    let r = tried_steady vars lets t x (sym h) in
+    let e : a ≡ x = k ∙ r.is in
+    ap Some e ∙ h
+
+-- ---- lets
+
+-- where the nodes of the lets are steady, their triples are worked out
+pub steady_lets_tried : (vars : List VarInfo) (done : List Triple) (ts : List Tree) → AreLetsSteady vars done ts
+    → lets_tried vars done ts ≡ Some (let_triples vars done ts)
+steady_lets_tried vars done [] s = refl
+steady_lets_tried vars done (t ∷ ts) s = rw (steady_tried vars done t s.0) (steady_lets_tried vars (done ++ (triple vars done t ∷ [])) ts s.1)
+
+-- the nodes of the lets are steady, and these are their triples
+pub record LetsTried (vars : List VarInfo) (done : List Triple) (ts : List Tree) (xs : List Triple) : Type 0 where
+  pub steady : AreLetsSteady vars done ts
+  pub is : let_triples vars done ts ≡ xs
+
+-- where triples are worked out for the lets, their nodes are steady, and these are the triples of the lets
+pub lets_tried_steady : (vars : List VarInfo) (done : List Triple) (ts : List Tree) (xs : List Triple) → lets_tried vars done ts ≡ Some xs
+    → LetsTried vars done ts xs
+lets_tried_steady vars done [] xs h = record { steady = tt; is = cc }
+lets_tried_steady vars done (t ∷ ts) xs h =
+    let w = next_some (tried vars done t) (λ (a : Triple). lets_tried vars (done ++ (a ∷ [])) ts) xs h in
+    let s = tried_steady vars done t w.0 w.1 in
+    let q : lets_tried vars (done ++ (triple vars done t ∷ [])) ts ≡ Some xs = rw s.is w.2 in
+    let r = lets_tried_steady vars (done ++ (triple vars done t ∷ [])) ts xs q in
+    record { steady = (s.steady, r.steady); is = r.is }
+
+-- ---- which predicates have a filter
+
+-- a predicate has a filter where triples are worked out for its lets and its sign expression
+pub has_filter : (vars : List VarInfo) (lets : List Tree) (root : Tree) (ts : List Triple) (a : Triple) → Some ts ≡ lets_tried vars [] lets
+    → Some a ≡ tried vars ts root → HasFilter vars lets root
+has_filter vars lets root ts a h k =
+    let l = lets_tried_steady vars [] lets ts (sym h) in
+    let r = tried_steady vars ts root a (sym k) in
+    record { lets_steady = l.steady; root_steady = rw l.is r.steady }
+
+-- a predicate has no filter where no triples are worked out for its lets
+pub no_lets_filter : (vars : List VarInfo) (lets : List Tree) (root : Tree) → None ≡ lets_tried vars [] lets → HasFilter vars lets root → ⊥
+no_lets_filter vars lets root h f = let e : None ≡ Some (let_triples vars [] lets) = h ∙ steady_lets_tried vars [] lets f.lets_steady in cc
+
+-- nor where no triple is worked out for its sign expression
+pub no_root_filter : (vars : List VarInfo) (lets : List Tree) (root : Tree) (ts : List Triple) → Some ts ≡ lets_tried vars [] lets
+    → None ≡ tried vars ts root → HasFilter vars lets root → ⊥
+no_root_filter vars lets root ts h k f =
+    let l = lets_tried_steady vars [] lets ts (sym h) in
+    let s : AreSteady vars ts root = rw l.is at f.root_steady in
+    let e : None ≡ Some (triple vars ts root) = k ∙ steady_tried vars ts root s in
+    cc
+
+-- ---- 31 bits
+
+-- a triple that is steady after its cut is small
+pub trimmed_small : (a : Triple) → IsSteady (trimmed a) → IsSmall (trimmed a)
+trimmed_small a s =
+    let h = excess_leaves a.h in
+    let e = s.error in
+    let k = s.power in
+    record { power = k; size = h; error = omega arith }
+
+-- the power of what has a small triple has one, where the products on the way are steady
+pub powered_small : (a : Triple) (n : ℕ) → IsSmall a → ArePowersSteady a n → IsSmall (powered a n)
+powered_small a zero s p = trimmed_small (whole 1) one_steady
+powered_small a (suc zero) s p = s
+powered_small a (suc (suc n)) s p = trimmed_small _ (p (suc (suc n)) (omega arith) (omega arith))
+
+-- each of these
+abbrev pub AreSmall : List Triple → Type 0
+AreSmall [] = Unit {0}
+AreSmall (a ∷ as') = IsSmall a × AreSmall as'
+
+-- each of small triples is small, and so is the one that is read past the end
+pub small_at : (ts : List Triple) (j : ℕ) → AreSmall ts → IsSmall (slice_index_or ts j no_triple)
+small_at [] j s = record { power = omega arith; size = omega arith; error = omega arith }
+small_at (a ∷ ts) zero s = s.0
+small_at (a ∷ ts) (suc j) s = small_at ts j s.1
+
+-- small triples and one more are small
+pub small_snoc : (ts : List Triple) (a : Triple) → AreSmall ts → IsSmall a → AreSmall (ts ++ (a ∷ []))
+small_snoc [] a s p = (p, tt)
+small_snoc (b ∷ ts) a s p = (s.0, small_snoc ts a s.1 p)
+
+-- the triple of an expression with steady nodes is small, where those of the lets are
+pub triple_small : (vars : List VarInfo) (lets : List Triple) (t : Tree) → AreSmall lets → AreSteady vars lets t → IsSmall (triple vars lets t)
+triple_small vars lets (Num c) g s = trimmed_small _ s
+triple_small vars lets (Input v) g s = trimmed_small _ s
+triple_small vars lets (Name j) g s = small_at lets j g
+triple_small vars lets (Neg e) g s = triple_small vars lets e g s
+triple_small vars lets (Add e f) g s = trimmed_small _ s.2
+triple_small vars lets (Sub e f) g s = trimmed_small _ s.2
+triple_small vars lets (Mul e f) g s = trimmed_small _ s.2
+triple_small vars lets (Pow e n) g s = powered_small (triple vars lets e) n (triple_small vars lets e g s.0) s.1
+
+-- small triples and one more are small, by `All`
+pub all_snoc : (ts : List Triple) (a : Triple) → All IsSmall ts → IsSmall a → All IsSmall (ts ++ (a ∷ []))
+all_snoc [] a s p zero d h = p
+all_snoc [] a s p (suc k) d h = absurd (omega arith)
+all_snoc (b ∷ ts) a s p zero d h = s 0 b (omega arith)
+all_snoc (b ∷ ts) a s p (suc k) d h = all_snoc ts a (λ i e l. s (suc i) e (omega arith)) p k d (omega arith)
+
+-- ---- a tree from its operands
+
+-- `settled` of a small triple is that triple
+pub settled_small : (a : Triple) → IsSmall a → settled a ≡ Some a
+settled_small a s =
+    let e = s.error in
+    let k = s.power in
+    settled_is a (record { error = omega arith; power = omega arith })
+
+-- the result for a number
+pub tried_num : (vars : List VarInfo) (lets : List Triple) (t : Tree) (c : ℤ) (a : Triple) → t ≡ Num c → a ≡ leaf (unsigned_abs c)
+    → IsSmall a → IsTried vars lets t (Some a)
+tried_num vars lets t c a e h s = record { value = sym (settled_small a s) ∙ ap settled h ∙ ap (tried vars lets) (sym e); small = s; narrow = rw e tt }
+
+-- the result for a variable
+pub tried_input : (vars : List VarInfo) (lets : List Triple) (t : Tree) (v : ℕ) (a : Triple) → t ≡ Input v → a ≡ leaf (sizes vars v)
+    → IsSmall a → sizes vars v < 2 ^ 63 → IsTried vars lets t (Some a)
+tried_input vars lets t v a e h s n = record { value = sym (settled_small a s) ∙ ap settled h ∙ ap (tried vars lets) (sym e); small = s; narrow = rw e n }
+
+-- the result for the name of a let
+pub tried_let : (vars : List VarInfo) (lets : List Triple) (t : Tree) (j : ℕ) (a : Triple) → t ≡ Name j
+    → a ≡ slice_index_or lets j no_triple → IsSmall a → IsTried vars lets t (Some a)
+tried_let vars lets t j a e h s = record { value = ap Some h ∙ ap (tried vars lets) (sym e); small = s; narrow = rw e tt }
+
+-- the result for a negation is that for its operand
+pub tried_neg : (vars : List VarInfo) (lets : List Triple) (t x : Tree) (o : Option Triple) → t ≡ Neg x → IsTried vars lets x o → IsTried vars lets t o
+tried_neg vars lets t x o e h = rw e (record { value = h.value; small = h.small; narrow = h.narrow })
+
+two_tries : (vars : List VarInfo) (lets : List Triple) (k : Two) (x y : Tree)
+    → tried vars lets (two_of k x y) ≡ next (tried vars lets x) (λ a. next (tried vars lets y) (λ b. settled (both k a b)))
+two_tries vars lets Plus x y = refl
+two_tries vars lets Minus x y = refl
+two_tries vars lets Times x y = refl
+
+two_narrow : (vars : List VarInfo) (k : Two) (x y : Tree) → AreNarrow vars x → AreNarrow vars y → AreNarrow vars (two_of k x y)
+two_narrow vars Plus x y p q = (p, q)
+two_narrow vars Minus x y p q = (p, q)
+two_narrow vars Times x y p q = (p, q)
+
+if_there : (o : Option Triple) (P : Type 0) → P → IfSome o (λ a. P)
+if_there None P h = tt
+if_there (Some a) P h = h
+
+both_narrow : (vars : List VarInfo) (k : Two) (x y : Tree) (o p r : Option Triple) → r ≡ next o (λ a. next p (λ b. settled (both k a b)))
+    → IfSome o (λ a. AreNarrow vars x) → IfSome p (λ a. AreNarrow vars y) → IfSome r (λ a. AreNarrow vars (two_of k x y))
+both_narrow vars k x y None p r e m n = rw e tt
+both_narrow vars k x y (Some a) None r e m n = rw e tt
+both_narrow vars k x y (Some a) (Some b) r e m n = if_there r (AreNarrow vars (two_of k x y)) (two_narrow vars k x y m n)
+
+-- the result for an operation on two, by those for its operands
+pub tried_both : (vars : List VarInfo) (lets : List Triple) (k : Two) (x y : Tree) (o p r : Option Triple) → IsTried vars lets x o
+    → IsTried vars lets y p → r ≡ next o (λ a. next p (λ b. settled (both k a b))) → IfSome r (λ a. IsSmall a) → IsTried vars lets (two_of k x y) r
+tried_both vars lets k x y o p r u v i s = record {
+  value = i ∙ ap₂ (λ (m n : Option Triple). next m (λ a. next n (λ b. settled (both k a b)))) u.value v.value ∙ sym (two_tries vars lets k x y);
+  small = s;
+  narrow = both_narrow vars k x y o p r i u.narrow v.narrow;
+}
+
+raised_narrow : (vars : List VarInfo) (x : Tree) (n : ℕ) (o r : Option Triple) → r ≡ next o (λ a. power_tried a n)
+    → IfSome o (λ a. AreNarrow vars x) → IfSome r (λ a. AreNarrow vars x)
+raised_narrow vars x n None r e m = rw e tt
+raised_narrow vars x n (Some a) r e m = if_there r (AreNarrow vars x) m
+
+-- the result for a power, by that for its base
+pub tried_raised : (vars : List VarInfo) (lets : List Triple) (t x : Tree) (n : ℕ) (o r : Option Triple) → t ≡ Pow x n
+    → IsTried vars lets x o → r ≡ next o (λ a. power_tried a n) → IfSome r (λ a. IsSmall a) → IsTried vars lets t r
+tried_raised vars lets t x n o r e u i s = record {
+  value = i ∙ ap (λ (m : Option Triple). next m (λ a. power_tried a n)) u.value ∙ ap (tried vars lets) (sym e);
+  small = s;
+  narrow = subst (λ z. IfSome r (λ a. AreNarrow vars z)) (sym e) (raised_narrow vars x n o r i u.narrow);
+}

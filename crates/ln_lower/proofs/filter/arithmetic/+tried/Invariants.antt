@@ -1,6 +1,0 @@
-use Rattle.ln_bound.specs.Typed.{cost}
-use Rattle.ln_bound.specs.View.{typed}
-use Rattle.ln_lower.proofs.filter.arithmetic.+tried.Given as goal
-
-abbrev pub decreases-tried : goal.decreases-tried
-decreases-tried l = cost (typed l.t.now)
