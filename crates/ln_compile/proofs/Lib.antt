@@ -3,4 +3,3 @@ pub mod Refusing
 pub mod Smallness
 pub mod Listing
 pub mod Numbers
-pub mod Grading

@@ -1,5 +1,4 @@
 -- The lists and the filter of a program are those of its predicate.
 pub mod FilteredLemmas
-pub mod ListLemmas
 pub mod ListingLemmas
 pub mod StagingLemmas

@@ -6,4 +6,3 @@ pub mod Refused
 pub mod Weighed
 pub mod Faultless
 pub mod Polynomial
-pub mod Grading

@@ -1,6 +1,6 @@
 //! The blocks of a predicate.
-ghost use Rattle.std.specs.Prelude.{◌≡◌, ◌+◌, ◌*◌, ◌<◌, ◌≤◌, ℕ, All, [], None, length, slice_index, slice_index_or, IfOk};
-ghost use Rattle.ln_algebra.specs.Vector.{total_degree, zeros};
+ghost use Rattle.std.specs.Prelude.{◌≡◌, ◌+◌, ◌*◌, ◌≤◌, ℕ, All, None, length, slice_index, IfOk};
+ghost use Rattle.ln_algebra.specs.Vector.{total_degree};
 ghost use Rattle.ln_algebra.specs.Weights.{weighted_sum};
 ghost use Rattle.ln_tree.specs.Exps.{IsAbove, vector};
 ghost use Rattle.ln_tree.specs.Table.{pred_of};
@@ -9,19 +9,18 @@ ghost use Rattle.ln_bound.specs.Value.{weights};
 ghost use Rattle.ln_order.specs.Sites.{site_of};
 ghost use Rattle.ln_poly.specs.Expansion.{HaveFewTerms, IsNormal};
 ghost use Rattle.ln_poly.specs.Sparse.{AreBelow, IsPoly, Sparse, terms_of};
-ghost use Rattle.ln_stage.specs.Lists.{covering};
+ghost use Rattle.ln_poly.specs.Derivative.{covering};
 ghost use Rattle.ln_due.specs.Derivative.{IsDerivativeBlock};
 ghost use Rattle.ln_compile.specs.Accepted.{expanded_of, loaded_of, root_of};
 ghost use Rattle.ln_compile.specs.Compiled.{IsFromExact, IsOwn};
-ghost use Rattle.ln_compile.specs.Made.{AreBlocksOf};
 
 use ln_base::{NoMemory, Seq};
 use ln_bound::size::size;
 use ln_code::Block;
+use ln_due::BlockMaker;
 use ln_lower::lower;
 use ln_nest::nest;
 use ln_poly::{Poly, derive_by};
-use ln_stage::Stages;
 use ln_tree::{Exps, Pred, Shape};
 use std::alloc::Global;
 
@@ -62,33 +61,13 @@ pub(crate) fn first_block(alloc: Global, p: &Pred) -> Result<Block, NoMemory>
     made
 }
 
-/// The blocks of these stages: this first one, which has no exponents, and after it for each other stage the block of its scaled derivative
-/// of f, made from the nested form. The one error is that memory runs out.
-pub fn blocks_after(
-    alloc: Global,
-    f: &Poly,
-    s: &Shape,
-    first: Block,
-    st: &Stages,
-) -> Result<Seq<Block>, NoMemory>
-    requires form { IsPoly f.now }
-    requires below { AreBelow (length s.now.vars) f.now }
-    requires weight { weighted_sum (weights s.now.vars) (terms_of (length s.now.vars) f.now) ≤ most }
-    requires degrees { All (λ t. total_degree (vector (length s.now.vars) t.0) ≤ 126) f.now }
-    requires terms { length f.now ≤ 1024 }
-    requires plain { first.exps ≡ [] }
-    requires block { IsDerivativeBlock s.now.vars f.now first }
-    requires begins { (0 < length st.now.exps)
-        × (vector (length s.now.vars) (slice_index_or st.now.exps 0 []) ≡ zeros (length s.now.vars)) }
-    requires exps { All (λ e. IsAbove e (length s.now.vars)) st.now.exps }
-    requires sites { All (λ e. (v : ℕ) → site_of s.now.vars v ≡ None → slice_index (vector (length s.now.vars) e) v ≡ 0) st.now.exps }
-    ensures { IfOk result (AreBlocksOf s.now.vars f.now first st.now.exps) }
-{
-    let mut blocks = Seq::new(alloc);
-    blocks.push(first)?;
-    'blocks: for i in 1..st.blocks() {
-        let block = derivative_block(alloc, f, s, st.exps(i))?;
-        blocks.push(block)?;
+/// Makes blocks from nested forms with exact ranges.
+pub(crate) struct FromNested {}
+
+impl BlockMaker for FromNested {
+    ghost makes = { IsFromExact };
+
+    fn block(&self, alloc: Global, f: &Poly, s: &Shape, a: &Exps) -> Result<Block, NoMemory> {
+        derivative_block(alloc, f, s, a)
     }
-    Ok(blocks)
 }

@@ -7,7 +7,7 @@
 //!
 //! A program takes far more memory than a table, so `Checked` makes the program of one predicate or of all where it is asked for;
 //! `compile` does both at once. Each program carries its predicate's root: its lists are the stage lists of all orders of the sites,
-//! and each block computes the scaled derivative of the normal polynomial by its exponents. `graded` makes the program of a predicate by total degree first.
+//! and each block computes the scaled derivative of the normal polynomial by its exponents.
 //!
 //! The crate ln_due defines the verdict that is required on a row; the law of `due` adds which filter a predicate has and where it decides.
 #![tactic(auto)]
@@ -15,7 +15,6 @@
 pub mod blocks;
 pub mod checked;
 pub mod due;
-pub mod graded;
 pub(crate) mod judge;
 pub mod laws;
 pub(crate) mod polynomial;
@@ -24,7 +23,6 @@ pub(crate) mod programs;
 pub mod refusal;
 pub mod source;
 
-pub use blocks::blocks_after;
 pub use checked::{Checked, check};
 pub use refusal::Refusal;
 pub use source::{Compiled, compile};

@@ -19,10 +19,11 @@ ghost use Rattle.ln_code.specs.Carried.{CarriesWhole};
 ghost use Rattle.ln_compile.specs.Compiled.{IsFilterOf, IsProgramOf};
 ghost use Rattle.ln_compile.specs.Made.{AreOwnBlocks};
 
-use crate::blocks::{blocks_after, first_block};
+use crate::blocks::{FromNested, first_block};
 use ln_base::{NoMemory, Seq};
 use ln_bound::size::size;
 use ln_code::{Block, FilterBlock, Program};
+use ln_due::blocks_after;
 use ln_filter::plan;
 use ln_poly::Poly;
 use ln_stage::Stages;
@@ -58,7 +59,7 @@ fn blocks_of(alloc: Global, p: &Pred, f: &Poly, st: &Stages) -> Result<Seq<Block
     ensures { IfOk result (AreOwnBlocks (pred_of p.now) f.now st.now.exps) }
 {
     let first = first_block(alloc, p)?;
-    blocks_after(alloc, f, &p.shape, first, st)
+    blocks_after(alloc, &FromNested {}, f, &p.shape, first, st.all_exps())
 }
 
 /// The program of a predicate with this normal polynomial and these stages.

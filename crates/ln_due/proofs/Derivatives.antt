@@ -3,3 +3,4 @@ pub mod Deriving
 pub mod NodesIn
 pub mod LeanNodes
 pub mod Blocks
+pub mod Gathering

@@ -7,10 +7,13 @@
 //! of a listing that are judged valid both come here.
 //!
 //! The laws hold in either order of infinitesimals, by the smallest one that differs and by total degree first; `run` has those of
-//! the first under names of their own. Nothing runs.
+//! the first under names of their own.
+//!
+//! What a program of either order has in common is here too: `blocks_after` makes its blocks over a maker of one that is passed in.
 #![tactic(auto)]
 
 pub mod due;
+pub mod maker;
 pub mod run;
 pub mod steps;
 
@@ -18,5 +21,6 @@ pub use due::{
     blocks_run, due_is_unique, plain_values_decide, stages_are_coefficients, verdicts_are_due,
     without_params_never_zero,
 };
+pub use maker::{BlockMaker, blocks_after};
 pub use run::run_is_due;
 pub use steps::verdicts_are_told;

@@ -6,4 +6,5 @@ pub mod OrderExists
 pub mod OrderLemmas
 pub mod OrderUnique
 pub mod OrdersLemmas
+pub mod Placing
 pub mod PrefixLemmas

@@ -52,3 +52,8 @@ pub record IsDerivative (n : ℕ) (f : Sparse) (a : Pairs) (h : Sparse) : Type 0
 -- how many terms cover a; the terms of a polynomial are its monomials, each once
 abbrev pub covering : ℕ → Sparse → List ℕ → ℕ
 covering n f a = count_by (λ t. covers (vector n t.0) a) f
+
+-- how many terms cover each of the vectors, taken together
+abbrev pub all_covering : ℕ → Sparse → List (List ℕ) → ℕ
+all_covering n f [] = 0
+all_covering n f (a ∷ as') = covering n f a + all_covering n f as'

@@ -22,10 +22,10 @@ use Rattle.ln_compile.specs.Accepted.{root_of}
 use Rattle.ln_compile.specs.Compiled.{AreNumbered, IsFilterOf, IsProgramAt, IsProgramOf}
 use Rattle.ln_compile.specs.Filtered.{AnswersFor}
 use Rattle.ln_compile.specs.Polynomial.{IsPolynomialAt, IsPolynomialOf}
-use Rattle.ln_compile.specs.Grading.Graded.{Begins, IsGradable, IsGraded, IsWithin, StopsFor}
-use Rattle.ln_compile.specs.declared.graded.stop.GradedStop.{GradedStop}
-use Rattle.ln_compile.specs.declared.graded.stop.GradedStop.TheVariants.{NoMemory, Stages}
-use Rattle.ln_compile.proofs.Grading.Joining.{all-at}
+use Rattle.ln_graded.specs.Graded.{Begins, IsGradable, IsGraded, IsWithin, StopsFor}
+use Rattle.ln_graded.specs.declared.stop.GradedStop.{GradedStop}
+use Rattle.ln_graded.specs.declared.stop.GradedStop.TheVariants.{NoMemory, Stages}
+use Rattle.ln_graded.proofs.Joining.{all-at}
 use Rattle.ln_stage.proofs.Results.SamePoly.{one-normal}
 use Rattle.ln_signs.specs.Graded.{FirstHasFew, HasFewGraded, KeepsGraded}
 

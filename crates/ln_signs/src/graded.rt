@@ -21,11 +21,11 @@ use ln_base::limits::{MOST_GRADED, MOST_WEIGHT};
 use ln_base::{Console, Span};
 use ln_code::Program;
 use ln_compile::Checked;
-use ln_compile::graded::{GradedStop, graded};
 use ln_frame::place::place_at;
 use ln_frame::ready::{Ready, short_text};
 use ln_frame::status::{Early, End};
 use ln_frame::stop::{Stop, Why};
+use ln_graded::{GradedStop, graded};
 use std::alloc::Global;
 
 // Returns the program by total degree of the predicate with this number, from 0; or none, where it has too many stages in that order.

@@ -6,7 +6,7 @@ use Rattle.ln_algebra.specs.Vector.{same_vector}
 use Rattle.ln_tree.specs.declared.shape.VarInfo.{VarInfo}
 use Rattle.ln_order.specs.Orders.{orders_of}
 use Rattle.ln_order.specs.Sites.{sites_of}
-pub use Rattle.ln_poly.specs.Derivative.{covering}
+pub use Rattle.ln_poly.specs.Derivative.{all_covering, covering}
 use Rattle.ln_poly.specs.Sparse.{Sparse}
 use Rattle.ln_stage.specs.StageList.{IsMonomialOf}
 
@@ -44,11 +44,6 @@ all_seen_behind bs (list ∷ lists) = all_seen_behind (seen_behind bs list) list
 -- the distinct vectors of the lists, in order of first sight
 abbrev pub first_seen : List (List (List ℕ)) → List (List ℕ)
 first_seen lists = all_seen_behind [] lists
-
--- how many terms cover each of the vectors, taken together
-abbrev pub all_covering : ℕ → Sparse → List (List ℕ) → ℕ
-all_covering n f [] = 0
-all_covering n f (a ∷ as') = covering n f a + all_covering n f as'
 
 -- the stage weight: the sum, over the distinct vectors in all lists, of the number of monomials that cover the vector
 abbrev pub stage_weight : ℕ → Sparse → List (List (List ℕ)) → ℕ

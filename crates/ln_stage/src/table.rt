@@ -74,6 +74,13 @@ impl Stages {
         &self.blocks.as_slice()[i]
     }
 
+    /// The exponents of all blocks, by number. It allocates nothing.
+    pub fn all_exps(&self) -> &[Exps]
+        ensures { result.now ≡ self.now.exps }
+    {
+        self.blocks.as_slice()
+    }
+
     /// The segment of an order of the sites at its first j places, as numbers of blocks: the members of its list, in order,
     /// whose last site with an exponent is the j-th, and with j = 0 the member 0. It is that of every order with these
     /// first places, and the segments for j = 0, 1, .. are the list. It allocates nothing.

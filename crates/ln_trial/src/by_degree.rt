@@ -1,11 +1,11 @@
 //! Tests the limits within which a polynomial has a program by total degree.
 ghost use Rattle.std.specs.Prelude.{◌<◌, length};
-ghost use Rattle.ln_compile.specs.Grading.Graded.{Begins, IsGradable};
+ghost use Rattle.ln_graded.specs.Graded.{Begins, IsGradable};
 
 use ln_base::limits::MOST_SOURCE;
 use ln_code::Program;
-use ln_compile::graded::{GradedStop, graded};
 use ln_compile::{Checked, check};
+use ln_graded::{GradedStop, graded};
 use ln_poly::Poly;
 use ln_trial_programs::sample::ORIENT;
 use std::alloc::Global;

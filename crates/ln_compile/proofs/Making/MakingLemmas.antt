@@ -1,6 +1,6 @@
 -- Blocks as they are made.
 use Rattle.std.proofs.Common.{true≢false, ◌↔◌, ◌≡◌, ℕ, ◌+◌, ◌*◌, ◌≤◌, List, [], length, map, refl, sym, ◌∙◌, ap, subst, arith, Option, Some, None}
-use Rattle.std.specs.Prelude.{ℤ, Err, IfOk, IfSome, IsSome, Ok, Result}
+use Rattle.std.specs.Prelude.{ℤ, IfSome, IsSome}
 use Rattle.ln_algebra.specs.Coefficient.{normal_coefficient}
 use Rattle.ln_algebra.proofs.Vectors.Zeros.{derived-zeros}
 use Rattle.ln_algebra.specs.Terms.{IsNormalOf, derived}
@@ -36,11 +36,6 @@ use Rattle.ln_compile.specs.Accepted.{lets_of, own_root, root_of}
 use Rattle.ln_compile.specs.Compiled.{IsFilterOf, IsFromExact, IsOwn}
 use Rattle.ln_poly.specs.Derivative.{IsDerivative}
 use Rattle.ln_poly.proofs.Expansions.Normals.{vector-none}
-
--- two facts on what a call returns
-pub both : {X Y : Type 0} (r : Result X Y) (P Q : X → Type 0) → IfOk r P → IfOk r Q → IfOk r (λ x. P x × Q x)
-both (Ok x) P Q p q = (p, q)
-both (Err e) P Q p q = tt
 
 -- ---- a derivative's block
 -- a block whose code is that of a derivative's exact nested form is made from an exact tree

@@ -1,14 +1,12 @@
 -- The program of a predicate, from its blocks and its stages.
-use Rattle.std.proofs.Common.{◌≡◌, ℕ, ◌+◌, ◌*◌, ◌^◌, ◌<◌, ◌≤◌, List, [], ◌∷◌, length, map, get_or, refl, ap, sym, subst, ◌∙◌, arith, Option}
+use Rattle.std.proofs.Common.{◌≡◌, ℕ, ◌+◌, ◌*◌, ◌^◌, ◌<◌, ◌≤◌, List, [], length, map, refl, ap, sym, subst, ◌∙◌, arith, Option}
 use Rattle.std.specs.Prelude.{◌≢◌, All, IfSome}
-use Rattle.std.proofs.Math.ListN.{get_or-map}
-use Rattle.std.proofs.lemmas.List.{length-map}
 use Rattle.std.proofs.lemmas.Simd.{map-map}
 use Rattle.ln_algebra.specs.Orders.{BySmallest}
 use Rattle.ln_algebra.specs.Sizes.{two}
 use Rattle.ln_base.specs.Limits.{most_stages, most_weight}
 use Rattle.ln_tree.specs.declared.pred.Pred.{Pred}
-use Rattle.ln_tree.specs.Exps.{Pairs, vector}
+use Rattle.ln_tree.specs.Exps.{vector}
 use Rattle.ln_tree.specs.Formula.{formula, tree}
 use Rattle.ln_tree.specs.Table.{pred_of}
 use Rattle.ln_bound.specs.Light.{AreLight}
@@ -20,7 +18,7 @@ use Rattle.ln_poly.proofs.Expansions.Lets.{root-light}
 use Rattle.ln_poly.proofs.Loads.Sizing.{pred-expands}
 use Rattle.ln_stage.specs.Lists.{AreStageLists, all_covering, first_seen, stage_count, stage_weight}
 use Rattle.ln_stage.specs.Staged.{AreStagesOf, Staged, block_vector, vectors_of}
-use Rattle.ln_code.specs.Carried.{CarriesWhole}
+use Rattle.ln_code.specs.Carried.{CarriesWhole, stage_at, vectors}
 use Rattle.ln_code.specs.Kept.{FollowsFilterRules, IsList, IsProgram}
 use Rattle.ln_code.specs.Lists.{list_of, lists_of}
 use Rattle.ln_code.specs.Part.{Code, FilterCode, Part, ops_in_blocks, ops_in_filter}
@@ -28,32 +26,11 @@ use Rattle.ln_due.specs.Small.{FilterPushesSmall}
 use Rattle.ln_compile.specs.Accepted.{root_of, loaded_of}
 use Rattle.ln_compile.specs.Compiled.{IsFilterOf, IsProgramOf}
 use Rattle.ln_compile.specs.Made.{AreOwnBlocks}
-use Rattle.ln_compile.proofs.Listing.ListLemmas.{of-each, order-stages, staged}
+use Rattle.ln_due.proofs.Derivatives.Gathering.{blocks-length}
+use Rattle.ln_order.proofs.Listing.Placing.{of-each}
+use Rattle.ln_stage.proofs.Monomials.OrderLists.{order-stages, same-vectors}
 use Rattle.ln_compile.proofs.Listing.ListingLemmas.{lists-are, stages-few}
 use Rattle.ln_compile.proofs.Making.MakingLemmas.{own-exact}
-
--- ---- exponents with the same vectors
-same-at : (n : ℕ) (blocks : List Code) (exps : List Pairs) → map (λ (c : Code). vector n c.exps) blocks ≡ map (vector n) exps → (i : ℕ)
-    → block_vector n (map (λ (c : Code). c.exps) blocks) i ≡ block_vector n exps i
-same-at n blocks exps e i =
-    sym (get_or-map (vector n) (map (λ (c : Code). c.exps) blocks) i [])
-    ∙ ap (λ z. get_or z i (vector n [])) (map-map (vector n) (λ (c : Code). c.exps) blocks ∙ e) ∙ get_or-map (vector n) exps i []
-
-map-same : {A B : Type 0} (g h : A → B) (xs : List A) → ((x : A) → g x ≡ h x) → map g xs ≡ map h xs
-map-same g h [] e = refl
-map-same g h (x ∷ xs) e = let r : map g xs ≡ map h xs = map-same g h xs e in ap (λ z. z ∷ map g xs) (e x) ∙ ap (λ z. h x ∷ z) r
-
--- the exponents of blocks with the vectors of the stages have the stages' lists
-pub same-vectors : (n : ℕ) (st : Staged) (blocks : List Code) → map (λ (c : Code). vector n c.exps) blocks ≡ map (vector n) st.exps
-    → map (λ list. map (block_vector n (map (λ (c : Code). c.exps) blocks)) list) st.lists ≡ vectors_of n st
-same-vectors n st blocks e =
-    map-same (λ list. map (block_vector n (map (λ (c : Code). c.exps) blocks)) list) (λ list. map (block_vector n st.exps) list) st.lists
-    (λ list. map-same (block_vector n (map (λ (c : Code). c.exps) blocks)) (block_vector n st.exps) list (same-at n blocks st.exps e))
-
--- and are as many
-pub blocks-length : (n : ℕ) (blocks : List Code) (exps : List Pairs) → map (λ (c : Code). vector n c.exps) blocks ≡ map (vector n) exps
-    → length blocks ≡ length exps
-blocks-length n blocks exps e = omega (arith, ap length e, length-map blocks (λ (c : Code). vector n c.exps), length-map exps (vector n))
 
 few-ops : (first ops cover len : ℕ) → first ≤ 1048640 → ops ≤ 524352 + 4096 * cover + 68 * len → cover ≤ most_weight → len ≤ most_stages → first + ops < 2 ^ 32
 few-ops first ops cover len f h k l = omega (arith, f, h, k, l)
@@ -80,9 +57,10 @@ module _ (p : Pred) (f : Sparse) (st : Staged) (blocks : List Code) (light : Are
   own-lists : lists_of part ≡ st.lists
   own-lists = sym (stages.segments.make ∙ ap (λ n. map (λ o. segments_from (beside (prefixes_of n) st.segments) o 0) (orders_of p.shape.sites)) stages.sites)
 
-  own-vectors : vectors_of (length p.shape.vars) (staged part) ≡ vectors_of (length p.shape.vars) st
+  own-vectors : map (vectors part) (lists_of part) ≡ vectors_of (length p.shape.vars) st
   own-vectors = ap (map (λ list. map (block_vector (length p.shape.vars) (map (λ (c : Code). c.exps) blocks)) list)) own-lists
-      ∙ same-vectors (length p.shape.vars) st blocks ours.made.vectors
+      ∙ same-vectors (length p.shape.vars) st (map (λ (c : Code). c.exps) blocks)
+      (map-map (vector (length p.shape.vars)) (λ (c : Code). c.exps) blocks ∙ ours.made.vectors)
 
   -- the program follows the rules, has fewer than 2^32 operations, and no list of it is empty or names a block twice
   pub is-program : IsProgram part
@@ -115,12 +93,12 @@ module _ (p : Pred) (f : Sparse) (st : Staged) (blocks : List Code) (light : Are
       inputs = (root-light (length p.shape.vars) two (closed_lets p.shape.vars (map formula p.lets)) (tree p.shape.vars (formula p.root))
           (pred-expands p.args p.shape.vars p.lets (length p.let_names) p.root p.kept light).1).inputs;
       normal = normal.normal;
-      lists = λ places list l. order-stages BySmallest part (root_of (pred_of p)) f places list normal.normal
-          (subst (AreStageLists p.shape.sites p.shape.vars f) (sym own-vectors) stages.lists) l;
+      lists = λ places list l. order-stages BySmallest p.shape.sites p.shape.vars (stage_at part) (list_of part) (root_of (pred_of p)) f places list
+          normal.normal (subst (AreStageLists p.shape.sites p.shape.vars f) (sym own-vectors) stages.lists) l.order l.list_is;
       blocks = λ k d l. (ours.made.each k d l).carries;
       filter = whole;
     };
-    exact = ours.made.exact (own-exact (pred_of p) f ours.first ours.own);
+    exact = ours.made.made (own-exact (pred_of p) f ours.first ours.own);
     sight = ours.made.vectors ∙ stages.first_sight ∙ ap first_seen (sym own-vectors);
     small = record { blocks = λ k d l. (ours.made.each k d l).small; filter = pushes };
     begins = record { block = ours.first; first = ours.made.first; own = ours.own; short = omega (arith, ours.small, short) };

@@ -1,7 +1,7 @@
 -- The block of a derivative, as it is made from a nested tree: it carries the derivative, its operations are few, and what it pushes is small.
 use Rattle.std.proofs.Common.{◌≡◌, ◌⊎◌, inl, inr, ℕ, ◌+◌, ◌*◌, ◌<◌, ◌≤◌, zero, suc, max, true, List, [], ◌∷◌, length, map, get_or, refl}
 use Rattle.std.proofs.Common.{sym, ◌∙◌, ap, subst, arith, Option, Some, None}
-use Rattle.std.specs.Prelude.{is_some, slice_get}
+use Rattle.std.specs.Prelude.{Err, IfOk, Ok, Result, is_some, slice_get}
 use Rattle.std.proofs.lemmas.Bool.{cases_lt}
 use Rattle.std.proofs.lemmas.List.{get_or_past}
 use Rattle.std.proofs.lemmas.List.Elements.{All-head, All-tail}
@@ -37,6 +37,11 @@ use Rattle.ln_due.specs.Small.{AreSmall, BlockPushesSmall, IsSmall, known_tree}
 use Rattle.ln_due.proofs.Derivatives.Deriving.{derivative-few}
 use Rattle.ln_due.proofs.Derivatives.LeanNodes.{lean-nodes}
 use Rattle.ln_due.proofs.Parts.Smallness.{small-same}
+
+-- two facts on what a call returns
+pub both : {X Y : Type 0} (r : Result X Y) (P Q : X → Type 0) → IfOk r P → IfOk r Q → IfOk r (λ x. P x × Q x)
+both (Ok x) P Q p q = (p, q)
+both (Err e) P Q p q = tt
 
 -- a block whose value has the coefficients of the derivative carries it
 pub carrying : (vars : List VarInfo) (f : Sparse) (c : Code) → FollowsRules vars c

@@ -5,8 +5,8 @@ use Rattle.ln_bound.specs.View.{typed}
 use Rattle.ln_tree.specs.Exps.{vector}
 use Rattle.ln_stage.specs.Lists.{covering}
 use Rattle.ln_due.proofs.Derivatives.Deriving.{derivative-degrees, derivative-few, derivative-light}
-use Rattle.ln_due.proofs.Derivatives.Blocks.{derivative-block, derivative-ops, derivative-pushes, no-costs, of-sites}
-use Rattle.ln_compile.proofs.Making.MakingLemmas.{both, derivative-exact}
+use Rattle.ln_due.proofs.Derivatives.Blocks.{both, derivative-block, derivative-ops, derivative-pushes, no-costs, of-sites}
+use Rattle.ln_compile.proofs.Making.MakingLemmas.{derivative-exact}
 use Rattle.ln_compile.proofs.blocks.derivative_block.Goals as goal
 
 pub nest-nested-requires-clause-degrees : goal.nest-nested-requires-clause-degrees

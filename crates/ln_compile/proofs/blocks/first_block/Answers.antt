@@ -3,7 +3,8 @@ use Rattle.std.proofs.lemmas.Result.{IfOk-weaker}
 use Rattle.ln_bound.proofs.Soundness.SoundLaws.{are_sound_say, is_sound_says}
 use Rattle.ln_bound.specs.Sound.{AreSound, Sound}
 use Rattle.ln_bound.specs.View.{typed}
-use Rattle.ln_compile.proofs.Making.MakingLemmas.{both, own-carries, own-made}
+use Rattle.ln_due.proofs.Derivatives.Blocks.{both}
+use Rattle.ln_compile.proofs.Making.MakingLemmas.{own-carries, own-made}
 use Rattle.ln_compile.proofs.Smallness.SmallBlocks.{own-pushes}
 use Rattle.ln_compile.proofs.blocks.first_block.Goals as goal
 

@@ -15,14 +15,19 @@ blocks_after-requires-clause-block c = c.in_ok-first.ensures.block c.args.f.now 
 pub blocks_after-requires-clause-begins : goal.blocks_after-requires-clause-begins
 blocks_after-requires-clause-begins c =
     let s = c.args.p.now.shape in
-    first-exps s.sites s.vars c.args.f.now c.args.st.now c.requires.stages c.requires.normal.form c.requires.normal.below c.requires.some
+    rw c.all_exps.ensures
+    (first-exps s.sites s.vars c.args.f.now c.args.st.now c.requires.stages c.requires.normal.form c.requires.normal.below c.requires.some)
+
+pub blocks_after-requires-clause-exps : goal.blocks_after-requires-clause-exps
+blocks_after-requires-clause-exps c = rw c.all_exps.ensures c.requires.stages.below
 
 pub blocks_after-requires-clause-sites : goal.blocks_after-requires-clause-sites
 blocks_after-requires-clause-sites c =
     let s = c.args.p.now.shape in
-    stages-of-sites s.sites s.vars c.args.f.now c.args.st.now c.requires.stages
+    rw c.all_exps.ensures (stages-of-sites s.sites s.vars c.args.f.now c.args.st.now c.requires.stages)
 
 pub returns : goal.returns
 returns c =
     let e = c.in_ok-first.ensures in
-    IfOk-weaker c.blocks_after.result _ _ (λ _ m. record { first = c.in_ok-first.first; own = e.own; small = e.small; made = m }) c.blocks_after.ensures
+    IfOk-weaker c.blocks_after.result _ _ (λ _ m. record { first = c.in_ok-first.first; own = e.own; small = e.small; made = rw c.all_exps.ensures at m })
+    c.blocks_after.ensures

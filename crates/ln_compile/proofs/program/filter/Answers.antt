@@ -2,7 +2,8 @@ use Rattle.std.proofs.Common.{◌+◌, arith, map}
 use Rattle.std.proofs.lemmas.Result.{IfOk-weaker}
 use Rattle.ln_bound.specs.Typed.{cost, costs}
 use Rattle.ln_bound.specs.View.{typed}
-use Rattle.ln_compile.proofs.Making.MakingLemmas.{both, filter-carries, filter-of, filter-small}
+use Rattle.ln_due.proofs.Derivatives.Blocks.{both}
+use Rattle.ln_compile.proofs.Making.MakingLemmas.{filter-carries, filter-of, filter-small}
 use Rattle.ln_compile.proofs.Smallness.SmallBlocks.{filter-pushes}
 use Rattle.ln_compile.proofs.program.filter.Goals as goal
 
