@@ -13,6 +13,7 @@
 
 mod coefficients;
 mod derivatives;
+mod exchanges;
 mod infinitesimals;
 mod orders;
 mod sizing;
@@ -25,6 +26,7 @@ pub use coefficients::{coefficients_vanish_above_degree, products_are_sums_over_
 pub use derivatives::{
     derivatives_are_coefficients, derivatives_on_rows, derived_coefficients, product_rule,
 };
+pub use exchanges::{exchanges_turn_signs, terms_turn};
 pub use infinitesimals::{earlier_is_an_order, first_is_unique, stage_list_is_unique};
 pub use orders::{
     a_first_in_either, both_are_admissible, one_answer_in_either, products_have_sums,
