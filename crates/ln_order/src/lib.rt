@@ -5,6 +5,7 @@
 #![tactic(auto)]
 
 pub mod equal;
+pub mod exchanges;
 pub mod found;
 pub mod front;
 pub mod infinitesimals;
@@ -15,6 +16,7 @@ pub mod rank;
 pub mod rows;
 
 pub use equal::{Equal, first_equal};
+pub use exchanges::{exchanges_turn_row_signs, neighbours_of_one_type, rows_sort};
 pub use front::Front;
 pub use infinitesimals::{earlier, front_ranking, orders_are_those_of_rows, ranking, vars_of_site};
 pub use order::Order;

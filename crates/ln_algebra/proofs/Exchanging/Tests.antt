@@ -14,12 +14,12 @@ lacks-zero [] m l = refl
 lacks-zero (t ∷ f) m l = rw l.0 (omega (arith, ints, lacks-zero f m l.1))
 
 -- a term with exponents m, whose factor is the coefficient and which passes P; or none has them
-data Found (P : Term → Type 0) (f : List Term) (m : List ℕ) : Type 0 where
+pub data Found (P : Term → Type 0) (f : List Term) (m : List ℕ) : Type 0 where
   found : (t : Term) → t.exponents ≡ m → factor_at f m ≡ t.factor → P t → Found P f m
   lacking : Lacks f m → Found P f m
 
 -- looked for along the list
-find : (P : Term → Type 0) (f : List Term) (m : List ℕ) → IsCollected f → All P f → Found P f m
+pub find : (P : Term → Type 0) (f : List Term) (m : List ℕ) → IsCollected f → All P f → Found P f m
 find P [] m c a = lacking tt
 find P (t ∷ f) m c a = by_case (find P f m c.1 (All-tail P t f a)) (same_vector t.exponents m) refl where
   here : P t

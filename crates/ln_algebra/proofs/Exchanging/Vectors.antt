@@ -23,6 +23,10 @@ listed-same (suc n) f g h =
     ap (λ z. z ∷ listed n (λ v. f (suc v))) (h 0 (omega arith))
     ∙ ap (λ z. g 0 ∷ z) (listed-same n (λ v. f (suc v)) (λ v. g (suc v)) (λ v l. h (suc v) (omega (arith, l))))
 
+-- equal partners exchange to equal vectors
+pub exchanged-same : (p q : ℕ → ℕ) (a : List ℕ) → ((v : ℕ) → p v ≡ q v) → exchanged p a ≡ exchanged q a
+exchanged-same p q a h = listed-same (length a) (λ v. get_or a (p v) 0) (λ v. get_or a (q v) 0) (λ v l. ap (λ w. get_or a w 0) (h v))
+
 -- a list is that of its values
 listed-get : (a : List ℕ) → listed (length a) (λ v. get_or a v 0) ≡ a
 listed-get [] = refl

@@ -19,14 +19,14 @@ pub same_site-refl : (s : ℕ) → same_site (Some s) (Some s) ≡ true
 same_site-refl s = eq-eqb s s refl
 
 -- a site that begins after s others is number s
-begins-site : (a s t : ℕ) (i : VarInfo) → begins a s i ≡ true → i.site ≡ Some t → t ≡ s
+pub begins-site : (a s t : ℕ) (i : VarInfo) → begins a s i ≡ true → i.site ≡ Some t → t ≡ s
 begins-site a s t i h e =
     let p = and_parts (i.arg == a) (is_none i.site || same_site i.site (Some s)) h in
     let q : (is_none (Some t) || same_site (Some t) (Some s)) ≡ true = rw e at p.1 in
     eqb-true t s q
 
 -- a further coordinate is of the same site
-goes-site : (b i : VarInfo) → goes_on b i ≡ true → i.site ≡ b.site
+pub goes-site : (b i : VarInfo) → goes_on b i ≡ true → i.site ≡ b.site
 goes-site b i h =
     let p = and_parts ((i.arg == b.arg) && is_some b.site && same_site i.site b.site && (i.coord == b.coord + 1)) _ h in
     let q = and_parts ((i.arg == b.arg) && is_some b.site && same_site i.site b.site) (i.coord == b.coord + 1) p.0 in
@@ -45,7 +45,7 @@ behind-count s i n = go i.site where
   go None = omega arith
   go (Some t) = omega arith
 
-some-behind : (s t : ℕ) (i : VarInfo) → i.site ≡ Some t → sites_behind s i ≡ suc s
+pub some-behind : (s t : ℕ) (i : VarInfo) → i.site ≡ Some t → sites_behind s i ≡ suc s
 some-behind s t i e = rw e refl
 
 no-count : (o : Option ℕ) (n : ℕ) → cond (is_some o && false) 1 0 + n ≡ n
