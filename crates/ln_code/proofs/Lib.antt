@@ -3,3 +3,4 @@ pub mod Exponents
 pub mod Filters
 pub mod Following
 pub mod Verdicts
+pub mod OneOrder

@@ -19,3 +19,4 @@ pub mod Errors
 pub mod Law
 pub mod Memory
 pub mod RowOf
+pub mod OneOrder

@@ -1,16 +1,53 @@
 //! Defines the stack program of a predicate: its filter, its blocks, and which blocks are run at each prefix of an order.
-ghost use Rattle.std.specs.Prelude.{◌≡◌, ◌<◌, ◌≤◌, length, take, All, MatchOption};
+ghost use Rattle.std.specs.Prelude.{◌≡◌, ◌<◌, ◌≤◌, length, take, All, IfOk, MatchOption};
 ghost use Rattle.ln_order.specs.Places.{order_places};
 ghost use Rattle.ln_code.specs.Part.{Part, without_filter};
 ghost use Rattle.ln_code.specs.Kept.{IsProgram};
-ghost use Rattle.ln_code.specs.Lists.{segment_of};
+ghost use Rattle.ln_code.specs.Lists.{list_from, segment_of};
+ghost use Rattle.ln_code.specs.OneOrder.{at_once, in_one_order, list_in_turn, past_all};
 
 use crate::block::Block;
 use crate::filter_block::FilterBlock;
-use ln_base::Seq;
+use ln_base::{NoMemory, Seq};
 use ln_order::{Order, at_prefix};
 use ln_tree::Shape;
+use std::alloc::Global;
 use std::marker::Model;
+
+// One more than the largest of these numbers.
+fn past_all(numbers: &[u32]) -> usize
+    ensures { result ≡ past_all numbers.now }
+{
+    let mut past = 0usize;
+    'numbers: for n in numbers {
+        past = past.max(*n as usize + 1);
+    }
+    past
+}
+
+// The first n blocks.
+fn first(blocks: Seq<Block>, n: usize) -> Seq<Block>
+    ensures { result ≡ take n blocks }
+{
+    let mut own = blocks.into_vec();
+    own.truncate(n);
+    Seq::from_vec(own)
+}
+
+// The list at the empty prefix, and at each other one nothing.
+fn at_once(alloc: Global, list: Vec<u32>, segments: &[Seq<u32>]) -> Result<Seq<Seq<u32>>, NoMemory>
+    ensures { IfOk result (λ s. s ≡ at_once list.items segments.now) }
+{
+    let mut all = Seq::new(alloc);
+    let [_, others @ ..] = segments else {
+        return Ok(all);
+    };
+    all.push(Seq::from_vec(list))?;
+    'others: for _ in others {
+        all.push(Seq::new(alloc))?;
+    }
+    Ok(all)
+}
 
 /// The stack program of a predicate: its shape, a filter or none, blocks, and for each prefix of orders of its sites, in the order
 /// of `all_prefixes`, its segment: the numbers of the blocks that are run where it is reached, which may be none. The list of an
@@ -94,5 +131,29 @@ impl Program {
         ensures named { All (λ n. n < length self.now.blocks) result.now }
     {
         at_prefix(self.segments.as_slice(), o, j)
+    }
+
+    // The list of the order of the arguments.
+    fn list_in_turn(&self, alloc: Global) -> Result<Vec<u32>, NoMemory>
+        ensures { IfOk result (λ v. v.items ≡ list_in_turn self.now) }
+    {
+        let sites = self.shape.sites;
+        let order = Order::of_arguments(sites);
+        let mut list = Vec::new(alloc);
+        'sites: for j in 0..sites + 1 {
+            list.extend_from_slice(self.segment(&order, j))?;
+        }
+        Ok(list)
+    }
+
+    /// The program of the order of the arguments alone: on a row whose indices rise it decides as the program without its filter, by the same
+    /// blocks. Its list is, in each order of the sites, that of the order of the arguments, and it has no blocks past those of the list.
+    pub fn in_one_order(self, alloc: Global) -> Result<Program, NoMemory>
+        ensures { IfOk result (λ p. p ≡ in_one_order self) }
+    {
+        let list = self.list_in_turn(alloc)?;
+        let past = past_all(list.as_slice());
+        let segments = at_once(alloc, list, self.segments.as_slice())?;
+        Ok(Program::join(self.shape, None, first(self.blocks, past), segments))
     }
 }
