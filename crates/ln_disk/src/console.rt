@@ -1,12 +1,13 @@
 //! The two streams of a process, standard output and standard error.
 ghost use Rattle.std.specs.Prelude.{◌≡◌, ◌≤◌, ◌<◌, None, length, take, IfOk, OnOk, OnErr};
 ghost use Rattle.std.specs.Io.{WritesAtMost};
-ghost use Rattle.std.specs.Io.KnownBytes.{Appends};
+ghost use Rattle.std.specs.Io.KnownBytes.{Appends, WriteAppends};
 ghost use Rattle.ln_base.specs.Outside.{Rose, counted};
 ghost use Rattle.ln_disk.specs.Flow.{AppendsFront, Goes};
 
+use crate::tries::{Ended, Tries};
 use ln_base::{Console, Failed, Port};
-use std::io::{ErrorKind, Write};
+use std::io::Write;
 
 /// Two writers, one for each stream. A `put` writes and flushes; where the flush fails, the `put` fails, though the writer took its bytes. Of writers
 /// whose bytes are known, the contract of `put` has which bytes they took.
@@ -30,29 +31,28 @@ impl<O: Write, E: Write> StdConsole<O, E> {
     }
 }
 
-// One write, again where a signal interrupts it, and how many bytes it took; at an error none.
-fn write_once<W: Write>(to: &mut W, bytes: &[u8]) -> usize
-    ensures bound { result ≤ length bytes.now }
-    ensures bytes { Appends (W.contents to.old) (W.contents to.new) (take result bytes.now) }
+// One write, again where a signal interrupts it.
+fn write_once<W: Write>(to: &mut W, bytes: &[u8]) -> Ended
+    ensures bound { WritesAtMost result.count bytes.now }
+    ensures bytes { WriteAppends (W.contents to.old) (W.contents to.new) result.count bytes.now }
 {
-    for _ in 0..u64::MAX {
-        match to.write(bytes) {
-            Ok(n) => return n,
-            Err(e) if e.kind() == ErrorKind::Interrupted => {}
-            Err(_) => return 0,
+    let mut tries = Tries::new();
+    loop {
+        let answer = to.write(bytes);
+        if let Some(end) = tries.end(answer) {
+            return end;
         }
     }
-    0
 }
 
-// Writes until the bytes are at their end or a write takes none of them, and returns how many were taken.
+// Writes until the bytes are at their end or a write fails or takes none of them, and returns how many were taken.
 fn write_some<W: Write>(to: &mut W, bytes: &[u8]) -> usize
     ensures bound { result ≤ length bytes.now }
     ensures bytes { Appends (W.contents to.old) (W.contents to.new) (take result bytes.now) }
 {
     let mut done = 0usize;
     while done < bytes.len() {
-        let n = write_once(to, &bytes[done..]);
+        let n = write_once(to, &bytes[done..]).taken();
         if n == 0 {
             return done;
         }

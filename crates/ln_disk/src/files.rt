@@ -4,8 +4,9 @@ ghost use Rattle.std.specs.Io.{ReadsAtMost};
 ghost use Rattle.std.specs.Io.KnownBytes.{Consumes, IsAtEnd};
 ghost use Rattle.ln_disk.specs.Flow.{Passes};
 
+use crate::tries::{Ended, Tries};
 use ln_base::{Failed, Files};
-use std::io::{ErrorKind, Read};
+use std::io::Read;
 use std::{fs, rt};
 
 // How long a name may be. The system opens no file by a longer one.
@@ -57,19 +58,18 @@ impl<'a, R: rt::Files> DiskFiles<'a, R> {
 }
 
 // One read, again where a signal interrupts it.
-fn read_once<T: Read>(file: &mut T, buf: &mut [u8]) -> Result<usize, Failed>
-    ensures bound { ReadsAtMost result buf.new }
-    ensures bytes { IfOk result (λ n. Consumes (T.remaining file.old) (T.remaining file.new) (take n buf.new)) }
-    ensures end { IfOk result (λ n. n ≡ 0 → 0 < length buf.old → IsAtEnd (T.remaining file.new)) }
+fn read_once<T: Read>(file: &mut T, buf: &mut [u8]) -> Ended
+    ensures bound { ReadsAtMost result.count buf.new }
+    ensures bytes { IfOk result.count (λ n. Consumes (T.remaining file.old) (T.remaining file.new) (take n buf.new)) }
+    ensures end { IfOk result.count (λ n. n ≡ 0 → 0 < length buf.old → IsAtEnd (T.remaining file.new)) }
 {
-    for _ in 0..u64::MAX {
-        match file.read(buf) {
-            Ok(n) => return Ok(n),
-            Err(e) if e.kind() == ErrorKind::Interrupted => {}
-            Err(_) => return Err(Failed),
+    let mut tries = Tries::new();
+    loop {
+        let answer = file.read(buf);
+        if let Some(end) = tries.end(answer) {
+            return end;
         }
     }
-    Err(Failed)
 }
 
 // Reads past that many bytes, or to the end.
@@ -80,7 +80,7 @@ fn skip<T: Read>(file: &mut T, count: u64) -> Result<(), Failed>
     let mut done = 0u64;
     while done < count {
         let most = (count - done).min(4096) as usize;
-        let n = read_once(file, &mut buf[..most])?;
+        let n = read_once(file, &mut buf[..most]).count()?;
         if n == 0 {
             return Ok(());
         }
@@ -123,7 +123,7 @@ fn read_from<R: rt::Files>(
         Some(held) if held.is_at(name, at) => held,
         _ => open_at(rt, name, at)?,
     };
-    let n = read_once(&mut now.file, buf)?;
+    let n = read_once(&mut now.file, buf).count()?;
     if let Some(next) = now.at.checked_add(n as u64) {
         now.at = next;
         *open = Some(now);

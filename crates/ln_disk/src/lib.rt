@@ -8,6 +8,7 @@
 
 pub mod console;
 pub mod files;
+mod tries;
 pub mod words;
 
 pub use console::StdConsole;
