@@ -1,4 +1,3 @@
 pub mod Records
 pub mod Fields
 pub mod HeaderLaws
-pub mod Making

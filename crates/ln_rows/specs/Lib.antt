@@ -5,4 +5,3 @@ pub mod Line
 pub mod Plain
 pub mod Columns
 pub mod Header
-pub mod Making

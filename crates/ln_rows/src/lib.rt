@@ -2,11 +2,8 @@
 //! the first one with the columns' names, and its `next_row` reads each other one: exactly the row that it says, which is in range,
 //! or the first fault that it has. Records without quotes are read right from the bytes: rows of plain numbers by `plain`, any
 //! other by `line`, which keeps no more fields than it takes. From the first record with a quote on csv's own reader reads (`quoted`).
-//!
-//! `gen_row` makes rows of the words of a generator.
 #![tactic(auto)]
 
-pub mod gen_row;
 mod left;
 mod line;
 pub mod names;

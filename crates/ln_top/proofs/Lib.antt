@@ -1,3 +1,9 @@
+pub mod FrameLemmas
+pub mod TargetLemmas
+pub mod TextsLemmas
+pub mod JudgesLemmas
+pub mod SignsLemmas
 pub mod Steps
 pub mod Theorem
 pub mod AgreeLaws
+pub mod ExactLemmas

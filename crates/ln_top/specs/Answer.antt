@@ -3,12 +3,12 @@
 use Rattle.std.specs.Prelude.{◌≡◌, ℕ, List, Option, Some, None}
 use Rattle.ln_base.specs.Outside.{Shelf}
 use Rattle.ln_watch.specs.Panel.{State}
-use Rattle.ln_frame.specs.declared.stop.Why.{Why}
-use Rattle.ln_frame.specs.declared.stop.Why.TheVariants.{Usage}
-use Rattle.ln_frame.specs.Said.{Said}
-use Rattle.ln_frame.specs.Stop.{said_of}
+use Rattle.ln_top.specs.declared.frame.stop.Why.{Why}
+use Rattle.ln_top.specs.declared.frame.stop.Why.TheVariants.{Usage}
+use Rattle.ln_top.specs.Frame.Said.{Said}
+use Rattle.ln_top.specs.Frame.Stop.{said_of}
 use Rattle.ln_top.specs.Plan.{Plan, plan_of}
-use Rattle.ln_frame.specs.Given.{stops, missing, gives, Given}
+use Rattle.ln_top.specs.Frame.Given.{stops, missing, gives, Given}
 use Rattle.ln_top.specs.Steps.{Prepares}
 use Rattle.ln_top.specs.Works.{WorkOwes, WorkPart}
 

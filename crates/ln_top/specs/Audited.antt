@@ -6,11 +6,11 @@ use Rattle.ln_rows.specs.Left.{Records}
 use Rattle.ln_trace.specs.declared.line.TraceLine.{TraceLine}
 use Rattle.ln_trace.specs.Form.{TraceText}
 use Rattle.ln_trace.specs.Signs.{AreRight, signs_in}
-use Rattle.ln_frame.specs.declared.status.Status.{Status}
-use Rattle.ln_frame.specs.declared.status.Status.TheVariants.{Done}
+use Rattle.ln_top.specs.declared.frame.status.Status.{Status}
+use Rattle.ln_top.specs.declared.frame.status.Status.TheVariants.{Done}
 use Rattle.ln_top.specs.declared.words.Command.TheVariants as command
-use Rattle.ln_judges.specs.Audit.{HasTrace}
-use Rattle.ln_frame.specs.Subject.{subject_of}
+use Rattle.ln_top.specs.Judges.Audit.{HasTrace}
+use Rattle.ln_top.specs.Frame.Subject.{subject_of}
 use Rattle.ln_top.specs.Steps.{WhereGiven}
 
 -- the bytes are the text of a trace, and what it says of each record is right: nothing of an invalid one, and else the perturbed sign

@@ -2,14 +2,14 @@
 use Rattle.std.specs.Prelude.{◌≡◌, ◌≢◌, ◌⊎◌, ℕ, List, [], Option, Some, None, IfSome}
 use Rattle.ln_base.specs.Outside.{Shelf, Shown, Rose, refused}
 use Rattle.ln_watch.specs.Panel.{State}
-use Rattle.ln_frame.specs.declared.status.End.{End}
-use Rattle.ln_frame.specs.declared.status.End.TheVariants.{Done}
-use Rattle.ln_frame.specs.declared.status.Status.{Status}
-use Rattle.ln_frame.specs.declared.status.Status.TheVariants as status
-use Rattle.ln_frame.specs.Said.{Count, Rises, IsCalm, put_both, end_status}
+use Rattle.ln_top.specs.declared.frame.status.End.{End}
+use Rattle.ln_top.specs.declared.frame.status.End.TheVariants.{Done}
+use Rattle.ln_top.specs.declared.frame.status.Status.{Status}
+use Rattle.ln_top.specs.declared.frame.status.Status.TheVariants as status
+use Rattle.ln_top.specs.Frame.Said.{Count, Rises, IsCalm, put_both, end_status}
 use Rattle.ln_top.specs.Plan.{plan_of}
-use Rattle.ln_frame.specs.Carried.{LeavesFronts, LeavesPart, read_line}
-use Rattle.ln_frame.specs.Work.{IsWorkEnd}
+use Rattle.ln_top.specs.Frame.Carried.{LeavesFronts, LeavesPart, read_line}
+use Rattle.ln_top.specs.Frame.Work.{IsWorkEnd}
 use Rattle.ln_top.specs.Answer.{Answer, IsMissing, Part}
 use Rattle.ln_top.specs.Causes.{Answered, Ends, EndsExactly, ExactlyWhere, IsSettled, SaysLine}
 

@@ -4,18 +4,18 @@ use Rattle.ln_base.specs.Limits.{most_file, most_source}
 use Rattle.ln_base.specs.Outside.{Shelf, Shown, refused as out_of_memory}
 use Rattle.ln_tree.specs.Table.{PredOf, TableOf}
 use Rattle.ln_compile.specs.declared.refusal.Refusal.{Refusal}
-use Rattle.ln_frame.specs.declared.status.End.{End}
-use Rattle.ln_frame.specs.declared.status.End.TheVariants as end
-use Rattle.ln_frame.specs.declared.status.Status.{Status}
-use Rattle.ln_frame.specs.declared.status.Status.TheVariants as status
-use Rattle.ln_frame.specs.declared.stop.Place.{Place}
-use Rattle.ln_frame.specs.declared.stop.Why.{Why}
-use Rattle.ln_frame.specs.declared.stop.Why.TheVariants.{TooLong, NoPredicate}
-use Rattle.ln_frame.specs.Said.{Said, line, put_both, end_status}
-use Rattle.ln_frame.specs.Stop.{why_end, why_text}
+use Rattle.ln_top.specs.declared.frame.status.End.{End}
+use Rattle.ln_top.specs.declared.frame.status.End.TheVariants as end
+use Rattle.ln_top.specs.declared.frame.status.Status.{Status}
+use Rattle.ln_top.specs.declared.frame.status.Status.TheVariants as status
+use Rattle.ln_top.specs.declared.frame.stop.Place.{Place}
+use Rattle.ln_top.specs.declared.frame.stop.Why.{Why}
+use Rattle.ln_top.specs.declared.frame.stop.Why.TheVariants.{TooLong, NoPredicate}
+use Rattle.ln_top.specs.Frame.Said.{Said, line, put_both, end_status}
+use Rattle.ln_top.specs.Frame.Stop.{why_end, why_text}
 use Rattle.ln_top.specs.Plan.{Plan, plan_of}
-use Rattle.ln_frame.specs.Source.{IsRefusedAt}
-use Rattle.ln_frame.specs.Given.{stops, gives, Given}
+use Rattle.ln_top.specs.Frame.Source.{IsRefusedAt}
+use Rattle.ln_top.specs.Frame.Given.{stops, gives, Given}
 use Rattle.ln_top.specs.Steps.{Prepares, Reads, Compiles, Finds, Each, MayPass}
 use Rattle.ln_top.specs.Signature.{Asks, objection}
 use Rattle.ln_top.specs.Works.{WorkEnds}

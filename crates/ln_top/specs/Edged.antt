@@ -5,10 +5,10 @@ use Rattle.ln_tree.specs.Table.{PredOf, SiteOf}
 use Rattle.ln_rows.specs.Left.{Records}
 use Rattle.ln_edges.specs.Points.{PointOf}
 use Rattle.ln_top.specs.declared.words.Command.TheVariants as command
-use Rattle.ln_judges.specs.Edges.{AreEdgesOf, HasPoints, ReadsPoints}
-use Rattle.ln_frame.specs.Said.{put_both}
+use Rattle.ln_top.specs.Judges.Edges.{AreEdgesOf, HasPoints, ReadsPoints}
+use Rattle.ln_top.specs.Frame.Said.{put_both}
 use Rattle.ln_top.specs.Steps.{WhereGiven}
-use Rattle.ln_frame.specs.Given.{gives}
+use Rattle.ln_top.specs.Frame.Given.{gives}
 
 -- what came to Out is exactly one line for each pair of these points that is an edge, in order; nothing came to Err
 pub record PutEdges (p : PredOf) (ps : List PointOf) (was now : Option Shown) : Type 0 where

@@ -14,7 +14,7 @@ use Rattle.ln_cemit.specs.Heads.{head, heads_of}
 use Rattle.ln_cemit.specs.Names.{call_name}
 use Rattle.ln_cemit.specs.Whole.{part_name}
 use Rattle.ln_top.specs.declared.words.Command.TheVariants.{Emit}
-use Rattle.ln_frame.specs.Said.{put_both}
+use Rattle.ln_top.specs.Frame.Said.{put_both}
 use Rattle.ln_top.specs.ByValue.{IsByValue, plain_value}
 use Rattle.ln_top.specs.Perturbed.{FilterDecides, IsSignOn, NotZeroWithoutParams}
 use Rattle.ln_top.specs.Steps.{WhereGiven}

@@ -8,13 +8,13 @@ use Rattle.ln_trace.specs.Form.{TraceText}
 use Rattle.ln_trace.specs.Judge.{IsAgreed}
 use Rattle.ln_trace.specs.Signs.{AreExplained, AreRight, signs_in}
 use Rattle.ln_trace.specs.Text.{first_line, text_of_lines}
-use Rattle.ln_frame.specs.declared.status.End.TheVariants.{Done}
+use Rattle.ln_top.specs.declared.frame.status.End.TheVariants.{Done}
 use Rattle.ln_top.specs.declared.words.Command.TheVariants as command
-use Rattle.ln_judges.specs.Audit.{AuditSaid, HasTrace, agreed_text}
-use Rattle.ln_frame.specs.Subject.{subject_of}
-use Rattle.ln_signs.specs.Run.{HasRecords}
-use Rattle.ln_frame.specs.Said.{put_both, whole}
-use Rattle.ln_frame.specs.Given.{Given}
+use Rattle.ln_top.specs.Judges.Audit.{AuditSaid, HasTrace, agreed_text}
+use Rattle.ln_top.specs.Frame.Subject.{subject_of}
+use Rattle.ln_top.specs.Signs.Run.{HasRecords}
+use Rattle.ln_top.specs.Frame.Said.{put_both, whole}
+use Rattle.ln_top.specs.Frame.Given.{Given}
 use Rattle.ln_top.specs.Steps.{WhereGiven}
 
 -- what came to Out is the text of a trace whose lines explain these records, in order; a judge agrees to them, and the sign that they say of

@@ -10,12 +10,12 @@ use Rattle.ln_rows.specs.Left.{Records}
 use Rattle.ln_watch.specs.Panel.{State}
 use Rattle.ln_rows.specs.Record.{read_row}
 use Rattle.ln_top.specs.declared.words.Command.TheVariants.{Graded, Run}
-use Rattle.ln_frame.specs.Said.{line, put_both}
+use Rattle.ln_top.specs.Frame.Said.{line, put_both}
 use Rattle.ln_top.specs.ByValue.{IsVerdictByValue, plain_value}
 use Rattle.ln_top.specs.Perturbed.{IsSignIn, NotZeroWithoutParams}
 use Rattle.ln_top.specs.Steps.{WhereGiven}
-use Rattle.ln_target.specs.Line.{decider_text, sign_text}
-use Rattle.ln_signs.specs.Run.{HasRecords}
+use Rattle.ln_top.specs.Target.Line.{decider_text, sign_text}
+use Rattle.ln_top.specs.Signs.Run.{HasRecords}
 
 -- the line is the sign and the decider of the verdict that the row, which is in range, requires in this order of infinitesimals. Its sign is
 -- the perturbed sign of the predicate on the row; where the value on the row isn't 0, that decides. A predicate without params has no row with

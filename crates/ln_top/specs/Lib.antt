@@ -1,3 +1,8 @@
+pub mod Frame
+pub mod Target
+pub mod Texts
+pub mod Judges
+pub mod Signs
 pub mod Signature
 pub mod Plan
 pub mod Steps
@@ -18,3 +23,5 @@ pub mod Answer
 pub mod Causes
 pub mod Call
 pub mod Agree
+pub mod ExactSigns
+pub mod Exact

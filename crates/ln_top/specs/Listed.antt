@@ -12,14 +12,14 @@ use Rattle.ln_cert.specs.Listing.{ListText, Listed, parts_of}
 use Rattle.ln_verify.specs.AsPart.{part_of}
 use Rattle.ln_verify.specs.Line.{Written}
 use Rattle.ln_verify.specs.Verified.{IsValidFor}
-use Rattle.ln_frame.specs.declared.status.End.TheVariants.{Done}
+use Rattle.ln_top.specs.declared.frame.status.End.TheVariants.{Done}
 use Rattle.ln_top.specs.declared.words.Command.TheVariants as command
 use Rattle.ln_top.specs.ByValue.{IsVerdictByValue, plain_value}
 use Rattle.ln_top.specs.Perturbed.{FilterDecides, IsSignOn, NotZeroWithoutParams}
-use Rattle.ln_frame.specs.Said.{line, put_both, whole}
-use Rattle.ln_frame.specs.Given.{Given}
+use Rattle.ln_top.specs.Frame.Said.{line, put_both, whole}
+use Rattle.ln_top.specs.Frame.Given.{Given}
 use Rattle.ln_top.specs.Steps.{WhereGiven}
-use Rattle.ln_judges.specs.Verify.{VerifySaid}
+use Rattle.ln_top.specs.Judges.Verify.{VerifySaid}
 
 -- on this row the machine of the part has a verdict, so no operation leaves its certified width; whatever verdict it has, its sign is
 -- the perturbed sign of the predicate. Without params it isn't 0

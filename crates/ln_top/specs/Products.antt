@@ -18,13 +18,13 @@ use Rattle.ln_compile.specs.Accepted.{root_of}
 use Rattle.ln_rows.specs.Left.{Records}
 use Rattle.ln_rows.specs.Record.{read_row}
 use Rattle.ln_top.specs.declared.words.Command.TheVariants.{Product}
-use Rattle.ln_frame.specs.Said.{line, put_both}
+use Rattle.ln_top.specs.Frame.Said.{line, put_both}
 use Rattle.ln_top.specs.Headline.{IsOneLine}
 use Rattle.ln_top.specs.Perturbed.{IsSignOn}
 use Rattle.ln_top.specs.Steps.{WhereGiven}
-use Rattle.ln_target.specs.Line.{sign_text}
-use Rattle.ln_signs.specs.Product.{AreDue, deciders_after}
-use Rattle.ln_signs.specs.Run.{HasRecords}
+use Rattle.ln_top.specs.Target.Line.{sign_text}
+use Rattle.ln_top.specs.Signs.Product.{AreDue, deciders_after}
+use Rattle.ln_top.specs.Signs.Run.{HasRecords}
 
 -- the expression that multiplies the expressions of predicates, each with its lets in place of their names
 abbrev pub product_of : PredOf → List PredOf → Tree

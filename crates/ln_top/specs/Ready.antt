@@ -3,15 +3,15 @@ use Rattle.std.specs.Prelude.{ℕ, List, Option}
 use Rattle.ln_base.specs.Outside.{Shelf}
 use Rattle.ln_tree.specs.Table.{PredOf}
 use Rattle.ln_code.specs.Part.{Part}
-use Rattle.ln_frame.specs.declared.ready.Ready.{Ready}
+use Rattle.ln_top.specs.declared.frame.ready.Ready.{Ready}
 use Rattle.ln_top.specs.Steps.{Each, Finds, Prepares}
-use Rattle.ln_frame.specs.Given.{Given, gives}
-use Rattle.ln_signs.specs.Graded.{KeepsGraded}
+use Rattle.ln_top.specs.Frame.Given.{Given, gives}
+use Rattle.ln_top.specs.Signs.Graded.{KeepsGraded}
 use Rattle.ln_top.specs.declared.words.Command.{Command}
 use Rattle.ln_top.specs.declared.words.Command.TheVariants.{Graded}
 use Rattle.ln_top.specs.Plan.{Plan}
 use Rattle.ln_compile.specs.Compiled.{AreNumbered}
-use Rattle.ln_frame.specs.Ready.{StandsFor}
+use Rattle.ln_top.specs.Frame.Ready.{StandsFor}
 
 -- names were found, at these numbers
 pub record HasNumbers (table : List PredOf) (names : List (List ℕ)) (numbers : List ℕ) : Type 0 where

@@ -1,20 +1,20 @@
 -- Defines the signatures of the commands, each by its own file.
 use Rattle.std.specs.Prelude.{ℕ, List, [], ◌∷◌}
 use Rattle.ln_tree.specs.Table.{PredOf}
-use Rattle.ln_frame.specs.declared.stop.Why.{Why}
+use Rattle.ln_top.specs.declared.frame.stop.Why.{Why}
 use Rattle.ln_top.specs.declared.words.Command.{Command}
 use Rattle.ln_top.specs.declared.words.Command.TheVariants as command
-use Rattle.ln_texts.specs.Check.{check_signature}
-use Rattle.ln_texts.specs.Listing.{list_signature}
-use Rattle.ln_texts.specs.Emit.{emit_signature}
-use Rattle.ln_judges.specs.Verify.{verify_signature}
-use Rattle.ln_signs.specs.Run.{graded_signature, run_signature}
-use Rattle.ln_signs.specs.Product.{product_signature}
-use Rattle.ln_judges.specs.Edges.{edges_signature}
-use Rattle.ln_signs.specs.Explain.{explain_signature}
-use Rattle.ln_judges.specs.Audit.{audit_signature}
-use Rattle.ln_signs.specs.Gen.{gen_signature}
-use Rattle.ln_frame.specs.Signature.{Form, Signature}
+use Rattle.ln_top.specs.Texts.Check.{check_signature}
+use Rattle.ln_top.specs.Texts.Listing.{list_signature}
+use Rattle.ln_top.specs.Texts.Emit.{emit_signature}
+use Rattle.ln_top.specs.Judges.Verify.{verify_signature}
+use Rattle.ln_top.specs.Signs.Run.{graded_signature, run_signature}
+use Rattle.ln_top.specs.Signs.Product.{product_signature}
+use Rattle.ln_top.specs.Judges.Edges.{edges_signature}
+use Rattle.ln_top.specs.Signs.Explain.{explain_signature}
+use Rattle.ln_top.specs.Judges.Audit.{audit_signature}
+use Rattle.ln_top.specs.Signs.Gen.{gen_signature}
+use Rattle.ln_top.specs.Frame.Signature.{Form, Signature}
 
 -- `check FILE`, `list FILE`, `emit FILE`, `verify FILE LISTING`, `run FILE NAME ROWS`, `graded FILE NAME ROWS`, `edges FILE NAME
 -- POINTS`, `explain FILE NAME ROWS`, `audit FILE NAME ROWS TRACE`, `gen FILE NAME SEED COUNT`, `product FILE NAME NAME.. ROWS`

@@ -4,14 +4,14 @@ use Rattle.ln_base.specs.Limits.{most_file, most_source}
 use Rattle.ln_base.specs.Outside.{Shelf, bytes_of, IsAbsent}
 use Rattle.ln_tree.specs.Table.{TableOf, PredOf}
 use Rattle.ln_compile.specs.declared.refusal.Refusal.{Refusal}
-use Rattle.ln_frame.specs.declared.stop.Place.{Place}
-use Rattle.ln_frame.specs.declared.stop.Why.{Why}
-use Rattle.ln_frame.specs.declared.stop.Why.TheVariants.{TooLong, Refused, NoPredicate}
+use Rattle.ln_top.specs.declared.frame.stop.Place.{Place}
+use Rattle.ln_top.specs.declared.frame.stop.Why.{Why}
+use Rattle.ln_top.specs.declared.frame.stop.Why.TheVariants.{TooLong, Refused, NoPredicate}
 use Rattle.ln_top.specs.declared.words.Command.{Command}
 use Rattle.ln_top.specs.Plan.{Plan, plan_of}
-use Rattle.ln_frame.specs.Source.{IsAccepted, IsRefusedAt}
+use Rattle.ln_top.specs.Frame.Source.{IsAccepted, IsRefusedAt}
 use Rattle.ln_top.specs.Signature.{Asks, objection}
-use Rattle.ln_frame.specs.Given.{Outcome, stops, missing, gives, named, Given}
+use Rattle.ln_top.specs.Frame.Given.{Outcome, stops, missing, gives, named, Given}
 
 -- one step, and where it has a value the next one
 pub data Then {A B : Type 0} (first : Outcome A → Type 0) (next : A → Outcome B → Type 0) : Outcome B → Type 0 where

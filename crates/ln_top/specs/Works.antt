@@ -1,23 +1,23 @@
 -- Defines the works of the commands, each by its own file.
 use Rattle.std.specs.Prelude.{◌≡◌, ℕ, List, Some}
 use Rattle.ln_watch.specs.Panel.{State}
-use Rattle.ln_frame.specs.declared.status.End.{End}
+use Rattle.ln_top.specs.declared.frame.status.End.{End}
 use Rattle.ln_top.specs.declared.words.Command.{Command}
 use Rattle.ln_top.specs.declared.words.Command.TheVariants as command
 use Rattle.ln_top.specs.Plan.{Plan, plan_of}
-use Rattle.ln_frame.specs.Said.{Said}
-use Rattle.ln_frame.specs.Given.{Given}
-use Rattle.ln_frame.specs.Work.{Work}
-use Rattle.ln_texts.specs.Check.{check_work}
-use Rattle.ln_texts.specs.Listing.{list_work}
-use Rattle.ln_texts.specs.Emit.{emit_work}
-use Rattle.ln_judges.specs.Verify.{verify_work}
-use Rattle.ln_signs.specs.Product.{product_work}
-use Rattle.ln_judges.specs.Edges.{edges_work}
-use Rattle.ln_signs.specs.Explain.{explain_work}
-use Rattle.ln_judges.specs.Audit.{audit_work}
-use Rattle.ln_signs.specs.Gen.{gen_work}
-use Rattle.ln_signs.specs.Signs.{graded_work, run_work}
+use Rattle.ln_top.specs.Frame.Said.{Said}
+use Rattle.ln_top.specs.Frame.Given.{Given}
+use Rattle.ln_top.specs.Frame.Work.{Work}
+use Rattle.ln_top.specs.Texts.Check.{check_work}
+use Rattle.ln_top.specs.Texts.Listing.{list_work}
+use Rattle.ln_top.specs.Texts.Emit.{emit_work}
+use Rattle.ln_top.specs.Judges.Verify.{verify_work}
+use Rattle.ln_top.specs.Signs.Product.{product_work}
+use Rattle.ln_top.specs.Judges.Edges.{edges_work}
+use Rattle.ln_top.specs.Signs.Explain.{explain_work}
+use Rattle.ln_top.specs.Judges.Audit.{audit_work}
+use Rattle.ln_top.specs.Signs.Gen.{gen_work}
+use Rattle.ln_top.specs.Signs.Signs.{graded_work, run_work}
 
 -- the work of a command
 abbrev pub work_of : Command → Work

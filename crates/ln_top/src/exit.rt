@@ -2,11 +2,11 @@
 ghost use Rattle.std.specs.Prelude.{◌≡◌, map, string_bytes, IfOk, OnErr};
 ghost use Rattle.ln_base.specs.Outside.{refused};
 ghost use Rattle.ln_top.specs.Exit.{is_gen};
-ghost use Rattle.ln_frame.specs.Said.{code_of};
-ghost use Rattle.ln_frame.specs.declared.status.Status.TheVariants.{Memory};
+ghost use Rattle.ln_top.specs.Frame.Said.{code_of};
+ghost use Rattle.ln_top.specs.declared.frame.status.Status.TheVariants.{Memory};
 
+use crate::frame::status::Status;
 use ln_base::NoMemory;
-use ln_frame::status::Status;
 
 /// Returns whether watchers look on while the command of these words is carried out: where the first word is `gen`.
 pub fn has_watchers(words: &[String]) -> bool

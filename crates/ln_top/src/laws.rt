@@ -3,14 +3,14 @@
 ghost use Rattle.std.specs.Prelude.{◌≡◌, ℕ, List, Some};
 ghost use Rattle.ln_base.specs.Outside.{Shelf};
 ghost use Rattle.ln_watch.specs.Panel.{State};
-ghost use Rattle.ln_frame.specs.declared.status.End.{End};
-ghost use Rattle.ln_frame.specs.Said.{Said};
+ghost use Rattle.ln_top.specs.declared.frame.status.End.{End};
+ghost use Rattle.ln_top.specs.Frame.Said.{Said};
 ghost use Rattle.ln_top.specs.Agree.{MeaningsAgree, ProgramsAgree};
 ghost use Rattle.ln_top.specs.Answer.{Answer};
 ghost use Rattle.ln_top.specs.ByValue.{ValuesDecide};
 ghost use Rattle.ln_top.specs.Causes.{Ends};
 ghost use Rattle.ln_top.specs.Plan.{Plan};
-ghost use Rattle.ln_frame.specs.Given.{Outcome, Given};
+ghost use Rattle.ln_top.specs.Frame.Given.{Outcome, Given};
 ghost use Rattle.ln_top.specs.Steps.{Prepares};
 ghost use Rattle.ln_top.specs.Works.{AreOneValued};
 

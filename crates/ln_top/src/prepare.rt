@@ -8,24 +8,24 @@ ghost use Rattle.ln_tree.specs.Table.{PredOf, pred_of};
 ghost use Rattle.ln_top.specs.Plan.{with_bytes};
 ghost use Rattle.ln_top.specs.Signature.{Asks, signature_of};
 ghost use Rattle.ln_top.specs.Steps.{Compiles, Each, Finds, Prepares, Reads};
-ghost use Rattle.ln_frame.specs.Source.{view};
-ghost use Rattle.ln_frame.specs.Given.{gives};
-ghost use Rattle.ln_frame.specs.Carried.{Halts};
+ghost use Rattle.ln_top.specs.Frame.Source.{view};
+ghost use Rattle.ln_top.specs.Frame.Given.{gives};
+ghost use Rattle.ln_top.specs.Frame.Carried.{Halts};
 ghost use Rattle.ln_compile.specs.Compiled.{AreNumbered};
-ghost use Rattle.ln_frame.specs.Signature.{Refuses};
+ghost use Rattle.ln_top.specs.Frame.Signature.{Refuses};
 ghost use Rattle.ln_top.specs.Ready.{HasNumbers, IsReady, KeepsFor};
 
+use crate::frame::ready::Ready;
+use crate::frame::stop::{Stop, Why};
+use crate::judges::three::one_of_three;
+use crate::signs::graded::graded_first;
 use crate::source::compiled;
+use crate::target::alike::alike;
 use crate::words::{Command, Plan};
 use ln_base::limits::{MOST_FILE, MOST_SOURCE};
 use ln_base::{Files, ReadStop, read_whole};
 use ln_code::Program;
 use ln_compile::Checked;
-use ln_frame::ready::Ready;
-use ln_frame::stop::{Stop, Why};
-use ln_judges::three::one_of_three;
-use ln_signs::graded::graded_first;
-use ln_target::alike::alike;
 use std::alloc::Global;
 
 // The bytes of a file within its limit.

@@ -1,15 +1,15 @@
 //! Compiles the bytes of a source, or tells for what reason and at which place it is refused.
 ghost use Rattle.std.specs.Prelude.{◌≡◌, ◌≤◌, length, IfOk, IfErr};
 ghost use Rattle.ln_base.specs.Limits.{most_source};
-ghost use Rattle.ln_frame.specs.Source.{view, place_at};
+ghost use Rattle.ln_top.specs.Frame.Source.{view, place_at};
 ghost use Rattle.ln_top.specs.Steps.{Compiles};
-ghost use Rattle.ln_frame.specs.Given.{gives};
-ghost use Rattle.ln_frame.specs.Carried.{Halts};
-ghost use Rattle.ln_frame.specs.Stop.{stop_of};
+ghost use Rattle.ln_top.specs.Frame.Given.{gives};
+ghost use Rattle.ln_top.specs.Frame.Carried.{Halts};
+ghost use Rattle.ln_top.specs.Frame.Stop.{stop_of};
 
+use crate::frame::place::place_at;
+use crate::frame::stop::{Stop, Why};
 use ln_compile::{Checked, Refusal, check};
-use ln_frame::place::place_at;
-use ln_frame::stop::{Stop, Why};
 use std::alloc::Global;
 
 // The stop for what `compile` refuses.

@@ -2,7 +2,7 @@
 use crate::support::{Kind, boxes};
 use ln_base::{MemConsole, NoMemory, Port, Sign};
 use ln_code::{By, Verdict};
-use ln_signs::panel::Panel;
+use ln_top::signs::panel::Panel;
 use ln_watch::{DeciderWatch, FirstWatch, Keep, Line, SignWatch, Watch};
 use std::alloc::Global;
 use std::cell::Cell;

@@ -4,13 +4,10 @@
 //! a row in turn, each exactly, from the first on. It ends with the statuses of `lnc emit`, and writes the same lines on standard error.
 #![tactic(auto)]
 
-mod exact;
-
-use exact::exact;
 use ln_base::NoMemory;
 use ln_disk::{DiskFiles, StdConsole, words_of};
-use ln_frame::status::status_of;
-use ln_top::{Status, exit_code};
+use ln_top::frame::status::status_of;
+use ln_top::{Status, exact, exit_code};
 use std::process::ExitCode;
 
 // The words, the disk and the streams are those of this program.

@@ -8,15 +8,15 @@ use Rattle.ln_parse.proofs.Settling.OneAnswer.{one_table}
 use Rattle.ln_compile.specs.declared.refusal.Refusal.{Refusal}
 use Rattle.ln_compile.specs.Refused.{span_of}
 use Rattle.ln_compile.proofs.Refusing.OneRefusal.{accepted_alone, refused_one}
-use Rattle.ln_frame.specs.declared.stop.Why.TheVariants.{Refused}
-use Rattle.ln_frame.specs.declared.stop.Place.{Place}
+use Rattle.ln_top.specs.declared.frame.stop.Why.TheVariants.{Refused}
+use Rattle.ln_top.specs.declared.frame.stop.Place.{Place}
 use Rattle.ln_top.specs.declared.words.Command.{Command}
 use Rattle.ln_top.specs.Plan.{Plan}
-use Rattle.ln_frame.specs.Source.{IsRefusedAt, place_at}
-use Rattle.ln_frame.specs.Given.{Outcome, stops, missing, gives}
+use Rattle.ln_top.specs.Frame.Source.{IsRefusedAt, place_at}
+use Rattle.ln_top.specs.Frame.Given.{Outcome, stops, missing, gives}
 use Rattle.ln_top.specs.Steps.{Then, stopped, lacks, goes, Gives, Each, Reads, there, long, absent, Compiles, accepted, refused, Finds, found, none, Suits}
 use Rattle.ln_top.specs.Steps.{suited, unsuited, Prepares}
-use Rattle.ln_frame.proofs.Outcomes.{some_same}
+use Rattle.ln_top.proofs.FrameLemmas.Outcomes.{some_same}
 
 -- a step comes to one thing
 abbrev pub One : {A : Type 0} → (Outcome A → Type 0) → Type 0

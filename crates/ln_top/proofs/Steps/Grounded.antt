@@ -3,15 +3,15 @@ use Rattle.std.proofs.Common.{◌≡◌, ℕ, ◌≤◌, List, [], ◌∷◌, le
 use Rattle.ln_base.specs.Limits.{most_file}
 use Rattle.ln_base.specs.Outside.{Shelf}
 use Rattle.ln_tree.specs.Table.{PredOf, TableOf}
-use Rattle.ln_frame.specs.Source.{IsAccepted}
-use Rattle.ln_frame.specs.Given.{gives, Given, named}
-use Rattle.ln_frame.specs.Ready.{AreShort}
+use Rattle.ln_top.specs.Frame.Source.{IsAccepted}
+use Rattle.ln_top.specs.Frame.Given.{gives, Given, named}
+use Rattle.ln_top.specs.Frame.Ready.{AreShort}
 use Rattle.ln_top.specs.Plan.{Plan}
 use Rattle.ln_top.specs.Steps as step
 use Rattle.ln_top.specs.Steps.{Prepares, Each, Finds, Compiles, Reads}
 use Rattle.ln_top.specs.Signature.{Asks}
 use Rattle.ln_top.specs.declared.words.Command.{Command}
-use Rattle.ln_frame.proofs.Grounded.{AreFound, IsGrounded}
+use Rattle.ln_top.proofs.FrameLemmas.Grounded.{AreFound, IsGrounded}
 
 found_of : (table : List PredOf) (name : List ℕ) (p : PredOf) → Finds table name (gives p) → named name table ≡ Some p
 found_of table name p (step.found _ e) = e

@@ -3,8 +3,8 @@ use Rattle.std.proofs.Common.{◌≡◌, ℕ, List, Some, refl, ap, sym, ◌∙�
 use Rattle.std.proofs.lemmas.Option.{none-some}
 use Rattle.ln_base.specs.Outside.{Shelf}
 use Rattle.ln_watch.specs.Panel.{State}
-use Rattle.ln_frame.specs.Said.{Said}
-use Rattle.ln_frame.specs.Stop.{said_of}
+use Rattle.ln_top.specs.Frame.Said.{Said}
+use Rattle.ln_top.specs.Frame.Stop.{said_of}
 use Rattle.ln_top.specs.Plan.{Plan}
 use Rattle.ln_top.specs.Works.{AreOneValued, IsOneValued, WorkOwes}
 use Rattle.ln_top.specs.Answer.{PlanOwes, stopped, worked, Answer, usage, planned}

@@ -9,22 +9,22 @@ use Rattle.ln_base.specs.Outside.{Shelf, bytes_of, IsAbsent, Rose, refused}
 use Rattle.ln_tree.specs.declared.pred.Pred.{Pred}
 use Rattle.ln_tree.specs.Table.{PredOf, TableOf, pred_of}
 use Rattle.ln_compile.specs.Compiled.{number_of}
-use Rattle.ln_frame.specs.declared.stop.Why.{Why}
-use Rattle.ln_frame.specs.declared.stop.Why.TheVariants.{TooLong, NoPredicate}
-use Rattle.ln_frame.specs.declared.stop.Stop.{Stop}
-use Rattle.ln_frame.specs.declared.stop.Stop.TheVariants as stop
-use Rattle.ln_frame.specs.declared.ready.Ready.{Ready}
+use Rattle.ln_top.specs.declared.frame.stop.Why.{Why}
+use Rattle.ln_top.specs.declared.frame.stop.Why.TheVariants.{TooLong, NoPredicate}
+use Rattle.ln_top.specs.declared.frame.stop.Stop.{Stop}
+use Rattle.ln_top.specs.declared.frame.stop.Stop.TheVariants as stop
+use Rattle.ln_top.specs.declared.frame.ready.Ready.{Ready}
 use Rattle.ln_top.specs.declared.words.Command.{Command}
 use Rattle.ln_top.specs.Plan.{Plan}
-use Rattle.ln_frame.specs.Source.{view}
-use Rattle.ln_frame.specs.Given.{Outcome, stops, missing, gives}
+use Rattle.ln_top.specs.Frame.Source.{view}
+use Rattle.ln_top.specs.Frame.Given.{Outcome, stops, missing, gives}
 use Rattle.ln_top.specs.Steps.{Then, stopped, lacks, goes, Each, Reads, there, long, absent, Finds, found, none, Compiles, Suits, suited, unsuited, Prepares}
-use Rattle.ln_frame.specs.Carried.{Halts, tells, unread, short}
+use Rattle.ln_top.specs.Frame.Carried.{Halts, tells, unread, short}
 use Rattle.ln_compile.specs.Compiled.{AreNumbered}
-use Rattle.ln_frame.specs.Signature.{Refuses}
+use Rattle.ln_top.specs.Frame.Signature.{Refuses}
 use Rattle.ln_top.specs.Ready.{HasNumbers, IsReady}
 use Rattle.ln_top.proofs.Steps.Chain.{Behind, behind_at, behind_more, behind_all}
-use Rattle.ln_frame.proofs.FindLaws.{found_at, none_at}
+use Rattle.ln_top.proofs.FrameLemmas.FindLaws.{found_at, none_at}
 use Rattle.ln_top.specs.Signature.{Asks, signature_of}
 
 -- what stops one step stops another that takes over its stops, a file that is missing and faults of reading

@@ -5,12 +5,12 @@ use Rattle.ln_tree.specs.declared.table.Table.{Table}
 use Rattle.ln_compile.specs.Accepted.{Accepted}
 use Rattle.ln_compile.specs.declared.refusal.Refusal.{Refusal}
 use Rattle.ln_compile.specs.Refused.{IsRefusal, IsRefusedFor, span_of}
-use Rattle.ln_frame.specs.declared.stop.Why.TheVariants.{Refused}
-use Rattle.ln_frame.specs.Stop.{stop_at, stop_of}
-use Rattle.ln_frame.specs.Source.{view, place_at}
+use Rattle.ln_top.specs.declared.frame.stop.Why.TheVariants.{Refused}
+use Rattle.ln_top.specs.Frame.Stop.{stop_at, stop_of}
+use Rattle.ln_top.specs.Frame.Source.{view, place_at}
 use Rattle.ln_top.specs.Steps.{Compiles, accepted, refused}
-use Rattle.ln_frame.specs.Given.{gives}
-use Rattle.ln_frame.specs.Carried.{Halts, tells, short}
+use Rattle.ln_top.specs.Frame.Given.{gives}
+use Rattle.ln_top.specs.Frame.Carried.{Halts, tells, short}
 
 by_span : (bytes : List ℕ) (r : Refusal) (o : Option Span) → IsRefusedFor bytes r → span_of r ≡ o
     → Halts (Compiles bytes) ⊥ (stop_at bytes r o)

@@ -7,47 +7,47 @@ use Rattle.ln_base.specs.Limits.{most_file}
 use Rattle.ln_base.specs.Outside.{Shelf, Shown, Rose, refused}
 use Rattle.ln_watch.specs.Panel.{State}
 use Rattle.ln_tree.specs.Table.{PredOf}
-use Rattle.ln_frame.specs.declared.status.End.{End}
-use Rattle.ln_frame.specs.declared.status.End.TheVariants as end
-use Rattle.ln_frame.specs.declared.status.Early.{Early}
-use Rattle.ln_frame.specs.declared.status.Early.TheVariants as early
-use Rattle.ln_frame.specs.declared.status.Status.{Status}
-use Rattle.ln_frame.specs.declared.status.Status.TheVariants as status
-use Rattle.ln_frame.specs.declared.stop.Stop.{Stop}
-use Rattle.ln_frame.specs.declared.stop.Stop.TheVariants as stop
-use Rattle.ln_frame.specs.declared.stop.Why.{Why}
-use Rattle.ln_frame.specs.declared.stop.Why.TheVariants.{Usage, TooLong, Refused, NoPredicate}
+use Rattle.ln_top.specs.declared.frame.status.End.{End}
+use Rattle.ln_top.specs.declared.frame.status.End.TheVariants as end
+use Rattle.ln_top.specs.declared.frame.status.Early.{Early}
+use Rattle.ln_top.specs.declared.frame.status.Early.TheVariants as early
+use Rattle.ln_top.specs.declared.frame.status.Status.{Status}
+use Rattle.ln_top.specs.declared.frame.status.Status.TheVariants as status
+use Rattle.ln_top.specs.declared.frame.stop.Stop.{Stop}
+use Rattle.ln_top.specs.declared.frame.stop.Stop.TheVariants as stop
+use Rattle.ln_top.specs.declared.frame.stop.Why.{Why}
+use Rattle.ln_top.specs.declared.frame.stop.Why.TheVariants.{Usage, TooLong, Refused, NoPredicate}
 use Rattle.ln_top.specs.declared.words.Command.{Command}
 use Rattle.ln_top.specs.declared.words.Command.TheVariants as command
-use Rattle.ln_frame.specs.Said.{Said, Count, Rises, IsCalm, put_both, end_status, status_of}
-use Rattle.ln_frame.specs.Stop.{said_of, why_end}
+use Rattle.ln_top.specs.Frame.Said.{Said, Count, Rises, IsCalm, put_both, end_status, status_of}
+use Rattle.ln_top.specs.Frame.Stop.{said_of, why_end}
 use Rattle.ln_top.specs.Plan.{Plan, plan_of}
 use Rattle.ln_top.specs.Steps as step
-use Rattle.ln_frame.specs.Given.{Outcome, stops, missing, gives, Given}
+use Rattle.ln_top.specs.Frame.Given.{Outcome, stops, missing, gives, Given}
 use Rattle.ln_top.specs.Steps.{Prepares, Each, Finds, Gives, Reads, Then, WhereGiven}
-use Rattle.ln_frame.specs.Carried as c
-use Rattle.ln_frame.specs.Carried.{CarriesOut, Halts, Says, LeavesFronts, LeavesPart, read_line}
-use Rattle.ln_frame.specs.Work as kind_of
-use Rattle.ln_frame.specs.Work.{IsWorkEnd}
+use Rattle.ln_top.specs.Frame.Carried as c
+use Rattle.ln_top.specs.Frame.Carried.{CarriesOut, Halts, Says, LeavesFronts, LeavesPart, read_line}
+use Rattle.ln_top.specs.Frame.Work as kind_of
+use Rattle.ln_top.specs.Frame.Work.{IsWorkEnd}
 use Rattle.ln_top.specs.Answer.{PlanOwes, stopped, worked, PlanPart, PlanLacks, Answer, usage, planned, Part, IsMissing}
 use Rattle.ln_top.specs.Call.{HasRisen, Keeps, call}
 use Rattle.ln_top.specs.Causes as cause
 use Rattle.ln_top.specs.Causes.{SaysLine, IsSettled, Answered, Ends, Yields, EndsExactly}
-use Rattle.ln_frame.proofs.Carry.{Duty, IsCarriedOut, lift, says_carried, told_carried}
+use Rattle.ln_top.proofs.FrameLemmas.Carry.{Duty, IsCarriedOut, lift, says_carried, told_carried}
 use Rattle.ln_top.proofs.Steps.Chain.{One, one_gives, one_prepares, one_then}
 use Rattle.ln_top.proofs.Steps.Grounded.{IsFine, fine}
-use Rattle.ln_frame.proofs.Laws.{IsLawful}
-use Rattle.ln_frame.proofs.LinesLaws.{ok_same}
-use Rattle.ln_texts.proofs.CheckLaws as check_laws
-use Rattle.ln_texts.proofs.ListLaws as list_laws
-use Rattle.ln_texts.proofs.EmitLaws as emit_laws
-use Rattle.ln_judges.proofs.VerifyLaws as verify_laws
-use Rattle.ln_signs.proofs.SignsLaws as signs_laws
-use Rattle.ln_signs.proofs.ProductLaws as product_laws
-use Rattle.ln_judges.proofs.EdgesLaws as edges_laws
-use Rattle.ln_signs.proofs.ExplainLaws as explain_laws
-use Rattle.ln_judges.proofs.AuditLaws as audit_laws
-use Rattle.ln_signs.proofs.GenLaws as gen_laws
+use Rattle.ln_top.proofs.FrameLemmas.Laws.{IsLawful}
+use Rattle.ln_top.proofs.FrameLemmas.LinesLaws.{ok_same}
+use Rattle.ln_top.proofs.TextsLemmas.CheckLaws as check_laws
+use Rattle.ln_top.proofs.TextsLemmas.ListLaws as list_laws
+use Rattle.ln_top.proofs.TextsLemmas.EmitLaws as emit_laws
+use Rattle.ln_top.proofs.JudgesLemmas.VerifyLaws as verify_laws
+use Rattle.ln_top.proofs.SignsLemmas.SignsLaws as signs_laws
+use Rattle.ln_top.proofs.SignsLemmas.ProductLaws as product_laws
+use Rattle.ln_top.proofs.JudgesLemmas.EdgesLaws as edges_laws
+use Rattle.ln_top.proofs.SignsLemmas.ExplainLaws as explain_laws
+use Rattle.ln_top.proofs.JudgesLemmas.AuditLaws as audit_laws
+use Rattle.ln_top.proofs.SignsLemmas.GenLaws as gen_laws
 use Rattle.ln_top.specs.Signature.{objection, signature_of}
 use Rattle.ln_top.specs.Works.{WorkOwes, WorkPart, WorkEnds, work_of}
 

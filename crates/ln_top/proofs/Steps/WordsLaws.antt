@@ -6,7 +6,7 @@ use Rattle.std.proofs.lemmas.Bool.{le-leb}
 use Rattle.std.proofs.lemmas.List.{length-map, take-map, drop-map}
 use Rattle.ln_top.specs.declared.words.Command.{Command}
 use Rattle.ln_top.specs.Plan.{Plan, plan_for, plan_of, number_of}
-use Rattle.ln_frame.specs.Signature.{Form}
+use Rattle.ln_top.specs.Frame.Signature.{Form}
 use Rattle.ln_top.specs.Signature.{form}
 use Rattle.ln_base.specs.Decimal.{is_digits, decimal_value}
 use Rattle.ln_base.proofs.DecimalLemmas.{value_within}

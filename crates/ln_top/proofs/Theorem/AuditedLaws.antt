@@ -7,23 +7,23 @@ use Rattle.ln_tree.specs.Table.{PredOf, pred_of}
 use Rattle.ln_rows.specs.Left.{Records}
 use Rattle.ln_trace.proofs.Agreeing.{agreed-right}
 use Rattle.ln_watch.specs.Panel.{State}
-use Rattle.ln_frame.specs.declared.status.Status.{Status}
-use Rattle.ln_frame.specs.declared.status.Status.TheVariants.{Done}
+use Rattle.ln_top.specs.declared.frame.status.Status.{Status}
+use Rattle.ln_top.specs.declared.frame.status.Status.TheVariants.{Done}
 use Rattle.ln_top.specs.declared.words.Command.TheVariants as command
-use Rattle.ln_judges.specs.Audit as audit
-use Rattle.ln_judges.specs.Audit.{AuditSaid, HasTrace, IsRightTrace}
+use Rattle.ln_top.specs.Judges.Audit as audit
+use Rattle.ln_top.specs.Judges.Audit.{AuditSaid, HasTrace, IsRightTrace}
 use Rattle.ln_top.specs.Audited.{TellsRight}
 use Rattle.ln_top.specs.Causes.{IsSettled}
-use Rattle.ln_frame.specs.Subject.{subject_of}
-use Rattle.ln_frame.specs.Said.{Said, end_status}
-use Rattle.ln_frame.specs.Given.{Given}
-use Rattle.ln_judges.proofs.AuditLaws.{moved_right}
-use Rattle.ln_signs.proofs.ExplainLaws.{rows_differ}
+use Rattle.ln_top.specs.Frame.Subject.{subject_of}
+use Rattle.ln_top.specs.Frame.Said.{Said, end_status}
+use Rattle.ln_top.specs.Frame.Given.{Given}
+use Rattle.ln_top.proofs.JudgesLemmas.AuditLaws.{moved_right}
+use Rattle.ln_top.proofs.SignsLemmas.ExplainLaws.{rows_differ}
 use Rattle.ln_top.proofs.Steps.TopLaws.{Worked, settled_done}
 use Rattle.ln_top.proofs.Steps.Grounded.{IsFine}
-use Rattle.ln_frame.proofs.Grounded.{in_memory}
+use Rattle.ln_top.proofs.FrameLemmas.Grounded.{in_memory}
 use Rattle.ln_top.proofs.Theorem.HeadlineLaws.{head_sound}
-use Rattle.ln_frame.proofs.Lightness.{light_of}
+use Rattle.ln_top.proofs.FrameLemmas.Lightness.{light_of}
 
 -- where it ends well, the trace is agreed
 agreed_there : (g : Given) (p : PredOf) (names : List (List ℕ)) (records : Records) (trace : List ℕ) (a : Said)

@@ -5,14 +5,14 @@ use Rattle.ln_tree.specs.Table.{PredOf, SiteOf}
 use Rattle.ln_rows.specs.Left.{Records}
 use Rattle.ln_watch.specs.Panel.{State}
 use Rattle.ln_edges.specs.Points.{PointOf}
-use Rattle.ln_frame.specs.declared.status.Status.{Status}
+use Rattle.ln_top.specs.declared.frame.status.Status.{Status}
 use Rattle.ln_top.specs.declared.words.Command.TheVariants as command
 use Rattle.ln_top.specs.Edged.{PutEdges}
-use Rattle.ln_judges.specs.Edges as edges
-use Rattle.ln_judges.specs.Edges.{EdgesSaid, HasPoints, ReadsPoints}
-use Rattle.ln_frame.specs.Said.{Said, put_both}
-use Rattle.ln_frame.specs.Given.{Given, gives}
-use Rattle.ln_judges.proofs.EdgesLaws.{never_both, one_read, same_pred}
+use Rattle.ln_top.specs.Judges.Edges as edges
+use Rattle.ln_top.specs.Judges.Edges.{EdgesSaid, HasPoints, ReadsPoints}
+use Rattle.ln_top.specs.Frame.Said.{Said, put_both}
+use Rattle.ln_top.specs.Frame.Given.{Given, gives}
+use Rattle.ln_top.proofs.JudgesLemmas.EdgesLaws.{never_both, one_read, same_pred}
 use Rattle.ln_top.proofs.Steps.Grounded.{IsFine}
 use Rattle.ln_top.proofs.Steps.TopLaws.{Worked}
 

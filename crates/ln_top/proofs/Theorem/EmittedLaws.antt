@@ -14,20 +14,20 @@ use Rattle.ln_due.proofs.Verdicts.UniqueLemmas.{due-sign}
 use Rattle.ln_compile.specs.Accepted.{AreSound, IsSound, root_of}
 use Rattle.ln_compile.specs.Filtered.{Does}
 use Rattle.ln_csyn.specs.Tree.{Fun}
-use Rattle.ln_frame.specs.declared.status.Status.{Status}
-use Rattle.ln_frame.specs.Said.{Said, put_both}
-use Rattle.ln_frame.specs.Given.{Given}
+use Rattle.ln_top.specs.declared.frame.status.Status.{Status}
+use Rattle.ln_top.specs.Frame.Said.{Said, put_both}
+use Rattle.ln_top.specs.Frame.Given.{Given}
 use Rattle.ln_top.specs.declared.words.Command.TheVariants.{Emit}
-use Rattle.ln_texts.specs.Emit.{AllAreDue, CallIsDue, EmitSaid}
-use Rattle.ln_texts.specs.Text.{prints}
+use Rattle.ln_top.specs.Texts.Emit.{AllAreDue, CallIsDue, EmitSaid}
+use Rattle.ln_top.specs.Texts.Text.{prints}
 use Rattle.ln_top.specs.Emitted.{CallsPerturbedSign, CallPerturbedSigns, PutC}
 use Rattle.ln_top.specs.ByValue.{IsByValue, IsVerdictByValue, Takes}
 use Rattle.ln_top.specs.Perturbed.{FilterDecides}
-use Rattle.ln_texts.proofs.EmitLaws.{AreNamed, names_there}
+use Rattle.ln_top.proofs.TextsLemmas.EmitLaws.{AreNamed, names_there}
 use Rattle.ln_top.proofs.Theorem.ByValueLaws.{by_value}
 use Rattle.ln_top.proofs.Theorem.HeadlineLaws.{never_zero}
 use Rattle.ln_top.proofs.Steps.TopLaws.{Worked}
-use Rattle.ln_frame.proofs.Grounded.{IsGrounded}
+use Rattle.ln_top.proofs.FrameLemmas.Grounded.{IsGrounded}
 use Rattle.ln_top.proofs.Steps.Grounded.{IsFine}
 
 -- the shapes of what is given have the names of its predicates

@@ -35,29 +35,29 @@ use Rattle.ln_trace.specs.Form.{TraceText}
 use Rattle.ln_trace.specs.FormLaw.{HasSmallSum, HasSmallValue}
 use Rattle.ln_trace.specs.Text.{first_line, text_of_line, text_of_lines}
 use Rattle.ln_watch.specs.Panel.{State}
-use Rattle.ln_frame.specs.declared.status.Status.{Status}
+use Rattle.ln_top.specs.declared.frame.status.Status.{Status}
 use Rattle.ln_top.specs.declared.words.Command.TheVariants as command
-use Rattle.ln_signs.specs.Explain.{ExplainSaid, ExplainLine}
-use Rattle.ln_frame.specs.Subject.{subject_of}
+use Rattle.ln_top.specs.Signs.Explain.{ExplainSaid, ExplainLine}
+use Rattle.ln_top.specs.Frame.Subject.{subject_of}
 use Rattle.ln_top.specs.Explained.{PutTrace}
-use Rattle.ln_judges.specs.Audit as audit
-use Rattle.ln_frame.specs.Lines as l
-use Rattle.ln_frame.specs.Lines.{Lines}
-use Rattle.ln_signs.specs.Run.{HasRecords}
-use Rattle.ln_frame.specs.Said.{Said, put_both}
-use Rattle.ln_frame.specs.Given.{Given}
-use Rattle.ln_signs.proofs.ExplainLaws.{rows_differ}
-use Rattle.ln_signs.proofs.FewRecords.{few_in}
-use Rattle.ln_frame.proofs.Grounded.{IsGrounded, in_memory}
+use Rattle.ln_top.specs.Judges.Audit as audit
+use Rattle.ln_top.specs.Frame.Lines as l
+use Rattle.ln_top.specs.Frame.Lines.{Lines}
+use Rattle.ln_top.specs.Signs.Run.{HasRecords}
+use Rattle.ln_top.specs.Frame.Said.{Said, put_both}
+use Rattle.ln_top.specs.Frame.Given.{Given}
+use Rattle.ln_top.proofs.SignsLemmas.ExplainLaws.{rows_differ}
+use Rattle.ln_top.proofs.SignsLemmas.FewRecords.{few_in}
+use Rattle.ln_top.proofs.FrameLemmas.Grounded.{IsGrounded, in_memory}
 use Rattle.ln_top.proofs.Steps.Grounded.{IsFine}
 use Rattle.ln_top.proofs.Steps.TopLaws.{Worked}
 use Rattle.ln_top.proofs.Theorem.HeadlineLaws.{head_sound}
-use Rattle.ln_frame.proofs.Lightness.{light_of}
-use Rattle.ln_frame.proofs.ReadyLaws.{one_short}
-use Rattle.ln_frame.specs.Ready.{AreShort}
-use Rattle.ln_signs.specs.Rows.{RowStep}
-use Rattle.ln_signs.specs.Watching.{Watching, watching}
-use Rattle.ln_signs.proofs.RowsLaws.{lines_err, of_rows}
+use Rattle.ln_top.proofs.FrameLemmas.Lightness.{light_of}
+use Rattle.ln_top.proofs.FrameLemmas.ReadyLaws.{one_short}
+use Rattle.ln_top.specs.Frame.Ready.{AreShort}
+use Rattle.ln_top.specs.Signs.Rows.{RowStep}
+use Rattle.ln_top.specs.Signs.Watching.{Watching, watching}
+use Rattle.ln_top.proofs.SignsLemmas.RowsLaws.{lines_err, of_rows}
 
 -- the texts of lines, one after the other
 pub texts_join : (xs ys : List TraceLine) → text_of_lines (xs ++ ys) ≡ text_of_lines xs ++ text_of_lines ys

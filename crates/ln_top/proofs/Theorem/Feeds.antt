@@ -24,10 +24,10 @@ use Rattle.ln_rows.specs.declared.record.RowStop.TheVariants.{Fields, Number, Ra
 use Rattle.ln_code.specs.declared.verdict.Verdict.{Verdict}
 use Rattle.ln_code.specs.declared.verdict.By.{By}
 use Rattle.ln_code.specs.declared.verdict.By.TheVariants.{Filter, Stage, Nothing}
-use Rattle.ln_frame.specs.Source.{view}
-use Rattle.ln_frame.specs.Given.{Given}
+use Rattle.ln_top.specs.Frame.Source.{view}
+use Rattle.ln_top.specs.Frame.Given.{Given}
 use Rattle.ln_rows.specs.Header.{columns_of}
-use Rattle.ln_target.specs.Line.{sign_text, decider_text, stop_text, said_text}
+use Rattle.ln_top.specs.Target.Line.{sign_text, decider_text, stop_text, said_text}
 use Rattle.ln_top.specs.Headline.{NoFeed}
 use Rattle.ln_rows.proofs.HeaderLaws.{columns_like}
 

@@ -11,22 +11,22 @@ use Rattle.ln_algebra.proofs.Ordering.First.{all-first-in}
 use Rattle.ln_algebra.proofs.Expanded.Normal.{zero_cases}
 use Rattle.ln_algebra.specs.Coefficient.{normal_coefficient}
 use Rattle.ln_algebra.specs.Earlier.{Sites}
-use Rattle.ln_signs.specs.Run.{HasRecords}
-use Rattle.ln_signs.specs.Watching.{Watching, watching, last_of}
+use Rattle.ln_top.specs.Signs.Run.{HasRecords}
+use Rattle.ln_top.specs.Signs.Watching.{Watching, watching, last_of}
 use Rattle.ln_top.specs.declared.words.Command.TheVariants.{Graded, Run}
 use Rattle.ln_top.specs.Headline.{HasPerturbedSign, HavePerturbedSigns, none, more, PutSigns}
 use Rattle.ln_top.specs.Perturbed.{IsSignOn}
 use Rattle.ln_top.proofs.Theorem.Feeds.{HaveNoFeed, said_no_feed, columns_no_feed}
 use Rattle.ln_top.proofs.Steps.TopLaws.{Worked}
-use Rattle.ln_frame.proofs.Grounded.{IsGrounded, each_found, in_memory}
+use Rattle.ln_top.proofs.FrameLemmas.Grounded.{IsGrounded, each_found, in_memory}
 use Rattle.ln_top.proofs.Steps.Grounded.{IsFine}
 use Rattle.ln_parse.specs.ReadsBack.{Every}
 use Rattle.ln_top.proofs.Theorem.ByValueLaws.{by_value}
-use Rattle.ln_frame.proofs.Lightness.{light_of}
-use Rattle.ln_signs.proofs.OneLine.{same_row, not_both}
-use Rattle.ln_signs.specs.Rows.{RowStep}
-use Rattle.ln_signs.specs.Signs.{RunLine, RunSaid}
-use Rattle.ln_signs.proofs.RowsLaws.{lines_err, of_rows}
+use Rattle.ln_top.proofs.FrameLemmas.Lightness.{light_of}
+use Rattle.ln_top.proofs.SignsLemmas.OneLine.{same_row, not_both}
+use Rattle.ln_top.specs.Signs.Rows.{RowStep}
+use Rattle.ln_top.specs.Signs.Signs.{RunLine, RunSaid}
+use Rattle.ln_top.proofs.SignsLemmas.RowsLaws.{lines_err, of_rows}
 use Rattle.ln_algebra.specs.Sign.{perturbed}
 use Rattle.ln_algebra.specs.Tree.{Tree}
 use Rattle.ln_tree.specs.declared.pred.Pred.{Pred}
@@ -47,12 +47,12 @@ use Rattle.ln_compile.specs.Filtered.{IsDueIn}
 use Rattle.ln_algebra.specs.Orders.{Before, BySmallest, ByDegree, Rank}
 use Rattle.ln_order.proofs.Signs.RowSigns.{rows-differ}
 use Rattle.ln_due.proofs.Verdicts.UniqueLemmas.{due-sign, all-sites, sign-nonzero}
-use Rattle.ln_frame.specs.declared.status.Status.{Status}
-use Rattle.ln_frame.specs.Said.{Said, line, put_both}
-use Rattle.ln_frame.specs.Given.{Given}
-use Rattle.ln_target.specs.Line.{said_text, Says, due, refused_}
-use Rattle.ln_frame.specs.Lines as l
-use Rattle.ln_frame.specs.Lines.{Lines}
+use Rattle.ln_top.specs.declared.frame.status.Status.{Status}
+use Rattle.ln_top.specs.Frame.Said.{Said, line, put_both}
+use Rattle.ln_top.specs.Frame.Given.{Given}
+use Rattle.ln_top.specs.Target.Line.{said_text, Says, due, refused_}
+use Rattle.ln_top.specs.Frame.Lines as l
+use Rattle.ln_top.specs.Frame.Lines.{Lines}
 
 -- ---- without params no row has the sign 0
 module _ (rank : Rank) (p : Pred) (row : Row) where

@@ -18,21 +18,21 @@ use Rattle.ln_bound.specs.Value.{values}
 use Rattle.ln_order.specs.Sites.{row_sites}
 use Rattle.ln_verify.specs.Line.{Written}
 use Rattle.ln_verify.specs.Verified.{IsValidFor}
-use Rattle.ln_frame.specs.declared.status.Status.{Status}
-use Rattle.ln_frame.specs.declared.status.End.TheVariants.{Done}
-use Rattle.ln_frame.specs.Said.{Said, line, put_both, whole}
-use Rattle.ln_frame.specs.Given.{Given}
+use Rattle.ln_top.specs.declared.frame.status.Status.{Status}
+use Rattle.ln_top.specs.declared.frame.status.End.TheVariants.{Done}
+use Rattle.ln_top.specs.Frame.Said.{Said, line, put_both, whole}
+use Rattle.ln_top.specs.Frame.Given.{Given}
 use Rattle.ln_top.specs.declared.words.Command.TheVariants as command
-use Rattle.ln_texts.specs.Text.{prints}
-use Rattle.ln_texts.specs.Listing.{AnswersDue, IsListingOf, ListSaid, PartIsDue, PartsAreDue}
+use Rattle.ln_top.specs.Texts.Text.{prints}
+use Rattle.ln_top.specs.Texts.Listing.{AnswersDue, IsListingOf, ListSaid, PartIsDue, PartsAreDue}
 use Rattle.ln_top.specs.Listed.{GivesFilteredSign, PartGives, PartsGive, PutListing}
-use Rattle.ln_judges.specs.Verify as v
-use Rattle.ln_texts.proofs.EmitLaws.{AreNamed}
+use Rattle.ln_top.specs.Judges.Verify as v
+use Rattle.ln_top.proofs.TextsLemmas.EmitLaws.{AreNamed}
 use Rattle.ln_top.proofs.Theorem.ByValueLaws.{by_value}
 use Rattle.ln_top.proofs.Theorem.EmittedLaws.{by_filter, names_given}
 use Rattle.ln_top.proofs.Theorem.HeadlineLaws.{never_zero}
 use Rattle.ln_top.proofs.Steps.TopLaws.{Worked}
-use Rattle.ln_frame.proofs.Grounded.{IsGrounded}
+use Rattle.ln_top.proofs.FrameLemmas.Grounded.{IsGrounded}
 use Rattle.ln_top.proofs.Steps.Grounded.{IsFine}
 
 -- the machine of a part on a row returns the perturbed sign

@@ -33,29 +33,29 @@ use Rattle.ln_rows.specs.Record.{read_row}
 use Rattle.ln_rows.specs.declared.record.RowStop.{RowStop}
 use Rattle.ln_rows.proofs.Fields.RangeLemmas.{row_in_range}
 use Rattle.ln_watch.specs.Panel.{State}
-use Rattle.ln_frame.specs.declared.status.Status.{Status}
-use Rattle.ln_frame.specs.Said.{Said, line, put_both}
-use Rattle.ln_frame.specs.Given.{Given}
-use Rattle.ln_target.specs.Alike.{are_alike}
-use Rattle.ln_target.specs.Line.{decider_text, due, refused_, sign_text}
-use Rattle.ln_signs.specs.Product.{AreDue, IsMultiplied, Multiplied, ProductSaid, SaysProduct, ProductLine}
-use Rattle.ln_signs.specs.Product.{deciders_after, product_text}
+use Rattle.ln_top.specs.declared.frame.status.Status.{Status}
+use Rattle.ln_top.specs.Frame.Said.{Said, line, put_both}
+use Rattle.ln_top.specs.Frame.Given.{Given}
+use Rattle.ln_top.specs.Target.Alike.{are_alike}
+use Rattle.ln_top.specs.Target.Line.{decider_text, due, refused_, sign_text}
+use Rattle.ln_top.specs.Signs.Product.{AreDue, IsMultiplied, Multiplied, ProductSaid, SaysProduct, ProductLine}
+use Rattle.ln_top.specs.Signs.Product.{deciders_after, product_text}
 use Rattle.ln_top.specs.Products.{HasProductSign, HasSummedFirsts, HaveProductSigns, OneIsZeroOn, PutProducts}
 use Rattle.ln_top.specs.Products.{none, more, product_of}
-use Rattle.ln_signs.specs.Run.{HasRecords}
+use Rattle.ln_top.specs.Signs.Run.{HasRecords}
 use Rattle.ln_top.specs.declared.words.Command.TheVariants.{Product}
-use Rattle.ln_target.proofs.FactorsLaws.{IsOver}
-use Rattle.ln_signs.proofs.ProductLaws.{all_over}
+use Rattle.ln_top.proofs.TargetLemmas.FactorsLaws.{IsOver}
+use Rattle.ln_top.proofs.SignsLemmas.ProductLaws.{all_over}
 use Rattle.ln_top.proofs.Theorem.Feeds.{HaveNoFeed, behind, columns_no_feed, decider_feed, other, sign_feed, stop_feed}
 use Rattle.ln_top.proofs.Steps.TopLaws.{Worked}
-use Rattle.ln_frame.proofs.Grounded.{IsGrounded, in_memory}
+use Rattle.ln_top.proofs.FrameLemmas.Grounded.{IsGrounded, in_memory}
 use Rattle.ln_top.proofs.Steps.Grounded.{IsFine}
-use Rattle.ln_signs.proofs.OneLine.{same_row, not_both}
-use Rattle.ln_signs.specs.Rows.{RowStep}
-use Rattle.ln_signs.specs.Watching.{Watching, watching}
-use Rattle.ln_signs.proofs.RowsLaws.{lines_err, of_rows}
-use Rattle.ln_frame.specs.Lines as l
-use Rattle.ln_frame.specs.Lines.{Lines}
+use Rattle.ln_top.proofs.SignsLemmas.OneLine.{same_row, not_both}
+use Rattle.ln_top.specs.Signs.Rows.{RowStep}
+use Rattle.ln_top.specs.Signs.Watching.{Watching, watching}
+use Rattle.ln_top.proofs.SignsLemmas.RowsLaws.{lines_err, of_rows}
+use Rattle.ln_top.specs.Frame.Lines as l
+use Rattle.ln_top.specs.Frame.Lines.{Lines}
 use Rattle.ln_top.specs.Headline.{NoFeed}
 use Rattle.ln_top.specs.Perturbed.{IsSignOn}
 

@@ -3,10 +3,10 @@ use Rattle.std.proofs.Common.{◌≡◌, ℕ, ◌≤◌, length, ap, sym, ◌∙
 use Rattle.ln_base.specs.Outside.{Shelf}
 use Rattle.ln_tree.specs.Table.{TableOf}
 use Rattle.ln_compile.specs.Accepted.{AreSound}
-use Rattle.ln_frame.specs.declared.ready.Ready.{Ready}
+use Rattle.ln_top.specs.declared.frame.ready.Ready.{Ready}
 use Rattle.ln_top.specs.Plan.{HasForm, Plan}
 use Rattle.ln_top.specs.Signature.{form, signature_of}
-use Rattle.ln_frame.specs.Ready.{IsReadyFor}
+use Rattle.ln_top.specs.Frame.Ready.{IsReadyFor}
 use Rattle.ln_top.specs.Ready.{IsReady}
 use Rattle.ln_top.proofs.Steps.Grounded.{fine}
 

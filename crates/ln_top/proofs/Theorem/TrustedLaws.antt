@@ -13,19 +13,19 @@ use Rattle.ln_verify.specs.AsPart.{GivesSign, part_of}
 use Rattle.ln_verify.specs.Line.{Subject, Written}
 use Rattle.ln_verify.specs.Verified.{AreSubjectsOf, IsValidFor}
 use Rattle.ln_verify.proofs.Validity.Tells.{signs-told}
-use Rattle.ln_frame.specs.declared.status.Status.{Status}
-use Rattle.ln_frame.specs.declared.status.Status.TheVariants.{Done}
-use Rattle.ln_frame.specs.Given.{Given}
+use Rattle.ln_top.specs.declared.frame.status.Status.{Status}
+use Rattle.ln_top.specs.declared.frame.status.Status.TheVariants.{Done}
+use Rattle.ln_top.specs.Frame.Given.{Given}
 use Rattle.ln_top.specs.declared.words.Command.TheVariants.{Verify}
 use Rattle.ln_top.specs.Causes.{IsSettled}
-use Rattle.ln_frame.specs.Said.{Said, end_status}
-use Rattle.ln_judges.specs.Verify.{HasValid, VerifySaid, valid, invalid}
+use Rattle.ln_top.specs.Frame.Said.{Said, end_status}
+use Rattle.ln_top.specs.Judges.Verify.{HasValid, VerifySaid, valid, invalid}
 use Rattle.ln_top.specs.Listed.{GivesPerturbedSign, PartsGiveSigns}
 use Rattle.ln_top.specs.Trusted.{TellsSigns}
-use Rattle.ln_texts.proofs.EmitLaws.{AreNamed}
+use Rattle.ln_top.proofs.TextsLemmas.EmitLaws.{AreNamed}
 use Rattle.ln_top.proofs.Theorem.EmittedLaws.{names_given}
 use Rattle.ln_top.proofs.Theorem.HeadlineLaws.{never_zero}
-use Rattle.ln_frame.proofs.Grounded.{IsGrounded}
+use Rattle.ln_top.proofs.FrameLemmas.Grounded.{IsGrounded}
 use Rattle.ln_top.proofs.Steps.Grounded.{IsFine}
 use Rattle.ln_top.proofs.Steps.TopLaws.{Worked, settled_done}
 

@@ -1,5 +1,5 @@
 use Rattle.std.proofs.Common.{ap, Err}
-use Rattle.ln_frame.specs.Carried.{short}
+use Rattle.ln_top.specs.Frame.Carried.{short}
 use Rattle.ln_top.proofs.Steps.Prepared.{read_there, read_fault, read_long}
 use Rattle.ln_top.proofs.prepare.file.Goals as goal
 

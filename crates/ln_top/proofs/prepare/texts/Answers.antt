@@ -1,7 +1,7 @@
 use Rattle.std.proofs.Common.{◌∙◌, ap, string_bytes, rules, Err}
 use Rattle.ln_base.specs.Limits.{most_file}
 use Rattle.ln_top.specs.Steps.{Reads}
-use Rattle.ln_frame.proofs.LinesLaws.{ok_err}
+use Rattle.ln_top.proofs.FrameLemmas.LinesLaws.{ok_err}
 use Rattle.ln_top.proofs.Steps.Chain.{behind_at, behind_more, behind_all}
 use Rattle.ln_top.proofs.Steps.Prepared.{halts_behind, halts_wider, left_more, left_none, map_behind, refused_halts, rose_same}
 use Rattle.ln_top.proofs.Steps.TopLaws.{err_same}

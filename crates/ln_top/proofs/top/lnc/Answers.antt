@@ -1,4 +1,4 @@
-use Rattle.ln_frame.specs.Said.{count}
+use Rattle.ln_top.specs.Frame.Said.{count}
 use Rattle.ln_top.specs.declared.words.Command.TheVariants as command
 use Rattle.ln_top.proofs.Steps.TopLaws.{by_work, keeps}
 use Rattle.ln_top.proofs.Theorem.HeadlineLaws.{graded_headline, headline}

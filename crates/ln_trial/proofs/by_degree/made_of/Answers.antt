@@ -1,5 +1,5 @@
 -- Answers to the goals of `made_of` in src/by_degree.rt.
-use Rattle.ln_signs.proofs.GradedLaws.{begins_at, gradable_at}
+use Rattle.ln_top.proofs.SignsLemmas.GradedLaws.{begins_at, gradable_at}
 use Rattle.ln_trial.proofs.by_degree.made_of.Goals as goal
 
 pub made-requires-clause-poly : goal.made-requires-clause-poly

@@ -1,5 +1,0 @@
-use Rattle.ln_frame.proofs.Carry.{text_cut}
-use Rattle.ln_frame.proofs.stop.put_text.Goals as goal
-
-pub returns-in-Err : goal.returns-in-Err
-returns-in-Err g c = text_cut _ _ _ _ _ c.in-Err.ensures.err c.in-Err.ensures.step

@@ -1,6 +1,0 @@
-use Rattle.ln_frame.proofs.Carry.{text_carried}
-use Rattle.ln_judges.proofs.edges.put_edges.Goals as goal
-
-pub returns : goal.returns
-returns g c =
-    λ given s. text_carried _ _ _ _ _ _ _ _ _ _ (c.in_ok-text.ensures given s) (rw c.deref.ensures.value at c.put_text.ensures)

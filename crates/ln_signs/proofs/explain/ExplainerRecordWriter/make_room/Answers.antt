@@ -1,5 +1,0 @@
-use Rattle.ln_signs.proofs.ExplainedRows.{line_there}
-use Rattle.ln_signs.proofs.explain.ExplainerRecordWriter.make_room.Goals as goal
-
-pub returns-clause-has : goal.returns-clause-has
-returns-clause-has c = λ ps k. line_there c.args.self.now.target k.0 (rw k.1 at c.scratch.ensures.belongs)

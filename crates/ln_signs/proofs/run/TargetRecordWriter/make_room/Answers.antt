@@ -1,5 +1,0 @@
-use Rattle.ln_signs.proofs.SignsLaws.{line_there}
-use Rattle.ln_signs.proofs.run.TargetRecordWriter.make_room.Goals as goal
-
-pub returns-clause-has : goal.returns-clause-has
-returns-clause-has c = λ ps k. line_there c.args.self.now c.scratch.ensures.belongs

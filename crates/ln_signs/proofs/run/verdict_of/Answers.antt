@@ -1,8 +1,0 @@
-use Rattle.ln_target.specs.Line.{due, refused_}
-use Rattle.ln_signs.proofs.run.verdict_of.Goals as goal
-
-pub returns-in-Ok-clause-says : goal.returns-in-Ok-clause-says
-returns-in-Ok-clause-says c = λ fields r. due _ _ (rw c.in-Ok.is at r.ok) c.verdict.ensures.due
-
-pub returns-in-Err-clause-says : goal.returns-in-Err-clause-says
-returns-in-Err-clause-says c = λ fields r. refused_ _ (rw c.in-Err.is at r.err)

@@ -1,9 +1,0 @@
-pub mod Graded
-pub mod Watching
-pub mod Run
-pub mod Rows
-pub mod Signs
-pub mod Product
-pub mod Explain
-pub mod Gen
-pub mod Named

@@ -1,7 +1,0 @@
-use Rattle.ln_texts.specs.Check.{AreCounts}
-use Rattle.ln_texts.proofs.TextLaws.{carried}
-use Rattle.ln_texts.proofs.check.work.Goals as goal
-
-pub returns : goal.returns
-returns g c =
-    λ given s. carried AreCounts c.args.ready.now given _ _ _ _ _ s c.in_ok-text.ensures (rw c.deref.ensures.value at c.put_text.ensures)

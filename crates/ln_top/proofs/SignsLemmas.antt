@@ -1,0 +1,16 @@
+pub mod ExplainLaws
+pub mod ExplainedRows
+pub mod MadeLemmas
+pub mod MadeRangeLemmas
+pub mod GenLaws
+pub mod GradedLaws
+pub mod ProductLaws
+pub mod RowsLaws
+pub mod SignsLaws
+pub mod RunLaws
+pub mod BoxLemmas
+pub mod FewRecords
+pub mod OneLine
+pub mod WatchingLaws
+pub mod PutLemmas
+pub mod NamedLaws

@@ -1,0 +1,10 @@
+use Rattle.ln_top.proofs.SignsLemmas.ExplainedRows.{sound_pred}
+use Rattle.ln_top.proofs.SignsLemmas.RunLaws.{has_records}
+use Rattle.ln_top.proofs.signs.explain.work.Goals as goal
+
+pub returns : goal.returns
+returns g c = λ given s.
+    let there = c.in_ok-target.ensures.given given s in
+    let sound = sound_pred _ given _ s c.requires.stands.sound there in
+    rw c.no_watchers.ensures at (c.put_lines.ensures given (sound, c.in_ok-target.ensures.rank)
+    (has_records there.pred there.names (c.short_text.ensures.is given s)))

@@ -1,0 +1,12 @@
+use Rattle.std.proofs.Common.{ap, option_map, ◌∙◌, refl}
+use Rattle.std.proofs.lemmas.Option.{slice_get-map}
+use Rattle.ln_tree.specs.Table.{pred_of}
+use Rattle.ln_top.proofs.target.Target.graded.Goals as goal
+
+pub returns-clause-names : goal.returns-clause-names
+returns-clause-names c = rw c.table.ensures refl
+
+pub invariant_of-result : goal.invariant_of-result
+invariant_of-result c =
+    let there = slice_get-map pred_of c.args.c.now.table.preds _ ∙ ap (option_map pred_of) c.pred.ensures in
+    record { kept = c.blocks-blocks.ensures.kept; answers = c.requires.answers _ there }

@@ -1,0 +1,7 @@
+use Rattle.ln_top.specs.Texts.Check.{AreCounts}
+use Rattle.ln_top.proofs.TextsLemmas.TextLaws.{carried}
+use Rattle.ln_top.proofs.texts.check.work.Goals as goal
+
+pub returns : goal.returns
+returns g c =
+    λ given s. carried AreCounts c.args.ready.now given _ _ _ _ _ s c.in_ok-text.ensures (rw c.deref.ensures.value at c.put_text.ensures)

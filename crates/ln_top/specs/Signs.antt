@@ -1,0 +1,10 @@
+pub mod Graded
+pub mod Watching
+pub mod Run
+pub mod Rows
+pub mod Signs
+pub mod Product
+pub mod Explain
+pub mod GenRow
+pub mod Gen
+pub mod Named

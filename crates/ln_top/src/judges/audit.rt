@@ -1,0 +1,124 @@
+//! The work of `audit`: a trace is judged by the predicate's polynomial and the records of the rows file.
+ghost use Rattle.std.specs.Prelude.{◌≡◌, ◌≤◌, ◌∷◌, ◌++◌, ℕ, List, IfOk, length, codes, decimal};
+ghost use Rattle.ln_base.specs.Limits.{most_file};
+ghost use Rattle.ln_tree.specs.Table.{pred_of};
+ghost use Rattle.ln_stage.specs.Sound.{IsSound};
+ghost use Rattle.ln_top.specs.Judges.Audit.{AreJudged, AuditSaid, HasTrace, IsAuditOf, PutsOrStops, audit_signature};
+ghost use Rattle.ln_top.specs.Frame.Carried.{CarriesOut, NoPart};
+ghost use Rattle.ln_top.specs.Frame.Ready.{IsReadyFor, StandsFor};
+ghost use Rattle.ln_rows.specs.Header.{names_of};
+ghost use Rattle.ln_top.specs.Frame.Said.{count};
+ghost use Rattle.ln_top.specs.Frame.Given.{Given};
+
+use crate::frame::put::numbered;
+use crate::frame::ready::{Ready, named, two_texts};
+use crate::frame::status::{Early, End};
+use crate::frame::stop::{Stop, Why, put_text, say};
+use ln_base::{Console, NoMemory};
+use ln_rows::Rows;
+use ln_trace::{Judged, TraceLines, TraceStop, judge_lines, trace_lines};
+use ln_tree::{Pred, Table};
+use ln_verify::cases::case_of;
+use std::alloc::Global;
+
+// Returns what is judged of the lines of a trace.
+fn judged(
+    alloc: Global,
+    p: &Pred,
+    rows: &mut Rows<'_>,
+    lines: &mut TraceLines<'_>,
+) -> Result<Judged, NoMemory>
+    requires accepted { IsSound (pred_of p.now) }
+    requires second { lines.old.line ≡ 2 }
+    ensures { IfOk result (λ j. AreJudged (pred_of p.now) rows.old lines.old j) }
+{
+    let case = case_of(alloc, p)?;
+    let judged = judge_lines(alloc, p, &case.poly, &case.stages, rows, lines);
+    drop(case);
+    judged
+}
+
+// Returns what is judged of a trace: a form fault comes first.
+fn audited(alloc: Global, p: &Pred, rows: &mut Rows<'_>, trace: &[u8]) -> Result<Judged, NoMemory>
+    requires accepted { IsSound (pred_of p.now) }
+    requires short { length trace.now ≤ most_file }
+    ensures { IfOk result (λ j. IsAuditOf (pred_of p.now) rows.old trace.now j) }
+{
+    match trace_lines(alloc, trace) {
+        Ok(mut lines) => judged(alloc, p, rows, &mut lines),
+        Err(TraceStop::Form(at)) => Ok(Judged::Wrong(at)),
+        Err(TraceStop::NoMemory(e)) => Err(e),
+    }
+}
+
+// Writes what is judged of a trace.
+fn put_judged<C: Console>(
+    alloc: Global,
+    con: &mut C,
+    word: &[u8],
+    n: u32,
+    end: End,
+) -> Result<End, Early>
+    ensures { PutsOrStops ((word.now ++ decimal n) ++ codes "\n") end
+        (count (C.faults con.old) (C.faults con.new)) result (C.shown con.old) (C.shown con.new) }
+{
+    let text = numbered(alloc, word, n)?;
+    put_text(con, &text, end)
+}
+
+// The work on the records after the header.
+fn audit_rows<C: Console>(
+    alloc: Global,
+    con: &mut C,
+    p: &Pred,
+    rows: &mut Rows<'_>,
+    trace: &[u8],
+) -> Result<End, Early>
+    requires accepted { IsSound (pred_of p.now) }
+    requires short { length trace.now ≤ most_file }
+    ensures { (g : Given) (names : List (List ℕ)) → HasTrace g (pred_of p.now) names (names ∷ rows.old) trace.now
+        → CarriesOut (AuditSaid g) NoPart ⊥ ⊥
+        (count (C.faults con.old) (C.faults con.new)) result (C.shown con.old) (C.shown con.new) }
+{
+    match audited(alloc, p, rows, trace) {
+        Ok(Judged::Agreed(n)) => put_judged(alloc, con, b"agreed ", n, End::Done),
+        Ok(Judged::Wrong(at)) => put_judged(alloc, con, b"wrong ", at, End::Invalid),
+        Err(e) => Err(Early::Memory(e)),
+    }
+}
+
+// The work on records, of which the first has to be the header.
+fn audit_records<C: Console>(
+    alloc: Global,
+    con: &mut C,
+    t: &Table,
+    p: &Pred,
+    rows: &mut Rows<'_>,
+    trace: &[u8],
+) -> Result<End, Early>
+    requires accepted { IsSound (pred_of p.now) }
+    requires short { length trace.now ≤ most_file }
+    ensures { (g : Given) → HasTrace g (pred_of p.now) (names_of t.now p.now) rows.old trace.now
+        → CarriesOut (AuditSaid g) NoPart ⊥ ⊥
+        (count (C.faults con.old) (C.faults con.new)) result (C.shown con.old) (C.shown con.new) }
+{
+    match rows.header(t, p) {
+        Ok(true) => audit_rows(alloc, con, p, rows, trace),
+        Ok(false) => say(alloc, con, Stop::Tell(Why::Header)),
+        Err(e) => Err(Early::Memory(e)),
+    }
+}
+
+/// Writes `agreed N` or `wrong LINE`, or refuses the header.
+pub fn work<C: Console>(alloc: Global, con: &mut C, ready: &Ready) -> Result<End, Early>
+    requires { IsReadyFor audit_signature ready.now }
+    ensures { (g : Given) → StandsFor ready.now g → CarriesOut (AuditSaid g) NoPart ⊥ ⊥
+        (count (C.faults con.old) (C.faults con.new)) result (C.shown con.old) (C.shown con.new) }
+{
+    let (table, trace) = two_texts(ready);
+    let mut rows = Rows::new(alloc, table);
+    let t = ready.compiled.table();
+    let ended = audit_records(alloc, con, t, named(ready), &mut rows, trace);
+    drop(rows);
+    ended
+}

@@ -1,2 +1,0 @@
-pub mod BareLaws
-pub mod AnswerLaws
