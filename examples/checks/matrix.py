@@ -8,10 +8,11 @@ matrix.py --compare   prints what README.md has otherwise
 matrix.py --write     puts the figures into README.md"""
 import re
 import sys
+from collections import Counter
 from pathlib import Path
 
 from edits import edits_of, record
-from sources import crates, file_at, functions, is_law, is_tried, public_functions
+from sources import code_of, crates, file_at, functions, is_law, is_tried, public_functions
 
 PAGE, BEGIN, END = Path("README.md"), "<!-- from bin/edits: what edits hit -->", "<!-- to here -->"
 
@@ -38,15 +39,19 @@ def promises(crate):
 
 
 def hits(crate):
-    """The clauses at which edits of a crate were refused, with their functions, and the names that those edits are against."""
+    """The clauses at which edits of a crate were refused, with their functions, and the names that those edits are against. A refusal at a function
+    whose name another one of the crate has too hits no clause, since the record doesn't say which it was."""
     refused, found, against = record(crate)[1], set(), set()
+    named_so = Counter(path_of(function) for path in code_of(crate) for function in functions(file_at(str(path))))
     alone = {path_of(function): ensured(function)[0] for function in public_functions(crate) if len(ensured(function)) == 1}
     for path in edits_of(crate):
         if path.stem not in refused:
             continue
         function, goal = refused[path.stem]
         named = re.match(r"returns(?:-.*)?-clause-(\w+)", goal)
-        if named:
+        if named_so[function] > 1:
+            pass
+        elif named:
             found.add((function, named[1]))
         elif goal.startswith("returns") and function in alone:
             found.add((function, alone[function]))
