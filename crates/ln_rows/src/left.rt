@@ -1,8 +1,8 @@
 //! The remaining records of bytes in memory.
-ghost use Rattle.std.specs.Prelude.{◌≡◌, ◌≤◌, ◌+◌, [], false, length, IfOk, OnErr};
+ghost use Rattle.std.specs.Prelude.{◌≡◌, ◌≤◌, ◌+◌, ℕ, List, [], false, true, length, IfOk, OnErr};
 ghost use Rattle.csv.specs.Reading.{is_bom, strip_bom};
 ghost use Rattle.csv.specs.Records.{fields_of};
-ghost use Rattle.ln_rows.specs.Left.{records_in, TakesWithin};
+ghost use Rattle.ln_rows.specs.Left.{left_of, records_in, records_of, TakesWithin};
 ghost use Rattle.ln_rows.specs.Plain.{TakesPlainRow};
 ghost use Rattle.ln_rows.specs.Record.{columns};
 
@@ -52,6 +52,16 @@ fn past_mark(bytes: &[u8]) -> &[u8]
     }
 }
 
+// Whether what remains is the records of the bytes that remain, since none had a quote so far.
+fn reads_bytes(quoted: &Option<Quoted<'_>>) -> bool
+    ensures { result ≡ true → (bytes : List ℕ) → left_of bytes quoted.now ≡ records_of bytes }
+{
+    match quoted {
+        None => true,
+        Some(_) => false,
+    }
+}
+
 impl<'a> Left<'a> {
     pub(crate) fn new(alloc: Global, bytes: &'a [u8]) -> Left<'a>
         ensures { result ≡ records_in bytes.now }
@@ -69,7 +79,7 @@ impl<'a> Left<'a> {
         requires few_sites { length (columns vars.now) ≤ length vars.now + 5 }
         ensures { TakesPlainRow vars.now result self.old self.new into.new }
     {
-        if self.quoted.is_some() {
+        if !reads_bytes(&self.quoted) {
             return false;
         }
         match plain_row(vars, past_ends(self.rest), into) {

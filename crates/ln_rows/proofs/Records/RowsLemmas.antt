@@ -1,7 +1,7 @@
 -- Proves what remains after a record, and what a few of its fields say.
-use Rattle.std.proofs.Common.{◌≡◌, ◌≢◌, ℕ, ◌+◌, ◌-◌, ◌^◌, ◌<◌, ◌≤◌, min, Bool, List, [], ◌∷◌, length, get_or, take, drop, Option, Some}
+use Rattle.std.proofs.Common.{◌≡◌, ◌≢◌, ℕ, ◌+◌, ◌-◌, ◌^◌, ◌<◌, ◌≤◌, min, Bool, List, [], ◌∷◌, length, get_or, take, drop, Option}
 use Rattle.std.proofs.Common.{None, Ok, Err, refl, ap, sym, subst, ◌∙◌, arith, inl, inr, true, false, true≢false}
-use Rattle.std.specs.Prelude.{if◌then◌else◌, ◌⊎◌, ◌==◌, Result, is_some, IfOk}
+use Rattle.std.specs.Prelude.{if◌then◌else◌, ◌⊎◌, ◌==◌, Result, IfOk}
 use Rattle.std.proofs.lemmas.Bool.{cases_lt, eqb-true}
 use Rattle.std.proofs.lemmas.List.{take_all, length-take}
 use Rattle.csv.specs.Machine.{next_record}
@@ -44,18 +44,13 @@ mark_by (a ∷ []) m h e = absurd (omega (arith, h))
 mark_by (a ∷ b ∷ []) m h e = absurd (omega (arith, h))
 mark_by (a ∷ b ∷ c ∷ rest) m h e = ap (λ (t : Bool). if t then rest else a ∷ b ∷ c ∷ rest) (sym e)
 
--- while no record had a quote, the remaining records are those of the bytes
-pub none_quoted : (rest : List ℕ) (o : Option Records) → is_some o ≡ false → left_of rest o ≡ records_of rest
-none_quoted rest None h = refl
-none_quoted rest (Some r) h = absurd (true≢false h)
-
 -- a row of plain numbers is taken
 pub row_taken : (vars : List VarInfo) (old : Records) (o : Option Records) (text behind rest : List ℕ) (r : code.Row) → left_of text o ≡ old
-    → is_some o ≡ false → first_of text ≡ first_of behind → IsPlainRow vars behind rest r → TakenRow vars old (left_of rest o) r
+    → ((bytes : List ℕ) → left_of bytes o ≡ records_of bytes) → first_of text ≡ first_of behind → IsPlainRow vars behind rest r → TakenRow vars old (left_of rest o) r
 row_taken vars old o text behind rest r view none same h = record {
   fields = h.fields;
-  next = sym view ∙ none_quoted text o none ∙ gives_records text h.fields rest (gives_past text behind h.fields rest same h.gives)
-      ∙ ap (λ (rs : Records). h.fields ∷ rs) (sym (none_quoted rest o none));
+  next = sym view ∙ none text ∙ gives_records text h.fields rest (gives_past text behind h.fields rest same h.gives)
+      ∙ ap (λ (rs : Records). h.fields ∷ rs) (sym (none rest));
   size = h.size;
   read = h.read;
 }
