@@ -3,3 +3,4 @@ pub mod Monomials
 pub mod Walks
 pub mod Sights
 pub mod Degrees
+pub mod Testing

@@ -2,6 +2,7 @@ pub mod Kept
 pub mod Lists
 pub mod StageList
 pub mod Staged
+pub mod Symmetry
 pub mod Tally
 pub mod Segments
 pub mod SiteWalk

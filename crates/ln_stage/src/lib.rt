@@ -13,6 +13,7 @@ pub(crate) mod layers;
 pub mod lists;
 pub mod segments;
 pub mod stop;
+pub mod symmetry;
 pub mod table;
 pub(crate) mod tally;
 pub(crate) mod visits;
@@ -28,4 +29,5 @@ pub use segments::{
     segments_make_the_list, walk_goes_site_by_site,
 };
 pub use stop::StageStop;
+pub use symmetry::{Symmetry, symmetry_of};
 pub use table::Stages;
