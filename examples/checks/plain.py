@@ -10,7 +10,7 @@ plain.py graded FILE NAME ROWS          the lines of `graded`, with 0 in place o
 plain.py gen FILE NAME SEED COUNT       the lines of `gen`; what the filter decides counts as decided by the plain value
 plain.py random LNC FOLDER SEED COUNT   compares `run` and `graded` of the program LNC with the lines of random predicates of three shapes, COUNT of
                                         each, F where the filter decides, and prints how many there were of each kind"""
-import collections, functools, itertools, math, pathlib, random, re, subprocess, sys
+import collections, functools, importlib.machinery, importlib.util, itertools, math, pathlib, random, re, subprocess, sys
 
 BITS = 8  # of an exponent in a monomial, which is one whole number
 
@@ -212,28 +212,17 @@ def graded(path, name, table):
     run(path, name, table, True)
 
 
-def words(seed):
-    """the words of rand_pcg's Lcg128Xsl64, seeded by one of 64 bits"""
-    mask = (1 << 64) - 1
-    parts = []
-    for _ in range(8):
-        seed = (seed * 6364136223846793005 + 11634580027462260723) & mask
-        x, turn = ((seed >> 18 ^ seed) >> 27) & 0xffffffff, seed >> 59
-        parts.append((x >> turn | x << (32 - turn)) & 0xffffffff)
-    whole = lambda k: sum(parts[k + i] << 32 * i for i in range(4))
-    wide = (1 << 128) - 1
-    step = lambda s: (s * 0x2360ed051fc65da44385df649fccf645 + increment) & wide
-    increment = whole(4) | 1
-    state = step((whole(0) + increment) & wide)
-    while True:
-        state = step(state)
-        x, turn = (state >> 64 ^ state) & mask, state >> 122
-        yield (x >> turn | x << (64 - turn)) & mask
+def generator():
+    """The words of the generator of `gen`, by bin/rows."""
+    loader = importlib.machinery.SourceFileLoader("rows_of_gen", str(pathlib.Path(__file__).resolve().parents[2] / "bin/rows"))
+    module = importlib.util.module_from_spec(importlib.util.spec_from_loader("rows_of_gen", loader))
+    loader.exec_module(module)
+    return module.words
 
 
 def gen(path, name, seed, count):
     p = read(path)[name]
-    word = words(int(seed))
+    word = generator()(int(seed))
     first, signs, plain, stages, none, deepest = [], {1: 0, 0: 0, -1: 0}, 0, 0, 0, 0
     for n in range(1, int(count) + 1):
         index, values = {}, []
