@@ -38,13 +38,18 @@ def signs(piece):
     with open(rows, "rb") as file:
         file.seek(piece[0])
         data = file.read(piece[1] - piece[0])
+    wrong = f"a row of another length between the bytes {piece[0]} and {piece[1]}"
     if lnc_predicates.numpy:
+        bytes_ = lnc_predicates.numpy.frombuffer(data + b"\n" * (not data.endswith(b"\n")), dtype="uint8")
+        commas = lnc_predicates.numpy.cumsum(bytes_ == ord(","))[bytes_ == ord("\n")]
+        if (lnc_predicates.numpy.diff(commas, prepend=0) != len(columns) - 1).any():
+            raise ValueError(wrong)
         numbers = lnc_predicates.numpy.fromstring(data.replace(b"\n", b",").decode().rstrip(","), dtype="int64", sep=",").reshape(-1, len(columns))
         found = predicate.rows(numbers[:, indices], numbers[:, values])
     else:
         numbers = [list(map(int, line.split(b","))) for line in data.splitlines()]
         if any(len(row) != len(columns) for row in numbers):
-            raise ValueError(f"a row of another length between the bytes {piece[0]} and {piece[1]}")
+            raise ValueError(wrong)
         found = predicate.rows([[row[k] for k in indices] for row in numbers], [[row[k] for k in values] for row in numbers])
     return "".join(["0\n", "+\n", "-\n"][sign] for sign in found)
 

@@ -11,9 +11,27 @@ case_ 'rows in many pieces' 3 'equal' '' "$lnc run $orient orient $scratch/rows.
   cmp $scratch/once $scratch/twice && [ \$(wc -l <$scratch/once) = 40000 ] && echo equal; exit \$s"
 case_ 'from a pipe' 3 'equal' '' "set -o pipefail; cat $scratch/rows.csv | $large $orient orient /dev/stdin | { cmp - $scratch/once && echo equal; }"
 head -1 "$scratch/rows.csv" >"$scratch/header.csv"
-printf '%s\n"1",0,0,2,1,0,3,0,1\n"1\n2",0,0,2,1,0,3,0,1\n' "$(cat "$scratch/header.csv")" >"$scratch/quotes.csv"
 case_ 'a header alone' 0 '' '' "$large $orient orient $scratch/header.csv"
-case_ 'a field that goes over the end of a line' 70 '' 'large: a field in quotes goes over the end of a line' "${large/64K/30} $orient orient $scratch/quotes.csv"
+# what a record is: by files with quotes, empty lines and all ends of lines, in pieces of each size, the lines, the line on standard error and the status of run
+as_run() { # NAME TEXT
+  printf "$2" >"$scratch/quotes.csv"
+  case_ "$1" 0 'equal' '' "for size in 1 7 30 59 100 1K; do
+    $lnc run $orient orient $scratch/quotes.csv >$scratch/one 2>$scratch/one_said; s=\$?; LNC=$lnc LARGE_PIECE=\$size examples/large $orient orient $scratch/quotes.csv >$scratch/two 2>$scratch/two_said
+    [ \$? = \$s ] && cmp $scratch/one $scratch/two && cmp $scratch/one_said $scratch/two_said || { echo pieces of \$size; exit 1; }
+  done && echo equal"
+}
+head=$(cat "$scratch/header.csv")
+as_run 'a field in quotes over the end of a line, and over two pieces' "$head\n\"1\",0,0,2,1,0,3,0,1\n\"1\n2\",0,0,2,1,0,3,0,1\n1,0,0,2,1,0,3,0,\"-1\"\n"
+as_run 'a lone quote inside a field' "$head\n1,0,0,2,1,0,3,0,1\n1\"2,0,0,2,1,0,3,0,1\n1,0,0,2,1,0,3,0,-1\n"
+as_run 'doubled quotes, and letters after them' "$head\n\"1\"\"\n,2\",0,0,2,1,0,3,0,1\n\"1\"2,0,0,3,1,0,4,0,1\n\"\",0,0,2,1,0,3,0,-1\n1,0,0,2,1,0,3,0,-1\n"
+as_run 'a quote that nothing closes' "$head\n1,0,0,2,1,0,3,0,1\n\"1,0,0,2,1,0,3,0,1\n1,0,0,2,1,0,3,0,-1\n"
+as_run 'an empty line before the header' "\n\r\n$head\n1,0,0,2,1,0,3,0,1\n"
+as_run 'a byte order mark, quotes in the header, empty lines' "\357\273\277\"p\",${head#p,}\r\n\r\n\n1,0,0,2,1,0,3,0,1\r\n\n\n1,0,0,2,1,0,3,0,-1"
+as_run 'a header over two lines' "\"p\n\",${head#p,}\n1,0,0,2,1,0,3,0,1\n"
+as_run 'lines that end in CR alone' "$head\r1,0,0,2,1,0,3,0,1\r1,0,0,2,1,0,3,0,-1\r"
+as_run 'a header that ends with the file' "$head"
+as_run 'no byte' ''
+as_run 'empty lines alone' "\n\n\r\n"
 case_ 'a predicate that is not there' 4 '' 'error predicate' "$large $orient nosuch $scratch/rows.csv"
 case_ 'a refused source' 1 '' 'error bound 2:62' "$large examples/limits/too_heavy.ln big $scratch/rows.csv"
 case_ 'no rows file' 6 '' 'error read' "$large $orient orient $scratch/nosuch.csv"
@@ -22,7 +40,14 @@ if [ -e predicates/lnc_plane.h ]; then
   grep -v '^1,2,3$' "$scratch/rows.csv" >"$scratch/valid.csv"
   case_ 'in Python over the batch call' 0 'equal' '' "printf '#define LNC_PLANE_IMPLEMENTATION\n#include \"lnc_plane.h\"\n' >$scratch/lnc_plane.c && gcc -std=gnu99 -O1 -fPIC -shared -Ipredicates $scratch/lnc_plane.c -o $scratch/libplane.so &&
     python3 examples/large.py $scratch/libplane.so predicates/lnc_plane.h orient2 $scratch/valid.csv >$scratch/twice && grep -v '^!' $scratch/once | cut -c1 | cmp - $scratch/twice && echo equal"
+  # with numpy and without, a row of another length ends it: also where the numbers of two rows are those of two of the right length
+  { head -1 "$scratch/valid.csv"; echo 1,0,0,2,1,0,3,0; echo 1,0,0,2,1,0,3,0,1,5; } >"$scratch/lengths.csv"
+  for python in "python3" "/usr/bin/python3"; do
+    kind=$($python -c 'import numpy; print("numpy")' 2>/dev/null) || kind='no numpy'
+    case_ "in Python, $kind: rows of other lengths" 1 'ValueError: a row of another length between the bytes 30 and 66' '' "$python examples/large.py $scratch/libplane.so predicates/lnc_plane.h orient2 $scratch/lengths.csv 2>&1 | tail -1"
+  done
+  [ "$kind" = numpy ] || echo "large.sh: numpy isn't installed: rows are tried without it alone"
 else
-  skipped=$((skipped + 1)); echo 'large.sh: skipped: predicates is not there'
+  skipped=$((skipped + 3)); echo 'large.sh: skipped: predicates is not there'
 fi
 rm -f "$scratch/rows.csv" "$scratch/valid.csv"
