@@ -13,6 +13,7 @@ there, otherwise a list."""
 import ctypes
 import operator
 import re
+import sys
 from pathlib import Path
 
 try:
@@ -141,4 +142,4 @@ class Library:
 def load(library=None, headers=None):
     """The library beside which this module is installed, or another with its headers."""
     prefix = Path(__file__).resolve().parent.parent.parent
-    return Library(library or prefix / "lib" / "liblnc_predicates.so.0", headers or sorted((prefix / "include").glob("lnc_*.h")))
+    return Library(library or prefix / "lib" / ("liblnc_predicates.1.dylib" if sys.platform == "darwin" else "liblnc_predicates.so.1"), headers or sorted((prefix / "include").glob("lnc_*.h")))
