@@ -1,6 +1,6 @@
--- The program of one order.
-use Rattle.std.proofs.Common.{◌≡◌, ◌≢◌, ℕ, zero, suc, ◌+◌, ◌-◌, ◌<◌, ◌≤◌, ◌^◌, max, refl, sym, ◌∙◌, ap, subst, arith, List, [], ◌∷◌, ◌++◌, length, map, take, get_or, append-nil, append_assoc, Option, Some, None, ℤ, Bool, true, false, if◌then◌else◌}
-use Rattle.std.specs.Prelude.{All, AllPairs, slice_get}
+-- Proves that the program of one order is a program, and that it decides rows whose indices rise.
+use Rattle.std.proofs.Common.{◌≡◌, ◌≢◌, ℕ, zero, suc, ◌+◌, ◌-◌, ◌<◌, ◌≤◌, ◌^◌, max, refl, sym, ◌∙◌, ap, subst, arith, List, [], ◌∷◌, ◌++◌, length, map, take, get_or, append-nil, append_assoc, Option, Some, None, Ok, Err, ℤ, Bool, true, false, if◌then◌else◌}
+use Rattle.std.specs.Prelude.{All, AllPairs, IfOk, Result, slice_get}
 use Rattle.std.specs.List.{range_with_len}
 use Rattle.std.proofs.lemmas.List.Elements.{All-take}
 use Rattle.std.proofs.lemmas.List.FromFn.{get_or-range_with_len, length-range_with_len}
@@ -17,7 +17,7 @@ use Rattle.ln_code.specs.Lists.{IsListOf, list_from, list_of, segment_of}
 use Rattle.ln_code.specs.Part.{Code, Part, block_value, ops_in_blocks, wide_in, without_filter}
 use Rattle.ln_code.specs.Verdict.{IsVerdict, along, settled, through}
 use Rattle.ln_code.proofs.Verdicts.Prefixed.{list_ends, list_goes}
-use Rattle.ln_code.specs.OneOrder.{OneOrderDecides, OneOrderIsProgram, at_once, in_one_order, list_in_turn, past_all}
+use Rattle.ln_code.specs.OneOrder.{DecidesRising, OneOrderDecides, OneOrderIsProgram, at_once, in_one_order, list_in_turn, past_all}
 
 -- ---- segments
 -- nothing at each prefix
@@ -176,7 +176,7 @@ along-first zs t cs (n ∷ ns) place wide calls h =
       by_block (Some c) ih = by_value c (block_value zs c) ih
 
 pub one-order-decides : OneOrderDecides
-one-order-decides p row v h rises d =
+one-order-decides p h row v rises d =
     let L : List ℕ = list_in_turn p in
     let t : ℕ = past_all L in
     let e : d.list ≡ L = d.chosen.list_is ∙ one-list p h d.places in
@@ -225,3 +225,9 @@ one_order_joins p list past blocks segments h l t b s =
     subst (λ z. IsProgram (record { shape = p.shape; filter = None; blocks = z; segments = segments })) (sym c)
     (subst (λ z. IsProgram (record { shape = p.shape; filter = None; blocks = take (past_all (list_in_turn p)) p.blocks; segments = z })) (sym d)
     (one-order-is-program p h))
+
+-- so does what is equal to it, where it is made
+pub decided : {E : Type 0} (r : Result Part E) (p : Part) → IfOk r (λ q. q ≡ in_one_order p) → IfOk r (λ q. IsProgram p)
+    → IfOk r (λ q. DecidesRising q (without_filter p))
+decided (Ok q) p e h = subst (λ z. DecidesRising z (without_filter p)) (sym e) (one-order-decides p h)
+decided (Err x) p e h = tt

@@ -4,7 +4,7 @@ ghost use Rattle.ln_order.specs.Places.{order_places};
 ghost use Rattle.ln_code.specs.Part.{Part, without_filter};
 ghost use Rattle.ln_code.specs.Kept.{IsProgram};
 ghost use Rattle.ln_code.specs.Lists.{list_from, segment_of};
-ghost use Rattle.ln_code.specs.OneOrder.{at_once, in_one_order, list_in_turn, past_all};
+ghost use Rattle.ln_code.specs.OneOrder.{DecidesRising, at_once, in_one_order, list_in_turn, past_all};
 
 use crate::block::Block;
 use crate::filter_block::FilterBlock;
@@ -146,14 +146,23 @@ impl Program {
         Ok(list)
     }
 
-    /// The program of the order of the arguments alone: on a row whose indices rise it decides as the program without its filter, by the same
-    /// blocks. Its list is, in each order of the sites, that of the order of the arguments, and it has no blocks past those of the list.
-    pub fn in_one_order(self, alloc: Global) -> Result<Program, NoMemory>
-        ensures { IfOk result (λ p. p ≡ in_one_order self) }
+    // The program of the order of the arguments alone.
+    fn reduced(self, alloc: Global) -> Result<Program, NoMemory>
+        ensures is { IfOk result (λ p. p ≡ in_one_order self) }
+        ensures kept { IfOk result (λ p. IsProgram self) }
     {
         let list = self.list_in_turn(alloc)?;
         let past = past_all(list.as_slice());
         let segments = at_once(alloc, list, self.segments.as_slice())?;
         Ok(Program::join(self.shape, None, first(self.blocks, past), segments))
+    }
+
+    /// Returns the program of the order of the arguments alone, without a filter: its list is, in each order of the sites, that of the order of
+    /// the arguments, and it has no blocks past those of the list. On a row whose indices rise it decides as the program without its filter.
+    pub fn in_one_order(self, alloc: Global) -> Result<Program, NoMemory>
+        ensures program { IfOk result (λ p. p ≡ in_one_order self) }
+        ensures decides { IfOk result (λ p. DecidesRising p (without_filter self)) }
+    {
+        self.reduced(alloc)
     }
 }
