@@ -1,5 +1,6 @@
 -- Defines rows whose sites are exchanged, and expressions that keep or turn their sign where neighbouring sites are exchanged.
-use Rattle.std.specs.Prelude.{◌≡◌, ◌≢◌, ℕ, zero, suc, ◌+◌, ◌-◌, ◌<◌, ◌≤◌, eqb, int_lt, Bool, true, ℤ, pos, ◌*ℤ◌, ◌<ℤ◌, AllPairs, List, [], ◌∷◌, length, count_by, Some, None, option_map, if◌then◌else◌}
+use Rattle.std.specs.Prelude.{◌≡◌, ◌≢◌, ℕ, zero, suc, ◌+◌, ◌-◌, ◌<◌, ◌≤◌, eqb, int_lt, Bool, true, ℤ, pos, ◌*ℤ◌, ◌<ℤ◌, AllPairs, List, [], ◌∷◌, length}
+use Rattle.std.specs.Prelude.{count_by, Some, None, option_map, if◌then◌else◌}
 use Rattle.std.specs.List.{range_with_len}
 use Rattle.ln_algebra.specs.Exchange.{Turns}
 use Rattle.ln_algebra.specs.Orders.{Rank}

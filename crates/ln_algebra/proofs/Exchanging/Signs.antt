@@ -67,10 +67,13 @@ module _ (n : ℕ) (partner : ℕ → ℕ) (was now : Sites) (ex : Exchanges n p
         omega (arith, less, at-partner a v l, at-partner b v k),
         (λ w r.
             let q : partner (partner w) ≡ w = ex.twice w in
-            let u : RanksBefore was v (partner w) = (ex.ranks v (partner w)).1 (ranks-named now (partner v) w (partner v) (partner (partner w)) refl (sym q) r) in
+            let u : RanksBefore was v (partner w) =
+            (ex.ranks v (partner w)).1 (ranks-named now (partner v) w (partner v) (partner (partner w)) refl (sym q) r) in
             let e : get_or a (partner w) 0 ≡ get_or b (partner w) 0 = same (partner w) u in
-            let f : get_or (exchanged partner a) w 0 ≡ get_or a (partner w) 0 = ap (λ z. get_or (exchanged partner a) z 0) (sym q) ∙ at-partner a (partner w) l in
-            let g : get_or (exchanged partner b) w 0 ≡ get_or b (partner w) 0 = ap (λ z. get_or (exchanged partner b) z 0) (sym q) ∙ at-partner b (partner w) k in
+            let f : get_or (exchanged partner a) w 0 ≡ get_or a (partner w) 0 =
+            ap (λ z. get_or (exchanged partner a) z 0) (sym q) ∙ at-partner a (partner w) l in
+            let g : get_or (exchanged partner b) w 0 ≡ get_or b (partner w) 0 =
+            ap (λ z. get_or (exchanged partner b) z 0) (sym q) ∙ at-partner b (partner w) k in
             f ∙ e ∙ sym g),
       )
 
@@ -112,7 +115,8 @@ module _ (rank : Rank) (n : ℕ) (partner : ℕ → ℕ) (was now : Sites) (x y 
       record {
         over = over-sites n partner was now ex a f.over;
         small = omega (arith, f.small, degree-exchanged n partner ex.within ex.twice a f.over.size);
-        nonzero = λ z. f.nonzero (turned s (perturbed now y e (exchanged partner a)) (perturbed was x e a) t.turn turn ∙ turn-zero s (perturbed now y e (exchanged partner a)) t.turn z);
+        nonzero = λ z. f.nonzero (turned s (perturbed now y e (exchanged partner a)) (perturbed was x e a) t.turn turn
+            ∙ turn-zero s (perturbed now y e (exchanged partner a)) t.turn z);
         zero_before = λ b o l h.
             let c : List ℕ = exchanged partner b in
             let q : exchanged partner c ≡ b = exchanged-twice n partner ex.within ex.twice b o.size in

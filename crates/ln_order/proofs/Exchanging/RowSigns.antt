@@ -1,5 +1,6 @@
 -- Proves that the sign of a row whose sites are exchanged is turned as the polynomial is.
-use Rattle.std.proofs.Common.{◌≡◌, ℕ, suc, ◌<◌, refl, sym, ◌∙◌, ap, subst, arith, List, length, Bool, true, false, eqb, if◌then◌else◌, Option, Some, None, is_some, option_map, ◌⊎◌, inl, inr, unsigned_abs}
+use Rattle.std.proofs.Common.{◌≡◌, ℕ, suc, ◌<◌, refl, sym, ◌∙◌, ap, subst, arith, List, length, Bool, true, false, eqb, if◌then◌else◌, Option, Some, None}
+use Rattle.std.proofs.Common.{is_some, option_map, ◌⊎◌, inl, inr, unsigned_abs}
 use Rattle.std.proofs.lemmas.Bool.Decides.{nat_tests}
 use Rattle.std.proofs.lemmas.Int.{ints}
 use Rattle.std.proofs.Math.IntN.{ℤ, pos, negsuc, ◌*ℤ◌}

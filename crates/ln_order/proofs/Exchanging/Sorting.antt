@@ -1,5 +1,6 @@
 -- Proves that exchanges of neighbours lead from each row to one whose indices rise, one exchange for each inversion.
-use Rattle.std.proofs.Common.{◌≡◌, ◌≢◌, ◌⊎◌, inl, inr, ℕ, zero, suc, ◌+◌, ◌-◌, ◌^◌, ◌<◌, ◌≤◌, Bool, true, false, cond, List, [], ◌∷◌, length, get_or, refl, sym, ◌∙◌, ap, subst, arith, ℤ, pos, ◌*ℤ◌, ◌<ℤ◌, ◌≤ℤ◌, Some}
+use Rattle.std.proofs.Common.{◌≡◌, ◌≢◌, ◌⊎◌, inl, inr, ℕ, zero, suc, ◌+◌, ◌-◌, ◌^◌, ◌<◌, ◌≤◌, Bool, true, false, cond, List, [], ◌∷◌, length, get_or, refl}
+use Rattle.std.proofs.Common.{sym, ◌∙◌, ap, subst, arith, ℤ, pos, ◌*ℤ◌, ◌<ℤ◌, ◌≤ℤ◌, Some}
 use Rattle.std.specs.Prelude.{All, AllPairs, count_by, int_lt}
 use Rattle.std.specs.List.{range_with_len}
 use Rattle.std.proofs.lemmas.Int.{ints}
@@ -9,7 +10,8 @@ use Rattle.std.proofs.lemmas.List.Kept.{AllPairs-cons}
 use Rattle.ln_algebra.specs.Terms.{power_of}
 use Rattle.ln_tree.specs.declared.shape.VarInfo.{VarInfo}
 use Rattle.ln_tree.specs.Row.{AreWithin, InRange, Row, values}
-use Rattle.ln_order.specs.Exchanged.{AreAlike, AreExchanged, IndicesRise, NeighboursAlike, RisingIsInOrder, RowsSort, SortedRow, StepsTo, goes, inversions, other_of, range_at, stays}
+use Rattle.ln_order.specs.Exchanged.{AreAlike, AreExchanged, IndicesRise, NeighboursAlike, RisingIsInOrder, RowsSort, SortedRow, StepsTo, goes, inversions}
+use Rattle.ln_order.specs.Exchanged.{other_of, range_at, stays}
 use Rattle.ln_order.specs.Order.{IsOrder, index_at}
 use Rattle.ln_order.proofs.Exchanging.Swaps.{all-swap, count-cons, differ-swap, get-swap, length-swap, one-if, swap, swap-inversions}
 

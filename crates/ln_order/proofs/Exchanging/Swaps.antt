@@ -1,5 +1,6 @@
 -- Proves what exchanging two neighbouring members of a list does to its places and to its inversions.
-use Rattle.std.proofs.Common.{◌≡◌, ◌≢◌, ◌⊎◌, inl, inr, ℕ, zero, suc, ◌+◌, ◌<◌, ◌≤◌, eqb, Bool, true, false, cond, List, [], ◌∷◌, length, get_or, refl, sym, ◌∙◌, ap, arith, ℤ, pos, ◌<ℤ◌, if◌then◌else◌}
+use Rattle.std.proofs.Common.{◌≡◌, ◌≢◌, ◌⊎◌, inl, inr, ℕ, zero, suc, ◌+◌, ◌<◌, ◌≤◌, eqb, Bool, true, false, cond, List, [], ◌∷◌, length, get_or, refl, sym}
+use Rattle.std.proofs.Common.{◌∙◌, ap, arith, ℤ, pos, ◌<ℤ◌, if◌then◌else◌}
 use Rattle.std.specs.Prelude.{All, AllPairs, count_by, int_lt}
 use Rattle.std.proofs.lemmas.Bool.{cases_order}
 use Rattle.std.proofs.lemmas.Bool.Decides.{nat_tests}

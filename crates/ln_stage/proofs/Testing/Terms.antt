@@ -1,5 +1,6 @@
 -- Proves what is tested of the terms of a polynomial.
-use Rattle.std.proofs.Common.{◌≡◌, ◌≢◌, ℕ, zero, suc, ◌+◌, ◌^◌, ◌<◌, ◌≤◌, unsigned_abs, refl, sym, ◌∙◌, ap, subst, arith, List, [], ◌∷◌, length, get_or, take, Bool, true, false, All, Contains, map, ◌⊎◌, inl, inr}
+use Rattle.std.proofs.Common.{◌≡◌, ◌≢◌, ℕ, zero, suc, ◌+◌, ◌^◌, ◌<◌, ◌≤◌, unsigned_abs, refl, sym, ◌∙◌, ap, subst, arith, List, [], ◌∷◌, length, get_or, take}
+use Rattle.std.proofs.Common.{Bool, true, false, All, Contains, map, ◌⊎◌, inl, inr}
 use Rattle.std.specs.Bool.{Decides}
 use Rattle.std.proofs.lemmas.Bool.{cases_lt}
 use Rattle.std.proofs.lemmas.Int.{ints}

@@ -1,5 +1,6 @@
 -- Proves what is tested of the variables of two neighbouring sites.
-use Rattle.std.proofs.Common.{◌≡◌, ℕ, zero, suc, ◌+◌, ◌-◌, ◌<◌, ◌≤◌, refl, sym, ◌∙◌, ap, subst, arith, List, [], ◌∷◌, length, get_or, drop, Option, Some, None, Bool, true, false, cond, ◌⊎◌, inl, inr, ℤ, pos}
+use Rattle.std.proofs.Common.{◌≡◌, ℕ, zero, suc, ◌+◌, ◌-◌, ◌<◌, ◌≤◌, refl, sym, ◌∙◌, ap, subst, arith, List, [], ◌∷◌, length, get_or, drop, Option, Some}
+use Rattle.std.proofs.Common.{None, Bool, true, false, cond, ◌⊎◌, inl, inr, ℤ, pos}
 use Rattle.std.specs.Bool.{Decides}
 use Rattle.std.specs.Prelude.{if◌then◌else◌}
 use Rattle.std.proofs.lemmas.Bool.{cases_lt}

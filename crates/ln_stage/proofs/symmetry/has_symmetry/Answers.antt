@@ -24,4 +24,6 @@ neighbours-preserved c =
     (rw (c.as_slice-vars.ensures) at (c.pair_turns.ensures.yes q)) c.neighbours.invariant
 
 pub returns-clause-yes : goal.returns-clause-yes
-returns-clause-yes c = λ yes. turns_all c.neighbours.j c.args.s.now.sites c.args.s.now.vars c.args.y c.args.f.now (omega (arith, c.neighbours-test.false)) c.neighbours.invariant
+returns-clause-yes c = λ yes.
+    turns_all c.neighbours.j c.args.s.now.sites c.args.s.now.vars c.args.y c.args.f.now (omega (arith, c.neighbours-test.false))
+    c.neighbours.invariant
