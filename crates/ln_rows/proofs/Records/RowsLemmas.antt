@@ -46,7 +46,8 @@ mark_by (a ∷ b ∷ c ∷ rest) m h e = ap (λ (t : Bool). if t then rest else 
 
 -- a row of plain numbers is taken
 pub row_taken : (vars : List VarInfo) (old : Records) (o : Option Records) (text behind rest : List ℕ) (r : code.Row) → left_of text o ≡ old
-    → ((bytes : List ℕ) → left_of bytes o ≡ records_of bytes) → first_of text ≡ first_of behind → IsPlainRow vars behind rest r → TakenRow vars old (left_of rest o) r
+    → ((bytes : List ℕ) → left_of bytes o ≡ records_of bytes) → first_of text ≡ first_of behind
+    → IsPlainRow vars behind rest r → TakenRow vars old (left_of rest o) r
 row_taken vars old o text behind rest r view none same h = record {
   fields = h.fields;
   next = sym view ∙ none text ∙ gives_records text h.fields rest (gives_past text behind h.fields rest same h.gives)
