@@ -47,10 +47,6 @@ ROWS
 done
 
 # without filters: the bytes are those of `emit` but for the filters and their calls, and it ends as `emit` does
-if [ ! -x "$exact" ]; then
-  skipped=$((skipped + 59)); echo 'c.sh: 59 skipped: crates/lnc_exact/out/lnc_exact is not built'
-  return 0
-fi
 case_ 'the C of less.ln without its filter' 0 "$(cat crates/lnc_exact/stdout)" '' "$exact crates/lnc_exact/data/less.ln"
 unfiltered() { # of what emit writes
   awk 'drop { drop--; next }

@@ -1,5 +1,5 @@
 """The list of crates in docs/MAP.md, made from crates.txt. Usage, at the top of the repository:
-crates.py compare   prints where the list isn't the one of crates.txt, or a crate has no line that says what it does
+crates.py compare   prints where the list isn't the one of crates.txt, or a crate has no line that says what it does; then how many it looked at
 crates.py write     writes it anew, between the two comments that mark it"""
 import re
 import sys
@@ -63,6 +63,7 @@ def main():
                 print(f"crates.txt: {name} lacks a line that says what it does, or what of it is proved or tested")
     for path, title, made in TABLES:
         renew(path, f"<!-- from crates.txt: {title} -->", made(groups), sys.argv[1:] == ["write"])
+    print(f"{sum(len(crates) for _, crates in groups)} crates in {len(groups)} groups")
 
 
 if __name__ == "__main__":

@@ -4,7 +4,7 @@ python=''
 for one in python3 /usr/bin/python3; do if $one -c 'import dask.distributed' 2>/dev/null; then python=$one; break; fi; done
 if [ -z "$python" ]; then
   case_ "dask.sh: Dask isn't installed, which it says" 0 "skipped: Dask isn't installed" '' "python3 examples/dask/signs.py $orient orient $rows"
-  skipped=$((skipped + 6)); echo "dask.sh: 6 skipped: Dask isn't installed (python3-dask, python3-distributed)"
+  skip 6 'examples/dask' "Dask isn't installed"
   return 0
 fi
 awk 'BEGIN { srand(4); print "p,p.x,p.y,q,q.x,q.y,r,r.x,r.y"

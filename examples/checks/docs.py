@@ -1,7 +1,7 @@
 """What is said of the repository in its documents, by the repository: lines of docs/ have at most 200 letters, those of the sources of crates/
 at most 160; each link leads to a file and a heading that are there; each name `ln_crate::name` is in that crate, and of the pages on code
-each name in code font in some crate; each file of definitions or lemmas that is named is there. Prints what is wrong. Usage, at the top of
-the repository: docs.py"""
+each name in code font in some crate; each file of definitions or lemmas that is named is there. Prints what is wrong, and then how much it
+looked at. Usage, at the top of the repository: docs.py"""
 import re
 from pathlib import Path
 
@@ -16,6 +16,7 @@ def anchors(text):
 
 def links(page, text):
     for target in re.findall(r"\]\(([^)\s]+)\)", text):
+        LOOKED["links"] += 1
         if "://" in target:
             continue
         path, _, head = target.partition("#")
@@ -57,17 +58,19 @@ def identifiers(text):
             yield f"no {name} in the crates"
 
 
-WORDS = set()
+WORDS, LOOKED = set(), {"pages": 0, "links": 0, "lines of sources": 0}
 for file in [*Path("crates").rglob("*.rt"), *Path("crates").rglob("*.antt")]:
     if "out" not in file.parts:
         source = file.read_text()
         WORDS.update(re.findall(r"[A-Za-z_][A-Za-z0-9_]*", source))
+        LOOKED["lines of sources"] += source.count("\n")
         for n, line in enumerate(source.splitlines(), 1):
             if len(line) > 160:
                 print(f"{file}: line {n} has {len(line)} letters")
 
 for page in PAGES:
     text = page.read_text()
+    LOOKED["pages"] += 1
     joined = re.sub(r"\s+", " ", text)
     wrong = [*links(page, text), *names(joined), *files(joined)]
     if page.name in ("SEMANTICS.md", "COMPILER.md", "THEOREM.md", "MAP.md", "LISTING.md", "C.md", "DECISIONS.md"):
@@ -76,3 +79,4 @@ for page in PAGES:
         wrong += [f"line {n} has {len(line)} letters" for n, line in enumerate(text.splitlines(), 1) if len(line) > 200]
     for fault in wrong:
         print(f"{page}: {fault}")
+print(", ".join(f"{number} {what}" for what, number in LOOKED.items()))

@@ -3,7 +3,8 @@ also-must-fail/tried: the checksum of the sources on which all of a crate's were
 code and definitions of all crates below it, without blank lines and lines of comments; the logic of the prover; how many edits these are; and of each
 edit the function at which it was refused and the goal there. Where TRIED names a folder, records are kept there, in TRIED/NAME, and those count too: so the gate
 tries what has no record of these sources (.ci/run). Usage, at the top of the repository:
-edits.py compare                prints each crate whose edits weren't tried on the sources as they are by this prover, and each edit that can't be applied
+edits.py compare                prints each crate whose edits weren't tried on the sources as they are by this prover, and each edit that can't be applied;
+                                then how many edits it looked at
 edits.py stale                  the names of these crates
 edits.py sum NAME               the checksum of a crate
 edits.py keep NAME SUM SAID W   keeps how the edits of a crate came out, by what the prover said, where each was tried, and prints it; status 1 where not
@@ -176,10 +177,13 @@ def main():
         return 0
     for name in stale:
         print(f"{name}: its edits weren't all tried on these sources by this prover: bin/edits {name}")
+    count = 0
     for name in deps:
         for path in edits_of(name):
+            count += 1
             for fault in faults_of(path):
                 print(fault)
+    print(f"{count} edits")
     return 0
 
 

@@ -36,18 +36,14 @@ case_ 'a predicate that is not there' 4 '' 'error predicate' "$large $orient nos
 case_ 'a refused source' 1 '' 'error bound 2:62' "$large examples/limits/too_heavy.ln big $scratch/rows.csv"
 case_ 'no rows file' 6 '' 'error read' "$large $orient orient $scratch/nosuch.csv"
 case_ 'another header' 3 '' 'error header' "$large examples/squares/squares.ln s $scratch/rows.csv"
-if [ -e predicates/lnc_plane.h ]; then
-  grep -v '^1,2,3$' "$scratch/rows.csv" >"$scratch/valid.csv"
-  case_ 'in Python over the batch call' 0 'equal' '' "printf '#define LNC_PLANE_IMPLEMENTATION\n#include \"lnc_plane.h\"\n' >$scratch/lnc_plane.c && gcc -std=gnu99 -O1 -fPIC -shared -Ipredicates $scratch/lnc_plane.c -o $scratch/libplane.so &&
-    python3 examples/large.py $scratch/libplane.so predicates/lnc_plane.h orient2 $scratch/valid.csv >$scratch/twice && grep -v '^!' $scratch/once | cut -c1 | cmp - $scratch/twice && echo equal"
-  # with numpy and without, a row of another length ends it: also where the numbers of two rows are those of two of the right length
-  { head -1 "$scratch/valid.csv"; echo 1,0,0,2,1,0,3,0; echo 1,0,0,2,1,0,3,0,1,5; } >"$scratch/lengths.csv"
-  for python in "python3" "/usr/bin/python3"; do
-    kind=$($python -c 'import numpy; print("numpy")' 2>/dev/null) || kind='no numpy'
-    case_ "in Python, $kind: rows of other lengths" 1 'ValueError: a row of another length between the bytes 30 and 66' '' "$python examples/large.py $scratch/libplane.so predicates/lnc_plane.h orient2 $scratch/lengths.csv 2>&1 | tail -1"
-  done
-  [ "$kind" = numpy ] || echo "large.sh: numpy isn't installed: rows are tried without it alone"
-else
-  skipped=$((skipped + 3)); echo 'large.sh: skipped: predicates is not there'
-fi
+grep -v '^1,2,3$' "$scratch/rows.csv" >"$scratch/valid.csv"
+case_ 'in Python over the batch call' 0 'equal' '' "printf '#define LNC_PLANE_IMPLEMENTATION\n#include \"lnc_plane.h\"\n' >$scratch/lnc_plane.c && gcc -std=gnu99 -O1 -fPIC -shared -Ipredicates $scratch/lnc_plane.c -o $scratch/libplane.so &&
+  python3 examples/large.py $scratch/libplane.so predicates/lnc_plane.h orient2 $scratch/valid.csv >$scratch/twice && grep -v '^!' $scratch/once | cut -c1 | cmp - $scratch/twice && echo equal"
+# with numpy and without, a row of another length ends it: also where the numbers of two rows are those of two of the right length
+{ head -1 "$scratch/valid.csv"; echo 1,0,0,2,1,0,3,0; echo 1,0,0,2,1,0,3,0,1,5; } >"$scratch/lengths.csv"
+for python in "python3" "/usr/bin/python3"; do
+  kind=$($python -c 'import numpy; print("numpy")' 2>/dev/null) || kind='no numpy'
+  case_ "in Python, $kind: rows of other lengths" 1 'ValueError: a row of another length between the bytes 30 and 66' '' "$python examples/large.py $scratch/libplane.so predicates/lnc_plane.h orient2 $scratch/lengths.csv 2>&1 | tail -1"
+done
+[ "$kind" = numpy ] || echo "large.sh: numpy isn't installed: rows are tried without it alone"
 rm -f "$scratch/rows.csv" "$scratch/valid.csv"

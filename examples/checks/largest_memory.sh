@@ -10,9 +10,4 @@ edges: 1 inputs
 blocks: 4 inputs
 terms: 2 inputs
 gen: 1 inputs' '' "$largest $program"
-calls=$(readlink -f "${LNC_C:-crates/lnc_c/out/lnc_c}")
-if [ -x "$calls" ]; then
-  case_ 'the largest inputs of lnc_c' 0 'calls: 2 inputs' '' "$largest $calls calls"
-else
-  skipped=$((skipped + 1)); echo 'largest_memory.sh: skipped: crates/lnc_c/out/lnc_c is not built'
-fi
+case_ 'the largest inputs of lnc_c' 0 'calls: 2 inputs' '' "$largest $(readlink -f "${LNC_C:-$(bin/lnc_c --path)}") calls"

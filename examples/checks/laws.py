@@ -1,4 +1,5 @@
-"""What docs/THEOREM.md has to name, and names. Prints what is missing or isn't so. Usage, at the top of the repository: laws.py
+"""What docs/THEOREM.md has to name, and names. Prints what is missing or isn't so, and how many crates and
+clauses of `lnc` it looked at. Usage, at the top of the repository: laws.py
 
 - Of each crate whose public functions have contracts there is an entry **CRATE**, which goes to the next entry or heading.
 - The entry of a crate names each of its laws in code font. A law is a public function that takes nothing and returns nothing: its contract is a statement
@@ -46,10 +47,11 @@ def wrong_clauses(crate, entry):
 
 
 def main():
-    found = entries()
+    found, count = entries(), 0
     for crate in crates():
         if is_tried(crate):
             continue
+        count += 1
         if crate not in found and any(function.clauses for function in public_functions(crate)):
             print(f"{crate}: there is no entry **{crate}**")
             continue
@@ -64,6 +66,7 @@ def main():
     for field in re.findall(r"^  pub (\w+) :", keeps.text, flags=re.M):
         if f"`{field}`" not in PAGE:
             print(f"the field {field} of Keeps isn't named")
+    print(f"{count} crates, {len(clauses)} clauses of lnc")
 
 
 main()

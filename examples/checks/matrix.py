@@ -4,7 +4,7 @@ other crates can call; laws, which have no body, aren't among them. An `ensures`
 calls, so its clauses and the fields are hit by what an edit is against: a line `against: NAME ..` of an edit that was refused names them. Usage, at the
 top of the repository:
 matrix.py             prints each promise that no edit hits, and how many of how many are hit
-matrix.py --compare   prints what README.md has otherwise
+matrix.py --compare   prints what README.md has otherwise, and how many edits there are
 matrix.py --write     puts the figures into README.md"""
 import re
 import sys
@@ -78,16 +78,20 @@ def counts():
     return first + unhit, [(sum(name in against for name in names), len(names)) for names in (clauses, fields)] + [(hit, every)]
 
 
+def all_edits():
+    return sum(len(edits_of(crate)) for crate in crates())
+
+
 def sentence(figures):
     """What README.md says: without the figures, until bin/edits has kept of each crate where its edits were refused."""
     clauses, fields, others = figures
-    edits = sum(len(edits_of(crate)) for crate in crates())
-    said = f"- **That contracts refuse wrong bodies.** The prover has to refuse {edits} edits, each of which makes a body wrong (`bin/edits`)."
+    said = f"- **That contracts refuse wrong bodies.** The prover has to refuse {all_edits()} edits, each of which makes a body wrong (`bin/edits`)."
     if not all("sources" in record(crate)[0] for crate in crates() if edits_of(crate)):
         return said
-    return (f"{said}\n  They are against {clauses[0]} of the other {clauses[1]} clauses of `lnc` and {fields[0]} of the {fields[1]} promises of its clause `kept`;\n"
-            f"  of the {others[1]:,} clauses of other public functions, {others[0]:,} are those at which one was refused. `python3 examples/checks/matrix.py`\n"
-            f"  lists all others.")
+    at_lnc = " and ".join(f"`{name}`" for name in sorted({name for crate in crates() for function, name in hits(crate)[0] if function == "lnc"}))
+    return (f"{said}\n  By what their authors wrote beside them they break {clauses[0]} of the {clauses[1]} clauses of `lnc` beside `kept`, and {fields[0]} of the {fields[1]} promises of `kept`.\n"
+            f"  The prover stops at the first function that doesn't do what it says; `lnc` itself was that only at {at_lnc}, and an inner one for all else.\n"
+            f"  Of the {others[1]:,} clauses of other public functions, {others[0]:,} are those at which one was refused. `python3 examples/checks/matrix.py` lists the rest.")
 
 
 def main():
@@ -102,8 +106,10 @@ def main():
         print(f"{PAGE} has no place for the figures of bin/edits")
     elif sys.argv[1:] == ["--write"]:
         PAGE.write_text(before + begin + "\n\n" + sentence(figures) + "\n\n" + end + after)
-    elif old.strip() != sentence(figures):
-        print(f"{PAGE} has other figures than bin/edits kept, which are:\n{sentence(figures)}")
+    else:
+        if old.strip() != sentence(figures):
+            print(f"{PAGE} has other figures than bin/edits kept, which are:\n{sentence(figures)}")
+        print(f"{all_edits()} edits")
 
 
 if __name__ == "__main__":

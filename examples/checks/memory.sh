@@ -13,12 +13,8 @@ C 5000 emit $insphere
 CASES
 rm -f "$scratch/large.csv"
 case_ 'each of the first 50 allocations of each command refused' 0 '24 cases: each as required' '' "LNC=$program bench/memory first 50 lnc | tail -1"
-calls=$(readlink -f "${LNC_C:-crates/lnc_c/out/lnc_c}")
-if [ -x "$calls" ]; then
-  case_ 'each allocation of lnc_c refused' 0 '7 cases: each as required' '' "LNC=$program LNC_C=$calls bench/memory first 1000 lnc_c | tail -1"
-else
-  skipped=$((skipped + 1)); echo 'memory.sh: skipped: crates/lnc_c/out/lnc_c is not built'
-fi
+calls=$(readlink -f "${LNC_C:-$(bin/lnc_c --path)}")
+case_ 'each allocation of lnc_c refused' 0 '7 cases: each as required' '' "LNC=$program LNC_C=$calls bench/memory first 1000 lnc_c | tail -1"
 
 # signals: none is caught
 mkfifo "$scratch/pipe"

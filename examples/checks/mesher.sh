@@ -26,7 +26,7 @@ case_ 'calls from Python' 0 '0 wrong' '' "python3 examples/checks/mesher.py call
 if python=$(for it in python3 /usr/bin/python3; do "$it" -c 'import numpy' 2>/dev/null && echo "$it" && break; done); then
   case_ 'arrays of numpy' 0 'with numpy, 0 wrong' '' "$python examples/checks/mesher.py calls $scratch/libplane.so"
 else
-  skipped=$((skipped + 1)); echo "mesher.sh: skipped: numpy isn't installed (Debian's package is python3-numpy)"
+  skip 1 'arrays of numpy' "numpy isn't installed"
 fi
 
 # bin/largest with weights, which are scaled by the square

@@ -1,6 +1,6 @@
 """The table of CONTRIBUTING.md that says where an operation of the language has an arm, made from the sources: the files that name the unary minus,
 by crate. Usage, at the top of the repository:
-operation.py compare   prints where the table isn't that of the sources
+operation.py compare   prints where the table isn't that of the sources, and how many rows it has
 operation.py write     writes it anew, between the two comments that mark it"""
 import re
 import sys
@@ -41,6 +41,9 @@ def rows(groups, which):
 
 
 if __name__ == "__main__":
-    groups = read()
+    groups, count = read(), 0
     for which, title in enumerate(("an operation of expressions", "an operation of the machine")):
-        renew("CONTRIBUTING.md", f"<!-- from the sources: {title} -->", rows(groups, which), sys.argv[1:] == ["write"])
+        table = list(rows(groups, which))
+        count += len(table) - 2
+        renew("CONTRIBUTING.md", f"<!-- from the sources: {title} -->", table, sys.argv[1:] == ["write"])
+    print(f"{count} rows")

@@ -21,11 +21,7 @@ for by in make cmake; do
     rm -rf "$into/users"
   done
   case_ "from Python, by $by" 0 '1 0 0' '' "cd predicates/users && PYTHONPATH='$prefix/share/lnc_predicates' python3 -B line.py"
-  if command -v pkg-config >/dev/null; then
-    case_ "by pkg-config, by $by" 0 '1 0 0' '' "cd predicates/users && eval gcc -std=gnu99 line.c \$(PKG_CONFIG_PATH='$prefix/lib/pkgconfig' pkg-config --cflags --libs lnc_predicates) -o $into/line && LD_LIBRARY_PATH='$prefix/lib' $into/line"
-  else
-    skipped=$((skipped + 1)); echo "package.sh: skipped: pkg-config isn't installed"
-  fi
+  case_ "by pkg-config, by $by" 0 '1 0 0' '' "cd predicates/users && eval gcc -std=gnu99 line.c \$(PKG_CONFIG_PATH='$prefix/lib/pkgconfig' pkg-config --cflags --libs lnc_predicates) -o $into/line && LD_LIBRARY_PATH='$prefix/lib' $into/line"
 done
 case_ 'make uninstalls' 0 '' '' "make -s -C predicates uninstall FAMILIES=plane PREFIX='$into/by make' && find '$into/by make' ! -type d"
 case_ 'CMake too' 0 '' '' "cmake --build $into/cmake --target uninstall >/dev/null && find '$into/by cmake' ! -type d"

@@ -3,7 +3,7 @@
 # definitions that shares no code with the product: the exact lines in both orders of infinitesimals, F where the filter decides, and the refusal
 # of a predicate that is 0 everywhere. What is wanted counts them: how many rows the filter decides, each stage, and nothing
 drawn() { # SEED COUNTS
-  case_ "random predicates, drawn from $1" 0 "$2" '' "ulimit -t 10; python3 examples/checks/plain.py random $program $scratch $1 30"
+  case_ "random predicates, drawn from $1" 0 "$2" '' "python3 examples/checks/plain.py random $program $scratch $1 30"
 }
 drawn 1990 '89 predicates, 74 with equal parts, 40 that differ by total degree, 1 that are 0 everywhere
 rows by run: 18 -, 361 F, 1159 at 0, 311 at 1, 127 at 2, 56 at 3, 39 at 4, 16 at 5, 17 at 6, 15 at 7, 7 at 8, 8 at 9, 2 at 10

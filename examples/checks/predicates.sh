@@ -1,15 +1,11 @@
 # shellcheck shell=bash disable=SC2154  # examples/check, which reads this file, gives the names that stand for nothing here
 # predicates/: what is kept is what the programs write, the installed library from a folder elsewhere, its signs, and triangulations over it. The C
-# without a filter is made by lnc_exact: the program in LNC_EXACT, or that of the checkout; without it those cases are skipped
+# without a filter is made by lnc_exact: the program in LNC_EXACT, or that of the checkout
 exact=$(readlink -f "${LNC_EXACT:-$(bin/lnc_exact --path)}")
 families='plane space weighted_plane weighted_space segments'
 for family in $families; do
   text=predicates/$family.ln
-  if [ -x "$exact" ]; then
-    case_ "the kept C of $family" 0 'equal' '' "$exact $text | cmp - predicates/$family.c && echo equal"
-  else
-    skipped=$((skipped + 1)); echo "predicates.sh: skipped: the kept C of $family, since lnc_exact is not built"
-  fi
+  case_ "the kept C of $family" 0 'equal' '' "$exact $text | cmp - predicates/$family.c && echo equal"
   case_ "the header of $family" 0 'equal' '' "LNC=$lnc python3 predicates/header.py $text predicates/$family.c | cmp - predicates/lnc_$family.h && echo equal"
   case_ "no larger power of 2 for $family" 1 '' 'error bound' \
     "bits=30; case $family in *space) bits=24 ;; esac; LNC=$lnc python3 predicates/header.py --grid \$bits $text >$scratch/next.ln; $lnc check $scratch/next.ln 2>$scratch/said; s=\$?
@@ -19,14 +15,10 @@ for family in plane weighted_plane segments; do
   case_ "the listing of $family" 0 'equal' '' "$lnc list predicates/$family.ln | cmp - predicates/$family.list && echo equal"
 done
 case_ 'at most 10 MB are kept' 0 'yes' '' "[ \$(cat predicates/*.{c,h,list} | wc -c) -le 10000000 ] && echo yes"
-if [ -x "$exact" ]; then
-  case_ 'a second set for grids of 2^20, beside the first' 0 '1 1' '' "make -s -C predicates grid20 FAMILIES=plane O=$scratch/grid LNC=$lnc LNC_EXACT=$exact &&
+case_ 'a second set for grids of 2^20, beside the first' 0 '1 1' '' "make -s -C predicates grid20 FAMILIES=plane O=$scratch/grid LNC=$lnc LNC_EXACT=$exact &&
     printf '#define LNC_PLANE_IMPLEMENTATION\n#include \"lnc_plane.h\"\n#define LNC_PLANE_20_IMPLEMENTATION\n#include \"lnc_plane_20.h\"\n#include <stdio.h>\n
     int main(void) { int64_t x[] = {1, 2, 3}, v[] = {0, 0, 1, 1, 2, 2}; printf(\"%%d %%d\\\\n\", ln_orient2(x, v), ln_orient2_20(x, v)); }\n' >$scratch/both.c &&
     gcc -std=gnu99 -Wall -Wextra -Werror -Ipredicates -I$scratch/grid $scratch/both.c -o $scratch/both && $scratch/both"
-else
-  skipped=$((skipped + 1)); echo 'predicates.sh: skipped: the set for grids of 2^20, since lnc_exact is not built'
-fi
 shown predicates/README.md
 
 # two files, copied
@@ -52,17 +44,13 @@ case_ 'from Rust, over the crate' 0 '1 0 0' '' "cd $scratch/users && cargo run -
 case_ 'by CMake, over what make installed' 0 $'1 0 0\n1 0 0' '' "cd $scratch/users && { cmake -S . -B made -DCMAKE_PREFIX_PATH=$prefix && cmake --build made; } >said && made/line_c && made/line_cpp"
 case_ 'and over what CMake installed' 0 $'1 0 0\n1 0 0' '' "cd $scratch/users && { cmake -S $PWD/predicates -B plane -DLNC_FAMILIES=plane -DCMAKE_INSTALL_PREFIX=$scratch/cmade && cmake --build plane &&
   cmake --install plane && cmake -S . -B second -DCMAKE_PREFIX_PATH=$scratch/cmade && cmake --build second; } >said && second/line_c && second/line_cpp"
-if command -v pkg-config >/dev/null; then
-  case_ 'pkg-config finds it' 0 "-I$prefix/include -L$prefix/lib -llnc_predicates" '' "PKG_CONFIG_PATH=$prefix/lib/pkgconfig pkg-config --cflags --libs lnc_predicates | sed 's/ *\$//'"
-else
-  skipped=$((skipped + 1)); echo "predicates.sh: skipped: pkg-config isn't installed"
-fi
+case_ 'pkg-config finds it' 0 "-I$prefix/include -L$prefix/lib -llnc_predicates" '' "PKG_CONFIG_PATH=$prefix/lib/pkgconfig pkg-config --cflags --libs lnc_predicates | sed 's/ *\$//'"
 
 # signs
 for family in $families; do
   case_ "20,000 rows of $family" 0 '20000 rows, 0 wrong' '' "python3 examples/checks/predicates.py signs $lnc $prefix $family 20000"
 done
-case_ 'what + means' 0 '0 wrong' '' "python3 examples/checks/predicates.py meanings $prefix | cut -d, -f2 | sed 's/^ //'"
+case_ 'what + means' 0 '33 signs, 0 wrong, not in the table: compare_x3 compare_y3 wcompare_w3 wcompare_x2 wcompare_x3 wcompare_y2 wcompare_y3 wcompare_z3 wdiametral2 wdiametral3 wlexicographic2 wlexicographic3' '' "python3 examples/checks/predicates.py meanings $prefix"
 case_ 'the Rust crate has the sources'\'' predicates' 0 '5' '' "python3 examples/checks/predicates.py rust | grep -c ': the same'"
 
 # what the pages say of C: block 0 of emitted C, the sign of a product, and the functions of SEGMENTS.md
@@ -92,5 +80,5 @@ done
 if echo '#include <CGAL/version.h>' | g++ -E -x c++ - >/dev/null 2>&1; then
   case_ "the cells of CGAL's regular triangulation" 0 'the same as CGAL'\''s' '' "make -s -C examples/cgal $scratch/regular OUT=$scratch/ && $scratch/regular <$scratch/cells_weighted | sed 's/.*, //'"
 else
-  skipped=$((skipped + 1)); echo "predicates.sh: skipped: CGAL isn't installed"
+  skip 1 "the cells of CGAL's regular triangulation" "CGAL isn't installed"
 fi

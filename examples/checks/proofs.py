@@ -1,6 +1,6 @@
 """What is said of lemmas and definitions: each public one has a line of its own above it, and each is named somewhere outside of itself: in its
-file, by a file that imports it from there, or, if it is of specs/, in a document. Prints those that aren't so. Usage, at the top of the
-repository: proofs.py"""
+file, by a file that imports it from there, or, if it is of specs/, in a document. Prints those that aren't so, and then how many files it
+looked at. Usage, at the top of the repository: proofs.py"""
 import re
 from collections import Counter, defaultdict
 from pathlib import Path
@@ -72,9 +72,11 @@ def is_named(file, lines, at, name):
 
 
 WORDS = {file: words(lines) for file, lines in TEXTS.items() if file.suffix == ".antt"}
+files = 0
 for file, lines in sorted(TEXTS.items()):
     if file.suffix != ".antt" or file.name in ANSWERS or not {"proofs", "specs"} & set(file.parts):
         continue
+    files += 1
     for at, line in enumerate(lines):
         head = HEAD.match(line)
         if not head or re.match(r" *(?:pub )?(?:use|mod|module|syntax|where|let|in|rw)\b", line):
@@ -87,3 +89,4 @@ for file, lines in sorted(TEXTS.items()):
             print(f"{file}: line {at + 1}: {name} has no line of its own")
         if not is_named(file, lines, at, name):
             print(f"{file}: line {at + 1}: nothing names {name}")
+print(f"{files} files")
