@@ -1,5 +1,6 @@
-/* Before malloc's kin come read and write: each call is interrupted three times in a row before it is made. How many interruptions there
-   were goes to the file that INTERRUPTED names. Loaded by LD_PRELOAD. */
+/* Before malloc's kin come read and write: each call is interrupted so many times in a row before it is made, as READS and WRITES say (three where
+   they don't), and takes at most as many bytes as BYTES says. How many interruptions there were, and how many calls were made, goes to the
+   file that INTERRUPTED names. Loaded by LD_PRELOAD. */
 #define _GNU_SOURCE
 #include <dlfcn.h>
 #include <errno.h>
@@ -8,30 +9,38 @@
 #include <stdlib.h>
 #include <unistd.h>
 
-static int in_a_row;
-static long all;
+static long in_a_row, all, calls;
 
-static int interrupts(void) {
-  if (in_a_row++ == 3) { in_a_row = 0; return 0; }
+static long number(const char *name, long otherwise) {
+  const char *text = getenv(name);
+  return text ? atol(text) : otherwise;
+}
+
+static int interrupts(const char *name) {
+  if (in_a_row++ == number(name, 3)) { in_a_row = 0; calls++; return 0; }
   all++;
   errno = EINTR;
   return 1;
 }
 
+static size_t some(size_t n) {
+  size_t most = (size_t)number("BYTES", 0);
+  return most && n > most ? most : n;
+}
+
 ssize_t read(int fd, void *buf, size_t n) {
   ssize_t (*next)(int, void *, size_t) = dlsym(RTLD_NEXT, "read");
-  return interrupts() ? -1 : next(fd, buf, n);
+  return interrupts("READS") ? -1 : next(fd, buf, some(n));
 }
 ssize_t write(int fd, const void *buf, size_t n) {
   ssize_t (*next)(int, const void *, size_t) = dlsym(RTLD_NEXT, "write");
-  return interrupts() ? -1 : next(fd, buf, n);
+  return interrupts("WRITES") ? -1 : next(fd, buf, some(n));
 }
 
 __attribute__((destructor)) static void tell(void) {
   const char *name = getenv("INTERRUPTED");
-  FILE *file = name ? fopen(name, "w") : NULL;
-  if (!file) return;
-  in_a_row = 3;
-  fprintf(file, "%ld\n", all);
-  fflush(file);
+  int file = name ? open(name, O_WRONLY | O_CREAT | O_TRUNC, 0600) : -1;
+  ssize_t (*next)(int, const void *, size_t) = dlsym(RTLD_NEXT, "write");
+  char text[64];
+  if (file >= 0) { (void)!next(file, text, (size_t)sprintf(text, "%ld %ld\n", all, calls)); close(file); }
 }

@@ -1,6 +1,7 @@
 # shellcheck shell=bash disable=SC2154  # examples/check, which reads this file, gives the names that stand for nothing here
 # what is written for words, sources, rows and listings, by the tables commands_table.py, rules_table.py and
-# signs_table.py; each group with the number of its cases
+# signs_table.py; each group with the number of its cases. No allocation is refused
+gcc -std=gnu11 -Wall -Wextra -Werror -O2 -shared -fPIC -o "$scratch/refusals.so" examples/checks/refusals.c
 case_ 'what is written for words, sources and rows' 0 'each record has its line: 10 cases
 powers, lets, minus and params are evaluated: 5 cases
 filters decide above their error: 3 cases
@@ -11,7 +12,7 @@ sizes and the whole are tested beside ranges: 4 cases
 words and names that are none are told: 8 cases
 a source over its limit is too long: 2 cases
 each set of sixteen coordinates is a stage: 2 cases
-each record of 200,000 bytes has its line: 1 cases' '' "python3 examples/checks/said.py $program commands_table"
+each record of 200,000 bytes has its line: 1 cases' '' "python3 examples/checks/said.py $scratch/refusals.so $program commands_table"
 case_ 'what is written for listings that are changed' 0 'each rule of either version fails alone: 160 cases
 each rule of one version fails alone: 100 cases
 numbers that are changed: 180 cases
@@ -22,7 +23,7 @@ what is listed is valid: 8 cases
 listings are of their sources: 15 cases
 polynomials have their limits: 4 cases
 stacks have their limit: 2 cases
-words and files of verify: 3 cases' '' "python3 examples/checks/said.py $program rules_table"
+words and files of verify: 3 cases' '' "python3 examples/checks/said.py $scratch/refusals.so $program rules_table"
 case_ 'what is written for signs in every form' 0 'each record has the sign of the product: 9 cases
 predicates with other arguments are refused: 7 cases
 words, names and arguments of a product are tested in order: 8 cases
@@ -45,4 +46,4 @@ rows are explained: 5 cases
 traces are audited: 15 cases
 incircle says what geometry says: 1 cases
 insphere says what geometry says: 1 cases
-insphere has 223 stages in each order: 1 cases' '' "python3 examples/checks/said.py $program signs_table"
+insphere has 223 stages in each order: 1 cases' '' "python3 examples/checks/said.py $scratch/refusals.so $program signs_table"
