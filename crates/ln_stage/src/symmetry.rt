@@ -260,7 +260,6 @@ fn pair_turns(vars: &[VarInfo], j: u8, y: Symmetry, f: &Poly) -> bool
 
 // Whether exchanging any two neighbouring sites keeps the polynomial, or gives its opposite.
 fn has_symmetry(s: &Shape, y: Symmetry, f: &Poly) -> bool
-    requires laid { is_laid_out s.now.sites s.now.vars ≡ true }
     ensures yes { IsTrue result → HasSymmetry s.now.sites s.now.vars y f.now }
     ensures no { result ≡ false → LacksSymmetry s.now.sites s.now.vars y f.now }
 {
@@ -277,7 +276,6 @@ fn has_symmetry(s: &Shape, y: Symmetry, f: &Poly) -> bool
 /// opposite. It is none exactly where neither holds of each two neighbouring sites, so a polynomial with a symmetry is never refused. It
 /// allocates nothing, and takes a step for each two terms.
 pub fn symmetry_of(s: &Shape, f: &Poly) -> Option<Symmetry>
-    requires laid { is_laid_out s.now.sites s.now.vars ≡ true }
     ensures found { IfSome result (λ y. HasSymmetry s.now.sites s.now.vars y f.now) }
     ensures none { IfNone result ((y : Symmetry) → LacksSymmetry s.now.sites s.now.vars y f.now) }
 {

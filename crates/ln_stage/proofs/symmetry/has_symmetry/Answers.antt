@@ -9,13 +9,13 @@ neighbours-init c = turns_none c.args.s.now.vars c.args.y c.args.f.now
 
 pub pair_turns-requires-clause-few : goal.pair_turns-requires-clause-few
 pair_turns-requires-clause-few c =
-    omega (arith, (laid_out c.args.s.now.sites c.args.s.now.vars c.requires.laid).few_vars, ap length c.as_slice-vars.ensures)
+    omega (arith, (laid_out c.args.s.now.sites c.args.s.now.vars c.args.s.now.kept).few_vars, ap length c.as_slice-vars.ensures)
 
 pub returns-then-not-pair_turns-clause-no : goal.returns-then-not-pair_turns-clause-no
 returns-then-not-pair_turns-clause-no c =
     let q : c.pair_turns.result ≡ false = search rules in
     λ no. never_all (c.neighbours.j - 1) c.args.s.now.sites c.args.s.now.vars c.args.y c.args.f.now (omega arith)
-    (rw (c.as_slice-vars.ensures) at (c.pair_turns.ensures.no c.args.s.now.sites (rw (c.as_slice-vars.ensures) c.requires.laid) (omega arith) q))
+    (rw (c.as_slice-vars.ensures) at (c.pair_turns.ensures.no c.args.s.now.sites (rw (c.as_slice-vars.ensures) c.args.s.now.kept) (omega arith) q))
 
 pub neighbours-preserved : goal.neighbours-preserved
 neighbours-preserved c =
