@@ -1,6 +1,6 @@
 /* lnc_plane.h: written by header.py, so change plane.ln and not this file.
-   plane.ln has the SHA-256 b4d0c73531883911ac8d8303a31fc509ea17638289222394040f007de545e981,
-   and plane.c, which lnc_exact writes of it, the SHA-256 14fadf587a37a4857dd1a4cffee3900c33595ad9dc3248ce19d2a57aca565622.
+   plane.ln has the SHA-256 582ead2d411993a970aabbcb310329108c9a663e073935424f64ca1f3f27ffa5,
+   and plane.c, which lnc_exact writes of it, the SHA-256 603dc71c50bd41e069be67685fa0f0912de261c470b003ffad9481246371ac7d.
 
    Two files are enough, this one and plane.c. In one C file of your program, compiled by gcc or clang for a 64-bit target:
 
@@ -121,6 +121,35 @@ int ln_lexicographic2_plain(const int64_t *v);
 void ln_lexicographic2_rows(size_t n, const int64_t *x, const int64_t *v, int8_t *signs);
 int ln_lexicographic2_at(const ln_point2 *p, const ln_point2 *q);
 int ln_lexicographic2_plain_at(const ln_point2 *p, const ln_point2 *q);
+
+/* + where q is farther from p than r is: the sign of CGAL's compare_distance_2; PCK's side1(r, q, p) plainly. */
+/* x: p, q, r
+   v: p.x, p.y, q.x, q.y, r.x, r.y */
+int ln_compare_distance2(const int64_t *x, const int64_t *v);
+int ln_compare_distance2_plain(const int64_t *v);
+void ln_compare_distance2_rows(size_t n, const int64_t *x, const int64_t *v, int8_t *signs);
+int ln_compare_distance2_at(const ln_point2 *p, const ln_point2 *q, const ln_point2 *r);
+int ln_compare_distance2_plain_at(const ln_point2 *p, const ln_point2 *q, const ln_point2 *r);
+
+/* + where the directions from p to q and from r to s have an acute angle: the sign of CGAL's angle(p, q, r, s),
+   and with r = p of PCK's dot. */
+/* x: p, q, r, s
+   v: p.x, p.y, q.x, q.y, r.x, r.y, s.x, s.y */
+int ln_dot2(const int64_t *x, const int64_t *v);
+int ln_dot2_plain(const int64_t *v);
+void ln_dot2_rows(size_t n, const int64_t *x, const int64_t *v, int8_t *signs);
+int ln_dot2_at(const ln_point2 *p, const ln_point2 *q, const ln_point2 *r, const ln_point2 *s);
+int ln_dot2_plain_at(const ln_point2 *p, const ln_point2 *q, const ln_point2 *r, const ln_point2 *s);
+
+/* + where r is farther than s to the left of the line from p to q: the sign of CGAL's
+   compare_signed_distance_to_line. */
+/* x: p, q, r, s
+   v: p.x, p.y, q.x, q.y, r.x, r.y, s.x, s.y */
+int ln_compare_line2(const int64_t *x, const int64_t *v);
+int ln_compare_line2_plain(const int64_t *v);
+void ln_compare_line2_rows(size_t n, const int64_t *x, const int64_t *v, int8_t *signs);
+int ln_compare_line2_at(const ln_point2 *p, const ln_point2 *q, const ln_point2 *r, const ln_point2 *s);
+int ln_compare_line2_plain_at(const ln_point2 *p, const ln_point2 *q, const ln_point2 *r, const ln_point2 *s);
 
 #ifdef LNC_CHECKED
 #define LNC_PLANE_CHECKED
@@ -313,6 +342,117 @@ static inline int lc_lexicographic2_plain_at(const ln_point2 *p, const ln_point2
   const int64_t v[] = {p->x, p->y, q->x, q->y};
   return lv_lexicographic2(v, SIZE_MAX) ? ln_lexicographic2_plain_at(p, q) : 0;
 }
+static inline int lv_compare_distance2(const int64_t *v, size_t row) {
+  return lr_is(LN_POINT2_X_MIN <= v[0] && v[0] <= LN_POINT2_X_MAX, "compare_distance2", "p.x", "is out of range", row) &&
+    lr_is(LN_POINT2_Y_MIN <= v[1] && v[1] <= LN_POINT2_Y_MAX, "compare_distance2", "p.y", "is out of range", row) &&
+    lr_is(LN_POINT2_X_MIN <= v[2] && v[2] <= LN_POINT2_X_MAX, "compare_distance2", "q.x", "is out of range", row) &&
+    lr_is(LN_POINT2_Y_MIN <= v[3] && v[3] <= LN_POINT2_Y_MAX, "compare_distance2", "q.y", "is out of range", row) &&
+    lr_is(LN_POINT2_X_MIN <= v[4] && v[4] <= LN_POINT2_X_MAX, "compare_distance2", "r.x", "is out of range", row) &&
+    lr_is(LN_POINT2_Y_MIN <= v[5] && v[5] <= LN_POINT2_Y_MAX, "compare_distance2", "r.y", "is out of range", row);
+}
+static inline int li_compare_distance2(const int64_t *x, size_t row) {
+  return lr_is(0 <= x[0], "compare_distance2", "p", "has a negative index", row) &&
+    lr_is(0 <= x[1], "compare_distance2", "q", "has a negative index", row) &&
+    lr_is(0 <= x[2], "compare_distance2", "r", "has a negative index", row) &&
+    lr_is(x[0] != x[1], "compare_distance2", "q", "has the index of p too", row) &&
+    lr_is(x[0] != x[2], "compare_distance2", "r", "has the index of p too", row) &&
+    lr_is(x[1] != x[2], "compare_distance2", "r", "has the index of q too", row);
+}
+static inline int lc_compare_distance2(const int64_t *x, const int64_t *v) { return lv_compare_distance2(v, SIZE_MAX) && li_compare_distance2(x, SIZE_MAX) ? ln_compare_distance2(x, v) : 0; }
+static inline int lc_compare_distance2_plain(const int64_t *v) { return lv_compare_distance2(v, SIZE_MAX) ? ln_compare_distance2_plain(v) : 0; }
+static inline void lc_compare_distance2_rows(size_t n, const int64_t *x, const int64_t *v, int8_t *signs) {
+  for (size_t i = 0; i < n; i++) {
+    signs[i] = 0;
+    if (lv_compare_distance2(v + 6 * i, i) && li_compare_distance2(x + 3 * i, i)) ln_compare_distance2_rows(1, x + 3 * i, v + 6 * i, signs + i);
+  }
+}
+static inline int lc_compare_distance2_at(const ln_point2 *p, const ln_point2 *q, const ln_point2 *r) {
+  const int64_t x[] = {p->index, q->index, r->index};
+  const int64_t v[] = {p->x, p->y, q->x, q->y, r->x, r->y};
+  return lv_compare_distance2(v, SIZE_MAX) && li_compare_distance2(x, SIZE_MAX) ? ln_compare_distance2_at(p, q, r) : 0;
+}
+static inline int lc_compare_distance2_plain_at(const ln_point2 *p, const ln_point2 *q, const ln_point2 *r) {
+  const int64_t v[] = {p->x, p->y, q->x, q->y, r->x, r->y};
+  return lv_compare_distance2(v, SIZE_MAX) ? ln_compare_distance2_plain_at(p, q, r) : 0;
+}
+static inline int lv_dot2(const int64_t *v, size_t row) {
+  return lr_is(LN_POINT2_X_MIN <= v[0] && v[0] <= LN_POINT2_X_MAX, "dot2", "p.x", "is out of range", row) &&
+    lr_is(LN_POINT2_Y_MIN <= v[1] && v[1] <= LN_POINT2_Y_MAX, "dot2", "p.y", "is out of range", row) &&
+    lr_is(LN_POINT2_X_MIN <= v[2] && v[2] <= LN_POINT2_X_MAX, "dot2", "q.x", "is out of range", row) &&
+    lr_is(LN_POINT2_Y_MIN <= v[3] && v[3] <= LN_POINT2_Y_MAX, "dot2", "q.y", "is out of range", row) &&
+    lr_is(LN_POINT2_X_MIN <= v[4] && v[4] <= LN_POINT2_X_MAX, "dot2", "r.x", "is out of range", row) &&
+    lr_is(LN_POINT2_Y_MIN <= v[5] && v[5] <= LN_POINT2_Y_MAX, "dot2", "r.y", "is out of range", row) &&
+    lr_is(LN_POINT2_X_MIN <= v[6] && v[6] <= LN_POINT2_X_MAX, "dot2", "s.x", "is out of range", row) &&
+    lr_is(LN_POINT2_Y_MIN <= v[7] && v[7] <= LN_POINT2_Y_MAX, "dot2", "s.y", "is out of range", row);
+}
+static inline int li_dot2(const int64_t *x, size_t row) {
+  return lr_is(0 <= x[0], "dot2", "p", "has a negative index", row) &&
+    lr_is(0 <= x[1], "dot2", "q", "has a negative index", row) &&
+    lr_is(0 <= x[2], "dot2", "r", "has a negative index", row) &&
+    lr_is(0 <= x[3], "dot2", "s", "has a negative index", row) &&
+    lr_is(x[0] != x[1], "dot2", "q", "has the index of p too", row) &&
+    lr_is(x[0] != x[2], "dot2", "r", "has the index of p too", row) &&
+    lr_is(x[1] != x[2], "dot2", "r", "has the index of q too", row) &&
+    lr_is(x[0] != x[3], "dot2", "s", "has the index of p too", row) &&
+    lr_is(x[1] != x[3], "dot2", "s", "has the index of q too", row) &&
+    lr_is(x[2] != x[3], "dot2", "s", "has the index of r too", row);
+}
+static inline int lc_dot2(const int64_t *x, const int64_t *v) { return lv_dot2(v, SIZE_MAX) && li_dot2(x, SIZE_MAX) ? ln_dot2(x, v) : 0; }
+static inline int lc_dot2_plain(const int64_t *v) { return lv_dot2(v, SIZE_MAX) ? ln_dot2_plain(v) : 0; }
+static inline void lc_dot2_rows(size_t n, const int64_t *x, const int64_t *v, int8_t *signs) {
+  for (size_t i = 0; i < n; i++) {
+    signs[i] = 0;
+    if (lv_dot2(v + 8 * i, i) && li_dot2(x + 4 * i, i)) ln_dot2_rows(1, x + 4 * i, v + 8 * i, signs + i);
+  }
+}
+static inline int lc_dot2_at(const ln_point2 *p, const ln_point2 *q, const ln_point2 *r, const ln_point2 *s) {
+  const int64_t x[] = {p->index, q->index, r->index, s->index};
+  const int64_t v[] = {p->x, p->y, q->x, q->y, r->x, r->y, s->x, s->y};
+  return lv_dot2(v, SIZE_MAX) && li_dot2(x, SIZE_MAX) ? ln_dot2_at(p, q, r, s) : 0;
+}
+static inline int lc_dot2_plain_at(const ln_point2 *p, const ln_point2 *q, const ln_point2 *r, const ln_point2 *s) {
+  const int64_t v[] = {p->x, p->y, q->x, q->y, r->x, r->y, s->x, s->y};
+  return lv_dot2(v, SIZE_MAX) ? ln_dot2_plain_at(p, q, r, s) : 0;
+}
+static inline int lv_compare_line2(const int64_t *v, size_t row) {
+  return lr_is(LN_POINT2_X_MIN <= v[0] && v[0] <= LN_POINT2_X_MAX, "compare_line2", "p.x", "is out of range", row) &&
+    lr_is(LN_POINT2_Y_MIN <= v[1] && v[1] <= LN_POINT2_Y_MAX, "compare_line2", "p.y", "is out of range", row) &&
+    lr_is(LN_POINT2_X_MIN <= v[2] && v[2] <= LN_POINT2_X_MAX, "compare_line2", "q.x", "is out of range", row) &&
+    lr_is(LN_POINT2_Y_MIN <= v[3] && v[3] <= LN_POINT2_Y_MAX, "compare_line2", "q.y", "is out of range", row) &&
+    lr_is(LN_POINT2_X_MIN <= v[4] && v[4] <= LN_POINT2_X_MAX, "compare_line2", "r.x", "is out of range", row) &&
+    lr_is(LN_POINT2_Y_MIN <= v[5] && v[5] <= LN_POINT2_Y_MAX, "compare_line2", "r.y", "is out of range", row) &&
+    lr_is(LN_POINT2_X_MIN <= v[6] && v[6] <= LN_POINT2_X_MAX, "compare_line2", "s.x", "is out of range", row) &&
+    lr_is(LN_POINT2_Y_MIN <= v[7] && v[7] <= LN_POINT2_Y_MAX, "compare_line2", "s.y", "is out of range", row);
+}
+static inline int li_compare_line2(const int64_t *x, size_t row) {
+  return lr_is(0 <= x[0], "compare_line2", "p", "has a negative index", row) &&
+    lr_is(0 <= x[1], "compare_line2", "q", "has a negative index", row) &&
+    lr_is(0 <= x[2], "compare_line2", "r", "has a negative index", row) &&
+    lr_is(0 <= x[3], "compare_line2", "s", "has a negative index", row) &&
+    lr_is(x[0] != x[1], "compare_line2", "q", "has the index of p too", row) &&
+    lr_is(x[0] != x[2], "compare_line2", "r", "has the index of p too", row) &&
+    lr_is(x[1] != x[2], "compare_line2", "r", "has the index of q too", row) &&
+    lr_is(x[0] != x[3], "compare_line2", "s", "has the index of p too", row) &&
+    lr_is(x[1] != x[3], "compare_line2", "s", "has the index of q too", row) &&
+    lr_is(x[2] != x[3], "compare_line2", "s", "has the index of r too", row);
+}
+static inline int lc_compare_line2(const int64_t *x, const int64_t *v) { return lv_compare_line2(v, SIZE_MAX) && li_compare_line2(x, SIZE_MAX) ? ln_compare_line2(x, v) : 0; }
+static inline int lc_compare_line2_plain(const int64_t *v) { return lv_compare_line2(v, SIZE_MAX) ? ln_compare_line2_plain(v) : 0; }
+static inline void lc_compare_line2_rows(size_t n, const int64_t *x, const int64_t *v, int8_t *signs) {
+  for (size_t i = 0; i < n; i++) {
+    signs[i] = 0;
+    if (lv_compare_line2(v + 8 * i, i) && li_compare_line2(x + 4 * i, i)) ln_compare_line2_rows(1, x + 4 * i, v + 8 * i, signs + i);
+  }
+}
+static inline int lc_compare_line2_at(const ln_point2 *p, const ln_point2 *q, const ln_point2 *r, const ln_point2 *s) {
+  const int64_t x[] = {p->index, q->index, r->index, s->index};
+  const int64_t v[] = {p->x, p->y, q->x, q->y, r->x, r->y, s->x, s->y};
+  return lv_compare_line2(v, SIZE_MAX) && li_compare_line2(x, SIZE_MAX) ? ln_compare_line2_at(p, q, r, s) : 0;
+}
+static inline int lc_compare_line2_plain_at(const ln_point2 *p, const ln_point2 *q, const ln_point2 *r, const ln_point2 *s) {
+  const int64_t v[] = {p->x, p->y, q->x, q->y, r->x, r->y, s->x, s->y};
+  return lv_compare_line2(v, SIZE_MAX) ? ln_compare_line2_plain_at(p, q, r, s) : 0;
+}
 #endif
 
 #ifdef __cplusplus
@@ -366,6 +506,24 @@ inline int lexicographic2(const point2 &p, const point2 &q) {
 inline int lexicographic2_plain(const point2 &p, const point2 &q) {
   return LNC_CALL(lexicographic2_plain_at)(&p, &q);
 }
+inline int compare_distance2(const point2 &p, const point2 &q, const point2 &r) {
+  return LNC_CALL(compare_distance2_at)(&p, &q, &r);
+}
+inline int compare_distance2_plain(const point2 &p, const point2 &q, const point2 &r) {
+  return LNC_CALL(compare_distance2_plain_at)(&p, &q, &r);
+}
+inline int dot2(const point2 &p, const point2 &q, const point2 &r, const point2 &s) {
+  return LNC_CALL(dot2_at)(&p, &q, &r, &s);
+}
+inline int dot2_plain(const point2 &p, const point2 &q, const point2 &r, const point2 &s) {
+  return LNC_CALL(dot2_plain_at)(&p, &q, &r, &s);
+}
+inline int compare_line2(const point2 &p, const point2 &q, const point2 &r, const point2 &s) {
+  return LNC_CALL(compare_line2_at)(&p, &q, &r, &s);
+}
+inline int compare_line2_plain(const point2 &p, const point2 &q, const point2 &r, const point2 &s) {
+  return LNC_CALL(compare_line2_plain_at)(&p, &q, &r, &s);
+}
 #ifdef LNC_CHECKED
 }
 #endif
@@ -406,6 +564,21 @@ inline int lexicographic2_plain(const point2 &p, const point2 &q) {
 #undef ln_lexicographic2_rows
 #undef ln_lexicographic2_at
 #undef ln_lexicographic2_plain_at
+#undef ln_compare_distance2
+#undef ln_compare_distance2_plain
+#undef ln_compare_distance2_rows
+#undef ln_compare_distance2_at
+#undef ln_compare_distance2_plain_at
+#undef ln_dot2
+#undef ln_dot2_plain
+#undef ln_dot2_rows
+#undef ln_dot2_at
+#undef ln_dot2_plain_at
+#undef ln_compare_line2
+#undef ln_compare_line2_plain
+#undef ln_compare_line2_rows
+#undef ln_compare_line2_at
+#undef ln_compare_line2_plain_at
 #ifndef __SIZEOF_INT128__
 #error "no __int128 here: plane.c takes gcc or clang for a 64-bit target"
 #endif
@@ -522,6 +695,60 @@ __attribute__((flatten)) int ln_lexicographic2_at(const ln_point2 *p, const ln_p
   const int sign = lb0_lexicographic2(v);
   return sign != 0 ? sign : lm_lexicographic2(p, q);
 }
+int ln_compare_distance2_plain(const int64_t *v) { return lb0_compare_distance2(v); }
+void ln_compare_distance2_rows(size_t n, const int64_t *x, const int64_t *v, int8_t *signs) {
+  for (size_t i = 0; i < n; i++) signs[i] = (int8_t)ln_compare_distance2(x + 3 * i, v + 6 * i);
+}
+static __attribute__((noinline)) int lm_compare_distance2(const ln_point2 *p, const ln_point2 *q, const ln_point2 *r) {
+  const int64_t x[] = {p->index, q->index, r->index};
+  const int64_t v[] = {p->x, p->y, q->x, q->y, r->x, r->y};
+  return ln_compare_distance2(x, v);
+}
+__attribute__((flatten)) int ln_compare_distance2_plain_at(const ln_point2 *p, const ln_point2 *q, const ln_point2 *r) {
+  const int64_t v[] = {p->x, p->y, q->x, q->y, r->x, r->y};
+  return lb0_compare_distance2(v);
+}
+__attribute__((flatten)) int ln_compare_distance2_at(const ln_point2 *p, const ln_point2 *q, const ln_point2 *r) {
+  const int64_t v[] = {p->x, p->y, q->x, q->y, r->x, r->y};
+  const int sign = lb0_compare_distance2(v);
+  return sign != 0 ? sign : lm_compare_distance2(p, q, r);
+}
+int ln_dot2_plain(const int64_t *v) { return lb0_dot2(v); }
+void ln_dot2_rows(size_t n, const int64_t *x, const int64_t *v, int8_t *signs) {
+  for (size_t i = 0; i < n; i++) signs[i] = (int8_t)ln_dot2(x + 4 * i, v + 8 * i);
+}
+static __attribute__((noinline)) int lm_dot2(const ln_point2 *p, const ln_point2 *q, const ln_point2 *r, const ln_point2 *s) {
+  const int64_t x[] = {p->index, q->index, r->index, s->index};
+  const int64_t v[] = {p->x, p->y, q->x, q->y, r->x, r->y, s->x, s->y};
+  return ln_dot2(x, v);
+}
+__attribute__((flatten)) int ln_dot2_plain_at(const ln_point2 *p, const ln_point2 *q, const ln_point2 *r, const ln_point2 *s) {
+  const int64_t v[] = {p->x, p->y, q->x, q->y, r->x, r->y, s->x, s->y};
+  return lb0_dot2(v);
+}
+__attribute__((flatten)) int ln_dot2_at(const ln_point2 *p, const ln_point2 *q, const ln_point2 *r, const ln_point2 *s) {
+  const int64_t v[] = {p->x, p->y, q->x, q->y, r->x, r->y, s->x, s->y};
+  const int sign = lb0_dot2(v);
+  return sign != 0 ? sign : lm_dot2(p, q, r, s);
+}
+int ln_compare_line2_plain(const int64_t *v) { return lb0_compare_line2(v); }
+void ln_compare_line2_rows(size_t n, const int64_t *x, const int64_t *v, int8_t *signs) {
+  for (size_t i = 0; i < n; i++) signs[i] = (int8_t)ln_compare_line2(x + 4 * i, v + 8 * i);
+}
+static __attribute__((noinline)) int lm_compare_line2(const ln_point2 *p, const ln_point2 *q, const ln_point2 *r, const ln_point2 *s) {
+  const int64_t x[] = {p->index, q->index, r->index, s->index};
+  const int64_t v[] = {p->x, p->y, q->x, q->y, r->x, r->y, s->x, s->y};
+  return ln_compare_line2(x, v);
+}
+__attribute__((flatten)) int ln_compare_line2_plain_at(const ln_point2 *p, const ln_point2 *q, const ln_point2 *r, const ln_point2 *s) {
+  const int64_t v[] = {p->x, p->y, q->x, q->y, r->x, r->y, s->x, s->y};
+  return lb0_compare_line2(v);
+}
+__attribute__((flatten)) int ln_compare_line2_at(const ln_point2 *p, const ln_point2 *q, const ln_point2 *r, const ln_point2 *s) {
+  const int64_t v[] = {p->x, p->y, q->x, q->y, r->x, r->y, s->x, s->y};
+  const int sign = lb0_compare_line2(v);
+  return sign != 0 ? sign : lm_compare_line2(p, q, r, s);
+}
 #ifdef __cplusplus
 #pragma GCC diagnostic pop
 #endif
@@ -558,4 +785,19 @@ __attribute__((flatten)) int ln_lexicographic2_at(const ln_point2 *p, const ln_p
 #define ln_lexicographic2_rows lc_lexicographic2_rows
 #define ln_lexicographic2_at lc_lexicographic2_at
 #define ln_lexicographic2_plain_at lc_lexicographic2_plain_at
+#define ln_compare_distance2 lc_compare_distance2
+#define ln_compare_distance2_plain lc_compare_distance2_plain
+#define ln_compare_distance2_rows lc_compare_distance2_rows
+#define ln_compare_distance2_at lc_compare_distance2_at
+#define ln_compare_distance2_plain_at lc_compare_distance2_plain_at
+#define ln_dot2 lc_dot2
+#define ln_dot2_plain lc_dot2_plain
+#define ln_dot2_rows lc_dot2_rows
+#define ln_dot2_at lc_dot2_at
+#define ln_dot2_plain_at lc_dot2_plain_at
+#define ln_compare_line2 lc_compare_line2
+#define ln_compare_line2_plain lc_compare_line2_plain
+#define ln_compare_line2_rows lc_compare_line2_rows
+#define ln_compare_line2_at lc_compare_line2_at
+#define ln_compare_line2_plain_at lc_compare_line2_plain_at
 #endif

@@ -5,12 +5,15 @@
     lnc.insphere((1, 0, 0, 0), (2, 8, 0, 0), (3, 0, 8, 0), (4, 0, 0, 8), (5, 1, 1, 1))     # sites (index, x, y, z): 1 or -1
     lnc.insphere.plain(..the same..)                           # at the points themselves: 1, 0 or -1
     lnc.insphere.rows(x, v)                                    # n rows: x has an index for each site, v the values; a sign for each row
+    grid = lnc_predicates.Grid(points, *lnc.insphere.ranges[0])         # points of floats on a grid: grid.points has their coordinates
 
 Functions, sites and ranges are read from the headers that header.py wrote, so it serves for a library of one's own predicates too. Every call tests what
 it is given: ValueError says which argument is out of range, has a negative index, the index of another or too few or too many numbers, TypeError which is
 no integer. `rows` takes numpy arrays of int64 and no other type, which would have to be cut, or sequences of rows; it returns a numpy array where numpy is
 there, otherwise a list."""
 import ctypes
+import fractions
+import math
 import operator
 import re
 import sys
@@ -22,6 +25,126 @@ except ImportError:
     numpy = None
 
 INT64, INT8 = ctypes.POINTER(ctypes.c_int64), ctypes.POINTER(ctypes.c_int8)
+
+
+class Grid:
+    """From doubles to the integers of a family and back, as lnc_grid.h does it (which says more): Grid(points, low, high) over the bounding box of points,
+    each a sequence of floats; Grid.over(ends, ends, low, high) over a box, for later points too. A coordinate is the multiple of the step 2^-power nearest to
+    it, ties to even, less the origin; the way back is exact. ValueError where a coordinate is NaN or infinite or out of range.
+
+    points, first, equal, merged     the coordinates of each point, the first point at its place (itself, or an earlier one), how many are at the place of
+                                     an earlier one, and how many of these weren't before
+    power, step, origin, range, move the step is 2^-power; origins are in steps; the range of coordinates; the largest move of a coordinate"""
+
+    def __init__(self, points, low, high):
+        points = [tuple(map(float, point)) for point in points]
+        if not points:
+            raise ValueError("no points: take a box")
+        for point in points:
+            self._finite(point)
+        self._choose([min(c) for c in zip(*points, strict=True)], [max(c) for c in zip(*points)], low, high)
+        for point in points:
+            self.put(point)
+
+    @classmethod
+    def over(cls, ends, others, low, high):
+        """The grid over the box from the one point to the other."""
+        grid = cls.__new__(cls)
+        ends, others = (tuple(map(float, point)) for point in (ends, others))
+        grid._finite(ends + others)
+        grid._choose(ends, others, low, high)
+        return grid
+
+    @staticmethod
+    def _finite(point):
+        for c in point:
+            if not math.isfinite(c):
+                raise ValueError(f"{point}: a coordinate is not finite")
+
+    def _choose(self, ends, others, low, high):
+        """The smallest step with which the box fits, in the middle of the range."""
+        low, high = max(low, -2**62), min(high, 2**62)
+        if any(a > b for a, b in zip(ends, others, strict=True)) or low > high:
+            raise ValueError("a range with its ends the wrong way round")
+        # (the halves towards 0, as in C)
+        half = [end // 2 if end >= 0 else -(-end // 2) for end in (low, high)]
+        if half[1] - half[0] > 2**52:
+            low, high = sum(half) - 2**52, sum(half) + 2**52
+        self.range, self.points, self.first, self.equal, self.merged, self.move = (low, high), [], [], 0, 0, 0.0
+        self._given, self._places = [], {}
+        for self.power in range(1074, -1024, -1):
+            self.origin = [self._middle(*box) for box in zip(ends, others)]
+            if None not in self.origin:
+                self.step = math.ldexp(1, -self.power)
+                return
+        raise ValueError("no step is large enough")
+
+    def _middle(self, end, other):
+        """The origin of a coordinate with this power, None where the box doesn't fit."""
+        (low, high), first, last = self.range, self._scaled(end), self._scaled(other)
+        if first < -2**53 or last > 2**53 or last - first > high - low or None in map(self._unscaled, (first, last)):
+            return None
+        # (towards the least as in C, where both ends have one sign)
+        least, greatest = last - high, first - low
+        middle = min(max(least + (greatest - least) // 2, -2**53 - low), 2**53 - high)
+        return middle if least <= middle <= greatest else None
+
+    def _scaled(self, c):
+        try:
+            return round(math.ldexp(c, self.power))
+        except OverflowError:
+            return 2**62 if c > 0 else -2**62
+
+    def _unscaled(self, whole):
+        try:
+            return math.ldexp(whole, -self.power)
+        except OverflowError:
+            return None
+
+    def snap(self, point):
+        """The coordinates of a point, whether or not it is one of the grid's."""
+        point = tuple(map(float, point))
+        self._finite(point)
+        (low, high), coordinates = self.range, []
+        for c, origin in zip(point, self.origin, strict=True):
+            whole = self._scaled(c)
+            coordinates.append(whole - origin)
+            if not low <= coordinates[-1] <= high or self._unscaled(whole) is None:
+                raise ValueError(f"{point}: out of range")
+        return tuple(coordinates)
+
+    def back(self, coordinates):
+        """The point that coordinates are of."""
+        return tuple(math.ldexp(origin + c, -self.power) for origin, c in zip(self.origin, coordinates, strict=True))
+
+    def find(self, coordinates):
+        """The first point at these coordinates, None where there is none."""
+        return self._places.get(tuple(coordinates))
+
+    def put(self, point):
+        """Takes a point and returns its number, whether or not another is at its place."""
+        point, coordinates = tuple(map(float, point)), self.snap(point)
+        self.move = max(self.move, *(abs(a - b) for a, b in zip(point, self.back(coordinates))))
+        self.points.append(coordinates)
+        self._given.append(point)
+        self.first.append(self._places.setdefault(coordinates, len(self.first)))
+        self.equal += self.first[-1] != len(self.first) - 1
+        self.merged += self._given[self.first[-1]] != point
+        return len(self.first) - 1
+
+    def add(self, point):
+        """Takes a later point where none is yet. Returns its number and True; or the number of the one that is there, and False."""
+        there = self.find(self.snap(point))
+        return (self.put(point), True) if there is None else (there, False)
+
+    def weight(self, weight, low, high):
+        """A weight, whose unit is a squared length, in squared steps."""
+        self._finite((weight,))
+        numerator, denominator = float(weight).as_integer_ratio()
+        whole = round(fractions.Fraction(numerator << max(0, 2 * self.power), denominator << max(0, -2 * self.power)))
+        if not low <= whole <= high:
+            raise ValueError(f"{weight}: out of range")
+        return whole
 
 
 class Predicate:

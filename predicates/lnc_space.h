@@ -1,6 +1,6 @@
 /* lnc_space.h: written by header.py, so change space.ln and not this file.
-   space.ln has the SHA-256 1e41bda7ef5303b9b4a381cc30b67ecb9031e5894b68870b0996d62876ecd912,
-   and space.c, which lnc_exact writes of it, the SHA-256 d1f3d16b1b9dbfbf66eb966a676d80e67c66d55aedf058441664b0295d23bb21.
+   space.ln has the SHA-256 558e60ad472af1594cb5c7cfc648225710e78a6dea2266206f75887b2140e4e9,
+   and space.c, which lnc_exact writes of it, the SHA-256 eb9dfaa7ef994c0252cd1b17140c477614890189cd6bd1059bac1e822865cb35.
 
    Two files are enough, this one and space.c. In one C file of your program, compiled by gcc or clang for a 64-bit target:
 
@@ -133,6 +133,61 @@ int ln_lexicographic3_plain(const int64_t *v);
 void ln_lexicographic3_rows(size_t n, const int64_t *x, const int64_t *v, int8_t *signs);
 int ln_lexicographic3_at(const ln_point3 *p, const ln_point3 *q);
 int ln_lexicographic3_plain_at(const ln_point3 *p, const ln_point3 *q);
+
+/* + where q is farther from p than r is: the sign of CGAL's compare_distance_3; PCK's side1(r, q, p) plainly. */
+/* x: p, q, r
+   v: p.x, p.y, p.z, q.x, q.y, q.z, r.x, r.y, r.z */
+int ln_compare_distance3(const int64_t *x, const int64_t *v);
+int ln_compare_distance3_plain(const int64_t *v);
+void ln_compare_distance3_rows(size_t n, const int64_t *x, const int64_t *v, int8_t *signs);
+int ln_compare_distance3_at(const ln_point3 *p, const ln_point3 *q, const ln_point3 *r);
+int ln_compare_distance3_plain_at(const ln_point3 *p, const ln_point3 *q, const ln_point3 *r);
+
+/* + where the directions from p to q and from r to s have an acute angle: the sign of CGAL's angle(p, q, r, s),
+   and with r = p of PCK's dot. */
+/* x: p, q, r, s
+   v: p.x, p.y, p.z, q.x, q.y, q.z, r.x, r.y, r.z, s.x, s.y, s.z */
+int ln_dot3(const int64_t *x, const int64_t *v);
+int ln_dot3_plain(const int64_t *v);
+void ln_dot3_rows(size_t n, const int64_t *x, const int64_t *v, int8_t *signs);
+int ln_dot3_at(const ln_point3 *p, const ln_point3 *q, const ln_point3 *r, const ln_point3 *s);
+int ln_dot3_plain_at(const ln_point3 *p, const ln_point3 *q, const ln_point3 *r, const ln_point3 *s);
+
+/* + where s is farther than t from the plane of p, q, r on the side from which these turn counterclockwise: the
+   sign of CGAL's compare_signed_distance_to_plane. */
+/* x: p, q, r, s, t
+   v: p.x, p.y, p.z, q.x, q.y, q.z, r.x, r.y, r.z, s.x, s.y, s.z, t.x, t.y, t.z */
+int ln_compare_plane3(const int64_t *x, const int64_t *v);
+int ln_compare_plane3_plain(const int64_t *v);
+void ln_compare_plane3_rows(size_t n, const int64_t *x, const int64_t *v, int8_t *signs);
+int ln_compare_plane3_at(const ln_point3 *p, const ln_point3 *q, const ln_point3 *r, const ln_point3 *s, const ln_point3 *t);
+int ln_compare_plane3_plain_at(const ln_point3 *p, const ln_point3 *q, const ln_point3 *r, const ln_point3 *s, const ln_point3 *t);
+
+/* + where p, q, r turn left seen along an axis, in the coordinates that are named: the orientation of a triangle
+   in space, never 0, as CGAL's coplanar_orientation is asked of points in one plane. */
+/* x: p, q, r
+   v: p.x, p.y, p.z, q.x, q.y, q.z, r.x, r.y, r.z */
+int ln_coplanar_xy(const int64_t *x, const int64_t *v);
+int ln_coplanar_xy_plain(const int64_t *v);
+void ln_coplanar_xy_rows(size_t n, const int64_t *x, const int64_t *v, int8_t *signs);
+int ln_coplanar_xy_at(const ln_point3 *p, const ln_point3 *q, const ln_point3 *r);
+int ln_coplanar_xy_plain_at(const ln_point3 *p, const ln_point3 *q, const ln_point3 *r);
+
+/* x: p, q, r
+   v: p.x, p.y, p.z, q.x, q.y, q.z, r.x, r.y, r.z */
+int ln_coplanar_yz(const int64_t *x, const int64_t *v);
+int ln_coplanar_yz_plain(const int64_t *v);
+void ln_coplanar_yz_rows(size_t n, const int64_t *x, const int64_t *v, int8_t *signs);
+int ln_coplanar_yz_at(const ln_point3 *p, const ln_point3 *q, const ln_point3 *r);
+int ln_coplanar_yz_plain_at(const ln_point3 *p, const ln_point3 *q, const ln_point3 *r);
+
+/* x: p, q, r
+   v: p.x, p.y, p.z, q.x, q.y, q.z, r.x, r.y, r.z */
+int ln_coplanar_zx(const int64_t *x, const int64_t *v);
+int ln_coplanar_zx_plain(const int64_t *v);
+void ln_coplanar_zx_rows(size_t n, const int64_t *x, const int64_t *v, int8_t *signs);
+int ln_coplanar_zx_at(const ln_point3 *p, const ln_point3 *q, const ln_point3 *r);
+int ln_coplanar_zx_plain_at(const ln_point3 *p, const ln_point3 *q, const ln_point3 *r);
 
 #ifdef LNC_CHECKED
 #define LNC_SPACE_CHECKED
@@ -386,6 +441,244 @@ static inline int lc_lexicographic3_plain_at(const ln_point3 *p, const ln_point3
   const int64_t v[] = {p->x, p->y, p->z, q->x, q->y, q->z};
   return lv_lexicographic3(v, SIZE_MAX) ? ln_lexicographic3_plain_at(p, q) : 0;
 }
+static inline int lv_compare_distance3(const int64_t *v, size_t row) {
+  return lr_is(LN_POINT3_X_MIN <= v[0] && v[0] <= LN_POINT3_X_MAX, "compare_distance3", "p.x", "is out of range", row) &&
+    lr_is(LN_POINT3_Y_MIN <= v[1] && v[1] <= LN_POINT3_Y_MAX, "compare_distance3", "p.y", "is out of range", row) &&
+    lr_is(LN_POINT3_Z_MIN <= v[2] && v[2] <= LN_POINT3_Z_MAX, "compare_distance3", "p.z", "is out of range", row) &&
+    lr_is(LN_POINT3_X_MIN <= v[3] && v[3] <= LN_POINT3_X_MAX, "compare_distance3", "q.x", "is out of range", row) &&
+    lr_is(LN_POINT3_Y_MIN <= v[4] && v[4] <= LN_POINT3_Y_MAX, "compare_distance3", "q.y", "is out of range", row) &&
+    lr_is(LN_POINT3_Z_MIN <= v[5] && v[5] <= LN_POINT3_Z_MAX, "compare_distance3", "q.z", "is out of range", row) &&
+    lr_is(LN_POINT3_X_MIN <= v[6] && v[6] <= LN_POINT3_X_MAX, "compare_distance3", "r.x", "is out of range", row) &&
+    lr_is(LN_POINT3_Y_MIN <= v[7] && v[7] <= LN_POINT3_Y_MAX, "compare_distance3", "r.y", "is out of range", row) &&
+    lr_is(LN_POINT3_Z_MIN <= v[8] && v[8] <= LN_POINT3_Z_MAX, "compare_distance3", "r.z", "is out of range", row);
+}
+static inline int li_compare_distance3(const int64_t *x, size_t row) {
+  return lr_is(0 <= x[0], "compare_distance3", "p", "has a negative index", row) &&
+    lr_is(0 <= x[1], "compare_distance3", "q", "has a negative index", row) &&
+    lr_is(0 <= x[2], "compare_distance3", "r", "has a negative index", row) &&
+    lr_is(x[0] != x[1], "compare_distance3", "q", "has the index of p too", row) &&
+    lr_is(x[0] != x[2], "compare_distance3", "r", "has the index of p too", row) &&
+    lr_is(x[1] != x[2], "compare_distance3", "r", "has the index of q too", row);
+}
+static inline int lc_compare_distance3(const int64_t *x, const int64_t *v) { return lv_compare_distance3(v, SIZE_MAX) && li_compare_distance3(x, SIZE_MAX) ? ln_compare_distance3(x, v) : 0; }
+static inline int lc_compare_distance3_plain(const int64_t *v) { return lv_compare_distance3(v, SIZE_MAX) ? ln_compare_distance3_plain(v) : 0; }
+static inline void lc_compare_distance3_rows(size_t n, const int64_t *x, const int64_t *v, int8_t *signs) {
+  for (size_t i = 0; i < n; i++) {
+    signs[i] = 0;
+    if (lv_compare_distance3(v + 9 * i, i) && li_compare_distance3(x + 3 * i, i)) ln_compare_distance3_rows(1, x + 3 * i, v + 9 * i, signs + i);
+  }
+}
+static inline int lc_compare_distance3_at(const ln_point3 *p, const ln_point3 *q, const ln_point3 *r) {
+  const int64_t x[] = {p->index, q->index, r->index};
+  const int64_t v[] = {p->x, p->y, p->z, q->x, q->y, q->z, r->x, r->y, r->z};
+  return lv_compare_distance3(v, SIZE_MAX) && li_compare_distance3(x, SIZE_MAX) ? ln_compare_distance3_at(p, q, r) : 0;
+}
+static inline int lc_compare_distance3_plain_at(const ln_point3 *p, const ln_point3 *q, const ln_point3 *r) {
+  const int64_t v[] = {p->x, p->y, p->z, q->x, q->y, q->z, r->x, r->y, r->z};
+  return lv_compare_distance3(v, SIZE_MAX) ? ln_compare_distance3_plain_at(p, q, r) : 0;
+}
+static inline int lv_dot3(const int64_t *v, size_t row) {
+  return lr_is(LN_POINT3_X_MIN <= v[0] && v[0] <= LN_POINT3_X_MAX, "dot3", "p.x", "is out of range", row) &&
+    lr_is(LN_POINT3_Y_MIN <= v[1] && v[1] <= LN_POINT3_Y_MAX, "dot3", "p.y", "is out of range", row) &&
+    lr_is(LN_POINT3_Z_MIN <= v[2] && v[2] <= LN_POINT3_Z_MAX, "dot3", "p.z", "is out of range", row) &&
+    lr_is(LN_POINT3_X_MIN <= v[3] && v[3] <= LN_POINT3_X_MAX, "dot3", "q.x", "is out of range", row) &&
+    lr_is(LN_POINT3_Y_MIN <= v[4] && v[4] <= LN_POINT3_Y_MAX, "dot3", "q.y", "is out of range", row) &&
+    lr_is(LN_POINT3_Z_MIN <= v[5] && v[5] <= LN_POINT3_Z_MAX, "dot3", "q.z", "is out of range", row) &&
+    lr_is(LN_POINT3_X_MIN <= v[6] && v[6] <= LN_POINT3_X_MAX, "dot3", "r.x", "is out of range", row) &&
+    lr_is(LN_POINT3_Y_MIN <= v[7] && v[7] <= LN_POINT3_Y_MAX, "dot3", "r.y", "is out of range", row) &&
+    lr_is(LN_POINT3_Z_MIN <= v[8] && v[8] <= LN_POINT3_Z_MAX, "dot3", "r.z", "is out of range", row) &&
+    lr_is(LN_POINT3_X_MIN <= v[9] && v[9] <= LN_POINT3_X_MAX, "dot3", "s.x", "is out of range", row) &&
+    lr_is(LN_POINT3_Y_MIN <= v[10] && v[10] <= LN_POINT3_Y_MAX, "dot3", "s.y", "is out of range", row) &&
+    lr_is(LN_POINT3_Z_MIN <= v[11] && v[11] <= LN_POINT3_Z_MAX, "dot3", "s.z", "is out of range", row);
+}
+static inline int li_dot3(const int64_t *x, size_t row) {
+  return lr_is(0 <= x[0], "dot3", "p", "has a negative index", row) &&
+    lr_is(0 <= x[1], "dot3", "q", "has a negative index", row) &&
+    lr_is(0 <= x[2], "dot3", "r", "has a negative index", row) &&
+    lr_is(0 <= x[3], "dot3", "s", "has a negative index", row) &&
+    lr_is(x[0] != x[1], "dot3", "q", "has the index of p too", row) &&
+    lr_is(x[0] != x[2], "dot3", "r", "has the index of p too", row) &&
+    lr_is(x[1] != x[2], "dot3", "r", "has the index of q too", row) &&
+    lr_is(x[0] != x[3], "dot3", "s", "has the index of p too", row) &&
+    lr_is(x[1] != x[3], "dot3", "s", "has the index of q too", row) &&
+    lr_is(x[2] != x[3], "dot3", "s", "has the index of r too", row);
+}
+static inline int lc_dot3(const int64_t *x, const int64_t *v) { return lv_dot3(v, SIZE_MAX) && li_dot3(x, SIZE_MAX) ? ln_dot3(x, v) : 0; }
+static inline int lc_dot3_plain(const int64_t *v) { return lv_dot3(v, SIZE_MAX) ? ln_dot3_plain(v) : 0; }
+static inline void lc_dot3_rows(size_t n, const int64_t *x, const int64_t *v, int8_t *signs) {
+  for (size_t i = 0; i < n; i++) {
+    signs[i] = 0;
+    if (lv_dot3(v + 12 * i, i) && li_dot3(x + 4 * i, i)) ln_dot3_rows(1, x + 4 * i, v + 12 * i, signs + i);
+  }
+}
+static inline int lc_dot3_at(const ln_point3 *p, const ln_point3 *q, const ln_point3 *r, const ln_point3 *s) {
+  const int64_t x[] = {p->index, q->index, r->index, s->index};
+  const int64_t v[] = {p->x, p->y, p->z, q->x, q->y, q->z, r->x, r->y, r->z, s->x, s->y, s->z};
+  return lv_dot3(v, SIZE_MAX) && li_dot3(x, SIZE_MAX) ? ln_dot3_at(p, q, r, s) : 0;
+}
+static inline int lc_dot3_plain_at(const ln_point3 *p, const ln_point3 *q, const ln_point3 *r, const ln_point3 *s) {
+  const int64_t v[] = {p->x, p->y, p->z, q->x, q->y, q->z, r->x, r->y, r->z, s->x, s->y, s->z};
+  return lv_dot3(v, SIZE_MAX) ? ln_dot3_plain_at(p, q, r, s) : 0;
+}
+static inline int lv_compare_plane3(const int64_t *v, size_t row) {
+  return lr_is(LN_POINT3_X_MIN <= v[0] && v[0] <= LN_POINT3_X_MAX, "compare_plane3", "p.x", "is out of range", row) &&
+    lr_is(LN_POINT3_Y_MIN <= v[1] && v[1] <= LN_POINT3_Y_MAX, "compare_plane3", "p.y", "is out of range", row) &&
+    lr_is(LN_POINT3_Z_MIN <= v[2] && v[2] <= LN_POINT3_Z_MAX, "compare_plane3", "p.z", "is out of range", row) &&
+    lr_is(LN_POINT3_X_MIN <= v[3] && v[3] <= LN_POINT3_X_MAX, "compare_plane3", "q.x", "is out of range", row) &&
+    lr_is(LN_POINT3_Y_MIN <= v[4] && v[4] <= LN_POINT3_Y_MAX, "compare_plane3", "q.y", "is out of range", row) &&
+    lr_is(LN_POINT3_Z_MIN <= v[5] && v[5] <= LN_POINT3_Z_MAX, "compare_plane3", "q.z", "is out of range", row) &&
+    lr_is(LN_POINT3_X_MIN <= v[6] && v[6] <= LN_POINT3_X_MAX, "compare_plane3", "r.x", "is out of range", row) &&
+    lr_is(LN_POINT3_Y_MIN <= v[7] && v[7] <= LN_POINT3_Y_MAX, "compare_plane3", "r.y", "is out of range", row) &&
+    lr_is(LN_POINT3_Z_MIN <= v[8] && v[8] <= LN_POINT3_Z_MAX, "compare_plane3", "r.z", "is out of range", row) &&
+    lr_is(LN_POINT3_X_MIN <= v[9] && v[9] <= LN_POINT3_X_MAX, "compare_plane3", "s.x", "is out of range", row) &&
+    lr_is(LN_POINT3_Y_MIN <= v[10] && v[10] <= LN_POINT3_Y_MAX, "compare_plane3", "s.y", "is out of range", row) &&
+    lr_is(LN_POINT3_Z_MIN <= v[11] && v[11] <= LN_POINT3_Z_MAX, "compare_plane3", "s.z", "is out of range", row) &&
+    lr_is(LN_POINT3_X_MIN <= v[12] && v[12] <= LN_POINT3_X_MAX, "compare_plane3", "t.x", "is out of range", row) &&
+    lr_is(LN_POINT3_Y_MIN <= v[13] && v[13] <= LN_POINT3_Y_MAX, "compare_plane3", "t.y", "is out of range", row) &&
+    lr_is(LN_POINT3_Z_MIN <= v[14] && v[14] <= LN_POINT3_Z_MAX, "compare_plane3", "t.z", "is out of range", row);
+}
+static inline int li_compare_plane3(const int64_t *x, size_t row) {
+  return lr_is(0 <= x[0], "compare_plane3", "p", "has a negative index", row) &&
+    lr_is(0 <= x[1], "compare_plane3", "q", "has a negative index", row) &&
+    lr_is(0 <= x[2], "compare_plane3", "r", "has a negative index", row) &&
+    lr_is(0 <= x[3], "compare_plane3", "s", "has a negative index", row) &&
+    lr_is(0 <= x[4], "compare_plane3", "t", "has a negative index", row) &&
+    lr_is(x[0] != x[1], "compare_plane3", "q", "has the index of p too", row) &&
+    lr_is(x[0] != x[2], "compare_plane3", "r", "has the index of p too", row) &&
+    lr_is(x[1] != x[2], "compare_plane3", "r", "has the index of q too", row) &&
+    lr_is(x[0] != x[3], "compare_plane3", "s", "has the index of p too", row) &&
+    lr_is(x[1] != x[3], "compare_plane3", "s", "has the index of q too", row) &&
+    lr_is(x[2] != x[3], "compare_plane3", "s", "has the index of r too", row) &&
+    lr_is(x[0] != x[4], "compare_plane3", "t", "has the index of p too", row) &&
+    lr_is(x[1] != x[4], "compare_plane3", "t", "has the index of q too", row) &&
+    lr_is(x[2] != x[4], "compare_plane3", "t", "has the index of r too", row) &&
+    lr_is(x[3] != x[4], "compare_plane3", "t", "has the index of s too", row);
+}
+static inline int lc_compare_plane3(const int64_t *x, const int64_t *v) { return lv_compare_plane3(v, SIZE_MAX) && li_compare_plane3(x, SIZE_MAX) ? ln_compare_plane3(x, v) : 0; }
+static inline int lc_compare_plane3_plain(const int64_t *v) { return lv_compare_plane3(v, SIZE_MAX) ? ln_compare_plane3_plain(v) : 0; }
+static inline void lc_compare_plane3_rows(size_t n, const int64_t *x, const int64_t *v, int8_t *signs) {
+  for (size_t i = 0; i < n; i++) {
+    signs[i] = 0;
+    if (lv_compare_plane3(v + 15 * i, i) && li_compare_plane3(x + 5 * i, i)) ln_compare_plane3_rows(1, x + 5 * i, v + 15 * i, signs + i);
+  }
+}
+static inline int lc_compare_plane3_at(const ln_point3 *p, const ln_point3 *q, const ln_point3 *r, const ln_point3 *s, const ln_point3 *t) {
+  const int64_t x[] = {p->index, q->index, r->index, s->index, t->index};
+  const int64_t v[] = {p->x, p->y, p->z, q->x, q->y, q->z, r->x, r->y, r->z, s->x, s->y, s->z, t->x, t->y, t->z};
+  return lv_compare_plane3(v, SIZE_MAX) && li_compare_plane3(x, SIZE_MAX) ? ln_compare_plane3_at(p, q, r, s, t) : 0;
+}
+static inline int lc_compare_plane3_plain_at(const ln_point3 *p, const ln_point3 *q, const ln_point3 *r, const ln_point3 *s, const ln_point3 *t) {
+  const int64_t v[] = {p->x, p->y, p->z, q->x, q->y, q->z, r->x, r->y, r->z, s->x, s->y, s->z, t->x, t->y, t->z};
+  return lv_compare_plane3(v, SIZE_MAX) ? ln_compare_plane3_plain_at(p, q, r, s, t) : 0;
+}
+static inline int lv_coplanar_xy(const int64_t *v, size_t row) {
+  return lr_is(LN_POINT3_X_MIN <= v[0] && v[0] <= LN_POINT3_X_MAX, "coplanar_xy", "p.x", "is out of range", row) &&
+    lr_is(LN_POINT3_Y_MIN <= v[1] && v[1] <= LN_POINT3_Y_MAX, "coplanar_xy", "p.y", "is out of range", row) &&
+    lr_is(LN_POINT3_Z_MIN <= v[2] && v[2] <= LN_POINT3_Z_MAX, "coplanar_xy", "p.z", "is out of range", row) &&
+    lr_is(LN_POINT3_X_MIN <= v[3] && v[3] <= LN_POINT3_X_MAX, "coplanar_xy", "q.x", "is out of range", row) &&
+    lr_is(LN_POINT3_Y_MIN <= v[4] && v[4] <= LN_POINT3_Y_MAX, "coplanar_xy", "q.y", "is out of range", row) &&
+    lr_is(LN_POINT3_Z_MIN <= v[5] && v[5] <= LN_POINT3_Z_MAX, "coplanar_xy", "q.z", "is out of range", row) &&
+    lr_is(LN_POINT3_X_MIN <= v[6] && v[6] <= LN_POINT3_X_MAX, "coplanar_xy", "r.x", "is out of range", row) &&
+    lr_is(LN_POINT3_Y_MIN <= v[7] && v[7] <= LN_POINT3_Y_MAX, "coplanar_xy", "r.y", "is out of range", row) &&
+    lr_is(LN_POINT3_Z_MIN <= v[8] && v[8] <= LN_POINT3_Z_MAX, "coplanar_xy", "r.z", "is out of range", row);
+}
+static inline int li_coplanar_xy(const int64_t *x, size_t row) {
+  return lr_is(0 <= x[0], "coplanar_xy", "p", "has a negative index", row) &&
+    lr_is(0 <= x[1], "coplanar_xy", "q", "has a negative index", row) &&
+    lr_is(0 <= x[2], "coplanar_xy", "r", "has a negative index", row) &&
+    lr_is(x[0] != x[1], "coplanar_xy", "q", "has the index of p too", row) &&
+    lr_is(x[0] != x[2], "coplanar_xy", "r", "has the index of p too", row) &&
+    lr_is(x[1] != x[2], "coplanar_xy", "r", "has the index of q too", row);
+}
+static inline int lc_coplanar_xy(const int64_t *x, const int64_t *v) { return lv_coplanar_xy(v, SIZE_MAX) && li_coplanar_xy(x, SIZE_MAX) ? ln_coplanar_xy(x, v) : 0; }
+static inline int lc_coplanar_xy_plain(const int64_t *v) { return lv_coplanar_xy(v, SIZE_MAX) ? ln_coplanar_xy_plain(v) : 0; }
+static inline void lc_coplanar_xy_rows(size_t n, const int64_t *x, const int64_t *v, int8_t *signs) {
+  for (size_t i = 0; i < n; i++) {
+    signs[i] = 0;
+    if (lv_coplanar_xy(v + 9 * i, i) && li_coplanar_xy(x + 3 * i, i)) ln_coplanar_xy_rows(1, x + 3 * i, v + 9 * i, signs + i);
+  }
+}
+static inline int lc_coplanar_xy_at(const ln_point3 *p, const ln_point3 *q, const ln_point3 *r) {
+  const int64_t x[] = {p->index, q->index, r->index};
+  const int64_t v[] = {p->x, p->y, p->z, q->x, q->y, q->z, r->x, r->y, r->z};
+  return lv_coplanar_xy(v, SIZE_MAX) && li_coplanar_xy(x, SIZE_MAX) ? ln_coplanar_xy_at(p, q, r) : 0;
+}
+static inline int lc_coplanar_xy_plain_at(const ln_point3 *p, const ln_point3 *q, const ln_point3 *r) {
+  const int64_t v[] = {p->x, p->y, p->z, q->x, q->y, q->z, r->x, r->y, r->z};
+  return lv_coplanar_xy(v, SIZE_MAX) ? ln_coplanar_xy_plain_at(p, q, r) : 0;
+}
+static inline int lv_coplanar_yz(const int64_t *v, size_t row) {
+  return lr_is(LN_POINT3_X_MIN <= v[0] && v[0] <= LN_POINT3_X_MAX, "coplanar_yz", "p.x", "is out of range", row) &&
+    lr_is(LN_POINT3_Y_MIN <= v[1] && v[1] <= LN_POINT3_Y_MAX, "coplanar_yz", "p.y", "is out of range", row) &&
+    lr_is(LN_POINT3_Z_MIN <= v[2] && v[2] <= LN_POINT3_Z_MAX, "coplanar_yz", "p.z", "is out of range", row) &&
+    lr_is(LN_POINT3_X_MIN <= v[3] && v[3] <= LN_POINT3_X_MAX, "coplanar_yz", "q.x", "is out of range", row) &&
+    lr_is(LN_POINT3_Y_MIN <= v[4] && v[4] <= LN_POINT3_Y_MAX, "coplanar_yz", "q.y", "is out of range", row) &&
+    lr_is(LN_POINT3_Z_MIN <= v[5] && v[5] <= LN_POINT3_Z_MAX, "coplanar_yz", "q.z", "is out of range", row) &&
+    lr_is(LN_POINT3_X_MIN <= v[6] && v[6] <= LN_POINT3_X_MAX, "coplanar_yz", "r.x", "is out of range", row) &&
+    lr_is(LN_POINT3_Y_MIN <= v[7] && v[7] <= LN_POINT3_Y_MAX, "coplanar_yz", "r.y", "is out of range", row) &&
+    lr_is(LN_POINT3_Z_MIN <= v[8] && v[8] <= LN_POINT3_Z_MAX, "coplanar_yz", "r.z", "is out of range", row);
+}
+static inline int li_coplanar_yz(const int64_t *x, size_t row) {
+  return lr_is(0 <= x[0], "coplanar_yz", "p", "has a negative index", row) &&
+    lr_is(0 <= x[1], "coplanar_yz", "q", "has a negative index", row) &&
+    lr_is(0 <= x[2], "coplanar_yz", "r", "has a negative index", row) &&
+    lr_is(x[0] != x[1], "coplanar_yz", "q", "has the index of p too", row) &&
+    lr_is(x[0] != x[2], "coplanar_yz", "r", "has the index of p too", row) &&
+    lr_is(x[1] != x[2], "coplanar_yz", "r", "has the index of q too", row);
+}
+static inline int lc_coplanar_yz(const int64_t *x, const int64_t *v) { return lv_coplanar_yz(v, SIZE_MAX) && li_coplanar_yz(x, SIZE_MAX) ? ln_coplanar_yz(x, v) : 0; }
+static inline int lc_coplanar_yz_plain(const int64_t *v) { return lv_coplanar_yz(v, SIZE_MAX) ? ln_coplanar_yz_plain(v) : 0; }
+static inline void lc_coplanar_yz_rows(size_t n, const int64_t *x, const int64_t *v, int8_t *signs) {
+  for (size_t i = 0; i < n; i++) {
+    signs[i] = 0;
+    if (lv_coplanar_yz(v + 9 * i, i) && li_coplanar_yz(x + 3 * i, i)) ln_coplanar_yz_rows(1, x + 3 * i, v + 9 * i, signs + i);
+  }
+}
+static inline int lc_coplanar_yz_at(const ln_point3 *p, const ln_point3 *q, const ln_point3 *r) {
+  const int64_t x[] = {p->index, q->index, r->index};
+  const int64_t v[] = {p->x, p->y, p->z, q->x, q->y, q->z, r->x, r->y, r->z};
+  return lv_coplanar_yz(v, SIZE_MAX) && li_coplanar_yz(x, SIZE_MAX) ? ln_coplanar_yz_at(p, q, r) : 0;
+}
+static inline int lc_coplanar_yz_plain_at(const ln_point3 *p, const ln_point3 *q, const ln_point3 *r) {
+  const int64_t v[] = {p->x, p->y, p->z, q->x, q->y, q->z, r->x, r->y, r->z};
+  return lv_coplanar_yz(v, SIZE_MAX) ? ln_coplanar_yz_plain_at(p, q, r) : 0;
+}
+static inline int lv_coplanar_zx(const int64_t *v, size_t row) {
+  return lr_is(LN_POINT3_X_MIN <= v[0] && v[0] <= LN_POINT3_X_MAX, "coplanar_zx", "p.x", "is out of range", row) &&
+    lr_is(LN_POINT3_Y_MIN <= v[1] && v[1] <= LN_POINT3_Y_MAX, "coplanar_zx", "p.y", "is out of range", row) &&
+    lr_is(LN_POINT3_Z_MIN <= v[2] && v[2] <= LN_POINT3_Z_MAX, "coplanar_zx", "p.z", "is out of range", row) &&
+    lr_is(LN_POINT3_X_MIN <= v[3] && v[3] <= LN_POINT3_X_MAX, "coplanar_zx", "q.x", "is out of range", row) &&
+    lr_is(LN_POINT3_Y_MIN <= v[4] && v[4] <= LN_POINT3_Y_MAX, "coplanar_zx", "q.y", "is out of range", row) &&
+    lr_is(LN_POINT3_Z_MIN <= v[5] && v[5] <= LN_POINT3_Z_MAX, "coplanar_zx", "q.z", "is out of range", row) &&
+    lr_is(LN_POINT3_X_MIN <= v[6] && v[6] <= LN_POINT3_X_MAX, "coplanar_zx", "r.x", "is out of range", row) &&
+    lr_is(LN_POINT3_Y_MIN <= v[7] && v[7] <= LN_POINT3_Y_MAX, "coplanar_zx", "r.y", "is out of range", row) &&
+    lr_is(LN_POINT3_Z_MIN <= v[8] && v[8] <= LN_POINT3_Z_MAX, "coplanar_zx", "r.z", "is out of range", row);
+}
+static inline int li_coplanar_zx(const int64_t *x, size_t row) {
+  return lr_is(0 <= x[0], "coplanar_zx", "p", "has a negative index", row) &&
+    lr_is(0 <= x[1], "coplanar_zx", "q", "has a negative index", row) &&
+    lr_is(0 <= x[2], "coplanar_zx", "r", "has a negative index", row) &&
+    lr_is(x[0] != x[1], "coplanar_zx", "q", "has the index of p too", row) &&
+    lr_is(x[0] != x[2], "coplanar_zx", "r", "has the index of p too", row) &&
+    lr_is(x[1] != x[2], "coplanar_zx", "r", "has the index of q too", row);
+}
+static inline int lc_coplanar_zx(const int64_t *x, const int64_t *v) { return lv_coplanar_zx(v, SIZE_MAX) && li_coplanar_zx(x, SIZE_MAX) ? ln_coplanar_zx(x, v) : 0; }
+static inline int lc_coplanar_zx_plain(const int64_t *v) { return lv_coplanar_zx(v, SIZE_MAX) ? ln_coplanar_zx_plain(v) : 0; }
+static inline void lc_coplanar_zx_rows(size_t n, const int64_t *x, const int64_t *v, int8_t *signs) {
+  for (size_t i = 0; i < n; i++) {
+    signs[i] = 0;
+    if (lv_coplanar_zx(v + 9 * i, i) && li_coplanar_zx(x + 3 * i, i)) ln_coplanar_zx_rows(1, x + 3 * i, v + 9 * i, signs + i);
+  }
+}
+static inline int lc_coplanar_zx_at(const ln_point3 *p, const ln_point3 *q, const ln_point3 *r) {
+  const int64_t x[] = {p->index, q->index, r->index};
+  const int64_t v[] = {p->x, p->y, p->z, q->x, q->y, q->z, r->x, r->y, r->z};
+  return lv_coplanar_zx(v, SIZE_MAX) && li_coplanar_zx(x, SIZE_MAX) ? ln_coplanar_zx_at(p, q, r) : 0;
+}
+static inline int lc_coplanar_zx_plain_at(const ln_point3 *p, const ln_point3 *q, const ln_point3 *r) {
+  const int64_t v[] = {p->x, p->y, p->z, q->x, q->y, q->z, r->x, r->y, r->z};
+  return lv_coplanar_zx(v, SIZE_MAX) ? ln_coplanar_zx_plain_at(p, q, r) : 0;
+}
 #endif
 
 #ifdef __cplusplus
@@ -445,6 +738,42 @@ inline int lexicographic3(const point3 &p, const point3 &q) {
 inline int lexicographic3_plain(const point3 &p, const point3 &q) {
   return LNC_CALL(lexicographic3_plain_at)(&p, &q);
 }
+inline int compare_distance3(const point3 &p, const point3 &q, const point3 &r) {
+  return LNC_CALL(compare_distance3_at)(&p, &q, &r);
+}
+inline int compare_distance3_plain(const point3 &p, const point3 &q, const point3 &r) {
+  return LNC_CALL(compare_distance3_plain_at)(&p, &q, &r);
+}
+inline int dot3(const point3 &p, const point3 &q, const point3 &r, const point3 &s) {
+  return LNC_CALL(dot3_at)(&p, &q, &r, &s);
+}
+inline int dot3_plain(const point3 &p, const point3 &q, const point3 &r, const point3 &s) {
+  return LNC_CALL(dot3_plain_at)(&p, &q, &r, &s);
+}
+inline int compare_plane3(const point3 &p, const point3 &q, const point3 &r, const point3 &s, const point3 &t) {
+  return LNC_CALL(compare_plane3_at)(&p, &q, &r, &s, &t);
+}
+inline int compare_plane3_plain(const point3 &p, const point3 &q, const point3 &r, const point3 &s, const point3 &t) {
+  return LNC_CALL(compare_plane3_plain_at)(&p, &q, &r, &s, &t);
+}
+inline int coplanar_xy(const point3 &p, const point3 &q, const point3 &r) {
+  return LNC_CALL(coplanar_xy_at)(&p, &q, &r);
+}
+inline int coplanar_xy_plain(const point3 &p, const point3 &q, const point3 &r) {
+  return LNC_CALL(coplanar_xy_plain_at)(&p, &q, &r);
+}
+inline int coplanar_yz(const point3 &p, const point3 &q, const point3 &r) {
+  return LNC_CALL(coplanar_yz_at)(&p, &q, &r);
+}
+inline int coplanar_yz_plain(const point3 &p, const point3 &q, const point3 &r) {
+  return LNC_CALL(coplanar_yz_plain_at)(&p, &q, &r);
+}
+inline int coplanar_zx(const point3 &p, const point3 &q, const point3 &r) {
+  return LNC_CALL(coplanar_zx_at)(&p, &q, &r);
+}
+inline int coplanar_zx_plain(const point3 &p, const point3 &q, const point3 &r) {
+  return LNC_CALL(coplanar_zx_plain_at)(&p, &q, &r);
+}
 #ifdef LNC_CHECKED
 }
 #endif
@@ -490,6 +819,36 @@ inline int lexicographic3_plain(const point3 &p, const point3 &q) {
 #undef ln_lexicographic3_rows
 #undef ln_lexicographic3_at
 #undef ln_lexicographic3_plain_at
+#undef ln_compare_distance3
+#undef ln_compare_distance3_plain
+#undef ln_compare_distance3_rows
+#undef ln_compare_distance3_at
+#undef ln_compare_distance3_plain_at
+#undef ln_dot3
+#undef ln_dot3_plain
+#undef ln_dot3_rows
+#undef ln_dot3_at
+#undef ln_dot3_plain_at
+#undef ln_compare_plane3
+#undef ln_compare_plane3_plain
+#undef ln_compare_plane3_rows
+#undef ln_compare_plane3_at
+#undef ln_compare_plane3_plain_at
+#undef ln_coplanar_xy
+#undef ln_coplanar_xy_plain
+#undef ln_coplanar_xy_rows
+#undef ln_coplanar_xy_at
+#undef ln_coplanar_xy_plain_at
+#undef ln_coplanar_yz
+#undef ln_coplanar_yz_plain
+#undef ln_coplanar_yz_rows
+#undef ln_coplanar_yz_at
+#undef ln_coplanar_yz_plain_at
+#undef ln_coplanar_zx
+#undef ln_coplanar_zx_plain
+#undef ln_coplanar_zx_rows
+#undef ln_coplanar_zx_at
+#undef ln_coplanar_zx_plain_at
 #ifndef __SIZEOF_INT128__
 #error "no __int128 here: space.c takes gcc or clang for a 64-bit target"
 #endif
@@ -624,6 +983,114 @@ __attribute__((flatten)) int ln_lexicographic3_at(const ln_point3 *p, const ln_p
   const int sign = lb0_lexicographic3(v);
   return sign != 0 ? sign : lm_lexicographic3(p, q);
 }
+int ln_compare_distance3_plain(const int64_t *v) { return lb0_compare_distance3(v); }
+void ln_compare_distance3_rows(size_t n, const int64_t *x, const int64_t *v, int8_t *signs) {
+  for (size_t i = 0; i < n; i++) signs[i] = (int8_t)ln_compare_distance3(x + 3 * i, v + 9 * i);
+}
+static __attribute__((noinline)) int lm_compare_distance3(const ln_point3 *p, const ln_point3 *q, const ln_point3 *r) {
+  const int64_t x[] = {p->index, q->index, r->index};
+  const int64_t v[] = {p->x, p->y, p->z, q->x, q->y, q->z, r->x, r->y, r->z};
+  return ln_compare_distance3(x, v);
+}
+__attribute__((flatten)) int ln_compare_distance3_plain_at(const ln_point3 *p, const ln_point3 *q, const ln_point3 *r) {
+  const int64_t v[] = {p->x, p->y, p->z, q->x, q->y, q->z, r->x, r->y, r->z};
+  return lb0_compare_distance3(v);
+}
+__attribute__((flatten)) int ln_compare_distance3_at(const ln_point3 *p, const ln_point3 *q, const ln_point3 *r) {
+  const int64_t v[] = {p->x, p->y, p->z, q->x, q->y, q->z, r->x, r->y, r->z};
+  const int sign = lb0_compare_distance3(v);
+  return sign != 0 ? sign : lm_compare_distance3(p, q, r);
+}
+int ln_dot3_plain(const int64_t *v) { return lb0_dot3(v); }
+void ln_dot3_rows(size_t n, const int64_t *x, const int64_t *v, int8_t *signs) {
+  for (size_t i = 0; i < n; i++) signs[i] = (int8_t)ln_dot3(x + 4 * i, v + 12 * i);
+}
+static __attribute__((noinline)) int lm_dot3(const ln_point3 *p, const ln_point3 *q, const ln_point3 *r, const ln_point3 *s) {
+  const int64_t x[] = {p->index, q->index, r->index, s->index};
+  const int64_t v[] = {p->x, p->y, p->z, q->x, q->y, q->z, r->x, r->y, r->z, s->x, s->y, s->z};
+  return ln_dot3(x, v);
+}
+__attribute__((flatten)) int ln_dot3_plain_at(const ln_point3 *p, const ln_point3 *q, const ln_point3 *r, const ln_point3 *s) {
+  const int64_t v[] = {p->x, p->y, p->z, q->x, q->y, q->z, r->x, r->y, r->z, s->x, s->y, s->z};
+  return lb0_dot3(v);
+}
+__attribute__((flatten)) int ln_dot3_at(const ln_point3 *p, const ln_point3 *q, const ln_point3 *r, const ln_point3 *s) {
+  const int64_t v[] = {p->x, p->y, p->z, q->x, q->y, q->z, r->x, r->y, r->z, s->x, s->y, s->z};
+  const int sign = lb0_dot3(v);
+  return sign != 0 ? sign : lm_dot3(p, q, r, s);
+}
+int ln_compare_plane3_plain(const int64_t *v) { return lb0_compare_plane3(v); }
+void ln_compare_plane3_rows(size_t n, const int64_t *x, const int64_t *v, int8_t *signs) {
+  for (size_t i = 0; i < n; i++) signs[i] = (int8_t)ln_compare_plane3(x + 5 * i, v + 15 * i);
+}
+static __attribute__((noinline)) int lm_compare_plane3(const ln_point3 *p, const ln_point3 *q, const ln_point3 *r, const ln_point3 *s, const ln_point3 *t) {
+  const int64_t x[] = {p->index, q->index, r->index, s->index, t->index};
+  const int64_t v[] = {p->x, p->y, p->z, q->x, q->y, q->z, r->x, r->y, r->z, s->x, s->y, s->z, t->x, t->y, t->z};
+  return ln_compare_plane3(x, v);
+}
+__attribute__((flatten)) int ln_compare_plane3_plain_at(const ln_point3 *p, const ln_point3 *q, const ln_point3 *r, const ln_point3 *s, const ln_point3 *t) {
+  const int64_t v[] = {p->x, p->y, p->z, q->x, q->y, q->z, r->x, r->y, r->z, s->x, s->y, s->z, t->x, t->y, t->z};
+  return lb0_compare_plane3(v);
+}
+__attribute__((flatten)) int ln_compare_plane3_at(const ln_point3 *p, const ln_point3 *q, const ln_point3 *r, const ln_point3 *s, const ln_point3 *t) {
+  const int64_t v[] = {p->x, p->y, p->z, q->x, q->y, q->z, r->x, r->y, r->z, s->x, s->y, s->z, t->x, t->y, t->z};
+  const int sign = lb0_compare_plane3(v);
+  return sign != 0 ? sign : lm_compare_plane3(p, q, r, s, t);
+}
+int ln_coplanar_xy_plain(const int64_t *v) { return lb0_coplanar_xy(v); }
+void ln_coplanar_xy_rows(size_t n, const int64_t *x, const int64_t *v, int8_t *signs) {
+  for (size_t i = 0; i < n; i++) signs[i] = (int8_t)ln_coplanar_xy(x + 3 * i, v + 9 * i);
+}
+static __attribute__((noinline)) int lm_coplanar_xy(const ln_point3 *p, const ln_point3 *q, const ln_point3 *r) {
+  const int64_t x[] = {p->index, q->index, r->index};
+  const int64_t v[] = {p->x, p->y, p->z, q->x, q->y, q->z, r->x, r->y, r->z};
+  return ln_coplanar_xy(x, v);
+}
+__attribute__((flatten)) int ln_coplanar_xy_plain_at(const ln_point3 *p, const ln_point3 *q, const ln_point3 *r) {
+  const int64_t v[] = {p->x, p->y, p->z, q->x, q->y, q->z, r->x, r->y, r->z};
+  return lb0_coplanar_xy(v);
+}
+__attribute__((flatten)) int ln_coplanar_xy_at(const ln_point3 *p, const ln_point3 *q, const ln_point3 *r) {
+  const int64_t v[] = {p->x, p->y, p->z, q->x, q->y, q->z, r->x, r->y, r->z};
+  const int sign = lb0_coplanar_xy(v);
+  return sign != 0 ? sign : lm_coplanar_xy(p, q, r);
+}
+int ln_coplanar_yz_plain(const int64_t *v) { return lb0_coplanar_yz(v); }
+void ln_coplanar_yz_rows(size_t n, const int64_t *x, const int64_t *v, int8_t *signs) {
+  for (size_t i = 0; i < n; i++) signs[i] = (int8_t)ln_coplanar_yz(x + 3 * i, v + 9 * i);
+}
+static __attribute__((noinline)) int lm_coplanar_yz(const ln_point3 *p, const ln_point3 *q, const ln_point3 *r) {
+  const int64_t x[] = {p->index, q->index, r->index};
+  const int64_t v[] = {p->x, p->y, p->z, q->x, q->y, q->z, r->x, r->y, r->z};
+  return ln_coplanar_yz(x, v);
+}
+__attribute__((flatten)) int ln_coplanar_yz_plain_at(const ln_point3 *p, const ln_point3 *q, const ln_point3 *r) {
+  const int64_t v[] = {p->x, p->y, p->z, q->x, q->y, q->z, r->x, r->y, r->z};
+  return lb0_coplanar_yz(v);
+}
+__attribute__((flatten)) int ln_coplanar_yz_at(const ln_point3 *p, const ln_point3 *q, const ln_point3 *r) {
+  const int64_t v[] = {p->x, p->y, p->z, q->x, q->y, q->z, r->x, r->y, r->z};
+  const int sign = lb0_coplanar_yz(v);
+  return sign != 0 ? sign : lm_coplanar_yz(p, q, r);
+}
+int ln_coplanar_zx_plain(const int64_t *v) { return lb0_coplanar_zx(v); }
+void ln_coplanar_zx_rows(size_t n, const int64_t *x, const int64_t *v, int8_t *signs) {
+  for (size_t i = 0; i < n; i++) signs[i] = (int8_t)ln_coplanar_zx(x + 3 * i, v + 9 * i);
+}
+static __attribute__((noinline)) int lm_coplanar_zx(const ln_point3 *p, const ln_point3 *q, const ln_point3 *r) {
+  const int64_t x[] = {p->index, q->index, r->index};
+  const int64_t v[] = {p->x, p->y, p->z, q->x, q->y, q->z, r->x, r->y, r->z};
+  return ln_coplanar_zx(x, v);
+}
+__attribute__((flatten)) int ln_coplanar_zx_plain_at(const ln_point3 *p, const ln_point3 *q, const ln_point3 *r) {
+  const int64_t v[] = {p->x, p->y, p->z, q->x, q->y, q->z, r->x, r->y, r->z};
+  return lb0_coplanar_zx(v);
+}
+__attribute__((flatten)) int ln_coplanar_zx_at(const ln_point3 *p, const ln_point3 *q, const ln_point3 *r) {
+  const int64_t v[] = {p->x, p->y, p->z, q->x, q->y, q->z, r->x, r->y, r->z};
+  const int sign = lb0_coplanar_zx(v);
+  return sign != 0 ? sign : lm_coplanar_zx(p, q, r);
+}
 #ifdef __cplusplus
 #pragma GCC diagnostic pop
 #endif
@@ -665,4 +1132,34 @@ __attribute__((flatten)) int ln_lexicographic3_at(const ln_point3 *p, const ln_p
 #define ln_lexicographic3_rows lc_lexicographic3_rows
 #define ln_lexicographic3_at lc_lexicographic3_at
 #define ln_lexicographic3_plain_at lc_lexicographic3_plain_at
+#define ln_compare_distance3 lc_compare_distance3
+#define ln_compare_distance3_plain lc_compare_distance3_plain
+#define ln_compare_distance3_rows lc_compare_distance3_rows
+#define ln_compare_distance3_at lc_compare_distance3_at
+#define ln_compare_distance3_plain_at lc_compare_distance3_plain_at
+#define ln_dot3 lc_dot3
+#define ln_dot3_plain lc_dot3_plain
+#define ln_dot3_rows lc_dot3_rows
+#define ln_dot3_at lc_dot3_at
+#define ln_dot3_plain_at lc_dot3_plain_at
+#define ln_compare_plane3 lc_compare_plane3
+#define ln_compare_plane3_plain lc_compare_plane3_plain
+#define ln_compare_plane3_rows lc_compare_plane3_rows
+#define ln_compare_plane3_at lc_compare_plane3_at
+#define ln_compare_plane3_plain_at lc_compare_plane3_plain_at
+#define ln_coplanar_xy lc_coplanar_xy
+#define ln_coplanar_xy_plain lc_coplanar_xy_plain
+#define ln_coplanar_xy_rows lc_coplanar_xy_rows
+#define ln_coplanar_xy_at lc_coplanar_xy_at
+#define ln_coplanar_xy_plain_at lc_coplanar_xy_plain_at
+#define ln_coplanar_yz lc_coplanar_yz
+#define ln_coplanar_yz_plain lc_coplanar_yz_plain
+#define ln_coplanar_yz_rows lc_coplanar_yz_rows
+#define ln_coplanar_yz_at lc_coplanar_yz_at
+#define ln_coplanar_yz_plain_at lc_coplanar_yz_plain_at
+#define ln_coplanar_zx lc_coplanar_zx
+#define ln_coplanar_zx_plain lc_coplanar_zx_plain
+#define ln_coplanar_zx_rows lc_coplanar_zx_rows
+#define ln_coplanar_zx_at lc_coplanar_zx_at
+#define ln_coplanar_zx_plain_at lc_coplanar_zx_plain_at
 #endif

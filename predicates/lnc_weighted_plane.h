@@ -1,6 +1,6 @@
 /* lnc_weighted_plane.h: written by header.py, so change weighted_plane.ln and not this file.
-   weighted_plane.ln has the SHA-256 f6343d763090a914bbc1822bd734515ed101b74048bf6e8349d4bb71c576b01b,
-   and weighted_plane.c, which lnc_exact writes of it, the SHA-256 27bc4dc4f5878b36cf5c56b2521941c3ff356bc5cdfd638821473b4507225c82.
+   weighted_plane.ln has the SHA-256 28aa6d5da8cbde82ddb4fe949d99981dd692f29db5c22ba6c864f72456258e2f,
+   and weighted_plane.c, which lnc_exact writes of it, the SHA-256 fbf554854a7a6309d99f6978b47319983610ee19d462375f7238f2061a66331c.
 
    Two files are enough, this one and weighted_plane.c. In one C file of your program, compiled by gcc or clang for a 64-bit target:
 
@@ -131,6 +131,45 @@ int ln_wlexicographic2_plain(const int64_t *v);
 void ln_wlexicographic2_rows(size_t n, const int64_t *x, const int64_t *v, int8_t *signs);
 int ln_wlexicographic2_at(const ln_weighted2 *p, const ln_weighted2 *q);
 int ln_wlexicographic2_plain_at(const ln_weighted2 *p, const ln_weighted2 *q);
+
+/* + where q is farther from p than r is: the sign of CGAL's compare_distance_2; PCK's side1(r, q, p) plainly. */
+/* x: p, q, r
+   v: p.x, p.y, p.w, q.x, q.y, q.w, r.x, r.y, r.w */
+int ln_wcompare_distance2(const int64_t *x, const int64_t *v);
+int ln_wcompare_distance2_plain(const int64_t *v);
+void ln_wcompare_distance2_rows(size_t n, const int64_t *x, const int64_t *v, int8_t *signs);
+int ln_wcompare_distance2_at(const ln_weighted2 *p, const ln_weighted2 *q, const ln_weighted2 *r);
+int ln_wcompare_distance2_plain_at(const ln_weighted2 *p, const ln_weighted2 *q, const ln_weighted2 *r);
+
+/* + where p's power to q's circle or sphere is larger than to that of r, whatever p's own weight: the sign of
+   CGAL's compare_power_distance_2; PCK's power_side1(r, q, p) plainly. */
+/* x: p, q, r
+   v: p.x, p.y, p.w, q.x, q.y, q.w, r.x, r.y, r.w */
+int ln_compare_power2(const int64_t *x, const int64_t *v);
+int ln_compare_power2_plain(const int64_t *v);
+void ln_compare_power2_rows(size_t n, const int64_t *x, const int64_t *v, int8_t *signs);
+int ln_compare_power2_at(const ln_weighted2 *p, const ln_weighted2 *q, const ln_weighted2 *r);
+int ln_compare_power2_plain_at(const ln_weighted2 *p, const ln_weighted2 *q, const ln_weighted2 *r);
+
+/* + where the directions from p to q and from r to s have an acute angle: the sign of CGAL's angle(p, q, r, s),
+   and with r = p of PCK's dot. */
+/* x: p, q, r, s
+   v: p.x, p.y, p.w, q.x, q.y, q.w, r.x, r.y, r.w, s.x, s.y, s.w */
+int ln_wdot2(const int64_t *x, const int64_t *v);
+int ln_wdot2_plain(const int64_t *v);
+void ln_wdot2_rows(size_t n, const int64_t *x, const int64_t *v, int8_t *signs);
+int ln_wdot2_at(const ln_weighted2 *p, const ln_weighted2 *q, const ln_weighted2 *r, const ln_weighted2 *s);
+int ln_wdot2_plain_at(const ln_weighted2 *p, const ln_weighted2 *q, const ln_weighted2 *r, const ln_weighted2 *s);
+
+/* + where r is farther than s to the left of the line from p to q: the sign of CGAL's
+   compare_signed_distance_to_line. */
+/* x: p, q, r, s
+   v: p.x, p.y, p.w, q.x, q.y, q.w, r.x, r.y, r.w, s.x, s.y, s.w */
+int ln_wcompare_line2(const int64_t *x, const int64_t *v);
+int ln_wcompare_line2_plain(const int64_t *v);
+void ln_wcompare_line2_rows(size_t n, const int64_t *x, const int64_t *v, int8_t *signs);
+int ln_wcompare_line2_at(const ln_weighted2 *p, const ln_weighted2 *q, const ln_weighted2 *r, const ln_weighted2 *s);
+int ln_wcompare_line2_plain_at(const ln_weighted2 *p, const ln_weighted2 *q, const ln_weighted2 *r, const ln_weighted2 *s);
 
 #ifdef LNC_CHECKED
 #define LNC_WEIGHTED_PLANE_CHECKED
@@ -369,6 +408,164 @@ static inline int lc_wlexicographic2_plain_at(const ln_weighted2 *p, const ln_we
   const int64_t v[] = {p->x, p->y, p->w, q->x, q->y, q->w};
   return lv_wlexicographic2(v, SIZE_MAX) ? ln_wlexicographic2_plain_at(p, q) : 0;
 }
+static inline int lv_wcompare_distance2(const int64_t *v, size_t row) {
+  return lr_is(LN_WEIGHTED2_X_MIN <= v[0] && v[0] <= LN_WEIGHTED2_X_MAX, "wcompare_distance2", "p.x", "is out of range", row) &&
+    lr_is(LN_WEIGHTED2_Y_MIN <= v[1] && v[1] <= LN_WEIGHTED2_Y_MAX, "wcompare_distance2", "p.y", "is out of range", row) &&
+    lr_is(LN_WEIGHTED2_W_MIN <= v[2] && v[2] <= LN_WEIGHTED2_W_MAX, "wcompare_distance2", "p.w", "is out of range", row) &&
+    lr_is(LN_WEIGHTED2_X_MIN <= v[3] && v[3] <= LN_WEIGHTED2_X_MAX, "wcompare_distance2", "q.x", "is out of range", row) &&
+    lr_is(LN_WEIGHTED2_Y_MIN <= v[4] && v[4] <= LN_WEIGHTED2_Y_MAX, "wcompare_distance2", "q.y", "is out of range", row) &&
+    lr_is(LN_WEIGHTED2_W_MIN <= v[5] && v[5] <= LN_WEIGHTED2_W_MAX, "wcompare_distance2", "q.w", "is out of range", row) &&
+    lr_is(LN_WEIGHTED2_X_MIN <= v[6] && v[6] <= LN_WEIGHTED2_X_MAX, "wcompare_distance2", "r.x", "is out of range", row) &&
+    lr_is(LN_WEIGHTED2_Y_MIN <= v[7] && v[7] <= LN_WEIGHTED2_Y_MAX, "wcompare_distance2", "r.y", "is out of range", row) &&
+    lr_is(LN_WEIGHTED2_W_MIN <= v[8] && v[8] <= LN_WEIGHTED2_W_MAX, "wcompare_distance2", "r.w", "is out of range", row);
+}
+static inline int li_wcompare_distance2(const int64_t *x, size_t row) {
+  return lr_is(0 <= x[0], "wcompare_distance2", "p", "has a negative index", row) &&
+    lr_is(0 <= x[1], "wcompare_distance2", "q", "has a negative index", row) &&
+    lr_is(0 <= x[2], "wcompare_distance2", "r", "has a negative index", row) &&
+    lr_is(x[0] != x[1], "wcompare_distance2", "q", "has the index of p too", row) &&
+    lr_is(x[0] != x[2], "wcompare_distance2", "r", "has the index of p too", row) &&
+    lr_is(x[1] != x[2], "wcompare_distance2", "r", "has the index of q too", row);
+}
+static inline int lc_wcompare_distance2(const int64_t *x, const int64_t *v) { return lv_wcompare_distance2(v, SIZE_MAX) && li_wcompare_distance2(x, SIZE_MAX) ? ln_wcompare_distance2(x, v) : 0; }
+static inline int lc_wcompare_distance2_plain(const int64_t *v) { return lv_wcompare_distance2(v, SIZE_MAX) ? ln_wcompare_distance2_plain(v) : 0; }
+static inline void lc_wcompare_distance2_rows(size_t n, const int64_t *x, const int64_t *v, int8_t *signs) {
+  for (size_t i = 0; i < n; i++) {
+    signs[i] = 0;
+    if (lv_wcompare_distance2(v + 9 * i, i) && li_wcompare_distance2(x + 3 * i, i)) ln_wcompare_distance2_rows(1, x + 3 * i, v + 9 * i, signs + i);
+  }
+}
+static inline int lc_wcompare_distance2_at(const ln_weighted2 *p, const ln_weighted2 *q, const ln_weighted2 *r) {
+  const int64_t x[] = {p->index, q->index, r->index};
+  const int64_t v[] = {p->x, p->y, p->w, q->x, q->y, q->w, r->x, r->y, r->w};
+  return lv_wcompare_distance2(v, SIZE_MAX) && li_wcompare_distance2(x, SIZE_MAX) ? ln_wcompare_distance2_at(p, q, r) : 0;
+}
+static inline int lc_wcompare_distance2_plain_at(const ln_weighted2 *p, const ln_weighted2 *q, const ln_weighted2 *r) {
+  const int64_t v[] = {p->x, p->y, p->w, q->x, q->y, q->w, r->x, r->y, r->w};
+  return lv_wcompare_distance2(v, SIZE_MAX) ? ln_wcompare_distance2_plain_at(p, q, r) : 0;
+}
+static inline int lv_compare_power2(const int64_t *v, size_t row) {
+  return lr_is(LN_WEIGHTED2_X_MIN <= v[0] && v[0] <= LN_WEIGHTED2_X_MAX, "compare_power2", "p.x", "is out of range", row) &&
+    lr_is(LN_WEIGHTED2_Y_MIN <= v[1] && v[1] <= LN_WEIGHTED2_Y_MAX, "compare_power2", "p.y", "is out of range", row) &&
+    lr_is(LN_WEIGHTED2_W_MIN <= v[2] && v[2] <= LN_WEIGHTED2_W_MAX, "compare_power2", "p.w", "is out of range", row) &&
+    lr_is(LN_WEIGHTED2_X_MIN <= v[3] && v[3] <= LN_WEIGHTED2_X_MAX, "compare_power2", "q.x", "is out of range", row) &&
+    lr_is(LN_WEIGHTED2_Y_MIN <= v[4] && v[4] <= LN_WEIGHTED2_Y_MAX, "compare_power2", "q.y", "is out of range", row) &&
+    lr_is(LN_WEIGHTED2_W_MIN <= v[5] && v[5] <= LN_WEIGHTED2_W_MAX, "compare_power2", "q.w", "is out of range", row) &&
+    lr_is(LN_WEIGHTED2_X_MIN <= v[6] && v[6] <= LN_WEIGHTED2_X_MAX, "compare_power2", "r.x", "is out of range", row) &&
+    lr_is(LN_WEIGHTED2_Y_MIN <= v[7] && v[7] <= LN_WEIGHTED2_Y_MAX, "compare_power2", "r.y", "is out of range", row) &&
+    lr_is(LN_WEIGHTED2_W_MIN <= v[8] && v[8] <= LN_WEIGHTED2_W_MAX, "compare_power2", "r.w", "is out of range", row);
+}
+static inline int li_compare_power2(const int64_t *x, size_t row) {
+  return lr_is(0 <= x[0], "compare_power2", "p", "has a negative index", row) &&
+    lr_is(0 <= x[1], "compare_power2", "q", "has a negative index", row) &&
+    lr_is(0 <= x[2], "compare_power2", "r", "has a negative index", row) &&
+    lr_is(x[0] != x[1], "compare_power2", "q", "has the index of p too", row) &&
+    lr_is(x[0] != x[2], "compare_power2", "r", "has the index of p too", row) &&
+    lr_is(x[1] != x[2], "compare_power2", "r", "has the index of q too", row);
+}
+static inline int lc_compare_power2(const int64_t *x, const int64_t *v) { return lv_compare_power2(v, SIZE_MAX) && li_compare_power2(x, SIZE_MAX) ? ln_compare_power2(x, v) : 0; }
+static inline int lc_compare_power2_plain(const int64_t *v) { return lv_compare_power2(v, SIZE_MAX) ? ln_compare_power2_plain(v) : 0; }
+static inline void lc_compare_power2_rows(size_t n, const int64_t *x, const int64_t *v, int8_t *signs) {
+  for (size_t i = 0; i < n; i++) {
+    signs[i] = 0;
+    if (lv_compare_power2(v + 9 * i, i) && li_compare_power2(x + 3 * i, i)) ln_compare_power2_rows(1, x + 3 * i, v + 9 * i, signs + i);
+  }
+}
+static inline int lc_compare_power2_at(const ln_weighted2 *p, const ln_weighted2 *q, const ln_weighted2 *r) {
+  const int64_t x[] = {p->index, q->index, r->index};
+  const int64_t v[] = {p->x, p->y, p->w, q->x, q->y, q->w, r->x, r->y, r->w};
+  return lv_compare_power2(v, SIZE_MAX) && li_compare_power2(x, SIZE_MAX) ? ln_compare_power2_at(p, q, r) : 0;
+}
+static inline int lc_compare_power2_plain_at(const ln_weighted2 *p, const ln_weighted2 *q, const ln_weighted2 *r) {
+  const int64_t v[] = {p->x, p->y, p->w, q->x, q->y, q->w, r->x, r->y, r->w};
+  return lv_compare_power2(v, SIZE_MAX) ? ln_compare_power2_plain_at(p, q, r) : 0;
+}
+static inline int lv_wdot2(const int64_t *v, size_t row) {
+  return lr_is(LN_WEIGHTED2_X_MIN <= v[0] && v[0] <= LN_WEIGHTED2_X_MAX, "wdot2", "p.x", "is out of range", row) &&
+    lr_is(LN_WEIGHTED2_Y_MIN <= v[1] && v[1] <= LN_WEIGHTED2_Y_MAX, "wdot2", "p.y", "is out of range", row) &&
+    lr_is(LN_WEIGHTED2_W_MIN <= v[2] && v[2] <= LN_WEIGHTED2_W_MAX, "wdot2", "p.w", "is out of range", row) &&
+    lr_is(LN_WEIGHTED2_X_MIN <= v[3] && v[3] <= LN_WEIGHTED2_X_MAX, "wdot2", "q.x", "is out of range", row) &&
+    lr_is(LN_WEIGHTED2_Y_MIN <= v[4] && v[4] <= LN_WEIGHTED2_Y_MAX, "wdot2", "q.y", "is out of range", row) &&
+    lr_is(LN_WEIGHTED2_W_MIN <= v[5] && v[5] <= LN_WEIGHTED2_W_MAX, "wdot2", "q.w", "is out of range", row) &&
+    lr_is(LN_WEIGHTED2_X_MIN <= v[6] && v[6] <= LN_WEIGHTED2_X_MAX, "wdot2", "r.x", "is out of range", row) &&
+    lr_is(LN_WEIGHTED2_Y_MIN <= v[7] && v[7] <= LN_WEIGHTED2_Y_MAX, "wdot2", "r.y", "is out of range", row) &&
+    lr_is(LN_WEIGHTED2_W_MIN <= v[8] && v[8] <= LN_WEIGHTED2_W_MAX, "wdot2", "r.w", "is out of range", row) &&
+    lr_is(LN_WEIGHTED2_X_MIN <= v[9] && v[9] <= LN_WEIGHTED2_X_MAX, "wdot2", "s.x", "is out of range", row) &&
+    lr_is(LN_WEIGHTED2_Y_MIN <= v[10] && v[10] <= LN_WEIGHTED2_Y_MAX, "wdot2", "s.y", "is out of range", row) &&
+    lr_is(LN_WEIGHTED2_W_MIN <= v[11] && v[11] <= LN_WEIGHTED2_W_MAX, "wdot2", "s.w", "is out of range", row);
+}
+static inline int li_wdot2(const int64_t *x, size_t row) {
+  return lr_is(0 <= x[0], "wdot2", "p", "has a negative index", row) &&
+    lr_is(0 <= x[1], "wdot2", "q", "has a negative index", row) &&
+    lr_is(0 <= x[2], "wdot2", "r", "has a negative index", row) &&
+    lr_is(0 <= x[3], "wdot2", "s", "has a negative index", row) &&
+    lr_is(x[0] != x[1], "wdot2", "q", "has the index of p too", row) &&
+    lr_is(x[0] != x[2], "wdot2", "r", "has the index of p too", row) &&
+    lr_is(x[1] != x[2], "wdot2", "r", "has the index of q too", row) &&
+    lr_is(x[0] != x[3], "wdot2", "s", "has the index of p too", row) &&
+    lr_is(x[1] != x[3], "wdot2", "s", "has the index of q too", row) &&
+    lr_is(x[2] != x[3], "wdot2", "s", "has the index of r too", row);
+}
+static inline int lc_wdot2(const int64_t *x, const int64_t *v) { return lv_wdot2(v, SIZE_MAX) && li_wdot2(x, SIZE_MAX) ? ln_wdot2(x, v) : 0; }
+static inline int lc_wdot2_plain(const int64_t *v) { return lv_wdot2(v, SIZE_MAX) ? ln_wdot2_plain(v) : 0; }
+static inline void lc_wdot2_rows(size_t n, const int64_t *x, const int64_t *v, int8_t *signs) {
+  for (size_t i = 0; i < n; i++) {
+    signs[i] = 0;
+    if (lv_wdot2(v + 12 * i, i) && li_wdot2(x + 4 * i, i)) ln_wdot2_rows(1, x + 4 * i, v + 12 * i, signs + i);
+  }
+}
+static inline int lc_wdot2_at(const ln_weighted2 *p, const ln_weighted2 *q, const ln_weighted2 *r, const ln_weighted2 *s) {
+  const int64_t x[] = {p->index, q->index, r->index, s->index};
+  const int64_t v[] = {p->x, p->y, p->w, q->x, q->y, q->w, r->x, r->y, r->w, s->x, s->y, s->w};
+  return lv_wdot2(v, SIZE_MAX) && li_wdot2(x, SIZE_MAX) ? ln_wdot2_at(p, q, r, s) : 0;
+}
+static inline int lc_wdot2_plain_at(const ln_weighted2 *p, const ln_weighted2 *q, const ln_weighted2 *r, const ln_weighted2 *s) {
+  const int64_t v[] = {p->x, p->y, p->w, q->x, q->y, q->w, r->x, r->y, r->w, s->x, s->y, s->w};
+  return lv_wdot2(v, SIZE_MAX) ? ln_wdot2_plain_at(p, q, r, s) : 0;
+}
+static inline int lv_wcompare_line2(const int64_t *v, size_t row) {
+  return lr_is(LN_WEIGHTED2_X_MIN <= v[0] && v[0] <= LN_WEIGHTED2_X_MAX, "wcompare_line2", "p.x", "is out of range", row) &&
+    lr_is(LN_WEIGHTED2_Y_MIN <= v[1] && v[1] <= LN_WEIGHTED2_Y_MAX, "wcompare_line2", "p.y", "is out of range", row) &&
+    lr_is(LN_WEIGHTED2_W_MIN <= v[2] && v[2] <= LN_WEIGHTED2_W_MAX, "wcompare_line2", "p.w", "is out of range", row) &&
+    lr_is(LN_WEIGHTED2_X_MIN <= v[3] && v[3] <= LN_WEIGHTED2_X_MAX, "wcompare_line2", "q.x", "is out of range", row) &&
+    lr_is(LN_WEIGHTED2_Y_MIN <= v[4] && v[4] <= LN_WEIGHTED2_Y_MAX, "wcompare_line2", "q.y", "is out of range", row) &&
+    lr_is(LN_WEIGHTED2_W_MIN <= v[5] && v[5] <= LN_WEIGHTED2_W_MAX, "wcompare_line2", "q.w", "is out of range", row) &&
+    lr_is(LN_WEIGHTED2_X_MIN <= v[6] && v[6] <= LN_WEIGHTED2_X_MAX, "wcompare_line2", "r.x", "is out of range", row) &&
+    lr_is(LN_WEIGHTED2_Y_MIN <= v[7] && v[7] <= LN_WEIGHTED2_Y_MAX, "wcompare_line2", "r.y", "is out of range", row) &&
+    lr_is(LN_WEIGHTED2_W_MIN <= v[8] && v[8] <= LN_WEIGHTED2_W_MAX, "wcompare_line2", "r.w", "is out of range", row) &&
+    lr_is(LN_WEIGHTED2_X_MIN <= v[9] && v[9] <= LN_WEIGHTED2_X_MAX, "wcompare_line2", "s.x", "is out of range", row) &&
+    lr_is(LN_WEIGHTED2_Y_MIN <= v[10] && v[10] <= LN_WEIGHTED2_Y_MAX, "wcompare_line2", "s.y", "is out of range", row) &&
+    lr_is(LN_WEIGHTED2_W_MIN <= v[11] && v[11] <= LN_WEIGHTED2_W_MAX, "wcompare_line2", "s.w", "is out of range", row);
+}
+static inline int li_wcompare_line2(const int64_t *x, size_t row) {
+  return lr_is(0 <= x[0], "wcompare_line2", "p", "has a negative index", row) &&
+    lr_is(0 <= x[1], "wcompare_line2", "q", "has a negative index", row) &&
+    lr_is(0 <= x[2], "wcompare_line2", "r", "has a negative index", row) &&
+    lr_is(0 <= x[3], "wcompare_line2", "s", "has a negative index", row) &&
+    lr_is(x[0] != x[1], "wcompare_line2", "q", "has the index of p too", row) &&
+    lr_is(x[0] != x[2], "wcompare_line2", "r", "has the index of p too", row) &&
+    lr_is(x[1] != x[2], "wcompare_line2", "r", "has the index of q too", row) &&
+    lr_is(x[0] != x[3], "wcompare_line2", "s", "has the index of p too", row) &&
+    lr_is(x[1] != x[3], "wcompare_line2", "s", "has the index of q too", row) &&
+    lr_is(x[2] != x[3], "wcompare_line2", "s", "has the index of r too", row);
+}
+static inline int lc_wcompare_line2(const int64_t *x, const int64_t *v) { return lv_wcompare_line2(v, SIZE_MAX) && li_wcompare_line2(x, SIZE_MAX) ? ln_wcompare_line2(x, v) : 0; }
+static inline int lc_wcompare_line2_plain(const int64_t *v) { return lv_wcompare_line2(v, SIZE_MAX) ? ln_wcompare_line2_plain(v) : 0; }
+static inline void lc_wcompare_line2_rows(size_t n, const int64_t *x, const int64_t *v, int8_t *signs) {
+  for (size_t i = 0; i < n; i++) {
+    signs[i] = 0;
+    if (lv_wcompare_line2(v + 12 * i, i) && li_wcompare_line2(x + 4 * i, i)) ln_wcompare_line2_rows(1, x + 4 * i, v + 12 * i, signs + i);
+  }
+}
+static inline int lc_wcompare_line2_at(const ln_weighted2 *p, const ln_weighted2 *q, const ln_weighted2 *r, const ln_weighted2 *s) {
+  const int64_t x[] = {p->index, q->index, r->index, s->index};
+  const int64_t v[] = {p->x, p->y, p->w, q->x, q->y, q->w, r->x, r->y, r->w, s->x, s->y, s->w};
+  return lv_wcompare_line2(v, SIZE_MAX) && li_wcompare_line2(x, SIZE_MAX) ? ln_wcompare_line2_at(p, q, r, s) : 0;
+}
+static inline int lc_wcompare_line2_plain_at(const ln_weighted2 *p, const ln_weighted2 *q, const ln_weighted2 *r, const ln_weighted2 *s) {
+  const int64_t v[] = {p->x, p->y, p->w, q->x, q->y, q->w, r->x, r->y, r->w, s->x, s->y, s->w};
+  return lv_wcompare_line2(v, SIZE_MAX) ? ln_wcompare_line2_plain_at(p, q, r, s) : 0;
+}
 #endif
 
 #ifdef __cplusplus
@@ -428,6 +625,30 @@ inline int wlexicographic2(const weighted2 &p, const weighted2 &q) {
 inline int wlexicographic2_plain(const weighted2 &p, const weighted2 &q) {
   return LNC_CALL(wlexicographic2_plain_at)(&p, &q);
 }
+inline int wcompare_distance2(const weighted2 &p, const weighted2 &q, const weighted2 &r) {
+  return LNC_CALL(wcompare_distance2_at)(&p, &q, &r);
+}
+inline int wcompare_distance2_plain(const weighted2 &p, const weighted2 &q, const weighted2 &r) {
+  return LNC_CALL(wcompare_distance2_plain_at)(&p, &q, &r);
+}
+inline int compare_power2(const weighted2 &p, const weighted2 &q, const weighted2 &r) {
+  return LNC_CALL(compare_power2_at)(&p, &q, &r);
+}
+inline int compare_power2_plain(const weighted2 &p, const weighted2 &q, const weighted2 &r) {
+  return LNC_CALL(compare_power2_plain_at)(&p, &q, &r);
+}
+inline int wdot2(const weighted2 &p, const weighted2 &q, const weighted2 &r, const weighted2 &s) {
+  return LNC_CALL(wdot2_at)(&p, &q, &r, &s);
+}
+inline int wdot2_plain(const weighted2 &p, const weighted2 &q, const weighted2 &r, const weighted2 &s) {
+  return LNC_CALL(wdot2_plain_at)(&p, &q, &r, &s);
+}
+inline int wcompare_line2(const weighted2 &p, const weighted2 &q, const weighted2 &r, const weighted2 &s) {
+  return LNC_CALL(wcompare_line2_at)(&p, &q, &r, &s);
+}
+inline int wcompare_line2_plain(const weighted2 &p, const weighted2 &q, const weighted2 &r, const weighted2 &s) {
+  return LNC_CALL(wcompare_line2_plain_at)(&p, &q, &r, &s);
+}
 #ifdef LNC_CHECKED
 }
 #endif
@@ -473,6 +694,26 @@ inline int wlexicographic2_plain(const weighted2 &p, const weighted2 &q) {
 #undef ln_wlexicographic2_rows
 #undef ln_wlexicographic2_at
 #undef ln_wlexicographic2_plain_at
+#undef ln_wcompare_distance2
+#undef ln_wcompare_distance2_plain
+#undef ln_wcompare_distance2_rows
+#undef ln_wcompare_distance2_at
+#undef ln_wcompare_distance2_plain_at
+#undef ln_compare_power2
+#undef ln_compare_power2_plain
+#undef ln_compare_power2_rows
+#undef ln_compare_power2_at
+#undef ln_compare_power2_plain_at
+#undef ln_wdot2
+#undef ln_wdot2_plain
+#undef ln_wdot2_rows
+#undef ln_wdot2_at
+#undef ln_wdot2_plain_at
+#undef ln_wcompare_line2
+#undef ln_wcompare_line2_plain
+#undef ln_wcompare_line2_rows
+#undef ln_wcompare_line2_at
+#undef ln_wcompare_line2_plain_at
 #ifndef __SIZEOF_INT128__
 #error "no __int128 here: weighted_plane.c takes gcc or clang for a 64-bit target"
 #endif
@@ -607,6 +848,78 @@ __attribute__((flatten)) int ln_wlexicographic2_at(const ln_weighted2 *p, const 
   const int sign = lb0_wlexicographic2(v);
   return sign != 0 ? sign : lm_wlexicographic2(p, q);
 }
+int ln_wcompare_distance2_plain(const int64_t *v) { return lb0_wcompare_distance2(v); }
+void ln_wcompare_distance2_rows(size_t n, const int64_t *x, const int64_t *v, int8_t *signs) {
+  for (size_t i = 0; i < n; i++) signs[i] = (int8_t)ln_wcompare_distance2(x + 3 * i, v + 9 * i);
+}
+static __attribute__((noinline)) int lm_wcompare_distance2(const ln_weighted2 *p, const ln_weighted2 *q, const ln_weighted2 *r) {
+  const int64_t x[] = {p->index, q->index, r->index};
+  const int64_t v[] = {p->x, p->y, p->w, q->x, q->y, q->w, r->x, r->y, r->w};
+  return ln_wcompare_distance2(x, v);
+}
+__attribute__((flatten)) int ln_wcompare_distance2_plain_at(const ln_weighted2 *p, const ln_weighted2 *q, const ln_weighted2 *r) {
+  const int64_t v[] = {p->x, p->y, p->w, q->x, q->y, q->w, r->x, r->y, r->w};
+  return lb0_wcompare_distance2(v);
+}
+__attribute__((flatten)) int ln_wcompare_distance2_at(const ln_weighted2 *p, const ln_weighted2 *q, const ln_weighted2 *r) {
+  const int64_t v[] = {p->x, p->y, p->w, q->x, q->y, q->w, r->x, r->y, r->w};
+  const int sign = lb0_wcompare_distance2(v);
+  return sign != 0 ? sign : lm_wcompare_distance2(p, q, r);
+}
+int ln_compare_power2_plain(const int64_t *v) { return lb0_compare_power2(v); }
+void ln_compare_power2_rows(size_t n, const int64_t *x, const int64_t *v, int8_t *signs) {
+  for (size_t i = 0; i < n; i++) signs[i] = (int8_t)ln_compare_power2(x + 3 * i, v + 9 * i);
+}
+static __attribute__((noinline)) int lm_compare_power2(const ln_weighted2 *p, const ln_weighted2 *q, const ln_weighted2 *r) {
+  const int64_t x[] = {p->index, q->index, r->index};
+  const int64_t v[] = {p->x, p->y, p->w, q->x, q->y, q->w, r->x, r->y, r->w};
+  return ln_compare_power2(x, v);
+}
+__attribute__((flatten)) int ln_compare_power2_plain_at(const ln_weighted2 *p, const ln_weighted2 *q, const ln_weighted2 *r) {
+  const int64_t v[] = {p->x, p->y, p->w, q->x, q->y, q->w, r->x, r->y, r->w};
+  return lb0_compare_power2(v);
+}
+__attribute__((flatten)) int ln_compare_power2_at(const ln_weighted2 *p, const ln_weighted2 *q, const ln_weighted2 *r) {
+  const int64_t v[] = {p->x, p->y, p->w, q->x, q->y, q->w, r->x, r->y, r->w};
+  const int sign = lb0_compare_power2(v);
+  return sign != 0 ? sign : lm_compare_power2(p, q, r);
+}
+int ln_wdot2_plain(const int64_t *v) { return lb0_wdot2(v); }
+void ln_wdot2_rows(size_t n, const int64_t *x, const int64_t *v, int8_t *signs) {
+  for (size_t i = 0; i < n; i++) signs[i] = (int8_t)ln_wdot2(x + 4 * i, v + 12 * i);
+}
+static __attribute__((noinline)) int lm_wdot2(const ln_weighted2 *p, const ln_weighted2 *q, const ln_weighted2 *r, const ln_weighted2 *s) {
+  const int64_t x[] = {p->index, q->index, r->index, s->index};
+  const int64_t v[] = {p->x, p->y, p->w, q->x, q->y, q->w, r->x, r->y, r->w, s->x, s->y, s->w};
+  return ln_wdot2(x, v);
+}
+__attribute__((flatten)) int ln_wdot2_plain_at(const ln_weighted2 *p, const ln_weighted2 *q, const ln_weighted2 *r, const ln_weighted2 *s) {
+  const int64_t v[] = {p->x, p->y, p->w, q->x, q->y, q->w, r->x, r->y, r->w, s->x, s->y, s->w};
+  return lb0_wdot2(v);
+}
+__attribute__((flatten)) int ln_wdot2_at(const ln_weighted2 *p, const ln_weighted2 *q, const ln_weighted2 *r, const ln_weighted2 *s) {
+  const int64_t v[] = {p->x, p->y, p->w, q->x, q->y, q->w, r->x, r->y, r->w, s->x, s->y, s->w};
+  const int sign = lb0_wdot2(v);
+  return sign != 0 ? sign : lm_wdot2(p, q, r, s);
+}
+int ln_wcompare_line2_plain(const int64_t *v) { return lb0_wcompare_line2(v); }
+void ln_wcompare_line2_rows(size_t n, const int64_t *x, const int64_t *v, int8_t *signs) {
+  for (size_t i = 0; i < n; i++) signs[i] = (int8_t)ln_wcompare_line2(x + 4 * i, v + 12 * i);
+}
+static __attribute__((noinline)) int lm_wcompare_line2(const ln_weighted2 *p, const ln_weighted2 *q, const ln_weighted2 *r, const ln_weighted2 *s) {
+  const int64_t x[] = {p->index, q->index, r->index, s->index};
+  const int64_t v[] = {p->x, p->y, p->w, q->x, q->y, q->w, r->x, r->y, r->w, s->x, s->y, s->w};
+  return ln_wcompare_line2(x, v);
+}
+__attribute__((flatten)) int ln_wcompare_line2_plain_at(const ln_weighted2 *p, const ln_weighted2 *q, const ln_weighted2 *r, const ln_weighted2 *s) {
+  const int64_t v[] = {p->x, p->y, p->w, q->x, q->y, q->w, r->x, r->y, r->w, s->x, s->y, s->w};
+  return lb0_wcompare_line2(v);
+}
+__attribute__((flatten)) int ln_wcompare_line2_at(const ln_weighted2 *p, const ln_weighted2 *q, const ln_weighted2 *r, const ln_weighted2 *s) {
+  const int64_t v[] = {p->x, p->y, p->w, q->x, q->y, q->w, r->x, r->y, r->w, s->x, s->y, s->w};
+  const int sign = lb0_wcompare_line2(v);
+  return sign != 0 ? sign : lm_wcompare_line2(p, q, r, s);
+}
 #ifdef __cplusplus
 #pragma GCC diagnostic pop
 #endif
@@ -648,4 +961,24 @@ __attribute__((flatten)) int ln_wlexicographic2_at(const ln_weighted2 *p, const 
 #define ln_wlexicographic2_rows lc_wlexicographic2_rows
 #define ln_wlexicographic2_at lc_wlexicographic2_at
 #define ln_wlexicographic2_plain_at lc_wlexicographic2_plain_at
+#define ln_wcompare_distance2 lc_wcompare_distance2
+#define ln_wcompare_distance2_plain lc_wcompare_distance2_plain
+#define ln_wcompare_distance2_rows lc_wcompare_distance2_rows
+#define ln_wcompare_distance2_at lc_wcompare_distance2_at
+#define ln_wcompare_distance2_plain_at lc_wcompare_distance2_plain_at
+#define ln_compare_power2 lc_compare_power2
+#define ln_compare_power2_plain lc_compare_power2_plain
+#define ln_compare_power2_rows lc_compare_power2_rows
+#define ln_compare_power2_at lc_compare_power2_at
+#define ln_compare_power2_plain_at lc_compare_power2_plain_at
+#define ln_wdot2 lc_wdot2
+#define ln_wdot2_plain lc_wdot2_plain
+#define ln_wdot2_rows lc_wdot2_rows
+#define ln_wdot2_at lc_wdot2_at
+#define ln_wdot2_plain_at lc_wdot2_plain_at
+#define ln_wcompare_line2 lc_wcompare_line2
+#define ln_wcompare_line2_plain lc_wcompare_line2_plain
+#define ln_wcompare_line2_rows lc_wcompare_line2_rows
+#define ln_wcompare_line2_at lc_wcompare_line2_at
+#define ln_wcompare_line2_plain_at lc_wcompare_line2_plain_at
 #endif

@@ -1,6 +1,6 @@
 /* lnc_weighted_space.h: written by header.py, so change weighted_space.ln and not this file.
-   weighted_space.ln has the SHA-256 48a1961510b6f98943ed7d30c09b7bf4c8026826b213dd6c2b36706ed9e9b13c,
-   and weighted_space.c, which lnc_exact writes of it, the SHA-256 74783c2247206d58c957976f61fc48651600c62bb77fbc1c71bcc1db29c99cdb.
+   weighted_space.ln has the SHA-256 efa8a0a77af3ec1e7733efebd0d2df430d325b2ac27dca2b807ed2e513dbf45f,
+   and weighted_space.c, which lnc_exact writes of it, the SHA-256 0aa7d693f33b7080f9966badf47de29a5d59fbc801a1a85b81cecbc3f017e965.
 
    Two files are enough, this one and weighted_space.c. In one C file of your program, compiled by gcc or clang for a 64-bit target:
 
@@ -143,6 +143,61 @@ int ln_wlexicographic3_plain(const int64_t *v);
 void ln_wlexicographic3_rows(size_t n, const int64_t *x, const int64_t *v, int8_t *signs);
 int ln_wlexicographic3_at(const ln_weighted3 *p, const ln_weighted3 *q);
 int ln_wlexicographic3_plain_at(const ln_weighted3 *p, const ln_weighted3 *q);
+
+/* + where q is farther from p than r is: the sign of CGAL's compare_distance_3; PCK's side1(r, q, p) plainly. */
+/* x: p, q, r
+   v: p.x, p.y, p.z, p.w, q.x, q.y, q.z, q.w, r.x, r.y, r.z, r.w */
+int ln_wcompare_distance3(const int64_t *x, const int64_t *v);
+int ln_wcompare_distance3_plain(const int64_t *v);
+void ln_wcompare_distance3_rows(size_t n, const int64_t *x, const int64_t *v, int8_t *signs);
+int ln_wcompare_distance3_at(const ln_weighted3 *p, const ln_weighted3 *q, const ln_weighted3 *r);
+int ln_wcompare_distance3_plain_at(const ln_weighted3 *p, const ln_weighted3 *q, const ln_weighted3 *r);
+
+/* + where p's power to q's circle or sphere is larger than to that of r, whatever p's own weight: the sign of
+   CGAL's compare_power_distance_3; PCK's power_side1(r, q, p) plainly. */
+/* x: p, q, r
+   v: p.x, p.y, p.z, p.w, q.x, q.y, q.z, q.w, r.x, r.y, r.z, r.w */
+int ln_compare_power3(const int64_t *x, const int64_t *v);
+int ln_compare_power3_plain(const int64_t *v);
+void ln_compare_power3_rows(size_t n, const int64_t *x, const int64_t *v, int8_t *signs);
+int ln_compare_power3_at(const ln_weighted3 *p, const ln_weighted3 *q, const ln_weighted3 *r);
+int ln_compare_power3_plain_at(const ln_weighted3 *p, const ln_weighted3 *q, const ln_weighted3 *r);
+
+/* + where the directions from p to q and from r to s have an acute angle: the sign of CGAL's angle(p, q, r, s),
+   and with r = p of PCK's dot. */
+/* x: p, q, r, s
+   v: p.x, p.y, p.z, p.w, q.x, q.y, q.z, q.w, r.x, r.y, r.z, r.w, s.x, s.y, s.z, s.w */
+int ln_wdot3(const int64_t *x, const int64_t *v);
+int ln_wdot3_plain(const int64_t *v);
+void ln_wdot3_rows(size_t n, const int64_t *x, const int64_t *v, int8_t *signs);
+int ln_wdot3_at(const ln_weighted3 *p, const ln_weighted3 *q, const ln_weighted3 *r, const ln_weighted3 *s);
+int ln_wdot3_plain_at(const ln_weighted3 *p, const ln_weighted3 *q, const ln_weighted3 *r, const ln_weighted3 *s);
+
+/* + where p, q, r turn left seen along an axis, in the coordinates that are named: the orientation of a triangle
+   in space, never 0, as CGAL's coplanar_orientation is asked of points in one plane. */
+/* x: p, q, r
+   v: p.x, p.y, p.z, p.w, q.x, q.y, q.z, q.w, r.x, r.y, r.z, r.w */
+int ln_wcoplanar_xy(const int64_t *x, const int64_t *v);
+int ln_wcoplanar_xy_plain(const int64_t *v);
+void ln_wcoplanar_xy_rows(size_t n, const int64_t *x, const int64_t *v, int8_t *signs);
+int ln_wcoplanar_xy_at(const ln_weighted3 *p, const ln_weighted3 *q, const ln_weighted3 *r);
+int ln_wcoplanar_xy_plain_at(const ln_weighted3 *p, const ln_weighted3 *q, const ln_weighted3 *r);
+
+/* x: p, q, r
+   v: p.x, p.y, p.z, p.w, q.x, q.y, q.z, q.w, r.x, r.y, r.z, r.w */
+int ln_wcoplanar_yz(const int64_t *x, const int64_t *v);
+int ln_wcoplanar_yz_plain(const int64_t *v);
+void ln_wcoplanar_yz_rows(size_t n, const int64_t *x, const int64_t *v, int8_t *signs);
+int ln_wcoplanar_yz_at(const ln_weighted3 *p, const ln_weighted3 *q, const ln_weighted3 *r);
+int ln_wcoplanar_yz_plain_at(const ln_weighted3 *p, const ln_weighted3 *q, const ln_weighted3 *r);
+
+/* x: p, q, r
+   v: p.x, p.y, p.z, p.w, q.x, q.y, q.z, q.w, r.x, r.y, r.z, r.w */
+int ln_wcoplanar_zx(const int64_t *x, const int64_t *v);
+int ln_wcoplanar_zx_plain(const int64_t *v);
+void ln_wcoplanar_zx_rows(size_t n, const int64_t *x, const int64_t *v, int8_t *signs);
+int ln_wcoplanar_zx_at(const ln_weighted3 *p, const ln_weighted3 *q, const ln_weighted3 *r);
+int ln_wcoplanar_zx_plain_at(const ln_weighted3 *p, const ln_weighted3 *q, const ln_weighted3 *r);
 
 #ifdef LNC_CHECKED
 #define LNC_WEIGHTED_SPACE_CHECKED
@@ -448,6 +503,248 @@ static inline int lc_wlexicographic3_plain_at(const ln_weighted3 *p, const ln_we
   const int64_t v[] = {p->x, p->y, p->z, p->w, q->x, q->y, q->z, q->w};
   return lv_wlexicographic3(v, SIZE_MAX) ? ln_wlexicographic3_plain_at(p, q) : 0;
 }
+static inline int lv_wcompare_distance3(const int64_t *v, size_t row) {
+  return lr_is(LN_WEIGHTED3_X_MIN <= v[0] && v[0] <= LN_WEIGHTED3_X_MAX, "wcompare_distance3", "p.x", "is out of range", row) &&
+    lr_is(LN_WEIGHTED3_Y_MIN <= v[1] && v[1] <= LN_WEIGHTED3_Y_MAX, "wcompare_distance3", "p.y", "is out of range", row) &&
+    lr_is(LN_WEIGHTED3_Z_MIN <= v[2] && v[2] <= LN_WEIGHTED3_Z_MAX, "wcompare_distance3", "p.z", "is out of range", row) &&
+    lr_is(LN_WEIGHTED3_W_MIN <= v[3] && v[3] <= LN_WEIGHTED3_W_MAX, "wcompare_distance3", "p.w", "is out of range", row) &&
+    lr_is(LN_WEIGHTED3_X_MIN <= v[4] && v[4] <= LN_WEIGHTED3_X_MAX, "wcompare_distance3", "q.x", "is out of range", row) &&
+    lr_is(LN_WEIGHTED3_Y_MIN <= v[5] && v[5] <= LN_WEIGHTED3_Y_MAX, "wcompare_distance3", "q.y", "is out of range", row) &&
+    lr_is(LN_WEIGHTED3_Z_MIN <= v[6] && v[6] <= LN_WEIGHTED3_Z_MAX, "wcompare_distance3", "q.z", "is out of range", row) &&
+    lr_is(LN_WEIGHTED3_W_MIN <= v[7] && v[7] <= LN_WEIGHTED3_W_MAX, "wcompare_distance3", "q.w", "is out of range", row) &&
+    lr_is(LN_WEIGHTED3_X_MIN <= v[8] && v[8] <= LN_WEIGHTED3_X_MAX, "wcompare_distance3", "r.x", "is out of range", row) &&
+    lr_is(LN_WEIGHTED3_Y_MIN <= v[9] && v[9] <= LN_WEIGHTED3_Y_MAX, "wcompare_distance3", "r.y", "is out of range", row) &&
+    lr_is(LN_WEIGHTED3_Z_MIN <= v[10] && v[10] <= LN_WEIGHTED3_Z_MAX, "wcompare_distance3", "r.z", "is out of range", row) &&
+    lr_is(LN_WEIGHTED3_W_MIN <= v[11] && v[11] <= LN_WEIGHTED3_W_MAX, "wcompare_distance3", "r.w", "is out of range", row);
+}
+static inline int li_wcompare_distance3(const int64_t *x, size_t row) {
+  return lr_is(0 <= x[0], "wcompare_distance3", "p", "has a negative index", row) &&
+    lr_is(0 <= x[1], "wcompare_distance3", "q", "has a negative index", row) &&
+    lr_is(0 <= x[2], "wcompare_distance3", "r", "has a negative index", row) &&
+    lr_is(x[0] != x[1], "wcompare_distance3", "q", "has the index of p too", row) &&
+    lr_is(x[0] != x[2], "wcompare_distance3", "r", "has the index of p too", row) &&
+    lr_is(x[1] != x[2], "wcompare_distance3", "r", "has the index of q too", row);
+}
+static inline int lc_wcompare_distance3(const int64_t *x, const int64_t *v) { return lv_wcompare_distance3(v, SIZE_MAX) && li_wcompare_distance3(x, SIZE_MAX) ? ln_wcompare_distance3(x, v) : 0; }
+static inline int lc_wcompare_distance3_plain(const int64_t *v) { return lv_wcompare_distance3(v, SIZE_MAX) ? ln_wcompare_distance3_plain(v) : 0; }
+static inline void lc_wcompare_distance3_rows(size_t n, const int64_t *x, const int64_t *v, int8_t *signs) {
+  for (size_t i = 0; i < n; i++) {
+    signs[i] = 0;
+    if (lv_wcompare_distance3(v + 12 * i, i) && li_wcompare_distance3(x + 3 * i, i)) ln_wcompare_distance3_rows(1, x + 3 * i, v + 12 * i, signs + i);
+  }
+}
+static inline int lc_wcompare_distance3_at(const ln_weighted3 *p, const ln_weighted3 *q, const ln_weighted3 *r) {
+  const int64_t x[] = {p->index, q->index, r->index};
+  const int64_t v[] = {p->x, p->y, p->z, p->w, q->x, q->y, q->z, q->w, r->x, r->y, r->z, r->w};
+  return lv_wcompare_distance3(v, SIZE_MAX) && li_wcompare_distance3(x, SIZE_MAX) ? ln_wcompare_distance3_at(p, q, r) : 0;
+}
+static inline int lc_wcompare_distance3_plain_at(const ln_weighted3 *p, const ln_weighted3 *q, const ln_weighted3 *r) {
+  const int64_t v[] = {p->x, p->y, p->z, p->w, q->x, q->y, q->z, q->w, r->x, r->y, r->z, r->w};
+  return lv_wcompare_distance3(v, SIZE_MAX) ? ln_wcompare_distance3_plain_at(p, q, r) : 0;
+}
+static inline int lv_compare_power3(const int64_t *v, size_t row) {
+  return lr_is(LN_WEIGHTED3_X_MIN <= v[0] && v[0] <= LN_WEIGHTED3_X_MAX, "compare_power3", "p.x", "is out of range", row) &&
+    lr_is(LN_WEIGHTED3_Y_MIN <= v[1] && v[1] <= LN_WEIGHTED3_Y_MAX, "compare_power3", "p.y", "is out of range", row) &&
+    lr_is(LN_WEIGHTED3_Z_MIN <= v[2] && v[2] <= LN_WEIGHTED3_Z_MAX, "compare_power3", "p.z", "is out of range", row) &&
+    lr_is(LN_WEIGHTED3_W_MIN <= v[3] && v[3] <= LN_WEIGHTED3_W_MAX, "compare_power3", "p.w", "is out of range", row) &&
+    lr_is(LN_WEIGHTED3_X_MIN <= v[4] && v[4] <= LN_WEIGHTED3_X_MAX, "compare_power3", "q.x", "is out of range", row) &&
+    lr_is(LN_WEIGHTED3_Y_MIN <= v[5] && v[5] <= LN_WEIGHTED3_Y_MAX, "compare_power3", "q.y", "is out of range", row) &&
+    lr_is(LN_WEIGHTED3_Z_MIN <= v[6] && v[6] <= LN_WEIGHTED3_Z_MAX, "compare_power3", "q.z", "is out of range", row) &&
+    lr_is(LN_WEIGHTED3_W_MIN <= v[7] && v[7] <= LN_WEIGHTED3_W_MAX, "compare_power3", "q.w", "is out of range", row) &&
+    lr_is(LN_WEIGHTED3_X_MIN <= v[8] && v[8] <= LN_WEIGHTED3_X_MAX, "compare_power3", "r.x", "is out of range", row) &&
+    lr_is(LN_WEIGHTED3_Y_MIN <= v[9] && v[9] <= LN_WEIGHTED3_Y_MAX, "compare_power3", "r.y", "is out of range", row) &&
+    lr_is(LN_WEIGHTED3_Z_MIN <= v[10] && v[10] <= LN_WEIGHTED3_Z_MAX, "compare_power3", "r.z", "is out of range", row) &&
+    lr_is(LN_WEIGHTED3_W_MIN <= v[11] && v[11] <= LN_WEIGHTED3_W_MAX, "compare_power3", "r.w", "is out of range", row);
+}
+static inline int li_compare_power3(const int64_t *x, size_t row) {
+  return lr_is(0 <= x[0], "compare_power3", "p", "has a negative index", row) &&
+    lr_is(0 <= x[1], "compare_power3", "q", "has a negative index", row) &&
+    lr_is(0 <= x[2], "compare_power3", "r", "has a negative index", row) &&
+    lr_is(x[0] != x[1], "compare_power3", "q", "has the index of p too", row) &&
+    lr_is(x[0] != x[2], "compare_power3", "r", "has the index of p too", row) &&
+    lr_is(x[1] != x[2], "compare_power3", "r", "has the index of q too", row);
+}
+static inline int lc_compare_power3(const int64_t *x, const int64_t *v) { return lv_compare_power3(v, SIZE_MAX) && li_compare_power3(x, SIZE_MAX) ? ln_compare_power3(x, v) : 0; }
+static inline int lc_compare_power3_plain(const int64_t *v) { return lv_compare_power3(v, SIZE_MAX) ? ln_compare_power3_plain(v) : 0; }
+static inline void lc_compare_power3_rows(size_t n, const int64_t *x, const int64_t *v, int8_t *signs) {
+  for (size_t i = 0; i < n; i++) {
+    signs[i] = 0;
+    if (lv_compare_power3(v + 12 * i, i) && li_compare_power3(x + 3 * i, i)) ln_compare_power3_rows(1, x + 3 * i, v + 12 * i, signs + i);
+  }
+}
+static inline int lc_compare_power3_at(const ln_weighted3 *p, const ln_weighted3 *q, const ln_weighted3 *r) {
+  const int64_t x[] = {p->index, q->index, r->index};
+  const int64_t v[] = {p->x, p->y, p->z, p->w, q->x, q->y, q->z, q->w, r->x, r->y, r->z, r->w};
+  return lv_compare_power3(v, SIZE_MAX) && li_compare_power3(x, SIZE_MAX) ? ln_compare_power3_at(p, q, r) : 0;
+}
+static inline int lc_compare_power3_plain_at(const ln_weighted3 *p, const ln_weighted3 *q, const ln_weighted3 *r) {
+  const int64_t v[] = {p->x, p->y, p->z, p->w, q->x, q->y, q->z, q->w, r->x, r->y, r->z, r->w};
+  return lv_compare_power3(v, SIZE_MAX) ? ln_compare_power3_plain_at(p, q, r) : 0;
+}
+static inline int lv_wdot3(const int64_t *v, size_t row) {
+  return lr_is(LN_WEIGHTED3_X_MIN <= v[0] && v[0] <= LN_WEIGHTED3_X_MAX, "wdot3", "p.x", "is out of range", row) &&
+    lr_is(LN_WEIGHTED3_Y_MIN <= v[1] && v[1] <= LN_WEIGHTED3_Y_MAX, "wdot3", "p.y", "is out of range", row) &&
+    lr_is(LN_WEIGHTED3_Z_MIN <= v[2] && v[2] <= LN_WEIGHTED3_Z_MAX, "wdot3", "p.z", "is out of range", row) &&
+    lr_is(LN_WEIGHTED3_W_MIN <= v[3] && v[3] <= LN_WEIGHTED3_W_MAX, "wdot3", "p.w", "is out of range", row) &&
+    lr_is(LN_WEIGHTED3_X_MIN <= v[4] && v[4] <= LN_WEIGHTED3_X_MAX, "wdot3", "q.x", "is out of range", row) &&
+    lr_is(LN_WEIGHTED3_Y_MIN <= v[5] && v[5] <= LN_WEIGHTED3_Y_MAX, "wdot3", "q.y", "is out of range", row) &&
+    lr_is(LN_WEIGHTED3_Z_MIN <= v[6] && v[6] <= LN_WEIGHTED3_Z_MAX, "wdot3", "q.z", "is out of range", row) &&
+    lr_is(LN_WEIGHTED3_W_MIN <= v[7] && v[7] <= LN_WEIGHTED3_W_MAX, "wdot3", "q.w", "is out of range", row) &&
+    lr_is(LN_WEIGHTED3_X_MIN <= v[8] && v[8] <= LN_WEIGHTED3_X_MAX, "wdot3", "r.x", "is out of range", row) &&
+    lr_is(LN_WEIGHTED3_Y_MIN <= v[9] && v[9] <= LN_WEIGHTED3_Y_MAX, "wdot3", "r.y", "is out of range", row) &&
+    lr_is(LN_WEIGHTED3_Z_MIN <= v[10] && v[10] <= LN_WEIGHTED3_Z_MAX, "wdot3", "r.z", "is out of range", row) &&
+    lr_is(LN_WEIGHTED3_W_MIN <= v[11] && v[11] <= LN_WEIGHTED3_W_MAX, "wdot3", "r.w", "is out of range", row) &&
+    lr_is(LN_WEIGHTED3_X_MIN <= v[12] && v[12] <= LN_WEIGHTED3_X_MAX, "wdot3", "s.x", "is out of range", row) &&
+    lr_is(LN_WEIGHTED3_Y_MIN <= v[13] && v[13] <= LN_WEIGHTED3_Y_MAX, "wdot3", "s.y", "is out of range", row) &&
+    lr_is(LN_WEIGHTED3_Z_MIN <= v[14] && v[14] <= LN_WEIGHTED3_Z_MAX, "wdot3", "s.z", "is out of range", row) &&
+    lr_is(LN_WEIGHTED3_W_MIN <= v[15] && v[15] <= LN_WEIGHTED3_W_MAX, "wdot3", "s.w", "is out of range", row);
+}
+static inline int li_wdot3(const int64_t *x, size_t row) {
+  return lr_is(0 <= x[0], "wdot3", "p", "has a negative index", row) &&
+    lr_is(0 <= x[1], "wdot3", "q", "has a negative index", row) &&
+    lr_is(0 <= x[2], "wdot3", "r", "has a negative index", row) &&
+    lr_is(0 <= x[3], "wdot3", "s", "has a negative index", row) &&
+    lr_is(x[0] != x[1], "wdot3", "q", "has the index of p too", row) &&
+    lr_is(x[0] != x[2], "wdot3", "r", "has the index of p too", row) &&
+    lr_is(x[1] != x[2], "wdot3", "r", "has the index of q too", row) &&
+    lr_is(x[0] != x[3], "wdot3", "s", "has the index of p too", row) &&
+    lr_is(x[1] != x[3], "wdot3", "s", "has the index of q too", row) &&
+    lr_is(x[2] != x[3], "wdot3", "s", "has the index of r too", row);
+}
+static inline int lc_wdot3(const int64_t *x, const int64_t *v) { return lv_wdot3(v, SIZE_MAX) && li_wdot3(x, SIZE_MAX) ? ln_wdot3(x, v) : 0; }
+static inline int lc_wdot3_plain(const int64_t *v) { return lv_wdot3(v, SIZE_MAX) ? ln_wdot3_plain(v) : 0; }
+static inline void lc_wdot3_rows(size_t n, const int64_t *x, const int64_t *v, int8_t *signs) {
+  for (size_t i = 0; i < n; i++) {
+    signs[i] = 0;
+    if (lv_wdot3(v + 16 * i, i) && li_wdot3(x + 4 * i, i)) ln_wdot3_rows(1, x + 4 * i, v + 16 * i, signs + i);
+  }
+}
+static inline int lc_wdot3_at(const ln_weighted3 *p, const ln_weighted3 *q, const ln_weighted3 *r, const ln_weighted3 *s) {
+  const int64_t x[] = {p->index, q->index, r->index, s->index};
+  const int64_t v[] = {p->x, p->y, p->z, p->w, q->x, q->y, q->z, q->w, r->x, r->y, r->z, r->w, s->x, s->y, s->z, s->w};
+  return lv_wdot3(v, SIZE_MAX) && li_wdot3(x, SIZE_MAX) ? ln_wdot3_at(p, q, r, s) : 0;
+}
+static inline int lc_wdot3_plain_at(const ln_weighted3 *p, const ln_weighted3 *q, const ln_weighted3 *r, const ln_weighted3 *s) {
+  const int64_t v[] = {p->x, p->y, p->z, p->w, q->x, q->y, q->z, q->w, r->x, r->y, r->z, r->w, s->x, s->y, s->z, s->w};
+  return lv_wdot3(v, SIZE_MAX) ? ln_wdot3_plain_at(p, q, r, s) : 0;
+}
+static inline int lv_wcoplanar_xy(const int64_t *v, size_t row) {
+  return lr_is(LN_WEIGHTED3_X_MIN <= v[0] && v[0] <= LN_WEIGHTED3_X_MAX, "wcoplanar_xy", "p.x", "is out of range", row) &&
+    lr_is(LN_WEIGHTED3_Y_MIN <= v[1] && v[1] <= LN_WEIGHTED3_Y_MAX, "wcoplanar_xy", "p.y", "is out of range", row) &&
+    lr_is(LN_WEIGHTED3_Z_MIN <= v[2] && v[2] <= LN_WEIGHTED3_Z_MAX, "wcoplanar_xy", "p.z", "is out of range", row) &&
+    lr_is(LN_WEIGHTED3_W_MIN <= v[3] && v[3] <= LN_WEIGHTED3_W_MAX, "wcoplanar_xy", "p.w", "is out of range", row) &&
+    lr_is(LN_WEIGHTED3_X_MIN <= v[4] && v[4] <= LN_WEIGHTED3_X_MAX, "wcoplanar_xy", "q.x", "is out of range", row) &&
+    lr_is(LN_WEIGHTED3_Y_MIN <= v[5] && v[5] <= LN_WEIGHTED3_Y_MAX, "wcoplanar_xy", "q.y", "is out of range", row) &&
+    lr_is(LN_WEIGHTED3_Z_MIN <= v[6] && v[6] <= LN_WEIGHTED3_Z_MAX, "wcoplanar_xy", "q.z", "is out of range", row) &&
+    lr_is(LN_WEIGHTED3_W_MIN <= v[7] && v[7] <= LN_WEIGHTED3_W_MAX, "wcoplanar_xy", "q.w", "is out of range", row) &&
+    lr_is(LN_WEIGHTED3_X_MIN <= v[8] && v[8] <= LN_WEIGHTED3_X_MAX, "wcoplanar_xy", "r.x", "is out of range", row) &&
+    lr_is(LN_WEIGHTED3_Y_MIN <= v[9] && v[9] <= LN_WEIGHTED3_Y_MAX, "wcoplanar_xy", "r.y", "is out of range", row) &&
+    lr_is(LN_WEIGHTED3_Z_MIN <= v[10] && v[10] <= LN_WEIGHTED3_Z_MAX, "wcoplanar_xy", "r.z", "is out of range", row) &&
+    lr_is(LN_WEIGHTED3_W_MIN <= v[11] && v[11] <= LN_WEIGHTED3_W_MAX, "wcoplanar_xy", "r.w", "is out of range", row);
+}
+static inline int li_wcoplanar_xy(const int64_t *x, size_t row) {
+  return lr_is(0 <= x[0], "wcoplanar_xy", "p", "has a negative index", row) &&
+    lr_is(0 <= x[1], "wcoplanar_xy", "q", "has a negative index", row) &&
+    lr_is(0 <= x[2], "wcoplanar_xy", "r", "has a negative index", row) &&
+    lr_is(x[0] != x[1], "wcoplanar_xy", "q", "has the index of p too", row) &&
+    lr_is(x[0] != x[2], "wcoplanar_xy", "r", "has the index of p too", row) &&
+    lr_is(x[1] != x[2], "wcoplanar_xy", "r", "has the index of q too", row);
+}
+static inline int lc_wcoplanar_xy(const int64_t *x, const int64_t *v) { return lv_wcoplanar_xy(v, SIZE_MAX) && li_wcoplanar_xy(x, SIZE_MAX) ? ln_wcoplanar_xy(x, v) : 0; }
+static inline int lc_wcoplanar_xy_plain(const int64_t *v) { return lv_wcoplanar_xy(v, SIZE_MAX) ? ln_wcoplanar_xy_plain(v) : 0; }
+static inline void lc_wcoplanar_xy_rows(size_t n, const int64_t *x, const int64_t *v, int8_t *signs) {
+  for (size_t i = 0; i < n; i++) {
+    signs[i] = 0;
+    if (lv_wcoplanar_xy(v + 12 * i, i) && li_wcoplanar_xy(x + 3 * i, i)) ln_wcoplanar_xy_rows(1, x + 3 * i, v + 12 * i, signs + i);
+  }
+}
+static inline int lc_wcoplanar_xy_at(const ln_weighted3 *p, const ln_weighted3 *q, const ln_weighted3 *r) {
+  const int64_t x[] = {p->index, q->index, r->index};
+  const int64_t v[] = {p->x, p->y, p->z, p->w, q->x, q->y, q->z, q->w, r->x, r->y, r->z, r->w};
+  return lv_wcoplanar_xy(v, SIZE_MAX) && li_wcoplanar_xy(x, SIZE_MAX) ? ln_wcoplanar_xy_at(p, q, r) : 0;
+}
+static inline int lc_wcoplanar_xy_plain_at(const ln_weighted3 *p, const ln_weighted3 *q, const ln_weighted3 *r) {
+  const int64_t v[] = {p->x, p->y, p->z, p->w, q->x, q->y, q->z, q->w, r->x, r->y, r->z, r->w};
+  return lv_wcoplanar_xy(v, SIZE_MAX) ? ln_wcoplanar_xy_plain_at(p, q, r) : 0;
+}
+static inline int lv_wcoplanar_yz(const int64_t *v, size_t row) {
+  return lr_is(LN_WEIGHTED3_X_MIN <= v[0] && v[0] <= LN_WEIGHTED3_X_MAX, "wcoplanar_yz", "p.x", "is out of range", row) &&
+    lr_is(LN_WEIGHTED3_Y_MIN <= v[1] && v[1] <= LN_WEIGHTED3_Y_MAX, "wcoplanar_yz", "p.y", "is out of range", row) &&
+    lr_is(LN_WEIGHTED3_Z_MIN <= v[2] && v[2] <= LN_WEIGHTED3_Z_MAX, "wcoplanar_yz", "p.z", "is out of range", row) &&
+    lr_is(LN_WEIGHTED3_W_MIN <= v[3] && v[3] <= LN_WEIGHTED3_W_MAX, "wcoplanar_yz", "p.w", "is out of range", row) &&
+    lr_is(LN_WEIGHTED3_X_MIN <= v[4] && v[4] <= LN_WEIGHTED3_X_MAX, "wcoplanar_yz", "q.x", "is out of range", row) &&
+    lr_is(LN_WEIGHTED3_Y_MIN <= v[5] && v[5] <= LN_WEIGHTED3_Y_MAX, "wcoplanar_yz", "q.y", "is out of range", row) &&
+    lr_is(LN_WEIGHTED3_Z_MIN <= v[6] && v[6] <= LN_WEIGHTED3_Z_MAX, "wcoplanar_yz", "q.z", "is out of range", row) &&
+    lr_is(LN_WEIGHTED3_W_MIN <= v[7] && v[7] <= LN_WEIGHTED3_W_MAX, "wcoplanar_yz", "q.w", "is out of range", row) &&
+    lr_is(LN_WEIGHTED3_X_MIN <= v[8] && v[8] <= LN_WEIGHTED3_X_MAX, "wcoplanar_yz", "r.x", "is out of range", row) &&
+    lr_is(LN_WEIGHTED3_Y_MIN <= v[9] && v[9] <= LN_WEIGHTED3_Y_MAX, "wcoplanar_yz", "r.y", "is out of range", row) &&
+    lr_is(LN_WEIGHTED3_Z_MIN <= v[10] && v[10] <= LN_WEIGHTED3_Z_MAX, "wcoplanar_yz", "r.z", "is out of range", row) &&
+    lr_is(LN_WEIGHTED3_W_MIN <= v[11] && v[11] <= LN_WEIGHTED3_W_MAX, "wcoplanar_yz", "r.w", "is out of range", row);
+}
+static inline int li_wcoplanar_yz(const int64_t *x, size_t row) {
+  return lr_is(0 <= x[0], "wcoplanar_yz", "p", "has a negative index", row) &&
+    lr_is(0 <= x[1], "wcoplanar_yz", "q", "has a negative index", row) &&
+    lr_is(0 <= x[2], "wcoplanar_yz", "r", "has a negative index", row) &&
+    lr_is(x[0] != x[1], "wcoplanar_yz", "q", "has the index of p too", row) &&
+    lr_is(x[0] != x[2], "wcoplanar_yz", "r", "has the index of p too", row) &&
+    lr_is(x[1] != x[2], "wcoplanar_yz", "r", "has the index of q too", row);
+}
+static inline int lc_wcoplanar_yz(const int64_t *x, const int64_t *v) { return lv_wcoplanar_yz(v, SIZE_MAX) && li_wcoplanar_yz(x, SIZE_MAX) ? ln_wcoplanar_yz(x, v) : 0; }
+static inline int lc_wcoplanar_yz_plain(const int64_t *v) { return lv_wcoplanar_yz(v, SIZE_MAX) ? ln_wcoplanar_yz_plain(v) : 0; }
+static inline void lc_wcoplanar_yz_rows(size_t n, const int64_t *x, const int64_t *v, int8_t *signs) {
+  for (size_t i = 0; i < n; i++) {
+    signs[i] = 0;
+    if (lv_wcoplanar_yz(v + 12 * i, i) && li_wcoplanar_yz(x + 3 * i, i)) ln_wcoplanar_yz_rows(1, x + 3 * i, v + 12 * i, signs + i);
+  }
+}
+static inline int lc_wcoplanar_yz_at(const ln_weighted3 *p, const ln_weighted3 *q, const ln_weighted3 *r) {
+  const int64_t x[] = {p->index, q->index, r->index};
+  const int64_t v[] = {p->x, p->y, p->z, p->w, q->x, q->y, q->z, q->w, r->x, r->y, r->z, r->w};
+  return lv_wcoplanar_yz(v, SIZE_MAX) && li_wcoplanar_yz(x, SIZE_MAX) ? ln_wcoplanar_yz_at(p, q, r) : 0;
+}
+static inline int lc_wcoplanar_yz_plain_at(const ln_weighted3 *p, const ln_weighted3 *q, const ln_weighted3 *r) {
+  const int64_t v[] = {p->x, p->y, p->z, p->w, q->x, q->y, q->z, q->w, r->x, r->y, r->z, r->w};
+  return lv_wcoplanar_yz(v, SIZE_MAX) ? ln_wcoplanar_yz_plain_at(p, q, r) : 0;
+}
+static inline int lv_wcoplanar_zx(const int64_t *v, size_t row) {
+  return lr_is(LN_WEIGHTED3_X_MIN <= v[0] && v[0] <= LN_WEIGHTED3_X_MAX, "wcoplanar_zx", "p.x", "is out of range", row) &&
+    lr_is(LN_WEIGHTED3_Y_MIN <= v[1] && v[1] <= LN_WEIGHTED3_Y_MAX, "wcoplanar_zx", "p.y", "is out of range", row) &&
+    lr_is(LN_WEIGHTED3_Z_MIN <= v[2] && v[2] <= LN_WEIGHTED3_Z_MAX, "wcoplanar_zx", "p.z", "is out of range", row) &&
+    lr_is(LN_WEIGHTED3_W_MIN <= v[3] && v[3] <= LN_WEIGHTED3_W_MAX, "wcoplanar_zx", "p.w", "is out of range", row) &&
+    lr_is(LN_WEIGHTED3_X_MIN <= v[4] && v[4] <= LN_WEIGHTED3_X_MAX, "wcoplanar_zx", "q.x", "is out of range", row) &&
+    lr_is(LN_WEIGHTED3_Y_MIN <= v[5] && v[5] <= LN_WEIGHTED3_Y_MAX, "wcoplanar_zx", "q.y", "is out of range", row) &&
+    lr_is(LN_WEIGHTED3_Z_MIN <= v[6] && v[6] <= LN_WEIGHTED3_Z_MAX, "wcoplanar_zx", "q.z", "is out of range", row) &&
+    lr_is(LN_WEIGHTED3_W_MIN <= v[7] && v[7] <= LN_WEIGHTED3_W_MAX, "wcoplanar_zx", "q.w", "is out of range", row) &&
+    lr_is(LN_WEIGHTED3_X_MIN <= v[8] && v[8] <= LN_WEIGHTED3_X_MAX, "wcoplanar_zx", "r.x", "is out of range", row) &&
+    lr_is(LN_WEIGHTED3_Y_MIN <= v[9] && v[9] <= LN_WEIGHTED3_Y_MAX, "wcoplanar_zx", "r.y", "is out of range", row) &&
+    lr_is(LN_WEIGHTED3_Z_MIN <= v[10] && v[10] <= LN_WEIGHTED3_Z_MAX, "wcoplanar_zx", "r.z", "is out of range", row) &&
+    lr_is(LN_WEIGHTED3_W_MIN <= v[11] && v[11] <= LN_WEIGHTED3_W_MAX, "wcoplanar_zx", "r.w", "is out of range", row);
+}
+static inline int li_wcoplanar_zx(const int64_t *x, size_t row) {
+  return lr_is(0 <= x[0], "wcoplanar_zx", "p", "has a negative index", row) &&
+    lr_is(0 <= x[1], "wcoplanar_zx", "q", "has a negative index", row) &&
+    lr_is(0 <= x[2], "wcoplanar_zx", "r", "has a negative index", row) &&
+    lr_is(x[0] != x[1], "wcoplanar_zx", "q", "has the index of p too", row) &&
+    lr_is(x[0] != x[2], "wcoplanar_zx", "r", "has the index of p too", row) &&
+    lr_is(x[1] != x[2], "wcoplanar_zx", "r", "has the index of q too", row);
+}
+static inline int lc_wcoplanar_zx(const int64_t *x, const int64_t *v) { return lv_wcoplanar_zx(v, SIZE_MAX) && li_wcoplanar_zx(x, SIZE_MAX) ? ln_wcoplanar_zx(x, v) : 0; }
+static inline int lc_wcoplanar_zx_plain(const int64_t *v) { return lv_wcoplanar_zx(v, SIZE_MAX) ? ln_wcoplanar_zx_plain(v) : 0; }
+static inline void lc_wcoplanar_zx_rows(size_t n, const int64_t *x, const int64_t *v, int8_t *signs) {
+  for (size_t i = 0; i < n; i++) {
+    signs[i] = 0;
+    if (lv_wcoplanar_zx(v + 12 * i, i) && li_wcoplanar_zx(x + 3 * i, i)) ln_wcoplanar_zx_rows(1, x + 3 * i, v + 12 * i, signs + i);
+  }
+}
+static inline int lc_wcoplanar_zx_at(const ln_weighted3 *p, const ln_weighted3 *q, const ln_weighted3 *r) {
+  const int64_t x[] = {p->index, q->index, r->index};
+  const int64_t v[] = {p->x, p->y, p->z, p->w, q->x, q->y, q->z, q->w, r->x, r->y, r->z, r->w};
+  return lv_wcoplanar_zx(v, SIZE_MAX) && li_wcoplanar_zx(x, SIZE_MAX) ? ln_wcoplanar_zx_at(p, q, r) : 0;
+}
+static inline int lc_wcoplanar_zx_plain_at(const ln_weighted3 *p, const ln_weighted3 *q, const ln_weighted3 *r) {
+  const int64_t v[] = {p->x, p->y, p->z, p->w, q->x, q->y, q->z, q->w, r->x, r->y, r->z, r->w};
+  return lv_wcoplanar_zx(v, SIZE_MAX) ? ln_wcoplanar_zx_plain_at(p, q, r) : 0;
+}
 #endif
 
 #ifdef __cplusplus
@@ -513,6 +810,42 @@ inline int wlexicographic3(const weighted3 &p, const weighted3 &q) {
 inline int wlexicographic3_plain(const weighted3 &p, const weighted3 &q) {
   return LNC_CALL(wlexicographic3_plain_at)(&p, &q);
 }
+inline int wcompare_distance3(const weighted3 &p, const weighted3 &q, const weighted3 &r) {
+  return LNC_CALL(wcompare_distance3_at)(&p, &q, &r);
+}
+inline int wcompare_distance3_plain(const weighted3 &p, const weighted3 &q, const weighted3 &r) {
+  return LNC_CALL(wcompare_distance3_plain_at)(&p, &q, &r);
+}
+inline int compare_power3(const weighted3 &p, const weighted3 &q, const weighted3 &r) {
+  return LNC_CALL(compare_power3_at)(&p, &q, &r);
+}
+inline int compare_power3_plain(const weighted3 &p, const weighted3 &q, const weighted3 &r) {
+  return LNC_CALL(compare_power3_plain_at)(&p, &q, &r);
+}
+inline int wdot3(const weighted3 &p, const weighted3 &q, const weighted3 &r, const weighted3 &s) {
+  return LNC_CALL(wdot3_at)(&p, &q, &r, &s);
+}
+inline int wdot3_plain(const weighted3 &p, const weighted3 &q, const weighted3 &r, const weighted3 &s) {
+  return LNC_CALL(wdot3_plain_at)(&p, &q, &r, &s);
+}
+inline int wcoplanar_xy(const weighted3 &p, const weighted3 &q, const weighted3 &r) {
+  return LNC_CALL(wcoplanar_xy_at)(&p, &q, &r);
+}
+inline int wcoplanar_xy_plain(const weighted3 &p, const weighted3 &q, const weighted3 &r) {
+  return LNC_CALL(wcoplanar_xy_plain_at)(&p, &q, &r);
+}
+inline int wcoplanar_yz(const weighted3 &p, const weighted3 &q, const weighted3 &r) {
+  return LNC_CALL(wcoplanar_yz_at)(&p, &q, &r);
+}
+inline int wcoplanar_yz_plain(const weighted3 &p, const weighted3 &q, const weighted3 &r) {
+  return LNC_CALL(wcoplanar_yz_plain_at)(&p, &q, &r);
+}
+inline int wcoplanar_zx(const weighted3 &p, const weighted3 &q, const weighted3 &r) {
+  return LNC_CALL(wcoplanar_zx_at)(&p, &q, &r);
+}
+inline int wcoplanar_zx_plain(const weighted3 &p, const weighted3 &q, const weighted3 &r) {
+  return LNC_CALL(wcoplanar_zx_plain_at)(&p, &q, &r);
+}
 #ifdef LNC_CHECKED
 }
 #endif
@@ -563,6 +896,36 @@ inline int wlexicographic3_plain(const weighted3 &p, const weighted3 &q) {
 #undef ln_wlexicographic3_rows
 #undef ln_wlexicographic3_at
 #undef ln_wlexicographic3_plain_at
+#undef ln_wcompare_distance3
+#undef ln_wcompare_distance3_plain
+#undef ln_wcompare_distance3_rows
+#undef ln_wcompare_distance3_at
+#undef ln_wcompare_distance3_plain_at
+#undef ln_compare_power3
+#undef ln_compare_power3_plain
+#undef ln_compare_power3_rows
+#undef ln_compare_power3_at
+#undef ln_compare_power3_plain_at
+#undef ln_wdot3
+#undef ln_wdot3_plain
+#undef ln_wdot3_rows
+#undef ln_wdot3_at
+#undef ln_wdot3_plain_at
+#undef ln_wcoplanar_xy
+#undef ln_wcoplanar_xy_plain
+#undef ln_wcoplanar_xy_rows
+#undef ln_wcoplanar_xy_at
+#undef ln_wcoplanar_xy_plain_at
+#undef ln_wcoplanar_yz
+#undef ln_wcoplanar_yz_plain
+#undef ln_wcoplanar_yz_rows
+#undef ln_wcoplanar_yz_at
+#undef ln_wcoplanar_yz_plain_at
+#undef ln_wcoplanar_zx
+#undef ln_wcoplanar_zx_plain
+#undef ln_wcoplanar_zx_rows
+#undef ln_wcoplanar_zx_at
+#undef ln_wcoplanar_zx_plain_at
 #ifndef __SIZEOF_INT128__
 #error "no __int128 here: weighted_space.c takes gcc or clang for a 64-bit target"
 #endif
@@ -715,6 +1078,114 @@ __attribute__((flatten)) int ln_wlexicographic3_at(const ln_weighted3 *p, const 
   const int sign = lb0_wlexicographic3(v);
   return sign != 0 ? sign : lm_wlexicographic3(p, q);
 }
+int ln_wcompare_distance3_plain(const int64_t *v) { return lb0_wcompare_distance3(v); }
+void ln_wcompare_distance3_rows(size_t n, const int64_t *x, const int64_t *v, int8_t *signs) {
+  for (size_t i = 0; i < n; i++) signs[i] = (int8_t)ln_wcompare_distance3(x + 3 * i, v + 12 * i);
+}
+static __attribute__((noinline)) int lm_wcompare_distance3(const ln_weighted3 *p, const ln_weighted3 *q, const ln_weighted3 *r) {
+  const int64_t x[] = {p->index, q->index, r->index};
+  const int64_t v[] = {p->x, p->y, p->z, p->w, q->x, q->y, q->z, q->w, r->x, r->y, r->z, r->w};
+  return ln_wcompare_distance3(x, v);
+}
+__attribute__((flatten)) int ln_wcompare_distance3_plain_at(const ln_weighted3 *p, const ln_weighted3 *q, const ln_weighted3 *r) {
+  const int64_t v[] = {p->x, p->y, p->z, p->w, q->x, q->y, q->z, q->w, r->x, r->y, r->z, r->w};
+  return lb0_wcompare_distance3(v);
+}
+__attribute__((flatten)) int ln_wcompare_distance3_at(const ln_weighted3 *p, const ln_weighted3 *q, const ln_weighted3 *r) {
+  const int64_t v[] = {p->x, p->y, p->z, p->w, q->x, q->y, q->z, q->w, r->x, r->y, r->z, r->w};
+  const int sign = lb0_wcompare_distance3(v);
+  return sign != 0 ? sign : lm_wcompare_distance3(p, q, r);
+}
+int ln_compare_power3_plain(const int64_t *v) { return lb0_compare_power3(v); }
+void ln_compare_power3_rows(size_t n, const int64_t *x, const int64_t *v, int8_t *signs) {
+  for (size_t i = 0; i < n; i++) signs[i] = (int8_t)ln_compare_power3(x + 3 * i, v + 12 * i);
+}
+static __attribute__((noinline)) int lm_compare_power3(const ln_weighted3 *p, const ln_weighted3 *q, const ln_weighted3 *r) {
+  const int64_t x[] = {p->index, q->index, r->index};
+  const int64_t v[] = {p->x, p->y, p->z, p->w, q->x, q->y, q->z, q->w, r->x, r->y, r->z, r->w};
+  return ln_compare_power3(x, v);
+}
+__attribute__((flatten)) int ln_compare_power3_plain_at(const ln_weighted3 *p, const ln_weighted3 *q, const ln_weighted3 *r) {
+  const int64_t v[] = {p->x, p->y, p->z, p->w, q->x, q->y, q->z, q->w, r->x, r->y, r->z, r->w};
+  return lb0_compare_power3(v);
+}
+__attribute__((flatten)) int ln_compare_power3_at(const ln_weighted3 *p, const ln_weighted3 *q, const ln_weighted3 *r) {
+  const int64_t v[] = {p->x, p->y, p->z, p->w, q->x, q->y, q->z, q->w, r->x, r->y, r->z, r->w};
+  const int sign = lb0_compare_power3(v);
+  return sign != 0 ? sign : lm_compare_power3(p, q, r);
+}
+int ln_wdot3_plain(const int64_t *v) { return lb0_wdot3(v); }
+void ln_wdot3_rows(size_t n, const int64_t *x, const int64_t *v, int8_t *signs) {
+  for (size_t i = 0; i < n; i++) signs[i] = (int8_t)ln_wdot3(x + 4 * i, v + 16 * i);
+}
+static __attribute__((noinline)) int lm_wdot3(const ln_weighted3 *p, const ln_weighted3 *q, const ln_weighted3 *r, const ln_weighted3 *s) {
+  const int64_t x[] = {p->index, q->index, r->index, s->index};
+  const int64_t v[] = {p->x, p->y, p->z, p->w, q->x, q->y, q->z, q->w, r->x, r->y, r->z, r->w, s->x, s->y, s->z, s->w};
+  return ln_wdot3(x, v);
+}
+__attribute__((flatten)) int ln_wdot3_plain_at(const ln_weighted3 *p, const ln_weighted3 *q, const ln_weighted3 *r, const ln_weighted3 *s) {
+  const int64_t v[] = {p->x, p->y, p->z, p->w, q->x, q->y, q->z, q->w, r->x, r->y, r->z, r->w, s->x, s->y, s->z, s->w};
+  return lb0_wdot3(v);
+}
+__attribute__((flatten)) int ln_wdot3_at(const ln_weighted3 *p, const ln_weighted3 *q, const ln_weighted3 *r, const ln_weighted3 *s) {
+  const int64_t v[] = {p->x, p->y, p->z, p->w, q->x, q->y, q->z, q->w, r->x, r->y, r->z, r->w, s->x, s->y, s->z, s->w};
+  const int sign = lb0_wdot3(v);
+  return sign != 0 ? sign : lm_wdot3(p, q, r, s);
+}
+int ln_wcoplanar_xy_plain(const int64_t *v) { return lb0_wcoplanar_xy(v); }
+void ln_wcoplanar_xy_rows(size_t n, const int64_t *x, const int64_t *v, int8_t *signs) {
+  for (size_t i = 0; i < n; i++) signs[i] = (int8_t)ln_wcoplanar_xy(x + 3 * i, v + 12 * i);
+}
+static __attribute__((noinline)) int lm_wcoplanar_xy(const ln_weighted3 *p, const ln_weighted3 *q, const ln_weighted3 *r) {
+  const int64_t x[] = {p->index, q->index, r->index};
+  const int64_t v[] = {p->x, p->y, p->z, p->w, q->x, q->y, q->z, q->w, r->x, r->y, r->z, r->w};
+  return ln_wcoplanar_xy(x, v);
+}
+__attribute__((flatten)) int ln_wcoplanar_xy_plain_at(const ln_weighted3 *p, const ln_weighted3 *q, const ln_weighted3 *r) {
+  const int64_t v[] = {p->x, p->y, p->z, p->w, q->x, q->y, q->z, q->w, r->x, r->y, r->z, r->w};
+  return lb0_wcoplanar_xy(v);
+}
+__attribute__((flatten)) int ln_wcoplanar_xy_at(const ln_weighted3 *p, const ln_weighted3 *q, const ln_weighted3 *r) {
+  const int64_t v[] = {p->x, p->y, p->z, p->w, q->x, q->y, q->z, q->w, r->x, r->y, r->z, r->w};
+  const int sign = lb0_wcoplanar_xy(v);
+  return sign != 0 ? sign : lm_wcoplanar_xy(p, q, r);
+}
+int ln_wcoplanar_yz_plain(const int64_t *v) { return lb0_wcoplanar_yz(v); }
+void ln_wcoplanar_yz_rows(size_t n, const int64_t *x, const int64_t *v, int8_t *signs) {
+  for (size_t i = 0; i < n; i++) signs[i] = (int8_t)ln_wcoplanar_yz(x + 3 * i, v + 12 * i);
+}
+static __attribute__((noinline)) int lm_wcoplanar_yz(const ln_weighted3 *p, const ln_weighted3 *q, const ln_weighted3 *r) {
+  const int64_t x[] = {p->index, q->index, r->index};
+  const int64_t v[] = {p->x, p->y, p->z, p->w, q->x, q->y, q->z, q->w, r->x, r->y, r->z, r->w};
+  return ln_wcoplanar_yz(x, v);
+}
+__attribute__((flatten)) int ln_wcoplanar_yz_plain_at(const ln_weighted3 *p, const ln_weighted3 *q, const ln_weighted3 *r) {
+  const int64_t v[] = {p->x, p->y, p->z, p->w, q->x, q->y, q->z, q->w, r->x, r->y, r->z, r->w};
+  return lb0_wcoplanar_yz(v);
+}
+__attribute__((flatten)) int ln_wcoplanar_yz_at(const ln_weighted3 *p, const ln_weighted3 *q, const ln_weighted3 *r) {
+  const int64_t v[] = {p->x, p->y, p->z, p->w, q->x, q->y, q->z, q->w, r->x, r->y, r->z, r->w};
+  const int sign = lb0_wcoplanar_yz(v);
+  return sign != 0 ? sign : lm_wcoplanar_yz(p, q, r);
+}
+int ln_wcoplanar_zx_plain(const int64_t *v) { return lb0_wcoplanar_zx(v); }
+void ln_wcoplanar_zx_rows(size_t n, const int64_t *x, const int64_t *v, int8_t *signs) {
+  for (size_t i = 0; i < n; i++) signs[i] = (int8_t)ln_wcoplanar_zx(x + 3 * i, v + 12 * i);
+}
+static __attribute__((noinline)) int lm_wcoplanar_zx(const ln_weighted3 *p, const ln_weighted3 *q, const ln_weighted3 *r) {
+  const int64_t x[] = {p->index, q->index, r->index};
+  const int64_t v[] = {p->x, p->y, p->z, p->w, q->x, q->y, q->z, q->w, r->x, r->y, r->z, r->w};
+  return ln_wcoplanar_zx(x, v);
+}
+__attribute__((flatten)) int ln_wcoplanar_zx_plain_at(const ln_weighted3 *p, const ln_weighted3 *q, const ln_weighted3 *r) {
+  const int64_t v[] = {p->x, p->y, p->z, p->w, q->x, q->y, q->z, q->w, r->x, r->y, r->z, r->w};
+  return lb0_wcoplanar_zx(v);
+}
+__attribute__((flatten)) int ln_wcoplanar_zx_at(const ln_weighted3 *p, const ln_weighted3 *q, const ln_weighted3 *r) {
+  const int64_t v[] = {p->x, p->y, p->z, p->w, q->x, q->y, q->z, q->w, r->x, r->y, r->z, r->w};
+  const int sign = lb0_wcoplanar_zx(v);
+  return sign != 0 ? sign : lm_wcoplanar_zx(p, q, r);
+}
 #ifdef __cplusplus
 #pragma GCC diagnostic pop
 #endif
@@ -761,4 +1232,34 @@ __attribute__((flatten)) int ln_wlexicographic3_at(const ln_weighted3 *p, const 
 #define ln_wlexicographic3_rows lc_wlexicographic3_rows
 #define ln_wlexicographic3_at lc_wlexicographic3_at
 #define ln_wlexicographic3_plain_at lc_wlexicographic3_plain_at
+#define ln_wcompare_distance3 lc_wcompare_distance3
+#define ln_wcompare_distance3_plain lc_wcompare_distance3_plain
+#define ln_wcompare_distance3_rows lc_wcompare_distance3_rows
+#define ln_wcompare_distance3_at lc_wcompare_distance3_at
+#define ln_wcompare_distance3_plain_at lc_wcompare_distance3_plain_at
+#define ln_compare_power3 lc_compare_power3
+#define ln_compare_power3_plain lc_compare_power3_plain
+#define ln_compare_power3_rows lc_compare_power3_rows
+#define ln_compare_power3_at lc_compare_power3_at
+#define ln_compare_power3_plain_at lc_compare_power3_plain_at
+#define ln_wdot3 lc_wdot3
+#define ln_wdot3_plain lc_wdot3_plain
+#define ln_wdot3_rows lc_wdot3_rows
+#define ln_wdot3_at lc_wdot3_at
+#define ln_wdot3_plain_at lc_wdot3_plain_at
+#define ln_wcoplanar_xy lc_wcoplanar_xy
+#define ln_wcoplanar_xy_plain lc_wcoplanar_xy_plain
+#define ln_wcoplanar_xy_rows lc_wcoplanar_xy_rows
+#define ln_wcoplanar_xy_at lc_wcoplanar_xy_at
+#define ln_wcoplanar_xy_plain_at lc_wcoplanar_xy_plain_at
+#define ln_wcoplanar_yz lc_wcoplanar_yz
+#define ln_wcoplanar_yz_plain lc_wcoplanar_yz_plain
+#define ln_wcoplanar_yz_rows lc_wcoplanar_yz_rows
+#define ln_wcoplanar_yz_at lc_wcoplanar_yz_at
+#define ln_wcoplanar_yz_plain_at lc_wcoplanar_yz_plain_at
+#define ln_wcoplanar_zx lc_wcoplanar_zx
+#define ln_wcoplanar_zx_plain lc_wcoplanar_zx_plain
+#define ln_wcoplanar_zx_rows lc_wcoplanar_zx_rows
+#define ln_wcoplanar_zx_at lc_wcoplanar_zx_at
+#define ln_wcoplanar_zx_plain_at lc_wcoplanar_zx_plain_at
 #endif

@@ -5998,3 +5998,1365 @@ int ln_wlexicographic2(const int64_t *x, const int64_t *v) {
   }
   return ((int)0);
 }
+
+static int lb0_wcompare_distance2(const int64_t *v) {
+  int64_t n0 = ((int64_t)v[0]);
+  int64_t n1 = ((int64_t)v[3]);
+  int64_t n2 = (((int64_t)n0) - ((int64_t)n1));
+  int64_t n3 = ((int64_t)n2);
+  int64_t n4 = ((int64_t)n3);
+  int64_t n5 = ((int64_t)n3);
+  int64_t n6 = (((int64_t)n4) * ((int64_t)n5));
+  int64_t n7 = ((int64_t)v[0]);
+  int64_t n8 = ((int64_t)v[6]);
+  int64_t n9 = (((int64_t)n7) - ((int64_t)n8));
+  int64_t n10 = ((int64_t)n9);
+  int64_t n11 = ((int64_t)n10);
+  int64_t n12 = ((int64_t)n10);
+  int64_t n13 = (((int64_t)n11) * ((int64_t)n12));
+  int64_t n14 = (((int64_t)n6) - ((int64_t)n13));
+  int64_t n15 = ((int64_t)v[1]);
+  int64_t n16 = ((int64_t)v[4]);
+  int64_t n17 = (((int64_t)n15) - ((int64_t)n16));
+  int64_t n18 = ((int64_t)n17);
+  int64_t n19 = ((int64_t)n18);
+  int64_t n20 = ((int64_t)n18);
+  int64_t n21 = (((int64_t)n19) * ((int64_t)n20));
+  int64_t n22 = (((int64_t)n14) + ((int64_t)n21));
+  int64_t n23 = ((int64_t)v[1]);
+  int64_t n24 = ((int64_t)v[7]);
+  int64_t n25 = (((int64_t)n23) - ((int64_t)n24));
+  int64_t n26 = ((int64_t)n25);
+  int64_t n27 = ((int64_t)n26);
+  int64_t n28 = ((int64_t)n26);
+  int64_t n29 = (((int64_t)n27) * ((int64_t)n28));
+  int64_t n30 = (((int64_t)n22) - ((int64_t)n29));
+  return (((int)(((int64_t)n30) > ((int64_t)0))) - ((int)(((int64_t)n30) < ((int64_t)0))));
+}
+
+static int lb1_wcompare_distance2(const int64_t *v) {
+  int64_t n0 = ((int64_t)v[4]);
+  int64_t n1 = ((int64_t)(-((int64_t)2)));
+  int64_t n2 = (((int64_t)n0) * ((int64_t)n1));
+  int64_t n3 = ((int64_t)v[7]);
+  int64_t n4 = ((int64_t)((int64_t)2));
+  int64_t n5 = (((int64_t)n3) * ((int64_t)n4));
+  int64_t n6 = (((int64_t)n2) + ((int64_t)n5));
+  return (((int)(((int64_t)n6) > ((int64_t)0))) - ((int)(((int64_t)n6) < ((int64_t)0))));
+}
+
+static int lb2_wcompare_distance2(const int64_t *v) {
+  int64_t n0 = ((int64_t)v[3]);
+  int64_t n1 = ((int64_t)(-((int64_t)2)));
+  int64_t n2 = (((int64_t)n0) * ((int64_t)n1));
+  int64_t n3 = ((int64_t)v[6]);
+  int64_t n4 = ((int64_t)((int64_t)2));
+  int64_t n5 = (((int64_t)n3) * ((int64_t)n4));
+  int64_t n6 = (((int64_t)n2) + ((int64_t)n5));
+  return (((int)(((int64_t)n6) > ((int64_t)0))) - ((int)(((int64_t)n6) < ((int64_t)0))));
+}
+
+static int lb3_wcompare_distance2(const int64_t *v) {
+  int64_t n0 = ((int64_t)v[1]);
+  int64_t n1 = ((int64_t)(-((int64_t)2)));
+  int64_t n2 = (((int64_t)n0) * ((int64_t)n1));
+  int64_t n3 = ((int64_t)v[4]);
+  int64_t n4 = ((int64_t)((int64_t)2));
+  int64_t n5 = (((int64_t)n3) * ((int64_t)n4));
+  int64_t n6 = (((int64_t)n2) + ((int64_t)n5));
+  return (((int)(((int64_t)n6) > ((int64_t)0))) - ((int)(((int64_t)n6) < ((int64_t)0))));
+}
+
+static int lb4_wcompare_distance2(const int64_t *v) {
+  if (((int)0)) {
+    return ((int)v[0]);
+  }
+  int64_t n0 = ((int64_t)(-((int64_t)2)));
+  return (((int)(((int64_t)n0) > ((int64_t)0))) - ((int)(((int64_t)n0) < ((int64_t)0))));
+}
+
+static int lb5_wcompare_distance2(const int64_t *v) {
+  int64_t n0 = ((int64_t)v[1]);
+  int64_t n1 = ((int64_t)((int64_t)2));
+  int64_t n2 = (((int64_t)n0) * ((int64_t)n1));
+  int64_t n3 = ((int64_t)v[7]);
+  int64_t n4 = ((int64_t)(-((int64_t)2)));
+  int64_t n5 = (((int64_t)n3) * ((int64_t)n4));
+  int64_t n6 = (((int64_t)n2) + ((int64_t)n5));
+  return (((int)(((int64_t)n6) > ((int64_t)0))) - ((int)(((int64_t)n6) < ((int64_t)0))));
+}
+
+static int lb6_wcompare_distance2(const int64_t *v) {
+  if (((int)0)) {
+    return ((int)v[0]);
+  }
+  int64_t n0 = ((int64_t)((int64_t)2));
+  return (((int)(((int64_t)n0) > ((int64_t)0))) - ((int)(((int64_t)n0) < ((int64_t)0))));
+}
+
+static int lb7_wcompare_distance2(const int64_t *v) {
+  if (((int)0)) {
+    return ((int)v[0]);
+  }
+  int64_t n0 = ((int64_t)((int64_t)1));
+  return (((int)(((int64_t)n0) > ((int64_t)0))) - ((int)(((int64_t)n0) < ((int64_t)0))));
+}
+
+static int lb8_wcompare_distance2(const int64_t *v) {
+  if (((int)0)) {
+    return ((int)v[0]);
+  }
+  int64_t n0 = ((int64_t)(-((int64_t)1)));
+  return (((int)(((int64_t)n0) > ((int64_t)0))) - ((int)(((int64_t)n0) < ((int64_t)0))));
+}
+
+int ln_wcompare_distance2(const int64_t *x, const int64_t *v) {
+  {
+    int answer = ((int)lb0_wcompare_distance2(v));
+    if ((((int)answer) != ((int)0))) {
+      return ((int)answer);
+    }
+  }
+  if ((((int64_t)x[0]) < ((int64_t)x[1]))) {
+    if ((((int64_t)x[0]) < ((int64_t)x[2]))) {
+      {
+        int answer = ((int)lb1_wcompare_distance2(v));
+        if ((((int)answer) != ((int)0))) {
+          return ((int)answer);
+        }
+      }
+      {
+        int answer = ((int)lb2_wcompare_distance2(v));
+        if ((((int)answer) != ((int)0))) {
+          return ((int)answer);
+        }
+      }
+      if ((((int64_t)x[1]) < ((int64_t)x[2]))) {
+        {
+          int answer = ((int)lb3_wcompare_distance2(v));
+          if ((((int)answer) != ((int)0))) {
+            return ((int)answer);
+          }
+        }
+        {
+          int answer = ((int)lb4_wcompare_distance2(v));
+          if ((((int)answer) != ((int)0))) {
+            return ((int)answer);
+          }
+        }
+        return ((int)0);
+      }
+      {
+        int answer = ((int)lb5_wcompare_distance2(v));
+        if ((((int)answer) != ((int)0))) {
+          return ((int)answer);
+        }
+      }
+      {
+        int answer = ((int)lb6_wcompare_distance2(v));
+        if ((((int)answer) != ((int)0))) {
+          return ((int)answer);
+        }
+      }
+      return ((int)0);
+    }
+  }
+  if ((((int64_t)x[1]) < ((int64_t)x[2]))) {
+    {
+      int answer = ((int)lb3_wcompare_distance2(v));
+      if ((((int)answer) != ((int)0))) {
+        return ((int)answer);
+      }
+    }
+    {
+      int answer = ((int)lb7_wcompare_distance2(v));
+      if ((((int)answer) != ((int)0))) {
+        return ((int)answer);
+      }
+    }
+    if ((((int64_t)x[0]) < ((int64_t)x[2]))) {
+      return ((int)0);
+    }
+    return ((int)0);
+  }
+  {
+    int answer = ((int)lb5_wcompare_distance2(v));
+    if ((((int)answer) != ((int)0))) {
+      return ((int)answer);
+    }
+  }
+  {
+    int answer = ((int)lb8_wcompare_distance2(v));
+    if ((((int)answer) != ((int)0))) {
+      return ((int)answer);
+    }
+  }
+  if ((((int64_t)x[0]) < ((int64_t)x[1]))) {
+    return ((int)0);
+  }
+  return ((int)0);
+}
+
+static int lb0_compare_power2(const int64_t *v) {
+  int64_t n0 = ((int64_t)v[0]);
+  int64_t n1 = ((int64_t)v[3]);
+  int64_t n2 = (((int64_t)n0) - ((int64_t)n1));
+  int64_t n3 = ((int64_t)n2);
+  int64_t n4 = ((int64_t)n3);
+  int64_t n5 = ((int64_t)n3);
+  int64_t n6 = (((int64_t)n4) * ((int64_t)n5));
+  int64_t n7 = ((int64_t)v[0]);
+  int64_t n8 = ((int64_t)v[6]);
+  int64_t n9 = (((int64_t)n7) - ((int64_t)n8));
+  int64_t n10 = ((int64_t)n9);
+  int64_t n11 = ((int64_t)n10);
+  int64_t n12 = ((int64_t)n10);
+  int64_t n13 = (((int64_t)n11) * ((int64_t)n12));
+  int64_t n14 = (((int64_t)n6) - ((int64_t)n13));
+  int64_t n15 = ((int64_t)v[1]);
+  int64_t n16 = ((int64_t)v[4]);
+  int64_t n17 = (((int64_t)n15) - ((int64_t)n16));
+  int64_t n18 = ((int64_t)n17);
+  int64_t n19 = ((int64_t)n18);
+  int64_t n20 = ((int64_t)n18);
+  int64_t n21 = (((int64_t)n19) * ((int64_t)n20));
+  int64_t n22 = (((int64_t)n14) + ((int64_t)n21));
+  int64_t n23 = ((int64_t)v[1]);
+  int64_t n24 = ((int64_t)v[7]);
+  int64_t n25 = (((int64_t)n23) - ((int64_t)n24));
+  int64_t n26 = ((int64_t)n25);
+  int64_t n27 = ((int64_t)n26);
+  int64_t n28 = ((int64_t)n26);
+  int64_t n29 = (((int64_t)n27) * ((int64_t)n28));
+  int64_t n30 = (((int64_t)n22) - ((int64_t)n29));
+  int64_t n31 = ((int64_t)v[5]);
+  int64_t n32 = (((int64_t)n30) - ((int64_t)n31));
+  int64_t n33 = ((int64_t)v[8]);
+  int64_t n34 = (((int64_t)n32) + ((int64_t)n33));
+  return (((int)(((int64_t)n34) > ((int64_t)0))) - ((int)(((int64_t)n34) < ((int64_t)0))));
+}
+
+static int lb1_compare_power2(const int64_t *v) {
+  int64_t n0 = ((int64_t)v[4]);
+  int64_t n1 = ((int64_t)(-((int64_t)2)));
+  int64_t n2 = (((int64_t)n0) * ((int64_t)n1));
+  int64_t n3 = ((int64_t)v[7]);
+  int64_t n4 = ((int64_t)((int64_t)2));
+  int64_t n5 = (((int64_t)n3) * ((int64_t)n4));
+  int64_t n6 = (((int64_t)n2) + ((int64_t)n5));
+  return (((int)(((int64_t)n6) > ((int64_t)0))) - ((int)(((int64_t)n6) < ((int64_t)0))));
+}
+
+static int lb2_compare_power2(const int64_t *v) {
+  int64_t n0 = ((int64_t)v[3]);
+  int64_t n1 = ((int64_t)(-((int64_t)2)));
+  int64_t n2 = (((int64_t)n0) * ((int64_t)n1));
+  int64_t n3 = ((int64_t)v[6]);
+  int64_t n4 = ((int64_t)((int64_t)2));
+  int64_t n5 = (((int64_t)n3) * ((int64_t)n4));
+  int64_t n6 = (((int64_t)n2) + ((int64_t)n5));
+  return (((int)(((int64_t)n6) > ((int64_t)0))) - ((int)(((int64_t)n6) < ((int64_t)0))));
+}
+
+static int lb3_compare_power2(const int64_t *v) {
+  if (((int)0)) {
+    return ((int)v[0]);
+  }
+  int64_t n0 = ((int64_t)(-((int64_t)1)));
+  return (((int)(((int64_t)n0) > ((int64_t)0))) - ((int)(((int64_t)n0) < ((int64_t)0))));
+}
+
+static int lb4_compare_power2(const int64_t *v) {
+  if (((int)0)) {
+    return ((int)v[0]);
+  }
+  int64_t n0 = ((int64_t)((int64_t)1));
+  return (((int)(((int64_t)n0) > ((int64_t)0))) - ((int)(((int64_t)n0) < ((int64_t)0))));
+}
+
+int ln_compare_power2(const int64_t *x, const int64_t *v) {
+  {
+    int answer = ((int)lb0_compare_power2(v));
+    if ((((int)answer) != ((int)0))) {
+      return ((int)answer);
+    }
+  }
+  if ((((int64_t)x[0]) < ((int64_t)x[1]))) {
+    if ((((int64_t)x[0]) < ((int64_t)x[2]))) {
+      {
+        int answer = ((int)lb1_compare_power2(v));
+        if ((((int)answer) != ((int)0))) {
+          return ((int)answer);
+        }
+      }
+      {
+        int answer = ((int)lb2_compare_power2(v));
+        if ((((int)answer) != ((int)0))) {
+          return ((int)answer);
+        }
+      }
+      if ((((int64_t)x[1]) < ((int64_t)x[2]))) {
+        {
+          int answer = ((int)lb3_compare_power2(v));
+          if ((((int)answer) != ((int)0))) {
+            return ((int)answer);
+          }
+        }
+        return ((int)0);
+      }
+      {
+        int answer = ((int)lb4_compare_power2(v));
+        if ((((int)answer) != ((int)0))) {
+          return ((int)answer);
+        }
+      }
+      return ((int)0);
+    }
+  }
+  if ((((int64_t)x[1]) < ((int64_t)x[2]))) {
+    {
+      int answer = ((int)lb3_compare_power2(v));
+      if ((((int)answer) != ((int)0))) {
+        return ((int)answer);
+      }
+    }
+    if ((((int64_t)x[0]) < ((int64_t)x[2]))) {
+      return ((int)0);
+    }
+    return ((int)0);
+  }
+  {
+    int answer = ((int)lb4_compare_power2(v));
+    if ((((int)answer) != ((int)0))) {
+      return ((int)answer);
+    }
+  }
+  if ((((int64_t)x[0]) < ((int64_t)x[1]))) {
+    return ((int)0);
+  }
+  return ((int)0);
+}
+
+static int lb0_wdot2(const int64_t *v) {
+  int64_t n0 = ((int64_t)v[3]);
+  int64_t n1 = ((int64_t)v[0]);
+  int64_t n2 = (((int64_t)n0) - ((int64_t)n1));
+  int64_t n3 = ((int64_t)v[9]);
+  int64_t n4 = ((int64_t)v[6]);
+  int64_t n5 = (((int64_t)n3) - ((int64_t)n4));
+  int64_t n6 = (((int64_t)n2) * ((int64_t)n5));
+  int64_t n7 = ((int64_t)v[4]);
+  int64_t n8 = ((int64_t)v[1]);
+  int64_t n9 = (((int64_t)n7) - ((int64_t)n8));
+  int64_t n10 = ((int64_t)v[10]);
+  int64_t n11 = ((int64_t)v[7]);
+  int64_t n12 = (((int64_t)n10) - ((int64_t)n11));
+  int64_t n13 = (((int64_t)n9) * ((int64_t)n12));
+  int64_t n14 = (((int64_t)n6) + ((int64_t)n13));
+  return (((int)(((int64_t)n14) > ((int64_t)0))) - ((int)(((int64_t)n14) < ((int64_t)0))));
+}
+
+static int lb1_wdot2(const int64_t *v) {
+  int64_t n0 = ((int64_t)v[7]);
+  int64_t n1 = ((int64_t)v[10]);
+  int64_t n2 = (-((int64_t)n1));
+  int64_t n3 = (((int64_t)n0) + ((int64_t)n2));
+  return (((int)(((int64_t)n3) > ((int64_t)0))) - ((int)(((int64_t)n3) < ((int64_t)0))));
+}
+
+static int lb2_wdot2(const int64_t *v) {
+  int64_t n0 = ((int64_t)v[6]);
+  int64_t n1 = ((int64_t)v[9]);
+  int64_t n2 = (-((int64_t)n1));
+  int64_t n3 = (((int64_t)n0) + ((int64_t)n2));
+  return (((int)(((int64_t)n3) > ((int64_t)0))) - ((int)(((int64_t)n3) < ((int64_t)0))));
+}
+
+static int lb3_wdot2(const int64_t *v) {
+  int64_t n0 = ((int64_t)v[7]);
+  int64_t n1 = (-((int64_t)n0));
+  int64_t n2 = ((int64_t)v[10]);
+  int64_t n3 = (((int64_t)n1) + ((int64_t)n2));
+  return (((int)(((int64_t)n3) > ((int64_t)0))) - ((int)(((int64_t)n3) < ((int64_t)0))));
+}
+
+static int lb4_wdot2(const int64_t *v) {
+  int64_t n0 = ((int64_t)v[6]);
+  int64_t n1 = (-((int64_t)n0));
+  int64_t n2 = ((int64_t)v[9]);
+  int64_t n3 = (((int64_t)n1) + ((int64_t)n2));
+  return (((int)(((int64_t)n3) > ((int64_t)0))) - ((int)(((int64_t)n3) < ((int64_t)0))));
+}
+
+static int lb5_wdot2(const int64_t *v) {
+  int64_t n0 = ((int64_t)v[1]);
+  int64_t n1 = ((int64_t)v[4]);
+  int64_t n2 = (-((int64_t)n1));
+  int64_t n3 = (((int64_t)n0) + ((int64_t)n2));
+  return (((int)(((int64_t)n3) > ((int64_t)0))) - ((int)(((int64_t)n3) < ((int64_t)0))));
+}
+
+static int lb6_wdot2(const int64_t *v) {
+  if (((int)0)) {
+    return ((int)v[0]);
+  }
+  int64_t n0 = ((int64_t)((int64_t)1));
+  return (((int)(((int64_t)n0) > ((int64_t)0))) - ((int)(((int64_t)n0) < ((int64_t)0))));
+}
+
+static int lb7_wdot2(const int64_t *v) {
+  int64_t n0 = ((int64_t)v[1]);
+  int64_t n1 = (-((int64_t)n0));
+  int64_t n2 = ((int64_t)v[4]);
+  int64_t n3 = (((int64_t)n1) + ((int64_t)n2));
+  return (((int)(((int64_t)n3) > ((int64_t)0))) - ((int)(((int64_t)n3) < ((int64_t)0))));
+}
+
+static int lb8_wdot2(const int64_t *v) {
+  if (((int)0)) {
+    return ((int)v[0]);
+  }
+  int64_t n0 = ((int64_t)(-((int64_t)1)));
+  return (((int)(((int64_t)n0) > ((int64_t)0))) - ((int)(((int64_t)n0) < ((int64_t)0))));
+}
+
+static int lb9_wdot2(const int64_t *v) {
+  if (((int)0)) {
+    return ((int)v[0]);
+  }
+  int64_t n0 = ((int64_t)(-((int64_t)1)));
+  return (((int)(((int64_t)n0) > ((int64_t)0))) - ((int)(((int64_t)n0) < ((int64_t)0))));
+}
+
+static int lb10_wdot2(const int64_t *v) {
+  if (((int)0)) {
+    return ((int)v[0]);
+  }
+  int64_t n0 = ((int64_t)((int64_t)1));
+  return (((int)(((int64_t)n0) > ((int64_t)0))) - ((int)(((int64_t)n0) < ((int64_t)0))));
+}
+
+static int lb11_wdot2(const int64_t *v) {
+  int64_t n0 = ((int64_t)v[0]);
+  int64_t n1 = ((int64_t)v[3]);
+  int64_t n2 = (-((int64_t)n1));
+  int64_t n3 = (((int64_t)n0) + ((int64_t)n2));
+  return (((int)(((int64_t)n3) > ((int64_t)0))) - ((int)(((int64_t)n3) < ((int64_t)0))));
+}
+
+static int lb12_wdot2(const int64_t *v) {
+  int64_t n0 = ((int64_t)v[0]);
+  int64_t n1 = (-((int64_t)n0));
+  int64_t n2 = ((int64_t)v[3]);
+  int64_t n3 = (((int64_t)n1) + ((int64_t)n2));
+  return (((int)(((int64_t)n3) > ((int64_t)0))) - ((int)(((int64_t)n3) < ((int64_t)0))));
+}
+
+int ln_wdot2(const int64_t *x, const int64_t *v) {
+  {
+    int answer = ((int)lb0_wdot2(v));
+    if ((((int)answer) != ((int)0))) {
+      return ((int)answer);
+    }
+  }
+  if ((((int64_t)x[0]) < ((int64_t)x[1]))) {
+    if ((((int64_t)x[0]) < ((int64_t)x[2]))) {
+      if ((((int64_t)x[0]) < ((int64_t)x[3]))) {
+        {
+          int answer = ((int)lb1_wdot2(v));
+          if ((((int)answer) != ((int)0))) {
+            return ((int)answer);
+          }
+        }
+        {
+          int answer = ((int)lb2_wdot2(v));
+          if ((((int)answer) != ((int)0))) {
+            return ((int)answer);
+          }
+        }
+        if ((((int64_t)x[1]) < ((int64_t)x[2]))) {
+          if ((((int64_t)x[1]) < ((int64_t)x[3]))) {
+            {
+              int answer = ((int)lb3_wdot2(v));
+              if ((((int)answer) != ((int)0))) {
+                return ((int)answer);
+              }
+            }
+            {
+              int answer = ((int)lb4_wdot2(v));
+              if ((((int)answer) != ((int)0))) {
+                return ((int)answer);
+              }
+            }
+            if ((((int64_t)x[2]) < ((int64_t)x[3]))) {
+              {
+                int answer = ((int)lb5_wdot2(v));
+                if ((((int)answer) != ((int)0))) {
+                  return ((int)answer);
+                }
+              }
+              {
+                int answer = ((int)lb6_wdot2(v));
+                if ((((int)answer) != ((int)0))) {
+                  return ((int)answer);
+                }
+              }
+              return ((int)0);
+            }
+            {
+              int answer = ((int)lb7_wdot2(v));
+              if ((((int)answer) != ((int)0))) {
+                return ((int)answer);
+              }
+            }
+            {
+              int answer = ((int)lb8_wdot2(v));
+              if ((((int)answer) != ((int)0))) {
+                return ((int)answer);
+              }
+            }
+            return ((int)0);
+          }
+        }
+        if ((((int64_t)x[2]) < ((int64_t)x[3]))) {
+          {
+            int answer = ((int)lb5_wdot2(v));
+            if ((((int)answer) != ((int)0))) {
+              return ((int)answer);
+            }
+          }
+          {
+            int answer = ((int)lb6_wdot2(v));
+            if ((((int)answer) != ((int)0))) {
+              return ((int)answer);
+            }
+          }
+          if ((((int64_t)x[1]) < ((int64_t)x[3]))) {
+            return ((int)0);
+          }
+          return ((int)0);
+        }
+        {
+          int answer = ((int)lb7_wdot2(v));
+          if ((((int)answer) != ((int)0))) {
+            return ((int)answer);
+          }
+        }
+        {
+          int answer = ((int)lb8_wdot2(v));
+          if ((((int)answer) != ((int)0))) {
+            return ((int)answer);
+          }
+        }
+        if ((((int64_t)x[1]) < ((int64_t)x[2]))) {
+          return ((int)0);
+        }
+        return ((int)0);
+      }
+    }
+  }
+  if ((((int64_t)x[1]) < ((int64_t)x[2]))) {
+    if ((((int64_t)x[1]) < ((int64_t)x[3]))) {
+      {
+        int answer = ((int)lb3_wdot2(v));
+        if ((((int)answer) != ((int)0))) {
+          return ((int)answer);
+        }
+      }
+      {
+        int answer = ((int)lb4_wdot2(v));
+        if ((((int)answer) != ((int)0))) {
+          return ((int)answer);
+        }
+      }
+      if ((((int64_t)x[0]) < ((int64_t)x[2]))) {
+        if ((((int64_t)x[0]) < ((int64_t)x[3]))) {
+          {
+            int answer = ((int)lb1_wdot2(v));
+            if ((((int)answer) != ((int)0))) {
+              return ((int)answer);
+            }
+          }
+          {
+            int answer = ((int)lb2_wdot2(v));
+            if ((((int)answer) != ((int)0))) {
+              return ((int)answer);
+            }
+          }
+          if ((((int64_t)x[2]) < ((int64_t)x[3]))) {
+            {
+              int answer = ((int)lb5_wdot2(v));
+              if ((((int)answer) != ((int)0))) {
+                return ((int)answer);
+              }
+            }
+            {
+              int answer = ((int)lb9_wdot2(v));
+              if ((((int)answer) != ((int)0))) {
+                return ((int)answer);
+              }
+            }
+            return ((int)0);
+          }
+          {
+            int answer = ((int)lb7_wdot2(v));
+            if ((((int)answer) != ((int)0))) {
+              return ((int)answer);
+            }
+          }
+          {
+            int answer = ((int)lb10_wdot2(v));
+            if ((((int)answer) != ((int)0))) {
+              return ((int)answer);
+            }
+          }
+          return ((int)0);
+        }
+      }
+      if ((((int64_t)x[2]) < ((int64_t)x[3]))) {
+        {
+          int answer = ((int)lb5_wdot2(v));
+          if ((((int)answer) != ((int)0))) {
+            return ((int)answer);
+          }
+        }
+        {
+          int answer = ((int)lb9_wdot2(v));
+          if ((((int)answer) != ((int)0))) {
+            return ((int)answer);
+          }
+        }
+        if ((((int64_t)x[0]) < ((int64_t)x[3]))) {
+          return ((int)0);
+        }
+        return ((int)0);
+      }
+      {
+        int answer = ((int)lb7_wdot2(v));
+        if ((((int)answer) != ((int)0))) {
+          return ((int)answer);
+        }
+      }
+      {
+        int answer = ((int)lb10_wdot2(v));
+        if ((((int)answer) != ((int)0))) {
+          return ((int)answer);
+        }
+      }
+      if ((((int64_t)x[0]) < ((int64_t)x[2]))) {
+        return ((int)0);
+      }
+      return ((int)0);
+    }
+  }
+  if ((((int64_t)x[2]) < ((int64_t)x[3]))) {
+    {
+      int answer = ((int)lb5_wdot2(v));
+      if ((((int)answer) != ((int)0))) {
+        return ((int)answer);
+      }
+    }
+    {
+      int answer = ((int)lb11_wdot2(v));
+      if ((((int)answer) != ((int)0))) {
+        return ((int)answer);
+      }
+    }
+    if ((((int64_t)x[0]) < ((int64_t)x[1]))) {
+      if ((((int64_t)x[0]) < ((int64_t)x[3]))) {
+        {
+          int answer = ((int)lb1_wdot2(v));
+          if ((((int)answer) != ((int)0))) {
+            return ((int)answer);
+          }
+        }
+        {
+          int answer = ((int)lb6_wdot2(v));
+          if ((((int)answer) != ((int)0))) {
+            return ((int)answer);
+          }
+        }
+        if ((((int64_t)x[1]) < ((int64_t)x[3]))) {
+          return ((int)0);
+        }
+        return ((int)0);
+      }
+    }
+    if ((((int64_t)x[1]) < ((int64_t)x[3]))) {
+      {
+        int answer = ((int)lb3_wdot2(v));
+        if ((((int)answer) != ((int)0))) {
+          return ((int)answer);
+        }
+      }
+      {
+        int answer = ((int)lb9_wdot2(v));
+        if ((((int)answer) != ((int)0))) {
+          return ((int)answer);
+        }
+      }
+      if ((((int64_t)x[0]) < ((int64_t)x[3]))) {
+        return ((int)0);
+      }
+      return ((int)0);
+    }
+    {
+      int answer = ((int)lb7_wdot2(v));
+      if ((((int)answer) != ((int)0))) {
+        return ((int)answer);
+      }
+    }
+    {
+      int answer = ((int)lb12_wdot2(v));
+      if ((((int)answer) != ((int)0))) {
+        return ((int)answer);
+      }
+    }
+    if ((((int64_t)x[0]) < ((int64_t)x[1]))) {
+      {
+        int answer = ((int)lb1_wdot2(v));
+        if ((((int)answer) != ((int)0))) {
+          return ((int)answer);
+        }
+      }
+      {
+        int answer = ((int)lb6_wdot2(v));
+        if ((((int)answer) != ((int)0))) {
+          return ((int)answer);
+        }
+      }
+      return ((int)0);
+    }
+    {
+      int answer = ((int)lb3_wdot2(v));
+      if ((((int)answer) != ((int)0))) {
+        return ((int)answer);
+      }
+    }
+    {
+      int answer = ((int)lb9_wdot2(v));
+      if ((((int)answer) != ((int)0))) {
+        return ((int)answer);
+      }
+    }
+    return ((int)0);
+  }
+  {
+    int answer = ((int)lb7_wdot2(v));
+    if ((((int)answer) != ((int)0))) {
+      return ((int)answer);
+    }
+  }
+  {
+    int answer = ((int)lb12_wdot2(v));
+    if ((((int)answer) != ((int)0))) {
+      return ((int)answer);
+    }
+  }
+  if ((((int64_t)x[0]) < ((int64_t)x[1]))) {
+    if ((((int64_t)x[0]) < ((int64_t)x[2]))) {
+      {
+        int answer = ((int)lb1_wdot2(v));
+        if ((((int)answer) != ((int)0))) {
+          return ((int)answer);
+        }
+      }
+      {
+        int answer = ((int)lb8_wdot2(v));
+        if ((((int)answer) != ((int)0))) {
+          return ((int)answer);
+        }
+      }
+      if ((((int64_t)x[1]) < ((int64_t)x[2]))) {
+        return ((int)0);
+      }
+      return ((int)0);
+    }
+  }
+  if ((((int64_t)x[1]) < ((int64_t)x[2]))) {
+    {
+      int answer = ((int)lb3_wdot2(v));
+      if ((((int)answer) != ((int)0))) {
+        return ((int)answer);
+      }
+    }
+    {
+      int answer = ((int)lb10_wdot2(v));
+      if ((((int)answer) != ((int)0))) {
+        return ((int)answer);
+      }
+    }
+    if ((((int64_t)x[0]) < ((int64_t)x[2]))) {
+      return ((int)0);
+    }
+    return ((int)0);
+  }
+  {
+    int answer = ((int)lb5_wdot2(v));
+    if ((((int)answer) != ((int)0))) {
+      return ((int)answer);
+    }
+  }
+  {
+    int answer = ((int)lb11_wdot2(v));
+    if ((((int)answer) != ((int)0))) {
+      return ((int)answer);
+    }
+  }
+  if ((((int64_t)x[0]) < ((int64_t)x[1]))) {
+    {
+      int answer = ((int)lb1_wdot2(v));
+      if ((((int)answer) != ((int)0))) {
+        return ((int)answer);
+      }
+    }
+    {
+      int answer = ((int)lb8_wdot2(v));
+      if ((((int)answer) != ((int)0))) {
+        return ((int)answer);
+      }
+    }
+    return ((int)0);
+  }
+  {
+    int answer = ((int)lb3_wdot2(v));
+    if ((((int)answer) != ((int)0))) {
+      return ((int)answer);
+    }
+  }
+  {
+    int answer = ((int)lb10_wdot2(v));
+    if ((((int)answer) != ((int)0))) {
+      return ((int)answer);
+    }
+  }
+  return ((int)0);
+}
+
+static int lb0_wcompare_line2(const int64_t *v) {
+  int64_t n0 = ((int64_t)v[3]);
+  int64_t n1 = ((int64_t)v[0]);
+  int64_t n2 = (((int64_t)n0) - ((int64_t)n1));
+  int64_t n3 = ((int64_t)v[7]);
+  int64_t n4 = ((int64_t)v[10]);
+  int64_t n5 = (((int64_t)n3) - ((int64_t)n4));
+  int64_t n6 = (((int64_t)n2) * ((int64_t)n5));
+  int64_t n7 = ((int64_t)v[4]);
+  int64_t n8 = ((int64_t)v[1]);
+  int64_t n9 = (((int64_t)n7) - ((int64_t)n8));
+  int64_t n10 = ((int64_t)v[6]);
+  int64_t n11 = ((int64_t)v[9]);
+  int64_t n12 = (((int64_t)n10) - ((int64_t)n11));
+  int64_t n13 = (((int64_t)n9) * ((int64_t)n12));
+  int64_t n14 = (((int64_t)n6) - ((int64_t)n13));
+  return (((int)(((int64_t)n14) > ((int64_t)0))) - ((int)(((int64_t)n14) < ((int64_t)0))));
+}
+
+static int lb1_wcompare_line2(const int64_t *v) {
+  int64_t n0 = ((int64_t)v[6]);
+  int64_t n1 = ((int64_t)v[9]);
+  int64_t n2 = (-((int64_t)n1));
+  int64_t n3 = (((int64_t)n0) + ((int64_t)n2));
+  return (((int)(((int64_t)n3) > ((int64_t)0))) - ((int)(((int64_t)n3) < ((int64_t)0))));
+}
+
+static int lb2_wcompare_line2(const int64_t *v) {
+  int64_t n0 = ((int64_t)v[7]);
+  int64_t n1 = (-((int64_t)n0));
+  int64_t n2 = ((int64_t)v[10]);
+  int64_t n3 = (((int64_t)n1) + ((int64_t)n2));
+  return (((int)(((int64_t)n3) > ((int64_t)0))) - ((int)(((int64_t)n3) < ((int64_t)0))));
+}
+
+static int lb3_wcompare_line2(const int64_t *v) {
+  int64_t n0 = ((int64_t)v[6]);
+  int64_t n1 = (-((int64_t)n0));
+  int64_t n2 = ((int64_t)v[9]);
+  int64_t n3 = (((int64_t)n1) + ((int64_t)n2));
+  return (((int)(((int64_t)n3) > ((int64_t)0))) - ((int)(((int64_t)n3) < ((int64_t)0))));
+}
+
+static int lb4_wcompare_line2(const int64_t *v) {
+  int64_t n0 = ((int64_t)v[7]);
+  int64_t n1 = ((int64_t)v[10]);
+  int64_t n2 = (-((int64_t)n1));
+  int64_t n3 = (((int64_t)n0) + ((int64_t)n2));
+  return (((int)(((int64_t)n3) > ((int64_t)0))) - ((int)(((int64_t)n3) < ((int64_t)0))));
+}
+
+static int lb5_wcompare_line2(const int64_t *v) {
+  int64_t n0 = ((int64_t)v[0]);
+  int64_t n1 = (-((int64_t)n0));
+  int64_t n2 = ((int64_t)v[3]);
+  int64_t n3 = (((int64_t)n1) + ((int64_t)n2));
+  return (((int)(((int64_t)n3) > ((int64_t)0))) - ((int)(((int64_t)n3) < ((int64_t)0))));
+}
+
+static int lb6_wcompare_line2(const int64_t *v) {
+  if (((int)0)) {
+    return ((int)v[0]);
+  }
+  int64_t n0 = ((int64_t)(-((int64_t)1)));
+  return (((int)(((int64_t)n0) > ((int64_t)0))) - ((int)(((int64_t)n0) < ((int64_t)0))));
+}
+
+static int lb7_wcompare_line2(const int64_t *v) {
+  int64_t n0 = ((int64_t)v[0]);
+  int64_t n1 = ((int64_t)v[3]);
+  int64_t n2 = (-((int64_t)n1));
+  int64_t n3 = (((int64_t)n0) + ((int64_t)n2));
+  return (((int)(((int64_t)n3) > ((int64_t)0))) - ((int)(((int64_t)n3) < ((int64_t)0))));
+}
+
+static int lb8_wcompare_line2(const int64_t *v) {
+  if (((int)0)) {
+    return ((int)v[0]);
+  }
+  int64_t n0 = ((int64_t)((int64_t)1));
+  return (((int)(((int64_t)n0) > ((int64_t)0))) - ((int)(((int64_t)n0) < ((int64_t)0))));
+}
+
+static int lb9_wcompare_line2(const int64_t *v) {
+  if (((int)0)) {
+    return ((int)v[0]);
+  }
+  int64_t n0 = ((int64_t)((int64_t)1));
+  return (((int)(((int64_t)n0) > ((int64_t)0))) - ((int)(((int64_t)n0) < ((int64_t)0))));
+}
+
+static int lb10_wcompare_line2(const int64_t *v) {
+  if (((int)0)) {
+    return ((int)v[0]);
+  }
+  int64_t n0 = ((int64_t)(-((int64_t)1)));
+  return (((int)(((int64_t)n0) > ((int64_t)0))) - ((int)(((int64_t)n0) < ((int64_t)0))));
+}
+
+static int lb11_wcompare_line2(const int64_t *v) {
+  int64_t n0 = ((int64_t)v[1]);
+  int64_t n1 = ((int64_t)v[4]);
+  int64_t n2 = (-((int64_t)n1));
+  int64_t n3 = (((int64_t)n0) + ((int64_t)n2));
+  return (((int)(((int64_t)n3) > ((int64_t)0))) - ((int)(((int64_t)n3) < ((int64_t)0))));
+}
+
+static int lb12_wcompare_line2(const int64_t *v) {
+  if (((int)0)) {
+    return ((int)v[0]);
+  }
+  int64_t n0 = ((int64_t)((int64_t)1));
+  return (((int)(((int64_t)n0) > ((int64_t)0))) - ((int)(((int64_t)n0) < ((int64_t)0))));
+}
+
+static int lb13_wcompare_line2(const int64_t *v) {
+  if (((int)0)) {
+    return ((int)v[0]);
+  }
+  int64_t n0 = ((int64_t)(-((int64_t)1)));
+  return (((int)(((int64_t)n0) > ((int64_t)0))) - ((int)(((int64_t)n0) < ((int64_t)0))));
+}
+
+static int lb14_wcompare_line2(const int64_t *v) {
+  int64_t n0 = ((int64_t)v[1]);
+  int64_t n1 = (-((int64_t)n0));
+  int64_t n2 = ((int64_t)v[4]);
+  int64_t n3 = (((int64_t)n1) + ((int64_t)n2));
+  return (((int)(((int64_t)n3) > ((int64_t)0))) - ((int)(((int64_t)n3) < ((int64_t)0))));
+}
+
+static int lb15_wcompare_line2(const int64_t *v) {
+  if (((int)0)) {
+    return ((int)v[0]);
+  }
+  int64_t n0 = ((int64_t)(-((int64_t)1)));
+  return (((int)(((int64_t)n0) > ((int64_t)0))) - ((int)(((int64_t)n0) < ((int64_t)0))));
+}
+
+static int lb16_wcompare_line2(const int64_t *v) {
+  if (((int)0)) {
+    return ((int)v[0]);
+  }
+  int64_t n0 = ((int64_t)((int64_t)1));
+  return (((int)(((int64_t)n0) > ((int64_t)0))) - ((int)(((int64_t)n0) < ((int64_t)0))));
+}
+
+int ln_wcompare_line2(const int64_t *x, const int64_t *v) {
+  {
+    int answer = ((int)lb0_wcompare_line2(v));
+    if ((((int)answer) != ((int)0))) {
+      return ((int)answer);
+    }
+  }
+  if ((((int64_t)x[0]) < ((int64_t)x[1]))) {
+    if ((((int64_t)x[0]) < ((int64_t)x[2]))) {
+      if ((((int64_t)x[0]) < ((int64_t)x[3]))) {
+        {
+          int answer = ((int)lb1_wcompare_line2(v));
+          if ((((int)answer) != ((int)0))) {
+            return ((int)answer);
+          }
+        }
+        {
+          int answer = ((int)lb2_wcompare_line2(v));
+          if ((((int)answer) != ((int)0))) {
+            return ((int)answer);
+          }
+        }
+        if ((((int64_t)x[1]) < ((int64_t)x[2]))) {
+          if ((((int64_t)x[1]) < ((int64_t)x[3]))) {
+            {
+              int answer = ((int)lb3_wcompare_line2(v));
+              if ((((int)answer) != ((int)0))) {
+                return ((int)answer);
+              }
+            }
+            {
+              int answer = ((int)lb4_wcompare_line2(v));
+              if ((((int)answer) != ((int)0))) {
+                return ((int)answer);
+              }
+            }
+            if ((((int64_t)x[2]) < ((int64_t)x[3]))) {
+              {
+                int answer = ((int)lb5_wcompare_line2(v));
+                if ((((int)answer) != ((int)0))) {
+                  return ((int)answer);
+                }
+              }
+              {
+                int answer = ((int)lb6_wcompare_line2(v));
+                if ((((int)answer) != ((int)0))) {
+                  return ((int)answer);
+                }
+              }
+              return ((int)0);
+            }
+            {
+              int answer = ((int)lb7_wcompare_line2(v));
+              if ((((int)answer) != ((int)0))) {
+                return ((int)answer);
+              }
+            }
+            {
+              int answer = ((int)lb8_wcompare_line2(v));
+              if ((((int)answer) != ((int)0))) {
+                return ((int)answer);
+              }
+            }
+            return ((int)0);
+          }
+        }
+        if ((((int64_t)x[2]) < ((int64_t)x[3]))) {
+          {
+            int answer = ((int)lb5_wcompare_line2(v));
+            if ((((int)answer) != ((int)0))) {
+              return ((int)answer);
+            }
+          }
+          {
+            int answer = ((int)lb6_wcompare_line2(v));
+            if ((((int)answer) != ((int)0))) {
+              return ((int)answer);
+            }
+          }
+          if ((((int64_t)x[1]) < ((int64_t)x[3]))) {
+            return ((int)0);
+          }
+          return ((int)0);
+        }
+        {
+          int answer = ((int)lb7_wcompare_line2(v));
+          if ((((int)answer) != ((int)0))) {
+            return ((int)answer);
+          }
+        }
+        {
+          int answer = ((int)lb8_wcompare_line2(v));
+          if ((((int)answer) != ((int)0))) {
+            return ((int)answer);
+          }
+        }
+        if ((((int64_t)x[1]) < ((int64_t)x[2]))) {
+          return ((int)0);
+        }
+        return ((int)0);
+      }
+    }
+  }
+  if ((((int64_t)x[1]) < ((int64_t)x[2]))) {
+    if ((((int64_t)x[1]) < ((int64_t)x[3]))) {
+      {
+        int answer = ((int)lb3_wcompare_line2(v));
+        if ((((int)answer) != ((int)0))) {
+          return ((int)answer);
+        }
+      }
+      {
+        int answer = ((int)lb4_wcompare_line2(v));
+        if ((((int)answer) != ((int)0))) {
+          return ((int)answer);
+        }
+      }
+      if ((((int64_t)x[0]) < ((int64_t)x[2]))) {
+        if ((((int64_t)x[0]) < ((int64_t)x[3]))) {
+          {
+            int answer = ((int)lb1_wcompare_line2(v));
+            if ((((int)answer) != ((int)0))) {
+              return ((int)answer);
+            }
+          }
+          {
+            int answer = ((int)lb2_wcompare_line2(v));
+            if ((((int)answer) != ((int)0))) {
+              return ((int)answer);
+            }
+          }
+          if ((((int64_t)x[2]) < ((int64_t)x[3]))) {
+            {
+              int answer = ((int)lb5_wcompare_line2(v));
+              if ((((int)answer) != ((int)0))) {
+                return ((int)answer);
+              }
+            }
+            {
+              int answer = ((int)lb9_wcompare_line2(v));
+              if ((((int)answer) != ((int)0))) {
+                return ((int)answer);
+              }
+            }
+            return ((int)0);
+          }
+          {
+            int answer = ((int)lb7_wcompare_line2(v));
+            if ((((int)answer) != ((int)0))) {
+              return ((int)answer);
+            }
+          }
+          {
+            int answer = ((int)lb10_wcompare_line2(v));
+            if ((((int)answer) != ((int)0))) {
+              return ((int)answer);
+            }
+          }
+          return ((int)0);
+        }
+      }
+      if ((((int64_t)x[2]) < ((int64_t)x[3]))) {
+        {
+          int answer = ((int)lb5_wcompare_line2(v));
+          if ((((int)answer) != ((int)0))) {
+            return ((int)answer);
+          }
+        }
+        {
+          int answer = ((int)lb9_wcompare_line2(v));
+          if ((((int)answer) != ((int)0))) {
+            return ((int)answer);
+          }
+        }
+        if ((((int64_t)x[0]) < ((int64_t)x[3]))) {
+          return ((int)0);
+        }
+        return ((int)0);
+      }
+      {
+        int answer = ((int)lb7_wcompare_line2(v));
+        if ((((int)answer) != ((int)0))) {
+          return ((int)answer);
+        }
+      }
+      {
+        int answer = ((int)lb10_wcompare_line2(v));
+        if ((((int)answer) != ((int)0))) {
+          return ((int)answer);
+        }
+      }
+      if ((((int64_t)x[0]) < ((int64_t)x[2]))) {
+        return ((int)0);
+      }
+      return ((int)0);
+    }
+  }
+  if ((((int64_t)x[2]) < ((int64_t)x[3]))) {
+    {
+      int answer = ((int)lb5_wcompare_line2(v));
+      if ((((int)answer) != ((int)0))) {
+        return ((int)answer);
+      }
+    }
+    {
+      int answer = ((int)lb11_wcompare_line2(v));
+      if ((((int)answer) != ((int)0))) {
+        return ((int)answer);
+      }
+    }
+    if ((((int64_t)x[0]) < ((int64_t)x[1]))) {
+      if ((((int64_t)x[0]) < ((int64_t)x[3]))) {
+        {
+          int answer = ((int)lb1_wcompare_line2(v));
+          if ((((int)answer) != ((int)0))) {
+            return ((int)answer);
+          }
+        }
+        {
+          int answer = ((int)lb12_wcompare_line2(v));
+          if ((((int)answer) != ((int)0))) {
+            return ((int)answer);
+          }
+        }
+        if ((((int64_t)x[1]) < ((int64_t)x[3]))) {
+          return ((int)0);
+        }
+        return ((int)0);
+      }
+    }
+    if ((((int64_t)x[1]) < ((int64_t)x[3]))) {
+      {
+        int answer = ((int)lb3_wcompare_line2(v));
+        if ((((int)answer) != ((int)0))) {
+          return ((int)answer);
+        }
+      }
+      {
+        int answer = ((int)lb13_wcompare_line2(v));
+        if ((((int)answer) != ((int)0))) {
+          return ((int)answer);
+        }
+      }
+      if ((((int64_t)x[0]) < ((int64_t)x[3]))) {
+        return ((int)0);
+      }
+      return ((int)0);
+    }
+    {
+      int answer = ((int)lb7_wcompare_line2(v));
+      if ((((int)answer) != ((int)0))) {
+        return ((int)answer);
+      }
+    }
+    {
+      int answer = ((int)lb14_wcompare_line2(v));
+      if ((((int)answer) != ((int)0))) {
+        return ((int)answer);
+      }
+    }
+    if ((((int64_t)x[0]) < ((int64_t)x[1]))) {
+      {
+        int answer = ((int)lb1_wcompare_line2(v));
+        if ((((int)answer) != ((int)0))) {
+          return ((int)answer);
+        }
+      }
+      {
+        int answer = ((int)lb12_wcompare_line2(v));
+        if ((((int)answer) != ((int)0))) {
+          return ((int)answer);
+        }
+      }
+      return ((int)0);
+    }
+    {
+      int answer = ((int)lb3_wcompare_line2(v));
+      if ((((int)answer) != ((int)0))) {
+        return ((int)answer);
+      }
+    }
+    {
+      int answer = ((int)lb13_wcompare_line2(v));
+      if ((((int)answer) != ((int)0))) {
+        return ((int)answer);
+      }
+    }
+    return ((int)0);
+  }
+  {
+    int answer = ((int)lb7_wcompare_line2(v));
+    if ((((int)answer) != ((int)0))) {
+      return ((int)answer);
+    }
+  }
+  {
+    int answer = ((int)lb14_wcompare_line2(v));
+    if ((((int)answer) != ((int)0))) {
+      return ((int)answer);
+    }
+  }
+  if ((((int64_t)x[0]) < ((int64_t)x[1]))) {
+    if ((((int64_t)x[0]) < ((int64_t)x[2]))) {
+      {
+        int answer = ((int)lb1_wcompare_line2(v));
+        if ((((int)answer) != ((int)0))) {
+          return ((int)answer);
+        }
+      }
+      {
+        int answer = ((int)lb15_wcompare_line2(v));
+        if ((((int)answer) != ((int)0))) {
+          return ((int)answer);
+        }
+      }
+      if ((((int64_t)x[1]) < ((int64_t)x[2]))) {
+        return ((int)0);
+      }
+      return ((int)0);
+    }
+  }
+  if ((((int64_t)x[1]) < ((int64_t)x[2]))) {
+    {
+      int answer = ((int)lb3_wcompare_line2(v));
+      if ((((int)answer) != ((int)0))) {
+        return ((int)answer);
+      }
+    }
+    {
+      int answer = ((int)lb16_wcompare_line2(v));
+      if ((((int)answer) != ((int)0))) {
+        return ((int)answer);
+      }
+    }
+    if ((((int64_t)x[0]) < ((int64_t)x[2]))) {
+      return ((int)0);
+    }
+    return ((int)0);
+  }
+  {
+    int answer = ((int)lb5_wcompare_line2(v));
+    if ((((int)answer) != ((int)0))) {
+      return ((int)answer);
+    }
+  }
+  {
+    int answer = ((int)lb11_wcompare_line2(v));
+    if ((((int)answer) != ((int)0))) {
+      return ((int)answer);
+    }
+  }
+  if ((((int64_t)x[0]) < ((int64_t)x[1]))) {
+    {
+      int answer = ((int)lb1_wcompare_line2(v));
+      if ((((int)answer) != ((int)0))) {
+        return ((int)answer);
+      }
+    }
+    {
+      int answer = ((int)lb15_wcompare_line2(v));
+      if ((((int)answer) != ((int)0))) {
+        return ((int)answer);
+      }
+    }
+    return ((int)0);
+  }
+  {
+    int answer = ((int)lb3_wcompare_line2(v));
+    if ((((int)answer) != ((int)0))) {
+      return ((int)answer);
+    }
+  }
+  {
+    int answer = ((int)lb16_wcompare_line2(v));
+    if ((((int)answer) != ((int)0))) {
+      return ((int)answer);
+    }
+  }
+  return ((int)0);
+}

@@ -29,6 +29,45 @@ else
   skip 1 'arrays of numpy' "numpy isn't installed"
 fi
 
+# from doubles to the grid and back, beside rational numbers
+gcc -std=gnu99 -Wall -Wextra -Werror -O1 -Ipredicates examples/checks/grid.c -o "$scratch/grid_c"
+clang++ -Wall -Wextra -Werror -O1 -Ipredicates -x c++ examples/checks/grid.c -o "$scratch/grid_cpp"
+rustc --edition 2021 -O examples/checks/grid.rs -o "$scratch/grid_rs"
+case_ 'grids in C, C++, Rust and Python' 0 'all right' '' "python3 examples/checks/grid.py compare 1 60 $scratch/grid_c $scratch/grid_cpp $scratch/grid_rs python | sed 's/.*lines, //; s/;.*//'"
+
+# triangulations of doubles, a program in each language over a library of plane alone
+small=$scratch/small; mkdir -p "$small/include" "$small/lib" "$small/share/lnc_predicates"
+cp predicates/lnc_plane.h predicates/lnc_grid.h "$small/include"; cp predicates/lnc_predicates.py "$small/share/lnc_predicates"
+cp "$scratch/libplane.so" "$small/lib/liblnc_predicates.so.0"; ln -s liblnc_predicates.so.0 "$small/lib/liblnc_predicates.so"
+cp -R predicates/users "$scratch/programs"; sed -i "s|LNC_PREDICATES\"|$PWD/predicates/rust\"|" "$scratch/programs/Cargo.toml"
+with="-I$small/include -L$small/lib -Wl,-rpath,$small/lib -llnc_predicates"
+(cd "$scratch/programs" && gcc -std=gnu99 -Wall -Wextra -Werror -O1 triangles.c $with -o triangles_c && g++ -std=c++17 -Wall -Wextra -Wold-style-cast -Werror -O1 triangles.cpp $with -o triangles_cpp &&
+  cargo build -q --offline)
+python3 -c "import random
+for i in range(12):
+    for j in range(12): print(i * 0.25, j * 0.5 - 1)
+for k in range(400): print(random.Random(k).randrange(2**20) / 2**16, random.Random(-k - 1).randrange(2**20) / 2**16)
+print(0.25, -1, 0, -0.0, 0.5, 0.5, 1e3, 0)" | tr ' ' '\n' | paste -d' ' - - >"$scratch/doubles"
+# the smallest corner of each triangle first
+turned="awk '{ a = \$1 + 0; b = \$2 + 0; c = \$3 + 0; while (a > b || a > c) { t = a; a = b; b = c; c = t } print a, b, c }' | sort"
+for program in ./triangles_c ./triangles_cpp "env PYTHONPATH=$small/share/lnc_predicates python3 -B triangles.py" target/debug/triangles; do
+  case_ "triangles by ${program##*[/ ]}" 0 'a Delaunay triangulation, and the same' '' "cd $scratch/programs && $program <$scratch/doubles >found && <found $turned >sorted &&
+    { [ -e first ] || cp sorted first; } && cmp sorted first && { cat $scratch/doubles; echo; cat found; } | python3 $PWD/examples/checks/triangles.py | sed 's/.*triangles, //; s/\$/, and the same/'"
+done
+case_ 'each has at most 60 lines' 0 'yes' '' "for file in predicates/users/triangles.*; do [ \$(wc -l <\$file) -le 60 ] || echo \$file; done; echo yes"
+case_ 'two points have none, and NaN is refused' 1 '' 'point 1 isn'\''t finite' "cd $scratch/programs && echo 1 2 3 4 | ./triangles_c; echo 1 2 nan 1 5 5 | ./triangles_c"
+
+# a source of its own beside the families, over the moved points of plane
+if [ -x "${LNC_EXACT:-$(bin/lnc_exact --path)}" ]; then
+  own=$scratch/own; mkdir -p "$own/include" "$own/lib" "$own/share/lnc_predicates"; cp predicates/lnc_predicates.py "$own/share/lnc_predicates"
+  case_ 'the side of a bisector' 0 $'2000 rows, 0 wrong\n6 signs, 0 wrong' '' "make -s -C predicates bisectors O=$own/include LNC=$lnc LNC_EXACT=$(readlink -f "${LNC_EXACT:-$(bin/lnc_exact --path)}") &&
+    gcc -std=gnu99 -Wall -Wextra -Werror -O0 -fPIC -shared -DLNC_BISECTORS_IMPLEMENTATION -x c $own/include/lnc_bisectors.h -o $own/lib/liblnc_predicates.so.0 &&
+    python3 examples/checks/predicates.py signs $lnc $own bisectors 2000 && python3 examples/checks/predicates.py meanings $own bisectors | sed 's/, not in.*//'"
+else
+  skipped=$((skipped + 1)); echo 'mesher.sh: skipped: bisectors, since lnc_exact is not built'
+fi
+case_ 'no larger power of 2 for them' 1 '' 'error bound' "LNC=$lnc python3 predicates/header.py --grid 30 predicates/bisectors.ln | $lnc check /dev/stdin 2>&1 | cut -d' ' -f1,2 >&2; exit 1"
+
 # bin/largest with weights, which are scaled by the square
 weighted='site p { x: -1 .. 1; w: 0 .. 1; } predicate f(p: p, q: p) { sign (p.x - q.x)^2 - p.w + q.w; }'
 for words in ' 62' 'w=2 31' 'w=3 20' 'w=0 62' 'w=0_x=3 20'; do

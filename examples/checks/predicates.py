@@ -3,7 +3,7 @@
 predicates.py signs LNC PREFIX FAMILY COUNT    COUNT rows for the family's predicates together, of which every second is near 0: the library's signs,
                                                from Python by whole batches, are those that the program LNC prints, and its plain signs are those of
                                                the source's expression over Python's integers; and so are those of the calls over points
-predicates.py meanings PREFIX                  what + means: signs of a table by hand
+predicates.py meanings PREFIX [bisectors]      what + means: signs of a table by hand
 predicates.py rust                             the Rust crate has the predicates, arguments and ranges of the sources"""
 import ctypes
 import random
@@ -54,6 +54,46 @@ MEANINGS = [
     ("turn2", "0,0,4,0 1,-1,1,1", 1),
     ("crossings2", "0,0,9,0 3,-1,3,1 2,-1,2,1", 1),
     ("crossings2", "0,0,9,0 3,1,3,-1 2,-1,2,1", -1),
+    # p at 0: q is farther than r, as far, nearer
+    ("compare_distance2", "0,0 3,4 4,2", 1),
+    ("compare_distance2", "0,0 3,4 5,0", 0),
+    ("wcompare_distance2", "0,0,9 3,4,0 6,0,0", -1),
+    ("compare_distance3", "1,1,1 4,1,1 2,2,2", 1),
+    ("wcompare_distance3", "1,1,1,9 2,2,2,0 4,1,1,0", -1),
+    # powers 25 - 5 and 36 - 18; 25 - 5 and 36 - 16
+    ("compare_power2", "0,0,7 3,4,5 6,0,18", 1),
+    ("compare_power2", "0,0,7 3,4,5 6,0,16", 0),
+    ("compare_power3", "0,0,0,7 3,4,0,6 6,0,0,16", -1),
+    # acute, right, obtuse
+    ("dot2", "0,0 5,1 2,2 3,2", 1),
+    ("dot2", "0,0 5,0 2,2 2,3", 0),
+    ("wdot2", "0,0,1 5,1,2 2,2,3 1,2,4", -1),
+    ("dot3", "0,0,0 1,1,1 0,0,0 1,1,-1", 1),
+    ("wdot3", "0,0,0,5 1,1,1,4 0,0,0,3 1,-1,-1,2", -1),
+    # to the left of the x axis
+    ("compare_line2", "0,0 9,0 4,3 7,2", 1),
+    ("compare_line2", "0,0 9,0 4,-3 7,2", -1),
+    ("wcompare_line2", "0,0,1 9,0,2 4,3,3 7,3,4", 0),
+    # above the xy plane, in which p, q, r turn counterclockwise, and then clockwise
+    ("compare_plane3", "0,0,0 1,0,0 0,1,0 5,5,3 9,9,2", 1),
+    ("compare_plane3", "0,0,0 0,1,0 1,0,0 5,5,3 9,9,2", -1),
+    # a triangle in the plane z = x
+    ("coplanar_xy", "0,0,0 1,0,1 0,1,0", 1),
+    ("coplanar_yz", "0,0,0 1,0,1 0,1,0", -1),
+    ("coplanar_zx", "0,0,0 1,0,1 0,1,0", 0),
+    ("wcoplanar_xy", "0,0,0,9 1,0,1,8 0,1,0,7", 1),
+    ("wcoplanar_yz", "0,0,0,1 0,1,0,2 0,0,1,3", 1),
+    ("wcoplanar_zx", "0,0,0,1 0,0,1,2 1,0,0,3", 1),
+]
+
+# the line y = 1 meets the bisector x = 2 of p and a at (2, 1), which is nearer to p than to b at (0, 10), and as near as to b at (0, 2)
+BISECTORS = [
+    ("bisector_side2", "0,0 4,0 0,10 0,1 10,1", 1),
+    ("bisector_side2", "0,0 4,0 0,10 10,1 0,1", -1),
+    ("bisector_side2", "0,0 4,0 0,2 0,1 10,1", 0),
+    ("bisector_side2", "0,0 4,0 0,1 0,1 10,1", -1),
+    ("bisector_dot2", "0,0 4,0 0,1 10,1", 1),
+    ("bisector_dot2", "0,0 4,0 10,1 0,1", -1),
 ]
 
 
@@ -127,22 +167,22 @@ def signs(lnc, prefix, family, count):
     print(f"{total} rows, {wrong} wrong")
 
 
-def meanings(prefix):
-    calls, wrong = library(prefix), 0
-    for name, sites, sign in MEANINGS:
+def meanings(prefix, family=None):
+    calls, wrong, table = library(prefix), 0, BISECTORS if family else MEANINGS
+    for name, sites, sign in table:
         got = getattr(calls, name).plain(*((k, *map(int, site.split(","))) for k, site in enumerate(sites.split())))
         if got != sign:
             print(f"{name} {sites}: {got}")
             wrong += 1
-    unnamed = set(calls.names) - {name for name, _, _ in MEANINGS}
-    print(f"{len(MEANINGS)} signs, {wrong} wrong, not in the table: {' '.join(sorted(unnamed))}")
+    unnamed = set(calls.names) - {name for name, _, _ in table}
+    print(f"{len(table)} signs, {wrong} wrong, not in the table: {' '.join(sorted(unnamed))}")
 
 
 def rust():
     text = Path("predicates/rust/src/lib.rs").read_text()
     for family in FAMILIES:
         source = header.Source(Path("predicates", family + ".ln").read_text())
-        ranges, names = re.search(rf'"{family}" {family}: \w+ \d+ (\[.*\]);\n(.*)\n\}}', text).groups()
+        ranges, names = re.search(rf'"{family}" {family}: \w+ \d+ (\[.*\]);\n((?:.*\n)+?)\}}', text).groups()
         calls = {name: words.split() for name, words in re.findall(r"(\w+)\(([^)]*)\)", names)}
         (coordinates,) = source.sites.values()
         one, _, times = ranges[1:-1].partition("; ")

@@ -3,6 +3,8 @@
 //! `lnc_FAMILY.h`. A site that is out of range can't be made. The indices of a call have to differ, which a debug build asserts; otherwise, with one
 //! index twice, the sign is that of some order of the sites.
 
+pub mod grid;
+
 #[allow(dead_code)]
 fn differ(indices: &[i64]) -> bool {
     indices.iter().enumerate().all(|(k, index)| !indices[..k].contains(index))
@@ -72,18 +74,22 @@ macro_rules! family {
 family! {
     "plane" plane: Point2 2 [(-(1 << 29), 1 << 29); 2];
     orient2(p q r) incircle(a b c d) diametral2(p q r) compare_x2(p q) compare_y2(p q) lexicographic2(p q)
+    compare_distance2(p q r) dot2(p q r s) compare_line2(p q r s)
 }
 family! {
     "space" space: Point3 3 [(-(1 << 23), 1 << 23); 3];
     orient3(a b c d) insphere(a b c d e) diametral3(p q r) compare_x3(p q) compare_y3(p q) compare_z3(p q) lexicographic3(p q)
+    compare_distance3(p q r) dot3(p q r s) compare_plane3(p q r s t) coplanar_xy(p q r) coplanar_yz(p q r) coplanar_zx(p q r)
 }
 family! {
     "weighted_plane" weighted_plane: Weighted2 3 [(-(1 << 29), 1 << 29), (-(1 << 29), 1 << 29), (0, 1 << 58)];
     worient2(p q r) power2(a b c d) wdiametral2(p q r) wcompare_x2(p q) wcompare_y2(p q) wcompare_w2(p q) wlexicographic2(p q)
+    wcompare_distance2(p q r) compare_power2(p q r) wdot2(p q r s) wcompare_line2(p q r s)
 }
 family! {
     "weighted_space" weighted_space: Weighted3 4 [(-(1 << 23), 1 << 23), (-(1 << 23), 1 << 23), (-(1 << 23), 1 << 23), (0, 1 << 46)];
     worient3(a b c d) power3(a b c d e) wdiametral3(p q r) wcompare_x3(p q) wcompare_y3(p q) wcompare_z3(p q) wcompare_w3(p q) wlexicographic3(p q)
+    wcompare_distance3(p q r) compare_power3(p q r) wdot3(p q r s) wcoplanar_xy(p q r) wcoplanar_yz(p q r) wcoplanar_zx(p q r)
 }
 family! {
     "segments" segments: Segment2 4 [(-(1 << 29), 1 << 29); 4];
