@@ -1,7 +1,8 @@
-// Delaunay triangulations of CGAL in the plane and in space, with its own exact predicates and with emitted ones (examples/cgal): seconds
+// Delaunay triangulations of CGAL in the plane and in space, with its own exact predicates and with those of predicates/ (examples/cgal): seconds
 // of processor for random points, a grid and a line. Each triangulation has to be valid, and that of random points the same in number of
 // cells. Built and run by bench/c.
 #include "../examples/cgal/kernel.h"
+#include <array>
 #include <CGAL/Delaunay_triangulation_2.h>
 #include <CGAL/Delaunay_triangulation_3.h>
 #include <cstdio>
@@ -54,7 +55,7 @@ template <class Mine, class Theirs, class P, class Base> static bool tried(int D
   std::vector<Base> theirs;
   for (const Place &at : scene(D, name, wanted)) {
     theirs.push_back(made(at, (Base *)nullptr));
-    mine.push_back(P(theirs.back(), mine.size()));
+    mine.push_back(site(theirs.back(), static_cast<std::int64_t>(mine.size())));
   }
   Mine m;
   Theirs t;

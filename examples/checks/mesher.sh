@@ -41,6 +41,7 @@ cp predicates/lnc_plane.h predicates/lnc_grid.h "$small/include"; cp predicates/
 cp "$scratch/libplane.so" "$small/lib/liblnc_predicates.so.0"; ln -s liblnc_predicates.so.0 "$small/lib/liblnc_predicates.so"
 cp -R predicates/users "$scratch/programs"; sed -i "s|LNC_PREDICATES\"|$PWD/predicates/rust\"|" "$scratch/programs/Cargo.toml"
 with="-I$small/include -L$small/lib -Wl,-rpath,$small/lib -llnc_predicates"
+# shellcheck disable=SC2086  # $with is words
 (cd "$scratch/programs" && gcc -std=gnu99 -Wall -Wextra -Werror -O1 triangles.c $with -o triangles_c && g++ -std=c++17 -Wall -Wextra -Wold-style-cast -Werror -O1 triangles.cpp $with -o triangles_cpp &&
   cargo build -q --offline)
 python3 -c "import random
