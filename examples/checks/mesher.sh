@@ -38,7 +38,7 @@ case_ 'grids in C, C++, Rust and Python' 0 'all right' '' "python3 examples/chec
 # triangulations of doubles, a program in each language over a library of plane alone
 small=$scratch/small; mkdir -p "$small/include" "$small/lib" "$small/share/lnc_predicates"
 cp predicates/lnc_plane.h predicates/lnc_grid.h "$small/include"; cp predicates/lnc_predicates.py "$small/share/lnc_predicates"
-cp "$scratch/libplane.so" "$small/lib/liblnc_predicates.so.0"; ln -s liblnc_predicates.so.0 "$small/lib/liblnc_predicates.so"
+cp "$scratch/libplane.so" "$small/lib/liblnc_predicates.so.1"; ln -s liblnc_predicates.so.1 "$small/lib/liblnc_predicates.so"
 cp -R predicates/users "$scratch/programs"; sed -i "s|LNC_PREDICATES\"|$PWD/predicates/rust\"|" "$scratch/programs/Cargo.toml"
 with="-I$small/include -L$small/lib -Wl,-rpath,$small/lib -llnc_predicates"
 # shellcheck disable=SC2086  # $with is words
@@ -62,7 +62,7 @@ case_ 'two points have none, and NaN is refused' 1 '' 'point 1 isn'\''t finite' 
 if [ -x "${LNC_EXACT:-$(bin/lnc_exact --path)}" ]; then
   own=$scratch/own; mkdir -p "$own/include" "$own/lib" "$own/share/lnc_predicates"; cp predicates/lnc_predicates.py "$own/share/lnc_predicates"
   case_ 'the side of a bisector' 0 $'2000 rows, 0 wrong\n6 signs, 0 wrong' '' "make -s -C predicates bisectors O=$own/include LNC=$lnc LNC_EXACT=$(readlink -f "${LNC_EXACT:-$(bin/lnc_exact --path)}") &&
-    gcc -std=gnu99 -Wall -Wextra -Werror -O0 -fPIC -shared -DLNC_BISECTORS_IMPLEMENTATION -x c $own/include/lnc_bisectors.h -o $own/lib/liblnc_predicates.so.0 &&
+    gcc -std=gnu99 -Wall -Wextra -Werror -O0 -fPIC -shared -DLNC_BISECTORS_IMPLEMENTATION -x c $own/include/lnc_bisectors.h -o $own/lib/liblnc_predicates.so.1 &&
     python3 examples/checks/predicates.py signs $lnc $own bisectors 2000 && python3 examples/checks/predicates.py meanings $own bisectors | sed 's/, not in.*//'"
 else
   skipped=$((skipped + 1)); echo 'mesher.sh: skipped: bisectors, since lnc_exact is not built'
