@@ -1,8 +1,12 @@
-"""Writes the man pages lnc.1, lnc_c.1 and lnc_exact.1 from the tables of README.md and docs/C.md, so that nothing is said twice.
-Usage, at the top of the repository: man.py VERSION FOLDER"""
+"""Writes the man pages lnc.1, lnc_c.1 and lnc_exact.1 from the tables of README.md, docs/C.md and docs/LANGUAGE.md and the kinds of bin/why, so that
+nothing is said twice. Usage, at the top of the repository: man.py VERSION FOLDER"""
+import importlib.machinery
+import importlib.util
 import re
 import sys
 from pathlib import Path
+
+sys.dont_write_bytecode = True
 
 SEE = {"lnc": "lnc_c(1), lnc_exact(1)", "lnc_c": "lnc(1)", "lnc_exact": "lnc(1), lnc_c(1)"}
 SHORT = {
@@ -15,8 +19,7 @@ LONG = {
     "moved by infinitesimals, so that without params it is never 0.",
     "lnc_c": "FILE is C of the subset that `lnc emit` and `lnc_exact` write. Each line of CALLS is a call, `NAME INDICES VALUES`. For each the program writes the "
     "sign that the call returns and how much it computed, or that it has no meaning.",
-    "lnc_exact": "It writes what `lnc emit FILE` writes, without the functions of filters: each call computes the exact value at once. Its exit statuses are those of "
-    "`lnc emit`.",
+    "lnc_exact": "It writes what `lnc emit FILE` writes, without the functions of filters: each call computes the exact value at once.",
 }
 
 
@@ -34,12 +37,36 @@ def roff(text):
     return re.sub(r"^([.'])", r"\\&\1", text)
 
 
+def kinds():
+    """The kinds of refusals of a source with what they mean, by bin/why."""
+    loader = importlib.machinery.SourceFileLoader("why", "bin/why")
+    why = importlib.util.module_from_spec(importlib.util.spec_from_loader("why", loader))
+    sys.path.insert(0, "bin")
+    loader.exec_module(why)
+    return [(kind, means) for kind, means in why.MEANS.items() if kind not in ("long", "read", "predicate", "header")]
+
+
+def sections(readme, language):
+    """What the page of lnc has beside its commands: rows, kinds of refusals, examples."""
+    about = language[language.index("## Rows\n") :].split("\n\n")[1].replace("\n", " ")
+    yield ".SH ROWS\n" + roff(about) + " For each record a line is written:"
+    for line, record in rows(language, "| line | the record |"):
+        yield f".TP\n{roff(line)}\n{roff(record)}"
+    yield ".SH SOURCES\nThe language is in docs/LANGUAGE.md. A refused source gets one line, \\fBerror\\fR, a kind, and the line and column of its first fault:"
+    for kind, means in kinds():
+        yield f".TP\n\\fB{kind}\\fR\n{roff(means)}"
+    yield ".SH EXAMPLES\nIn the folder share/doc/lnc:\n.nf"
+    for block in re.findall(r"^```console\n(.*?)^```$", readme, flags=re.M | re.S):
+        yield "\n.RS 2\n" + "\n".join(roff(line) for line in block.replace("bin/lnc", "lnc").splitlines()) + "\n.RE"
+    yield ".fi"
+
+
 def statuses(table):
     for status, means, said in table:
         yield f".TP\n{status}\n{roff(means)}{f': {roff(said)}' if said.strip('|').strip() else ''}"
 
 
-def page(name, version, forms, status):
+def page(name, version, forms, status, more):
     return "\n".join(
         [
             f'.TH {name.upper()} 1 "" "lnc {version}" ""',
@@ -48,22 +75,22 @@ def page(name, version, forms, status):
             "\n.br\n".join(roff(form) for form, _ in forms),
             f".SH DESCRIPTION\n{roff(LONG[name])}",
             *([] if len(forms) < 2 else [".SH COMMANDS", *(f".TP\n{roff(form)}\n{roff(prints)}" for form, prints in forms)]),
+            *more,
             ".SH EXIT STATUS\nAfter the colon stands what is on standard error.",
             *statuses(status),
-            f".SH SEE ALSO\n{SEE[name]}; README.md and docs in the folder share/doc/lnc.",
+            f".SH SEE ALSO\n{SEE[name]}, \\fBlnc_why \\-\\-help\\fR; README.md and docs in the folder share/doc/lnc.",
             "",
         ]
     )
 
 
 def main(version, folder):
-    readme, c = (Path(file).read_text() for file in ("README.md", "docs/C.md"))
+    readme, c, language = (Path(file).read_text() for file in ("README.md", "docs/C.md", "docs/LANGUAGE.md"))
     head = "| status | means | on standard error |"
-    status = rows(readme, head)
     forms = {"lnc": rows(readme, "| command | prints |"), "lnc_c": [["`lnc_c FILE CALLS`", ""]], "lnc_exact": [["`lnc_exact FILE`", ""]]}
-    of_emit = [row for row in status if int(row[0]) in (0, 1, 2, 6, 7, 8, 9)]
-    for name, table in (("lnc", status), ("lnc_c", rows(c, head)), ("lnc_exact", of_emit)):
-        Path(folder, name + ".1").write_text(page(name, version, forms[name], table))
+    more = {"lnc": list(sections(readme, language))}
+    for name, text in (("lnc", readme), ("lnc_c", c), ("lnc_exact", c[c.index("## C without filters") :])):
+        Path(folder, name + ".1").write_text(page(name, version, forms[name], rows(text, head), more.get(name, [])))
 
 
 main(*sys.argv[1:])

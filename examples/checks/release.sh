@@ -33,7 +33,7 @@ case_ 'a proved tree is packed' 0 "$packed/lnc-$version-x86_64-linux.tar.gz" '' 
 case_ 'in one way' 0 'equal' '' "mkdir $packed/again && $dist $packed/again >/dev/null && cmp $packed/*.tar.gz $packed/again/*.tar.gz && echo equal"
 mkdir "$packed/empty"; tar -xzf "$packed/lnc-$version-x86_64-linux.tar.gz" -C "$packed/empty"
 unpacked=$packed/empty/lnc-$version-x86_64-linux
-case_ 'what is in it' 0 'CHANGELOG.md CONTRIBUTING.md Makefile PROOF README.md bin crates.txt docs examples lnc.bash man' '' "echo \$(ls $unpacked | grep -v '^predicates\$')"
+case_ 'what is in it' 0 'CHANGELOG.md CONTRIBUTING.md Makefile PROOF README.md bin completions crates.txt docs examples libexec man' '' "echo \$(ls $unpacked | grep -v '^predicates\$')"
 judge 'and the predicates, where there are some' "$(git -C "$tree" ls-files predicates 2>/dev/null | sort)" "$(cd "$unpacked" && find predicates -type f 2>/dev/null | sort)"
 case_ 'PROOF says which commit, by which prover and what the gate said' 0 "commit: $(git -C "$tree" rev-parse HEAD)"$'\n'"prover: $(sed -n 2p "$gate")"$'\n'"gate: $(sed -n 3p "$gate")" '' \
   "grep -E '^(commit|prover|gate): ' $unpacked/PROOF"
@@ -52,7 +52,7 @@ samples_there() {
 }
 judge 'the samples run where rt is not' '0 failed' "$(samples_there)"
 case_ 'each command and status of README.md is in the man page' 0 '11 12' '' "echo \$(grep -A1 '^\\.TP' $unpacked/man/lnc.1 | grep -c '^.fBlnc ') \$(grep -A1 '^\\.TP' $unpacked/man/lnc.1 | grep -c '^[0-9]*\$')"
-case_ 'man pages for each program' 0 "$(cd "$unpacked/bin" && ls lnc*)" '' "for name in \$(cd $unpacked/bin && ls lnc*); do grep -q \"^.SH SYNOPSIS\" $unpacked/man/\$name.1 && echo \$name; done"
+case_ 'man pages for each program' 0 "$(cd "$unpacked/libexec" && ls lnc*)" '' "for name in \$(cd $unpacked/libexec && ls lnc*); do grep -q \"^.SH SYNOPSIS\" $unpacked/man/\$name.1 && echo \$name; done"
 case_ 'it is installed' 0 '+ F' '' "cd $unpacked && make -s install PREFIX='$scratch/a prefix' && cd / && env -i '$scratch/a prefix/bin/lnc' run '$scratch/a prefix/share/doc/lnc/$orient' orient '$scratch/a prefix/share/doc/lnc/$rows' | head -1"
 case_ 'with completion of commands and of the names of predicates' 0 $'explain\nemit\norient' '' ". '$scratch/a prefix/share/bash-completion/completions/lnc'
   COMP_WORDS=(lnc e); COMP_CWORD=1; _lnc; printf '%s\\n' \"\${COMPREPLY[@]}\" | grep -v edges
