@@ -14,7 +14,7 @@ def main(lnc, source, name, rows, lines):
     parts = signs.partitions(rows, 1 << 18)
     work = (signs.by_lnc, lnc, Path(source).read_bytes(), name, next(parts), os.path.abspath(rows))
     got, count, ended = b"", 0, 0
-    with LocalCluster(n_workers=2, threads_per_worker=1, dashboard_address=None, silence_logs=logging.CRITICAL) as cluster, Client(cluster) as client:
+    with LocalCluster(n_workers=2, threads_per_worker=1, dashboard_address=":0", silence_logs=logging.CRITICAL) as cluster, Client(cluster) as client:
         workers = list(client.run(os.getpid).values())
         for status, out, said in signs.signed(client, work, parts, 8):
             got += out

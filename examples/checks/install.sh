@@ -85,7 +85,7 @@ p,p.x,p.y,q,q.x,q.y,r,r.x,r.y
 there 'lnc_why finds the page of the language' 1 'write: another name: `left_of` (for `site a { x: 0 .. 9; } predicate left-of(p: a) { sign p.x; }`)' '' \
   "printf 'site a { x: 0 .. 9; } predicate a-b(p: a) { sign p.x; }' >../it.ln; '$prefix/bin/lnc_why' ../it.ln | grep ^write"
 # a copy of the samples elsewhere takes lnc from the path, or from LNC
-cp -R "$prefix/share/doc/lnc/examples" ../samples
+cp -R "$prefix/share/doc/lnc/examples" ../samples; find ../samples -name '*.o' -delete
 for sample in 'make -s -C mesh clean delaunay' 'make -s -C languages clean liborient.so' 'make -s -C tetrahedra delaunay3' 'hull/draw' "make -s -C cgal clean predicates.c" \
   'cmake -S languages -B made' 'cmake --build made' 'large orientation/orient.ln orient orientation/rows.csv'; do
   there "elsewhere: $sample" 0 '' '' "cd ../samples && PATH='$prefix/bin':.:\$PATH && $sample >said"

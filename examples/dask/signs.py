@@ -105,7 +105,7 @@ if __name__ == "__main__":
     except ImportError:
         print("skipped: Dask isn't installed")
         sys.exit()
-    cluster = given.scheduler or LocalCluster(n_workers=given.workers, threads_per_worker=1, dashboard_address=None)
+    cluster = given.scheduler or LocalCluster(n_workers=given.workers, threads_per_worker=1, dashboard_address=":0")
     with Client(cluster) as client:
         number = len(client.scheduler_info()["workers"])
         status = main(client, number, given.source, given.name, given.rows, given.partition)
