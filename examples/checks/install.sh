@@ -59,7 +59,7 @@ judge 'each link of its pages leads somewhere' '' "$(dead_links)"
 # every command that its pages show
 pages() { # FOLDER
   # (examples/check judges by the program that it tries; here the pages' own words run)
-  local lnc=bin/lnc before=$minutes; minutes=10
+  local before=$minutes; minutes=10
   cd "$1" || return
   PATH=$plain_path; unset LNC LNC_C LNC_EXACT
   show() {

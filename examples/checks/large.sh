@@ -1,4 +1,4 @@
-# shellcheck shell=bash disable=SC2154  # examples/check, which reads this file, gives the names that stand for nothing here
+# shellcheck shell=bash disable=SC2154,SC2059  # examples/check, which reads this file, gives the names that stand for nothing here
 # examples/large beside `run`, on rows of which some are invalid; and examples/large.py beside both
 awk 'BEGIN { srand(4); print "p,p.x,p.y,q,q.x,q.y,r,r.x,r.y"
   for (i = 0; i < 40000; i++) {
