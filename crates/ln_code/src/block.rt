@@ -105,7 +105,7 @@ impl Block {
     pub fn copy(&self, alloc: Global) -> Result<Block, NoMemory>
         ensures { IfOk result (λ b. b ≡ self.now) }
     {
-        let exps = self.exps.copy()?;
+        let exps = self.exps.copy(alloc)?;
         let ops = self.ops.as_slice().to_vec(alloc)?;
         let pairs = self.pairs.as_slice().to_vec(alloc)?;
         Ok(Block {

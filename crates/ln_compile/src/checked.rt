@@ -3,7 +3,7 @@ ghost use Rattle.std.specs.Prelude.{◌≡◌, ◌≤◌, ◌<◌, length, map, 
 ghost use Rattle.ln_base.specs.Limits.{most_source, most_stages};
 ghost use Rattle.ln_tree.specs.Table.{pred_of, table_of};
 ghost use Rattle.ln_compile.specs.Accepted.{Accepted};
-ghost use Rattle.ln_compile.specs.Compiled.{AreProgramsOf, IsProgramAt, IsStageCountAt, number_of};
+ghost use Rattle.ln_compile.specs.Compiled.{AreProgramsOf, AreStageCounts, IsProgramAt, IsStageCountAt, number_of};
 ghost use Rattle.ln_compile.specs.Polynomial.{IsPolynomialAt};
 ghost use Rattle.ln_compile.specs.Refused.{IsRefusal, IsTheOne, IsUnaccepted};
 
@@ -17,6 +17,26 @@ use ln_poly::Poly;
 use ln_tree::{Pred, Table};
 use std::alloc::Global;
 use std::marker::Model;
+
+// The number of the predicate of a name.
+pub(crate) fn found(t: &Table, name: &str) -> Option<usize>
+    ensures { result ≡ number_of name.now t.now.preds }
+{
+    let name = name.as_bytes();
+    t.preds
+        .as_slice()
+        .iter()
+        .position(|p| p.name.bytes() == name)
+}
+
+// The stage count of a predicate among those of all.
+pub(crate) fn count_at(preds: &[Pred], counts: &[u64], i: usize) -> u64
+    requires counted { AreStageCounts (map pred_of preds.now) counts.now }
+    requires within { i < length preds.now }
+    ensures { IsStageCountAt (map pred_of preds.now) i result }
+{
+    counts[i]
+}
 
 /// The table of a source, each predicate of which is accepted, with one stage count for each predicate, in order. Programs take far
 /// more memory than it does, so they are made where they are asked for.
@@ -58,12 +78,7 @@ impl Checked {
     pub fn find(&self, name: &str) -> Option<usize>
         ensures { result ≡ number_of name.now self.now.table.preds }
     {
-        let name = name.as_bytes();
-        self.table
-            .preds
-            .as_slice()
-            .iter()
-            .position(|p| p.name.bytes() == name)
+        found(&self.table, name)
     }
 
     /// The predicate of a number. It allocates nothing.
@@ -79,7 +94,17 @@ impl Checked {
         requires { i < length self.now.table.preds }
         ensures { IsStageCountAt (map pred_of self.now.table.preds) i result }
     {
-        self.counts.as_slice()[i]
+        count_at(self.table.preds.as_slice(), self.counts.as_slice(), i)
+    }
+
+    // The table and the stage counts.
+    pub(crate) fn into_parts(self) -> (Table, Seq<u64>)
+        ensures table { result.0 ≡ self.table }
+        ensures counts { result.1 ≡ self.counts }
+        ensures counted { AreStageCounts (map pred_of self.table.preds) self.counts }
+    {
+        let Checked { table, counts } = self;
+        (table, counts)
     }
 
     /// The program of a predicate, by its number. By `laws::programs_of_a_table` those of all predicates are what `Programs` may hold.

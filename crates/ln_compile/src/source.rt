@@ -6,8 +6,9 @@ ghost use Rattle.ln_compile.specs.Accepted.{Accepted};
 ghost use Rattle.ln_compile.specs.Compiled.{AreProgramsOf, IsStageCountAt, number_of};
 ghost use Rattle.ln_compile.specs.Refused.{IsRefusal, IsTheOne, IsUnaccepted};
 
-use crate::checked::{Checked, check};
+use crate::checked::{check, count_at, found};
 use crate::refusal::Refusal;
+use ln_base::Seq;
 use ln_code::Programs;
 use ln_tree::Table;
 use std::alloc::Global;
@@ -17,8 +18,11 @@ use std::marker::Model;
 /// predicate, in order.
 #[derive(Drop)]
 pub struct Compiled {
-    checked: Checked,
-    programs: Programs,
+    /// The table of the source.
+    pub table: Table,
+    /// The programs of its predicates, in order.
+    pub programs: Programs,
+    counts: Seq<u64>,
 }
 
 impl Model for Compiled {
@@ -26,26 +30,29 @@ impl Model for Compiled {
     ghost use Rattle.std.specs.Coded.{codes};
     ghost use Rattle.ln_tree.specs.contracts.expr.Node as node;
     ghost use Rattle.ln_tree.specs.Table.{pred_of};
-    ghost use Rattle.ln_compile.specs.Compiled.{AreProgramsOf, CompiledOf};
+    ghost use Rattle.ln_compile.specs.Compiled.{AreProgramsOf, AreStageCounts, CompiledOf};
 
     ghost Value = { CompiledOf };
 
     ghost coded = { Prim.hlevel (codes, node.the_row.coded) };
 
-    ghost view = { λ c. record { table = c.checked.table; programs = c.programs; counts = c.checked.counts } };
+    ghost view = { λ c. record { table = c.table; programs = c.programs; counts = c.counts } };
 
-    ghost invariant = { λ c. AreProgramsOf (map pred_of c.checked.table.preds) c.programs };
+    ghost invariant = { λ c. record {
+      made : AreProgramsOf (map pred_of c.table.preds) c.programs;
+      counted : AreStageCounts (map pred_of c.table.preds) c.counts;
+    } };
 }
 
 impl Compiled {
-    /// The table of the source.
+    /// Returns the field `table`.
     pub fn table(&self) -> &Table
         ensures { result.now ≡ self.now.table }
     {
-        self.checked.table()
+        &self.table
     }
 
-    /// The programs of its predicates, in order.
+    /// Returns the field `programs`, of which the contract says what the type keeps: a caller that is lent a value knows it by this call alone.
     pub fn programs(&self) -> &Programs
         ensures value { result.now ≡ self.now.programs }
         ensures kept { AreProgramsOf (map pred_of self.now.table.preds) self.now.programs }
@@ -57,7 +64,7 @@ impl Compiled {
     pub fn find(&self, name: &str) -> Option<usize>
         ensures { result ≡ number_of name.now self.now.table.preds }
     {
-        self.checked.find(name)
+        found(&self.table, name)
     }
 
     /// The stage count of a predicate, by its number. It allocates nothing.
@@ -65,7 +72,7 @@ impl Compiled {
         requires { i < length self.now.table.preds }
         ensures { IsStageCountAt (map pred_of self.now.table.preds) i result }
     {
-        self.checked.stage_count(i)
+        count_at(self.table.preds.as_slice(), self.counts.as_slice(), i)
     }
 }
 
@@ -80,5 +87,10 @@ pub fn compile(alloc: Global, bytes: &[u8]) -> Result<Compiled, Refusal>
 {
     let checked = check(alloc, bytes)?;
     let programs = checked.programs(alloc)?;
-    Ok(Compiled { checked, programs })
+    let (table, counts) = checked.into_parts();
+    Ok(Compiled {
+        table,
+        programs,
+        counts,
+    })
 }

@@ -278,11 +278,11 @@ fn written(alloc: Global, lets: &[Fitted], t: &Fitted) -> Result<Draft, NoMemory
 }
 
 // The block of what was drafted, which computes the derivative of these exponents.
-fn finished(a: &Exps, draft: Draft) -> Result<Block, NoMemory>
+fn finished(alloc: Global, a: &Exps, draft: Draft) -> Result<Block, NoMemory>
     requires { IsBlock (record { exps = a.now; ops = draft.ops; pairs = map range draft.pairs; depth = 2048 }) }
     ensures { IfOk result (λ b. b ≡ record { exps = a.now; ops = draft.ops; pairs = map range draft.pairs; depth = 2048 }) }
 {
-    let exps = a.copy()?;
+    let exps = a.copy(alloc)?;
     Ok(Block::seal(exps, draft.ops, draft.pairs, 2048))
 }
 
@@ -321,5 +321,5 @@ pub fn lower(
     ensures small { IfOk result (λ b. length b.ops ≤ 4 * (cost (typed t.now) + costs (map typed lets.now)) + 64) }
 {
     let draft = written(alloc, lets.as_slice(), t)?;
-    finished(a, draft)
+    finished(alloc, a, draft)
 }

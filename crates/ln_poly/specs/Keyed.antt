@@ -80,3 +80,4 @@ pub record IsGivenUp (f g : Keyed) (most : ℕ) : Type 0 where
   pub rows : ℕ
   pub products : AreAllProducts done (take rows f) g
   pub many : most + (length f - rows) * length g < length done
+  pub limit : most + 1 < 2 ^ 64

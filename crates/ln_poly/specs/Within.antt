@@ -1,5 +1,5 @@
 -- Products with more terms than are wanted.
-use Rattle.std.specs.Prelude.{◌≡◌, ◌≢◌, ℕ, pos, ◌<◌, ◌≤◌, List, length, Option, IfNone, IfSome}
+use Rattle.std.specs.Prelude.{◌≡◌, ◌≢◌, ℕ, pos, ◌+◌, ◌<◌, ◌≤◌, ◌^◌, List, length, Option, IfNone, IfSome}
 use Rattle.ln_algebra.specs.Coefficient.{product}
 use Rattle.ln_algebra.specs.Vector.{In}
 use Rattle.ln_poly.specs.Expansion.{AreDistinct}
@@ -18,9 +18,10 @@ pub record HasMoreTerms (n : ℕ) (f g : Sparse) (k : ℕ) : Type 0 where
 abbrev pub TakesMore : Sparse → Sparse → ℕ → Type 0
 TakesMore f g k = (n : ℕ) → AreBelow n f → AreBelow n g → HasMoreTerms n f g k
 
--- the product of f and g by the rows of f, where it has at most k terms; where there is none, it has more
+-- the product of f and g by the rows of f, where it has at most k terms; where there is none, it has more, and k is below the largest length
 pub record IsWithin (f g : Sparse) (k : ℕ) (o : Option Sparse) : Type 0 where
   pub rows : IfSome o (λ h. IsRows h f g (length f))
   pub form : IfSome o IsPoly
   pub few : IfSome o (λ h. length h ≤ k)
   pub none : IfNone o (TakesMore f g k)
+  pub limit : IfNone o (k + 1 < 2 ^ 64)

@@ -76,24 +76,24 @@ impl Poly {
     {
         self.terms.as_slice() == other.terms.as_slice()
     }
+}
 
-    /// Is it 0, without any term?
-    pub fn is_zero(&self) -> bool
-        ensures { IsTrue result ↔ (self.now ≡ []) }
-    {
-        self.terms.is_empty()
-    }
+/// Is the polynomial 0, without any term? It allocates nothing.
+pub fn is_zero(f: &Poly) -> bool
+    ensures { IsTrue result ↔ (f.now ≡ []) }
+{
+    f.terms().is_empty()
+}
 
-    /// Is it a number, with no term but that of no variable?
-    pub fn is_constant(&self) -> bool
-        ensures { IsTrue result ↔ All (λ t. t.0 ≡ []) self.now }
-    {
-        let f = self.terms();
-        'terms: for t in f {
-            if !t.0.pairs().is_empty() {
-                return false;
-            }
+/// Is the polynomial a number, with no term but that of no variable? It allocates nothing.
+pub fn is_constant(f: &Poly) -> bool
+    ensures { IsTrue result ↔ All (λ t. t.0 ≡ []) f.now }
+{
+    let terms = f.terms();
+    'terms: for t in terms {
+        if !t.0.pairs().is_empty() {
+            return false;
         }
-        true
     }
+    true
 }

@@ -23,7 +23,8 @@ pub(crate) fn add_at(out: &mut Vec<(Exps, i128)>, at: usize, t: &(Exps, i128))
 pub(crate) fn push(out: &mut Vec<(Exps, i128)>, t: &(Exps, i128)) -> Result<(), NoMemory>
     ensures { OnOk result (out.new.items ≡ out.old.items ++ t.now ∷ []) }
 {
-    out.push((t.0.copy()?, t.1))?;
+    let alloc = *out.allocator();
+    out.push((t.0.copy(alloc)?, t.1))?;
     Ok(())
 }
 

@@ -1,4 +1,4 @@
-//! A product that is given up where it has too many terms.
+//! Products, which may be given up where they have too many terms.
 ghost use Rattle.std.specs.Prelude.{◌≡◌, ℕ, List, ◌+◌, ◌-◌, ◌*◌, ◌<◌, ◌≤◌, ◌^◌, ◌↔◌};
 ghost use Rattle.std.specs.Prelude.{All, IfOk, IfSome, IfNone, IsTrue, length};
 ghost use Rattle.ln_algebra.specs.Coefficient.{product};
@@ -141,4 +141,23 @@ pub fn mul_within(alloc: Global, f: &Poly, g: &Poly, most: usize) -> Result<Opti
 {
     let mut room = Room::new(alloc);
     mul_in(alloc, &mut room, f, g, most)
+}
+
+/// Returns the product of two polynomials. The product of their sums of absolute factors is below `2^127`, and no exponent of the product
+/// exceeds 127. Takes time and memory as `mul_within` without a limit.
+pub fn mul(alloc: Global, f: &Poly, g: &Poly) -> Result<Poly, NoMemory>
+    requires room { size_of f.now * size_of g.now < 2 ^ 127 }
+    requires powers { All (λ s. PowersFit s g.now) f.now }
+    ensures coefficients { IfOk result (λ h. (n : ℕ) (m : List ℕ) → length m ≡ n →
+        coefficient_at n h m ≡ product (coefficient_at n f.now) (coefficient_at n g.now) m) }
+    ensures size { IfOk result (λ h. size_of h ≤ size_of f.now * size_of g.now) }
+    ensures form { IfOk result IsPoly }
+    ensures below { IfOk result (λ h. (n : ℕ) → AreBelow n f.now → AreBelow n g.now → AreBelow n h) }
+{
+    let mut room = Room::new(alloc);
+    let found = fewer_rows(alloc, &mut room, f, g, usize::MAX)?;
+    match found {
+        Some(h) => Ok(h),
+        None => unreachable!(),
+    }
 }

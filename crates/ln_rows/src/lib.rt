@@ -13,7 +13,7 @@ mod quoted;
 pub mod record;
 pub mod rows;
 
-pub use names::{column, header};
+pub use names::header;
 pub use numbers::{NumberStop, number};
 pub use record::{RowStop, field, fill_row, row};
 pub use rows::Rows;

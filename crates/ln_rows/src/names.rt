@@ -1,14 +1,12 @@
-//! The names of the columns.
-ghost use Rattle.std.specs.Prelude.{◌≡◌, ◌↔◌, ◌+◌, ◌-◌, ◌<◌, ◌^◌, ◌++◌, min, [], ◌∷◌, map, length, IsTrue, Some, slice_index_or, IfOk};
+//! Compares fields with the names of columns.
+ghost use Rattle.std.specs.Prelude.{◌≡◌, ◌↔◌, ◌+◌, ◌-◌, ◌<◌, ◌^◌, ◌++◌, min, [], ◌∷◌, map, length, IsTrue, Some};
 ghost use Rattle.csv.specs.Records.{fields_of, field_at};
 ghost use Rattle.std.specs.Option.{option_copied};
 ghost use Rattle.ln_tree.specs.Names.{name_bytes};
 ghost use Rattle.ln_rows.specs.Columns.{coord_column, site_columns, param_columns, arg_columns, column_names, Passes};
 
 use csv::ByteRecord;
-use ln_base::NoMemory;
-use ln_tree::{Arg, Coord, Name, Param, Pred, Site, Table};
-use std::alloc::Global;
+use ln_tree::{Arg, Coord, Name, Param, Pred, Site, Table, arg_width};
 
 fn same(a: &[u8], b: &[u8]) -> bool
     ensures { IsTrue result ↔ (a.now ≡ b.now) }
@@ -128,74 +126,6 @@ pub fn point_header(s: &Site, fields: &ByteRecord) -> bool
     }
 }
 
-fn plain(alloc: Global, name: &Name) -> Result<Vec<u8>, NoMemory>
-    ensures { IfOk result (λ v. v.items ≡ name_bytes name.now) }
-{
-    let mut text = Vec::new(alloc);
-    text.extend_from_slice(name.bytes())?;
-    Ok(text)
-}
-
-fn dotted(alloc: Global, site: &Name, coord: &Coord) -> Result<Vec<u8>, NoMemory>
-    ensures { IfOk result (λ v. v.items ≡ coord_column site.now coord.now) }
-{
-    let mut text = Vec::new(alloc);
-    text.extend_from_slice(site.bytes())?;
-    text.push(b'.')?;
-    text.extend_from_slice(coord.name.bytes())?;
-    Ok(text)
-}
-
-// The name of column `i` of a site of this type, empty where it has no such column.
-fn site_column(
-    alloc: Global,
-    name: &Name,
-    site: Option<&Site>,
-    i: usize,
-) -> Result<Vec<u8>, NoMemory>
-    ensures { IfOk result (λ v. v.items ≡ slice_index_or (site_columns name.now (option_copied site.entry)) i []) }
-{
-    if i == 0 {
-        return plain(alloc, name);
-    }
-    let Some(site) = site else {
-        return Ok(Vec::new(alloc));
-    };
-    match site.coords.get(i - 1) {
-        Some(coord) => dotted(alloc, name, coord),
-        None => Ok(Vec::new(alloc)),
-    }
-}
-
-// The name of column `i` of an argument, empty where it has no such column.
-fn arg_column(alloc: Global, t: &Table, arg: &Arg, i: usize) -> Result<Vec<u8>, NoMemory>
-    ensures { IfOk result (λ v. v.items ≡ slice_index_or (arg_columns t.now.sites t.now.params arg.now) i []) }
-{
-    match arg {
-        Arg::Site(name, k) => site_column(alloc, name, t.sites.get(usize::from(*k)), i),
-        Arg::Param(k) => match t.params.get(usize::from(*k)) {
-            Some(param) if i == 0 => plain(alloc, &param.name),
-            _ => Ok(Vec::new(alloc)),
-        },
-    }
-}
-
-// How many columns an argument has.
-fn arg_width(t: &Table, arg: &Arg) -> usize
-    ensures { result ≡ length (arg_columns t.now.sites t.now.params arg.now) }
-{
-    match arg {
-        Arg::Site(_, k) => match t.sites.get(usize::from(*k)) {
-            Some(site) => site.coords.as_slice().len() + 1,
-            None => 1,
-        },
-        Arg::Param(k) => match t.params.get(usize::from(*k)) {
-            Some(_) => 1,
-            None => 0,
-        },
-    }
-}
-
 /// Room for as many fields as there are columns, and one; or `2^64 - 1` where that is less.
 pub(crate) fn room(t: &Table, p: &Pred) -> usize
     ensures { result ≡ min (length (column_names t.now.sites t.now.params p.now.args) + 1) (2 ^ 64 - 1) }
@@ -205,19 +135,4 @@ pub(crate) fn room(t: &Table, p: &Pred) -> usize
         room = room.saturating_add(arg_width(t, arg));
     }
     room
-}
-
-/// The name of column `i` of a predicate, from 0; empty where it has no such column.
-pub fn column(alloc: Global, t: &Table, p: &Pred, i: usize) -> Result<Vec<u8>, NoMemory>
-    ensures { IfOk result (λ v. v.items ≡ slice_index_or (column_names t.now.sites t.now.params p.now.args) i []) }
-{
-    let mut left = i;
-    'each: for arg in p.args.as_slice() {
-        let width = arg_width(t, arg);
-        if left < width {
-            return arg_column(alloc, t, arg, left);
-        }
-        left -= width;
-    }
-    Ok(Vec::new(alloc))
 }

@@ -1,5 +1,5 @@
 //! The records of a rows file.
-ghost use Rattle.std.specs.Prelude.{◌≡◌, ◌+◌, ◌≤◌, ℕ, List, None, Some, [], ◌∷◌, true, false, length, take, IfOk, IfSome, OnErr};
+ghost use Rattle.std.specs.Prelude.{◌≡◌, ◌+◌, ◌≤◌, ℕ, List, None, Some, [], ◌∷◌, true, false, length, take, IfOk, IfSome, IsOk, OnErr};
 ghost use Rattle.csv.specs.Records.{fields_of};
 ghost use Rattle.ln_rows.specs.Columns.{site_columns};
 ghost use Rattle.ln_rows.specs.Header.{HeaderIs, names_of};
@@ -33,14 +33,15 @@ impl<'a> Model for Rows<'a> {
 }
 
 impl<'a> Rows<'a> {
-    /// The records of these bytes, none of which has been read.
-    pub fn new(alloc: Global, bytes: &'a [u8]) -> Rows<'a>
-        ensures { result ≡ records_in bytes.now }
+    /// Makes the list of the records of these bytes, none of which has been read. It allocates nothing: reading the first record does.
+    pub fn new(alloc: Global, bytes: &'a [u8]) -> Result<Rows<'a>, NoMemory>
+        ensures records { IfOk result (λ r. r ≡ records_in bytes.now) }
+        ensures made { IsOk result }
     {
-        Rows {
+        Ok(Rows {
             left: Left::new(alloc, bytes),
             record: ByteRecord::new(alloc),
-        }
+        })
     }
 
     /// The next record into `into`, and whether there was one. At the end no record remains, before and after, and after `NoMemory` none.

@@ -19,7 +19,7 @@ use crate::tally::Tally;
 use crate::visits::visit_by;
 use ln_base::Seq;
 use ln_order::{Front, all_prefixes};
-use ln_poly::Poly;
+use ln_poly::{Poly, is_zero};
 use ln_tree::{Exps, Shape};
 use std::alloc::Global;
 
@@ -144,7 +144,7 @@ fn stages_by(
     ensures weight { IfOk result (λ st. stage_weight (length s.now.vars) f.now (vectors_of (length s.now.vars) st) ≤ heavy) }
     ensures err { IfErr result (StopsListingIn (rank_of by_degree) s.now.sites s.now.vars f.now most heavy) }
 {
-    if f.is_zero() {
+    if is_zero(f) {
         return Err(StageStop::Zero);
     }
     let terms = f.terms();

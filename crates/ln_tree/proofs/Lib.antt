@@ -1,3 +1,4 @@
+pub mod ColumnLemmas
 pub mod KeptLemmas
 pub mod LaidLemmas
 pub mod Monomials

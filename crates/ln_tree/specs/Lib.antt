@@ -9,3 +9,4 @@ pub mod Row
 pub mod Table
 pub mod Exps
 pub mod Whole
+pub mod Columns

@@ -66,10 +66,9 @@ impl Exps {
     }
 
     /// Copies the pairs. Up to eight pairs are kept in the value, and a longer list allocates.
-    pub fn copy(&self) -> Result<Exps, NoMemory>
+    pub fn copy(&self, alloc: Global) -> Result<Exps, NoMemory>
         ensures { IfOk result (λ e. e ≡ self.now) }
     {
-        let alloc = *self.pairs.allocator();
         let pairs = self.pairs.as_slice();
         if pairs.len() <= KEPT {
             return Ok(Exps {

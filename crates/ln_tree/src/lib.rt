@@ -5,6 +5,7 @@
 //! nodes; `Shape` keeps the rule that numbers its variables.
 #![tactic(auto)]
 
+pub mod columns;
 pub mod expr;
 pub mod exps;
 pub mod items;
@@ -15,6 +16,7 @@ pub mod pred;
 pub mod shape;
 pub mod table;
 
+pub use columns::arg_width;
 pub use expr::{Expr, Node, Var};
 pub use exps::{Exps, exponent_of};
 pub use items::{Arg, Coord, Param, Site};

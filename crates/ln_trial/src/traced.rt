@@ -39,7 +39,7 @@ fn fault_by(alloc: Global, p: &Pred, trace: &Trace) -> Result<u32, NoMemory>
     requires { IsSound (pred_of p.now) }
 {
     let case = case_of(alloc, p)?;
-    let mut rows = Rows::new(alloc, RECORD);
+    let mut rows = Rows::new(alloc, RECORD)?;
     match judge(alloc, p, &case.poly, &case.stages, &mut rows, trace)? {
         Some(line) => Ok(line),
         None => Ok(0),

@@ -23,7 +23,7 @@ fn runs_on(
     requires vars { program.now.shape.vars ≡ pred.now.shape.vars }
 {
     let mut s = Scratch::new(alloc, program)?;
-    let mut rows = Rows::new(alloc, record.as_bytes());
+    let mut rows = Rows::new(alloc, record.as_bytes())?;
     let mut row = Row {
         index: [0; 5],
         values: [0; 168],

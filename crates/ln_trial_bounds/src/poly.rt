@@ -7,7 +7,7 @@ ghost use Rattle.ln_poly.specs.Sparse.{AreBelow, terms_of};
 
 use crate::sources::{poly_of, table};
 use ln_base::NoMemory;
-use ln_poly::{Poly, PolyStop, add, derive, heft, mul_within, number, power, weight};
+use ln_poly::{Poly, PolyStop, add, derive, heft, is_constant, is_zero, mul_within, number, power, weight};
 use ln_tree::{Pred, Shape};
 use std::alloc::Global;
 
@@ -30,7 +30,7 @@ fn has(f: &Poly, terms: &[Want]) -> bool {
 
 /// Are these x + x and x * x?
 fn are_twice(sum: &Poly, square: &Poly) -> bool {
-    let apart = !sum.same(square) && !sum.is_zero() && !sum.is_constant();
+    let apart = !sum.same(square) && !is_zero(sum) && !is_constant(sum);
     apart && has(sum, TWO_X) && has(square, X_SQUARED)
 }
 
@@ -54,7 +54,7 @@ fn is_kind(alloc: Global, c: i128, zero: bool) -> bool
     requires { unsigned_abs c < 2 ^ 127 }
 {
     match number(alloc, c) {
-        Ok(f) => f.is_constant() && f.is_zero() == zero,
+        Ok(f) => is_constant(&f) && is_zero(&f) == zero,
         Err(_) => false,
     }
 }

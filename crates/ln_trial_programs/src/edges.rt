@@ -92,7 +92,7 @@ fn have_edges(alloc: Global, site: &Site, program: &Program) -> Result<bool, NoM
     requires { (program.now.shape.sites ≡ 3) × (program.now.shape.vars ≡ three_of (coords_of site.now))
         × (length (coords_of site.now) ≤ 32) }
 {
-    let mut rows = Rows::new(alloc, POINTS);
+    let mut rows = Rows::new(alloc, POINTS)?;
     let mut s = Scratch::new(alloc, program)?;
     match read_points(alloc, site, &mut rows)? {
         Found::Points(points) => Ok(are_pairs(program, &mut s, points.as_slice())),

@@ -58,13 +58,13 @@ fn are_read(alloc: Global, site: &Site) -> Result<bool, NoMemory> {
     }
     let mut record = ByteRecord::new(alloc);
     for (text, want) in SAID {
-        let mut rows = Rows::new(alloc, text);
+        let mut rows = Rows::new(alloc, text)?;
         if !rows.next(&mut record)? || !says(site, &record, *want) {
             return Ok(false);
         }
     }
     for (text, begins) in HEADERS {
-        let mut rows = Rows::new(alloc, text);
+        let mut rows = Rows::new(alloc, text)?;
         if matches!(rows.point_header(site), Ok(true)) != *begins {
             return Ok(false);
         }

@@ -81,7 +81,7 @@ fn are_records(
 fn records_have_their_fields_with_quotes_or_without(rt: HostRuntime) -> Result<(), Fail> {
     let mut record = ByteRecord::new(rt.alloc());
     for (text, records) in RECORDS {
-        let mut rows = Rows::new(rt.alloc(), text);
+        let mut rows = Rows::new(rt.alloc(), text)?;
         assert!(rt; are_records(&mut rows, &mut record, records)?);
     }
     Ok(())
@@ -92,7 +92,7 @@ const FIRST_TWO: &[&[&[u8]]] = &[&[b"a", b"b"], &[b"d"], &[b"e", b"f"]];
 
 #[test]
 fn no_more_fields_are_kept_than_there_is_room_for(rt: HostRuntime) -> Result<(), Fail> {
-    let mut rows = Rows::new(rt.alloc(), b"a,b,c\nd\n\"e\",f,g\n");
+    let mut rows = Rows::new(rt.alloc(), b"a,b,c\nd\n\"e\",f,g\n")?;
     let mut record = ByteRecord::new(rt.alloc());
     for fields in FIRST_TWO {
         assert!(rt; rows.next_within(2, &mut record)?);

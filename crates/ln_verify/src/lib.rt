@@ -26,4 +26,4 @@ pub mod steps;
 pub mod triple;
 pub mod value;
 
-pub use listings::{Judged, verify, verify_text};
+pub use listings::{Judged, VerifyStop, verify, verify_text};

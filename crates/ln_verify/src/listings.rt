@@ -27,6 +27,23 @@ pub enum Judged {
     Invalid(u32),
 }
 
+/// Why `verify` has no verdict: out of memory, which is the one cause.
+#[derive(Clone, Copy)]
+pub enum VerifyStop {
+    NoMemory(NoMemory),
+}
+
+impl From<NoMemory> for VerifyStop {
+    ghost use Rattle.ln_verify.specs.declared.listings.VerifyStop.TheVariants.{NoMemory};
+    ghost use Rattle.ln_base.specs.Outside.{refused};
+
+    ghost from_gives = { λ _ e. e ≡ NoMemory refused };
+
+    fn from(e: NoMemory) -> Self {
+        VerifyStop::NoMemory(e)
+    }
+}
+
 // Each predicate with what its part is judged by.
 fn cases_of(alloc: Global, preds: &[Pred]) -> Result<Vec<Case>, NoMemory>
     requires { AreSound (map pred_of preds.now) }
@@ -75,7 +92,7 @@ fn judged_of(first: Option<u32>) -> Judged
 ///
 /// A `get` copies no term. A sum takes time near linear in its terms, a product a product of terms for each pair of its operands'
 /// terms, of which there may be 1,048,576. Allocates for the polynomials of one stack, the exponents of one part and one product.
-pub fn verify(alloc: Global, t: &Table, l: &Listing) -> Result<Judged, NoMemory>
+pub fn verify(alloc: Global, t: &Table, l: &Listing) -> Result<Judged, VerifyStop>
     requires { AreSound (map pred_of t.now.preds) }
     ensures valid { IfOk result (λ j. (j ≡ Valid) ↔ IsValidFor (map pred_of t.now.preds) l.now) }
     ensures invalid { IfOk result (λ j. (line : ℕ) → (j ≡ Invalid line) ↔ IsFaultFor (map pred_of t.now.preds) l.now line) }

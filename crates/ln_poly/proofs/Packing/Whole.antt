@@ -209,9 +209,14 @@ parts-end out aside f g done i most r l = subst (λ z. AreAllProducts done z g) 
 -- the rows up to j have more terms than are wanted
 pub given-up-at : (f f' g done next : Keyed) (i j most n : ℕ) → AreAllProducts done (take i f) g
     → ((e : Keyed) → AreAllProducts done e g → AreAllProducts next (e ++ f') g) → f' ≡ take (j - i) (drop i f) → i < j
-    → n ≡ length next → most + (length f - j) * length g < n → IsGivenUp f g most
-given-up-at f f' g done next i j most n p q e l d h =
-    record { done = next; rows = j; products = next-products next f f' g i j (q (take i f) p) e (omega (arith, l)); many = omega (arith, d, h) }
+    → n ≡ length next → most + (length f - j) * length g < n → n < 2 ^ 64 → IsGivenUp f g most
+given-up-at f f' g done next i j most n p q e l d h small = record {
+  done = next;
+  rows = j;
+  products = next-products next f f' g i j (q (take i f) p) e (omega (arith, l));
+  many = omega (arith, d, h);
+  limit = omega (arith, h, small);
+}
 
 -- the size of the memory fits
 pub size-small : (f g : Keyed) (n : ℕ) → n ≡ min (length f) 64 → length g * 32 < 2 ^ 63 → n * length g < 2 ^ 64

@@ -77,8 +77,8 @@ more-turned f g k h = λ n bf bg. let r : HasMoreTerms n g f k = h n bg bf in re
 
 -- the same of a product, or none, that was made by the rows of g
 pub within-turned : (o : Option Sparse) (f g : Sparse) (k : ℕ) → IsWithin g f k o → IsWithin f g k o
-within-turned None f g k r = record { rows = tt; form = tt; few = tt; none = more-turned f g k r.none }
-within-turned (Some h) f g k r = record { rows = rows-turned h f g r.rows; form = r.form; few = r.few; none = tt }
+within-turned None f g k r = record { rows = tt; form = tt; few = tt; none = more-turned f g k r.none; limit = r.limit }
+within-turned (Some h) f g k r = record { rows = rows-turned h f g r.rows; form = r.form; few = r.few; none = tt; limit = tt }
 
 -- ---- a product that there may be
 -- a product that was found has the coefficients of the product of f and g

@@ -116,7 +116,7 @@ pub fn work<C: Console>(alloc: Global, con: &mut C, ready: &Ready) -> Result<End
         (count (C.faults con.old) (C.faults con.new)) result (C.shown con.old) (C.shown con.new) }
 {
     let (table, trace) = two_texts(ready);
-    let mut rows = Rows::new(alloc, table);
+    let mut rows = Rows::new(alloc, table)?;
     let t = ready.compiled.table();
     let ended = audit_records(alloc, con, t, named(ready), &mut rows, trace);
     drop(rows);

@@ -73,7 +73,7 @@ fn points(alloc: Global, ready: &Ready) -> Result<Vec<Point>, Stop>
     ensures err { IfErr result (λ s. (g : Given) → StandsFor ready.now g → StopsPoints g s) }
 {
     let site = point_type(ready);
-    let mut rows = Rows::new(alloc, one_text(ready));
+    let mut rows = Rows::new(alloc, one_text(ready))?;
     let points = match rows.point_header(site) {
         Ok(true) => points_after(alloc, site, &mut rows),
         Ok(false) => Err(Stop::Tell(Why::Header)),

@@ -263,6 +263,6 @@ pub(crate) fn put_lines<C: Console, W: RecordWriter>(
         (RowsPart (W.begins writer.now) (W.line writer.now g.preds) (states_of kind_of tally_of watchers.items) g) ⊥ ⊥
         (count (C.faults con.old) (C.faults con.new)) result (C.shown con.old) (C.shown con.new) }
 {
-    let mut rows = Rows::new(alloc, text);
+    let mut rows = Rows::new(alloc, text)?;
     put_from_header(alloc, con, writer, &mut rows, watchers)
 }

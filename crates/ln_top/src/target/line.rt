@@ -9,7 +9,7 @@ use crate::target::factors::Factors;
 use itoa::Buffer;
 use ln_base::{NoMemory, Sign};
 use ln_code::{By, Verdict};
-use ln_rows::{RowStop, column};
+use ln_rows::RowStop;
 use ln_tree::{Pred, Table};
 use std::alloc::Global;
 
@@ -112,7 +112,7 @@ fn add_column(
     ensures err { OnErr result (text.new.items ≡ text.old.items) }
     ensures room { vec_capacity text.old ≤ vec_capacity text.new }
 {
-    let name = column(alloc, table, pred, usize::from(k))?;
+    let name = pred.column(alloc, table, usize::from(k))?;
     add_named(text, front, &name)
 }
 

@@ -1,4 +1,4 @@
-use Rattle.std.proofs.Common.{◌≡◌, ◌-◌, ◌*◌, ◌≤◌, ap, arith, length, rules, subst, sym}
+use Rattle.std.proofs.Common.{◌≡◌, ◌-◌, ◌*◌, ◌<◌, ◌≤◌, ◌^◌, ap, arith, length, rules, subst, sym}
 use Rattle.std.proofs.lemmas.Bool.{iff_false}
 use Rattle.ln_poly.specs.Keyed.{AreAllProducts, Keyed}
 use Rattle.ln_poly.proofs.Packing.Loops.{part-fit}
@@ -33,9 +33,10 @@ parts-preserved g c =
 pub returns-then-are_too_many : goal.returns-then-are_too_many
 returns-then-are_too_many g c =
     let l : c.len.result ≡ length c.in_ok-next.next.items = search rules in
+    let small : c.len.result < 2 ^ 64 = search rules in
     given-up-at _ _ _ _ _ _ _ _ _ c.parts.invariant.products
     (λ e p. c.in_ok-next.ensures.rows e (subst (λ (z : Keyed). AreAllProducts z e c.args.g.now) (sym c.as_slice.ensures.value) p)) c.between.ensures
-    c.end_of-j.ensures.further l (c.are_too_many.ensures.0 c.if-are_too_many.true)
+    c.end_of-j.ensures.further l (c.are_too_many.ensures.0 c.if-are_too_many.true) small
 
 pub overflow_sub-f : goal.overflow_sub-f
 overflow_sub-f g c = c.end_of-j.ensures.within

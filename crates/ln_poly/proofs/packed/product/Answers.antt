@@ -60,6 +60,7 @@ returns-in-Some g c =
       form = product-poly g.row.N ws c.args.f.now c.args.g.now c.requires.fields c.in-Some.terms.items a.0 c.requires.room;
       few = omega (arith, a.1, unkeyed-length ws c.in-Some.terms.items);
       none = tt;
+      limit = tt;
     })
 
 pub returns : goal.returns
@@ -68,4 +69,10 @@ returns g c =
     let l = c.as_slice.ensures.value ∙ c.in_ok-left.ensures ∙ ap (keyed ws) c.terms.ensures.value in
     let r = c.as_slice-2.ensures.value ∙ c.in_ok-right.ensures ∙ ap (keyed ws) c.terms-2.ensures.value in
     let u : IsGivenUp (keyed ws c.args.f.now) (keyed ws c.args.g.now) c.args.most = rw (c.in-None.is, l, r) at c.in_ok-found.ensures in
-    record { rows = tt; form = tt; few = tt; none = given-up g.row.N ws c.args.f.now c.args.g.now c.requires.fields c.args.most c.requires.room u }
+    record {
+      rows = tt;
+      form = tt;
+      few = tt;
+      none = given-up g.row.N ws c.args.f.now c.args.g.now c.requires.fields c.args.most c.requires.room u;
+      limit = u.limit;
+    }

@@ -13,4 +13,4 @@ returns g c = λ given s.
     let said = rw c.table-t.ensures at c.audit_records-ended.ensures in
     said given
     (has_trace c.args.ready.now given c.named.result.now _ _ _ s (one_name _ _ _ c.requires.fit refl refl) c.named.ensures (c.two_texts.ensures given s)
-    c.new-rows.ensures)
+    c.in_ok-rows.ensures.records)

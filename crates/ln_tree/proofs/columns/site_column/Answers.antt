@@ -1,8 +1,8 @@
 use Rattle.std.proofs.Common.{◌∙◌, sym}
 use Rattle.ln_tree.specs.Names.{name_bytes}
-use Rattle.ln_rows.specs.Columns.{coord_column}
-use Rattle.ln_rows.proofs.Fields.NameLemmas.{none_past}
-use Rattle.ln_rows.proofs.names.site_column.Goals as goal
+use Rattle.ln_tree.specs.Columns.{coord_column}
+use Rattle.ln_tree.proofs.ColumnLemmas.{none_past}
+use Rattle.ln_tree.proofs.columns.site_column.Goals as goal
 
 pub returns-in-None : goal.returns-in-None
 returns-in-None c = rw c.in-Some.is (c.new-in-None.ensures.items

@@ -1,5 +1,0 @@
-use Rattle.std.proofs.Common.{◌≡◌, ℕ, ℤ, ◌<◌, List, [], get_or}
-use Rattle.ln_poly.proofs.poly.Poly.is_constant.Given as goal
-
-abbrev pub invariant-terms : goal.invariant-terms
-invariant-terms l = (k : ℕ) (d : List (ℕ × ℕ) × ℤ) → k < l.t-index → (get_or l.f k d).0 ≡ []
