@@ -137,6 +137,7 @@ named-once m list (s ∷ ss) h (suc k) d l = nothing ss k d (omega (arith, l)) w
   nothing (s ∷ ss) zero d l = λ i e q. absurd (omega (arith, q))
   nothing (s ∷ ss) (suc k) d l = nothing ss k d (omega (arith, l))
 
+-- The program of one order keeps all that a program keeps.
 pub one-order-is-program : OneOrderIsProgram
 one-order-is-program p h =
     let L : List ℕ = list_in_turn p in
@@ -176,6 +177,7 @@ along-first zs t cs (n ∷ ns) place wide calls h =
       by_block None ih = refl
       by_block (Some c) ih = by_value c (block_value zs c) ih
 
+-- On a row whose indices rise, the program of one order has the verdict of the whole program without its filter.
 pub one-order-decides : OneOrderDecides
 one-order-decides p h row v rises d =
     let L : List ℕ = list_in_turn p in

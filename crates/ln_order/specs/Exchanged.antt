@@ -124,6 +124,7 @@ pub record AreShifted (vars : List VarInfo) (j : ℕ) (partner : ℕ → ℕ) : 
   pub shift : IsShift vars j (shift_of vars j)
   pub partners : (v : ℕ) → partner v ≡ partner_at vars j (shift_of vars j) v
 
+-- Neighbouring sites of one type are a shift apart, and the partner is the variable there.
 abbrev pub AlikeAreShifted : Type 0
 AlikeAreShifted =
     (sites : ℕ) (vars : List VarInfo) (j : ℕ) (partner : ℕ → ℕ) → is_laid_out sites vars ≡ true → suc j < sites → AreAlike vars j (suc j) partner →

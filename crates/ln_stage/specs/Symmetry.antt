@@ -57,6 +57,7 @@ abbrev pub HasSymmetry : ℕ → List VarInfo → Symmetry → Sparse → Type 0
 HasSymmetry sites vars y f =
     (e : Tree) → IsNormal (length vars) e f → NeighboursTurn sites vars (neighbour_partners vars) (turn_of y) e
 
+-- The exchanges of neighbours don't all turn the polynomial by this sign, whatever the partners are.
 abbrev pub LacksSymmetry : ℕ → List VarInfo → Symmetry → Sparse → Type 0
 LacksSymmetry sites vars y f =
     (e : Tree) → IsNormal (length vars) e f → (partner : ℕ → ℕ → ℕ) → NeighboursTurn sites vars partner (turn_of y) e → ⊥

@@ -7,7 +7,9 @@ ghost use Rattle.ln_poly.specs.Sparse.{AreBelow, terms_of};
 
 use crate::sources::{poly_of, table};
 use ln_base::NoMemory;
-use ln_poly::{Poly, PolyStop, add, derive, heft, is_constant, is_zero, mul_within, number, power, weight};
+use ln_poly::{
+    Poly, PolyStop, add, derive, heft, is_constant, is_zero, mul_within, number, power, weight,
+};
 use ln_tree::{Pred, Shape};
 use std::alloc::Global;
 

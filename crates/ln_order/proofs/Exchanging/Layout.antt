@@ -145,14 +145,17 @@ ordered a n b (i ∷ is) h k v w s t e f l = by_next (next a n b i is h k) (λ a
 none-counted : IsCounted no_var 0
 none-counted u e = cc
 
+-- In a laid out list, a variable that follows one of the same site is its next coordinate.
 pub site-joins : (sites : ℕ) (vars : List VarInfo) (v s : ℕ) → is_laid_out sites vars ≡ true → site_of vars (suc v) ≡ Some s → Joins vars v s
 site-joins sites vars v s h e = joins 0 0 no_var vars (laid_out sites vars h).order none-counted v s e
 
+-- In a laid out list, the variables of an earlier site come before those of a later one.
 pub sites-ordered : (sites : ℕ) (vars : List VarInfo) (v w s t : ℕ) → is_laid_out sites vars ≡ true → site_of vars v ≡ Some s → site_of vars w ≡ Some t
     → s < t → v < w
 sites-ordered sites vars v w s t h = ordered 0 0 no_var vars (laid_out sites vars h).order none-counted v w s t
 
 -- ---- the first variable of a site
+-- No variable of a site comes before the first one.
 pub first-least : (vars : List VarInfo) (v s : ℕ) → site_of vars v ≡ Some s → first_of_site vars s ≤ v
 first-least [] v s e = cc
 first-least (i ∷ is) v s e = by_case (same_site i.site (Some s)) refl v e (λ v. first-least is v s) where
@@ -162,6 +165,7 @@ first-least (i ∷ is) v s e = by_case (same_site i.site (Some s)) refl v e (λ 
   by_case false q zero e ih = absurd (let z : true ≡ false = sym (site-self i.site s e) ∙ q in cc)
   by_case false q (suc v) e ih = omega (arith, ih v e)
 
+-- Where a site has a variable, its first one is of that site.
 pub first-there : (vars : List VarInfo) (v s : ℕ) → site_of vars v ≡ Some s → site_of vars (first_of_site vars s) ≡ Some s
 first-there [] v s e = cc
 first-there (i ∷ is) v s e = by_case (same_site i.site (Some s)) refl v e (λ v. first-there is v s) where

@@ -95,6 +95,7 @@ module _ (sites : ℕ) (vars : List VarInfo) (j : ℕ) (P : ℕ → ℕ) (laid :
         (λ r. let z : false ≡ true = sym e ∙ site-self (site_of vars v) j (q ∙ ap Some r) in cc)
         (λ r. let z : false ≡ true = sym f ∙ site-self (site_of vars v) (suc j) (q ∙ ap Some r) in cc))))
 
+-- The partner of sites of one type is the variable that is their distance away.
 pub alike-shifted : AlikeAreShifted
 alike-shifted sites vars j partner laid within alike = record {
   shift = is-shift sites vars j partner laid alike;

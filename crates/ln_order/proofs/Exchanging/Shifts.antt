@@ -26,6 +26,7 @@ site-within (i ∷ is) (suc v) s h = omega (arith, site-within is v s h)
 pub other-first : (j : ℕ) → other_of j (suc j) j ≡ suc j
 other-first j = grind (arith, nat_tests)
 
+-- The exchange of sites j and j + 1 sends j + 1 to j.
 pub other-second : (j : ℕ) → other_of j (suc j) (suc j) ≡ j
 other-second j = grind (arith, nat_tests)
 

@@ -175,6 +175,7 @@ sorts (suc m) sites vars partner s row e a r = by_case (falls-or-rises row.index
             (goes row now next.sorted (power_of s (inversions now.index)) j l (is-exchanged sites vars j (partner j) row l r) next.steps);
       }
 
+-- Each row in range is led to one whose indices rise, by as many exchanges of neighbours as it has inversions.
 pub rows-sort : RowsSort
 rows-sort sites vars partner s row a r = sorts (inversions row.index) sites vars partner s row refl a r
 

@@ -17,6 +17,7 @@ swap zero (a ∷ b ∷ zs) = b ∷ a ∷ zs
 swap (suc j) [] = []
 swap (suc j) (a ∷ zs) = a ∷ swap j zs
 
+-- An exchange of neighbours keeps the number of indices.
 pub length-swap : (j : ℕ) (zs : List ℤ) → length (swap j zs) ≡ length zs
 length-swap zero [] = refl
 length-swap zero (a ∷ []) = refl
@@ -83,9 +84,11 @@ differ-swap j zs l h i k d m n = λ e.
       by_order x y (inr (inr q)) a b e f = h y x d q a (sym e)
 
 -- ---- inversions
+-- 1 where the test holds, else 0.
 abbrev pub one-if : Bool → ℕ
 one-if b = cond b 1 0
 
+-- A count over a list is that of its head and that of its tail.
 pub count-cons : (p : ℤ → Bool) (z : ℤ) (zs : List ℤ) → count_by p (z ∷ zs) ≡ one-if (p z) + count_by p zs
 count-cons p z zs = sum_by-cons (λ x. cond (p x) 1 0) z zs
 

@@ -45,6 +45,7 @@ behind-count s i n = go i.site where
   go None = omega arith
   go (Some t) = omega arith
 
+-- After a variable of a site one site more has begun.
 pub some-behind : (s t : ℕ) (i : VarInfo) → i.site ≡ Some t → sites_behind s i ≡ suc s
 some-behind s t i e = rw e refl
 

@@ -88,10 +88,12 @@ pub factor_there : (y : Symmetry) (a b x z : ℤ) (r : Bool) → Decides r (b �
 factor_there y a b x z r h p q = subst (λ w. Decides r (w ≡ turn_of y *ℤ x)) q (subst (λ w. Decides r (b ≡ turn_of y *ℤ w)) p h)
 
 -- ---- a partner
+-- A term with another factor is no partner.
 pub partner_not : (vars : List VarInfo) (j d : ℕ) (y : Symmetry) (t u : Pairs × ℤ) (r : Bool) → Decides r (u.1 ≡ turn_of y *ℤ t.1) → r ≡ false
     → Decides false (IsPartner vars j d y t u)
 partner_not vars j d y t u r h e = ((λ z. cc), (λ p. let z : false ≡ true = sym e ∙ h.1 p.factor in cc))
 
+-- A term with the right factor is a partner exactly where its exponents are.
 pub partner_by : (vars : List VarInfo) (j d : ℕ) (y : Symmetry) (t u : Pairs × ℤ) (a b : Pairs) (r s : Bool) → Decides r (u.1 ≡ turn_of y *ℤ t.1) → r ≡ true
     → a ≡ t.0 → b ≡ u.0 → Decides s (ArePartners vars j d a b) → Decides s (IsPartner vars j d y t u)
 partner_by vars j d y t u a b r s h e p q g = (
@@ -100,10 +102,12 @@ partner_by vars j d y t u a b r s h e p q g = (
 )
 
 -- ---- among terms
+-- A partner that was met is one among the terms.
 pub partner_found : (vars : List VarInfo) (j d i : ℕ) (y : Symmetry) (f : Sparse) (t u : Pairs × ℤ) (r : Bool) → i < length f → u ≡ get_or f i u
     → Decides r (IsPartner vars j d y t u) → r ≡ true → Decides true (HasPartner vars j d y f t)
 partner_found vars j d i y f t u r l e h q = ((λ _. record { other = u; member = (i, l, sym e); is = h.0 q }), (λ _. refl))
 
+-- One more term is no partner.
 pub partner_next : (vars : List VarInfo) (j d i : ℕ) (y : Symmetry) (f : Sparse) (t u : Pairs × ℤ) (r : Bool) → i < length f → u ≡ get_or f i u
     → Decides r (IsPartner vars j d y t u) → r ≡ false → All (λ u. IsPartner vars j d y t u → ⊥) (take i f)
     → All (λ u. IsPartner vars j d y t u → ⊥) (take (i + 1) f)
@@ -111,6 +115,7 @@ partner_next vars j d i y f t u r l e h q a =
     let n : IsPartner vars j d y t u → ⊥ = λ p. (let z : true ≡ false = sym (h.1 p) ∙ q in cc) in
     All-more (λ u. IsPartner vars j d y t u → ⊥) f i u l a (rw e at n)
 
+-- Where none of all terms is a partner, there is none.
 pub partner_none : (vars : List VarInfo) (j d i : ℕ) (y : Symmetry) (f : Sparse) (t : Pairs × ℤ) → length f ≤ i
     → All (λ u. IsPartner vars j d y t u → ⊥) (take i f) → Decides false (HasPartner vars j d y f t)
 partner_none vars j d i y f t l a = (
@@ -119,6 +124,7 @@ partner_none vars j d i y f t l a = (
 )
 
 -- ---- all terms
+-- One more term has a partner.
 pub partners_more : (vars : List VarInfo) (j d i : ℕ) (y : Symmetry) (f : Sparse) (t : Pairs × ℤ) (r : Bool) → i < length f → t ≡ get_or f i t
     → Decides r (HasPartner vars j d y f t) → r ≡ true → All (λ t. HasPartner vars j d y f t) (take i f)
     → All (λ t. HasPartner vars j d y f t) (take (i + 1) f)
@@ -126,10 +132,12 @@ partners_more vars j d i y f t r l e h q a =
     let p : HasPartner vars j d y f t = h.0 q in
     All-more (λ t. HasPartner vars j d y f t) f i t l a (subst (λ u. HasPartner vars j d y f u) e p)
 
+-- All terms have partners at the end of the list.
 pub partners_end : (vars : List VarInfo) (j d i : ℕ) (y : Symmetry) (f : Sparse) → length f ≤ i → All (λ t. HasPartner vars j d y f t) (take i f)
     → Decides true (All (λ t. HasPartner vars j d y f t) f)
 partners_end vars j d i y f l a = ((λ _. rw (take_all i f l) at a), (λ _. refl))
 
+-- One term without a partner decides that not all have one.
 pub partners_missing : (vars : List VarInfo) (j d i : ℕ) (y : Symmetry) (f : Sparse) (t : Pairs × ℤ) (r : Bool) → i < length f → t ≡ get_or f i t
     → Decides r (HasPartner vars j d y f t) → r ≡ false → Decides false (All (λ t. HasPartner vars j d y f t) f)
 partners_missing vars j d i y f t r l e h q = (

@@ -28,6 +28,7 @@ pub of_there : (vars : List VarInfo) (j v : ℕ) (i : VarInfo) (r : Bool) → v 
     → r ≡ is_of_site vars j v
 of_there vars j v i r l h e = e ∙ ap (λ o. same_site o (Some j)) (sym (site-there vars v i l h))
 
+-- Past the last variable none is of a site.
 pub of_past : (vars : List VarInfo) (j v : ℕ) → length vars ≤ v → false ≡ is_of_site vars j v
 of_past vars j v h = ap (λ o. same_site o (Some j)) (sym (site-past vars v h))
 
@@ -37,10 +38,12 @@ range-is [] v i l h = absurd (omega (arith, l))
 range-is (k ∷ ks) zero i l h = ap (λ (z : VarInfo). (z.lo, z.hi)) h
 range-is (k ∷ ks) (suc v) i l h = range-is ks v i (omega (arith, l)) h
 
+-- The declared ends of a variable are its range.
 pub range_there : (vars : List VarInfo) (v : ℕ) (i : VarInfo) (a b : ℤ) → a ≡ i.lo → b ≡ i.hi → v < length vars → i ≡ get_or vars v i
     → (a, b) ≡ range_at vars v
 range_there vars v i a b p q l h = ap (λ x. (x, b)) p ∙ ap (λ y. (i.lo, y)) q ∙ range-is vars v i l h
 
+-- Past the last variable the range is 0 .. 0.
 pub range_past : (vars : List VarInfo) (v : ℕ) → length vars ≤ v → (pos 0, pos 0) ≡ range_at vars v
 range_past [] v h = refl
 range_past (k ∷ ks) zero h = absurd (omega (arith, h))
@@ -60,6 +63,7 @@ looks vars j v b l e =
     ap (λ z. first_of_site z j) (drop_more vars v no_var l)
     ∙ ap (λ c. if c then 0 else suc (first_of_site (drop (v + 1) vars) j)) (ap (λ o. same_site o (Some j)) (sym s) ∙ sym e)
 
+-- A variable of another site is passed in the search for the first one.
 pub looks_on : (vars : List VarInfo) (j v : ℕ) (b : Bool) → v < length vars → b ≡ is_of_site vars j v → b ≡ false → LooksFrom vars j v
     → LooksFrom vars j (v + 1)
 looks_on vars j v b l e f k =
@@ -67,6 +71,7 @@ looks_on vars j v b l e f k =
     looks vars j v b l e ∙ ap (λ c. if c then 0 else suc (first_of_site (drop (v + 1) vars) j)) f in
     omega (arith, g, k)
 
+-- The first variable of the site that the search meets is its first one.
 pub looks_here : (vars : List VarInfo) (j v : ℕ) (b : Bool) → v < length vars → b ≡ is_of_site vars j v → b ≡ true → LooksFrom vars j v
     → v ≡ first_of_site vars j
 looks_here vars j v b l e f k =
@@ -74,6 +79,7 @@ looks_here vars j v b l e f k =
     looks vars j v b l e ∙ ap (λ c. if c then 0 else suc (first_of_site (drop (v + 1) vars) j)) f in
     omega (arith, g, k)
 
+-- A site without variables has the end of the list as its first one.
 pub looked_all : (vars : List VarInfo) (j v : ℕ) → length vars ≤ v → v ≤ length vars → LooksFrom vars j v → length vars ≡ first_of_site vars j
 looked_all vars j v l m k =
     let g : first_of_site (drop v vars) j ≡ 0 = ap (λ z. first_of_site z j) (drop_all v vars l) in
@@ -84,6 +90,7 @@ looked_all vars j v l m k =
 pub above_none : (vars : List VarInfo) (j d v : ℕ) (b : Bool) → b ≡ is_of_site vars j v → b ≡ false → Decides true (IsAbove vars j d v)
 above_none vars j d v b e f = ((λ _ h. let z : false ≡ true = sym f ∙ e ∙ h in cc), (λ _. refl))
 
+-- Where the variable a shift above is of another site, the two sites aren't a shift apart there.
 pub above_missing : (vars : List VarInfo) (j d v k : ℕ) (b c : Bool) → k ≡ suc j → b ≡ is_of_site vars j v → b ≡ true
     → c ≡ is_of_site vars k (v + d) → c ≡ false → Decides false (IsAbove vars j d v)
 above_missing vars j d v k b c q e f g h = (
@@ -92,6 +99,7 @@ above_missing vars j d v k b c q e f g h = (
       let y : false ≡ true = sym h ∙ g ∙ ap (λ s. is_of_site vars s (v + d)) q ∙ z in cc),
 )
 
+-- Where it is of the next site, the ranges decide.
 pub above_there : (vars : List VarInfo) (j d v k : ℕ) (b c r : Bool) (one two : ℤ × ℤ) → k ≡ suc j → b ≡ is_of_site vars j v → b ≡ true
     → c ≡ is_of_site vars k (v + d) → c ≡ true → one ≡ range_at vars (v + d) → two ≡ range_at vars v → Decides r (one ≡ two)
     → Decides r (IsAbove vars j d v)
@@ -100,16 +108,19 @@ above_there vars j d v k b c r one two q e f g h x y t = (
   (λ a. t.1 (x ∙ (a (sym e ∙ f)).1 ∙ sym y)),
 )
 
+-- A variable of another site needs none below it.
 pub below_none : (vars : List VarInfo) (j d v k : ℕ) (b : Bool) → k ≡ suc j → b ≡ is_of_site vars k v → b ≡ false → Decides true (IsBelow vars j d v)
 below_none vars j d v k b q e f =
     ((λ _ h. let z : false ≡ true = sym f ∙ e ∙ ap (λ s. is_of_site vars s v) q ∙ h in cc), (λ _. refl))
 
+-- A variable of the next site with fewer than a shift of variables before it has none below it.
 pub below_short : (vars : List VarInfo) (j d v k : ℕ) (b : Bool) → k ≡ suc j → b ≡ is_of_site vars k v → b ≡ true → v < d → Decides false (IsBelow vars j d v)
 below_short vars j d v k b q e f l = (
   (λ z. cc),
   (λ a. let z : d ≤ v = (a (sym (ap (λ s. is_of_site vars s v) q) ∙ sym e ∙ f)).0 in absurd (omega (arith, z, l))),
 )
 
+-- Else the variable a shift below decides.
 pub below_there : (vars : List VarInfo) (j d v k : ℕ) (b r : Bool) → k ≡ suc j → b ≡ is_of_site vars k v → b ≡ true → d ≤ v
     → r ≡ is_of_site vars j (v - d) → Decides r (IsBelow vars j d v)
 below_there vars j d v k b r q e f l g = (
@@ -123,6 +134,7 @@ pub record ShiftsAt (vars : List VarInfo) (j d v : ℕ) : Type 0 where
   pub above : IsAbove vars j d v
   pub below : IsBelow vars j d v
 
+-- One more variable has its counterpart a shift away.
 pub shift_more : (vars : List VarInfo) (j d n : ℕ) (a b : Bool) → Decides a (IsAbove vars j d n) → a ≡ true → Decides b (IsBelow vars j d n)
     → b ≡ true → ((v : ℕ) → v < n → ShiftsAt vars j d v) → (v : ℕ) → v < n + 1 → ShiftsAt vars j d v
 shift_more vars j d n a b x p y q h v l = by_place (cases_lt v n) where
@@ -130,6 +142,7 @@ shift_more vars j d n a b x p y q h v l = by_place (cases_lt v n) where
   by_place (inl m) = h v m
   by_place (inr m) = let e : n ≡ v = omega (arith, l, m) in subst (ShiftsAt vars j d) e (record { above = x.0 p; below = y.0 q })
 
+-- Where all variables have theirs, the sites are a shift apart.
 pub shift_all : (vars : List VarInfo) (j d n : ℕ) → length vars ≤ n → ((v : ℕ) → v < n → ShiftsAt vars j d v) → Decides true (IsShift vars j d)
 shift_all vars j d n l h = (
   (λ _. record {
@@ -145,11 +158,13 @@ shift_all vars j d n l h = (
     by_place (inl m) = m
     by_place (inr m) = absurd (let z : false ≡ true = of_past vars s v m ∙ q in cc)
 
+-- One variable without a counterpart above decides that they aren't.
 pub no_shift_above : (vars : List VarInfo) (j d v : ℕ) (a : Bool) → Decides a (IsAbove vars j d v) → a ≡ false → Decides false (IsShift vars j d)
 no_shift_above vars j d v a x f = (
   (λ z. cc),
   (λ s. let z : true ≡ false = sym (x.1 (λ q. (s.up v q, s.ranges v q))) ∙ f in cc),
 )
 
+-- One variable without a counterpart below decides that they aren't.
 pub no_shift_below : (vars : List VarInfo) (j d v : ℕ) (b : Bool) → Decides b (IsBelow vars j d v) → b ≡ false → Decides false (IsShift vars j d)
 no_shift_below vars j d v b x f = ((λ z. cc), (λ s. let z : true ≡ false = sym (x.1 (λ q. s.down v q)) ∙ f in cc))
