@@ -12,7 +12,7 @@ use ln_cert::Listing;
 use ln_compile::{Checked, Refusal, check};
 use ln_tree::Table;
 use ln_trial_programs::sample::{BLOCKS, ORIENT, RANGES, SQUARES};
-use ln_verify::{Judged, verify};
+use ln_verify::{Judged, VerifyStop, verify};
 use std::alloc::Global;
 use std::test::Fail;
 
@@ -30,8 +30,10 @@ fn judged(alloc: Global, source: &[u8], listing: &Listing) -> Result<Option<Judg
 {
     match check(alloc, source) {
         Ok(c) => {
-            let judged = verify(alloc, accepted(&c), listing)?;
-            Ok(Some(judged))
+            match verify(alloc, accepted(&c), listing) {
+                Ok(judged) => Ok(Some(judged)),
+                Err(VerifyStop::NoMemory(e)) => Err(e),
+            }
         }
         Err(Refusal::NoMemory(e)) => Err(e),
         Err(_) => Ok(None),

@@ -54,7 +54,7 @@ fn is_cubed(
         Scratch::new(alloc, program)?,
         Scratch::new(alloc, program)?,
     ];
-    let mut rows = Rows::new(alloc, record.as_bytes());
+    let mut rows = Rows::new(alloc, record.as_bytes())?;
     let mut row = Row {
         index: [0; 5],
         values: [0; 168],
