@@ -77,3 +77,9 @@ done
 case_ 'largest of a name that is not there' 1 '' 'largest: no coordinate and no param has the name h' "LNC=$lnc bin/largest $scratch/weighted.ln h=2"
 case_ 'a regular triangulation reaches the ranges of an in-circle test' 0 'power2 2^29' '' "printf 'site p { x: -1 .. 1; y: -1 .. 1; w: 0 .. 1; }\n' >$scratch/weighted.ln
   sed -n '/^predicate power2/,/^}/{ s/weighted2/p/g; p; }' predicates/weighted_plane.ln >>$scratch/weighted.ln; LNC=$lnc bin/largest $scratch/weighted.ln w=2"
+
+# a triangulation with segments, on grids, lines and circles
+mkdir "$scratch/constrained"
+gcc -std=gnu99 -Wall -Wextra -Werror -O1 -DLNC_CHECKED -Ipredicates examples/segments/segments.c -o "$scratch/constrained/segments"
+case_ 'segments are chains of edges of a constrained Delaunay triangulation' 0 '1661 segments, 0 scenes wrong' '' "python3 examples/checks/constrained.py $scratch/constrained"
+case_ 'segments that cross where no point is are refused' 1 'segment 0 2' 'segment 1 is crossed' "echo 4 2 0 0 1 0 1 1 0 1 0 2 1 3 | $scratch/constrained/segments"

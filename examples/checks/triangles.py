@@ -4,10 +4,6 @@ have to be on the grid as they stand, so that nothing moved. Usage: triangles.py
 import sys
 from fractions import Fraction
 
-points, triangles = ([tuple(line.split()) for line in part.splitlines()] for part in sys.stdin.read().split("\n\n"))
-points = [tuple(map(Fraction, point)) for point in points]
-triangles = [tuple(map(int, line)) for line in triangles]
-
 
 def turn(a, b, c):
     return (b[0] - a[0]) * (c[1] - a[1]) - (b[1] - a[1]) * (c[0] - a[0])
@@ -32,9 +28,17 @@ def hull(points):
     return area
 
 
-across = {edge: c for a, b, c in triangles for edge, c in (((a, b), c), ((b, c), a), ((c, a), b))}
-corners = [[points[k] for k in triangle] for triangle in triangles]
-right = all(turn(*three) > 0 for three in corners) and len(across) == 3 * len(triangles) and sum(turn(*three) for three in corners) == hull(points)
-empty = not any((b, a) in across and inside(points[a], points[b], points[c], points[across[b, a]]) for (a, b), c in across.items())
-used = {k for triangle in triangles for k in triangle}
-print(f"{len(set(points))} places, {len(used)} corners, {len(triangles)} triangles, {'a Delaunay triangulation' if right and empty else 'WRONG'}")
+def main():
+    points, triangles = ([tuple(line.split()) for line in part.splitlines()] for part in sys.stdin.read().split("\n\n"))
+    points = [tuple(map(Fraction, point)) for point in points]
+    triangles = [tuple(map(int, line)) for line in triangles]
+    across = {edge: c for a, b, c in triangles for edge, c in (((a, b), c), ((b, c), a), ((c, a), b))}
+    corners = [[points[k] for k in triangle] for triangle in triangles]
+    right = all(turn(*three) > 0 for three in corners) and len(across) == 3 * len(triangles) and sum(turn(*three) for three in corners) == hull(points)
+    empty = not any((b, a) in across and inside(points[a], points[b], points[c], points[across[b, a]]) for (a, b), c in across.items())
+    used = {k for triangle in triangles for k in triangle}
+    print(f"{len(set(points))} places, {len(used)} corners, {len(triangles)} triangles, {'a Delaunay triangulation' if right and empty else 'WRONG'}")
+
+
+if __name__ == "__main__":
+    main()
