@@ -1,6 +1,6 @@
 """What is said of the repository in its documents, by the repository: lines of docs/ have at most 200 letters, those of the sources of crates/
 at most 160; each link leads to a file and a heading that are there; each name `ln_crate::name` is in that crate, and of the pages on code
-each name in code font in some crate; each file of definitions or lemmas that is named is there. Prints what is wrong, and then how much it
+each name in code font in some crate; each file of definitions or lemmas that is named is there; what is said of nanoseconds a call is the table of docs/C.md. Prints what is wrong, and then how much it
 looked at. Usage, at the top of the repository: docs.py"""
 import re
 from pathlib import Path
@@ -58,6 +58,21 @@ def identifiers(text):
             yield f"no {name} in the crates"
 
 
+def figures(page, text, held={}):
+    """What calls take, in nanoseconds, is from the least to the most of the table that bench/c makes."""
+    if not held:
+        lines = Path("docs/C.md").read_text().split("<!-- from bench/c table -->")[1].split("<!-- to here -->")[0].splitlines()
+        for name, by, *cells in ([cell.strip(" `") for cell in line.strip("|").split("|")] for line in lines if line.startswith("| `")):
+            held[name, by] = tuple(sorted((cell for cell in cells), key=lambda cell: float(cell.replace(",", "")))[::len(cells) - 1])
+    some = r"([\d.,]+) to ([\d.,]+) ns"
+    for name, *all_of in re.findall(rf"`(\w+)` takes {some}, CGAL's {some}", text):
+        for by, said in [("predicates/", all_of[:2]), ("CGAL", all_of[2:])]:
+            if held.get((name, by)) != tuple(said):
+                yield f"{name} by {by} takes {' to '.join(held.get((name, by), ['nothing']))} in docs/C.md"
+    for other in re.findall(r"[\d.,]+ (?:ns|nanoseconds?)\b", re.sub(rf"`\w+` takes {some}, CGAL's {some}", "", text)):
+        yield f"a figure that isn't in the table of docs/C.md: {other}"
+
+
 WORDS, LOOKED = set(), {"pages": 0, "links": 0, "lines of sources": 0}
 for file in [*Path("crates").rglob("*.rt"), *Path("crates").rglob("*.antt")]:
     if "out" not in file.parts:
@@ -75,6 +90,8 @@ for page in PAGES:
     wrong = [*links(page, text), *names(joined), *files(joined)]
     if page.name in ("SEMANTICS.md", "COMPILER.md", "THEOREM.md", "MAP.md", "LISTING.md", "C.md", "DECISIONS.md"):
         wrong += identifiers(joined)
+    if str(page) in ("README.md", "docs/MESHING.md", "docs/FAQ.md", "predicates/README.md"):
+        wrong += figures(page, joined)
     if page.parent.name == "docs":
         wrong += [f"line {n} has {len(line)} letters" for n, line in enumerate(text.splitlines(), 1) if len(line) > 200]
     for fault in wrong:

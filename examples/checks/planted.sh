@@ -27,6 +27,7 @@ plant 'a link to no heading' 'docs/FAQ.md: no heading C.md#nosuch' "$checks/docs
 plant 'a name that is in no crate' "docs/MAP.md: no nosuch_name in $crate" "$checks/docs.py" docs/MAP.md "echo '\`$crate::nosuch_name\`' >>docs/MAP.md"
 plant 'a file of definitions that is not there' "docs/MAP.md: no file $crate specs/Nosuch.antt" "$checks/docs.py" docs/MAP.md "echo '($crate, specs/Nosuch.antt)' >>docs/MAP.md"
 plant 'an identifier that is in no crate' 'docs/MAP.md: no NosuchName in the crates' "$checks/docs.py" docs/MAP.md "echo '\`NosuchName\`' >>docs/MAP.md"
+plant 'a figure that is not that of the table' 'README.md: incircle by predicates/ takes' "$checks/docs.py" README.md "sed -i 's/.incircle. takes /&1/' README.md"
 plant 'a line of code that is too long' "$spec: line 1 has 16" "$checks/docs.py" "$spec" "sed -i '1s/.*/$(printf '%0161d' 0 | tr 0 -)/' $spec"
 plant 'a lemma without a line' "$(wc -l <"$lemma" | awk '{ print "line " $1 + 2 }'): nosuch has no line of its own" "$checks/proofs.py" "$lemma" "printf '\npub nosuch : \xe2\x8a\xa4\n' >>$lemma"
 plant 'a lemma that nothing names' "$(wc -l <"$lemma" | awk '{ print "line " $1 + 3 }'): nothing names nosuch" "$checks/proofs.py" "$lemma" "printf '\n-- It.\npub nosuch : \xe2\x8a\xa4\n' >>$lemma"
