@@ -208,7 +208,7 @@ int main(void) {
     size_t a, b;
     if (scanf("%zu %zu", &a, &b) != 2 || a >= n || b >= n) return fprintf(stderr, "no segment %zu\n", k), 1;
     if (begun < 3) return fprintf(stderr, "fewer than three places\n"), 1;
-    if (!keep((int)grid.first[a], (int)grid.first[b])) return fprintf(stderr, "segment %zu is crossed\n", k), 1;
+    if (!keep((int)grid.first[a], (int)grid.first[b])) return fflush(stdout), fprintf(stderr, "segment %zu is crossed\n", k), 1;
   }
   for (int h = 0; h < made; h += 3)
     if (hull(h) < 0 && ln_orient2_plain_at(&site[from[h]], &site[from[h + 1]], &site[from[h + 2]]))
