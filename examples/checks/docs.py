@@ -1,7 +1,7 @@
-"""What is said of the repository in its documents, by the repository: lines of docs/ have at most 200 letters, those of the sources of crates/
-at most 160; each link leads to a file and a heading that are there; each name `ln_crate::name` is in that crate, and of the pages on code
-each name in code font in some crate; each file of definitions or lemmas that is named is there; what is said of nanoseconds a call is the table of docs/C.md. Prints what is wrong, and then how much it
-looked at. Usage, at the top of the repository: docs.py"""
+"""What is said of the repository in its documents, by the repository: lines of docs/ have at most 200 letters, those of the sources of crates/ at most
+160; each link leads to a file and a heading that are there; each name `ln_crate::name` is in that crate, and of the pages on code each name in code
+font in some crate; each file of definitions or lemmas that is named is there; what is said of nanoseconds a call is the table of docs/C.md. Prints
+what is wrong, and then how much it looked at. Usage, at the top of the repository: docs.py"""
 import re
 from pathlib import Path
 
