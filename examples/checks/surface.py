@@ -1,7 +1,8 @@
 """The public surface that is kept: the crates, and the calls and types by which programs reach them. A line of examples/checks/surface.txt is
 CRATE | ENTRY | SIGNATURE | BY: an entry is a function, `Type::method`, a struct, an enum or a trait; its signature is the one of the sources, on one line
-and without contracts, of a type with public fields or of an enum with those; BY is `signature`, or `decision WORDS`, the first words of an entry of
-docs/DECISIONS.md that says why it is as it is. Usage, at the top of the repository:
+and without contracts, of a type with public fields or of an enum with those; BY is `test NAME`, a test of crates/ln_trial_surface that names it with its
+types, or `decision WORDS`, the first words of an entry of docs/DECISIONS.md, or both, parted by `; `; or `signature`, where that alone is compared.
+Usage, at the top of the repository:
 surface.py compare          prints what differs, and at the end how much it looked at
 surface.py of CRATE ENTRY   the signature that the sources have"""
 import re
@@ -9,6 +10,7 @@ import sys
 from pathlib import Path
 
 LIST = Path("examples/checks/surface.txt")
+TESTS = "ln_trial_surface"
 # crates that the surface has, beside those that DECISIONS explains
 CRATES = """ln_base ln_tree ln_lex ln_parse ln_bound ln_poly ln_order ln_stage ln_nest ln_code ln_filter ln_lower ln_compile ln_cert ln_verify ln_csyn
 ln_cemit ln_cmean ln_rows ln_watch ln_top lnc ln_interval ln_factor ln_graded ln_trace ln_edges""".split()
@@ -108,6 +110,9 @@ def compare():
         users = [user for user, below in graph.items() if name in below and user != "ln_top" and not user.startswith("ln_trial")]
         faults += [f"{user} depends on {name}, which is for ln_top alone" for user in users]
     decisions = " ".join(Path("docs/DECISIONS.md").read_text().split())
+    tests = set()
+    for path in Path("crates", TESTS, "src").rglob("*.rt"):
+        tests.update(re.findall(r"#\[test\]\s*(?:#\[[^\]]*\]\s*)*fn (\w+)", path.read_text()))
     there = {}
     lines = [line for line in LIST.read_text().splitlines() if line and not line.startswith("#")]
     for line in lines:
@@ -123,14 +128,18 @@ def compare():
             faults.append(f"{crate}: {entry} is gone")
         elif has != signature:
             faults.append(f"{crate}: {entry} is {has}, and {signature} is listed")
-        word, _, rest = by.partition(" ")
-        if word == "decision" and rest not in decisions:
-            faults.append(f"{crate}: {entry} names a decision that isn't there: {rest}")
-        elif word != "decision" and by != "signature":
-            faults.append(f"{crate}: {entry} has neither a signature nor a decision")
+        for reason in by.split("; "):
+            word, _, rest = reason.partition(" ")
+            if word == "test" and rest not in tests:
+                faults.append(f"{crate}: {entry} names the test {rest}, which isn't there")
+            elif word == "decision" and rest not in decisions:
+                faults.append(f"{crate}: {entry} names a decision that isn't there: {rest}")
+            elif word not in ("test", "decision") and reason != "signature":
+                faults.append(f"{crate}: {entry} has neither a test nor a decision")
     for fault in faults:
         print(fault)
-    print(f"{len(CRATES)} crates, {len(lines)} entries")
+    used = {reason.split(" ", 1)[1] for line in lines for reason in line.split(" | ")[-1].strip().split("; ") if reason.startswith("test ")}
+    print(f"{len(CRATES)} crates, {len(lines)} entries, {len(used)} tests")
     return bool(faults)
 
 
