@@ -97,7 +97,7 @@ there 'that of lnc_exact has its own statuses' 0 '0 1 2 6 7 8 9' '' "echo \$(gre
 if command -v man >/dev/null; then
   there 'the manual is laid out without a warning' 0 '' '' "for page in man/*.1; do MANWIDTH=80 man --warnings -E UTF-8 -l -Tutf8 -Z \$page >/dev/null || exit 1; done"
 else
-  skipped=$((skipped + 1)); echo "install.sh: skipped: man isn't installed"
+  skip 1 'the manual is laid out without a warning' "man isn't installed"
 fi
 if command -v zsh >/dev/null; then
   cat >../zsh <<'ZSH'
@@ -109,13 +109,13 @@ complete_; complete_ run examples/mesh/mesh.ln; complete_ run examples/mesh/mesh
 ZSH
   there 'completion for zsh' 0 $'check run graded product edges explain audit gen emit list verify\norient\nincircle\nfiles\nr_side\ns_side\nfiles' '' "zsh -f ../zsh '$prefix'"
 else
-  skipped=$((skipped + 1)); echo "install.sh: skipped: zsh isn't installed"
+  skip 1 'completion for zsh' "zsh isn't installed"
 fi
 if command -v fish >/dev/null; then
   there 'completion for fish' 0 $'edges\nemit\nexplain\norient' '' "cd '$prefix/share/doc/lnc' && for line in 'lnc e' 'lnc run $orient o'; do
     HOME=$scratch fish --no-config -c \"source '$prefix/share/fish/vendor_completions.d/lnc.fish'; complete -C '\$line'\" | cut -f1 | sort; done"
 else
-  skipped=$((skipped + 1)); echo "install.sh: skipped: fish isn't installed"
+  skip 1 'completion for fish' "fish isn't installed"
 fi
 there 'and uninstalled' 0 '' '' "make -s uninstall PREFIX='$prefix' && find '$prefix' ! -type d"
 cd "$here" || return
