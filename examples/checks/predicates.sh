@@ -50,7 +50,7 @@ case_ 'pkg-config finds it' 0 "-I$prefix/include -L$prefix/lib -llnc_predicates"
 for family in $families; do
   case_ "20,000 rows of $family" 0 '20000 rows, 0 wrong' '' "python3 examples/checks/predicates.py signs $lnc $prefix $family 20000"
 done
-case_ 'what + means' 0 '33 signs, 0 wrong, not in the table: compare_x3 compare_y3 wcompare_w3 wcompare_x2 wcompare_x3 wcompare_y2 wcompare_y3 wcompare_z3 wdiametral2 wdiametral3 wlexicographic2 wlexicographic3' '' "python3 examples/checks/predicates.py meanings $prefix"
+case_ 'what + means' 0 '57 signs, 0 wrong, not in the table: compare_x3 compare_y3 wcompare_w3 wcompare_x2 wcompare_x3 wcompare_y2 wcompare_y3 wcompare_z3 wdiametral2 wdiametral3 wlexicographic2 wlexicographic3' '' "python3 examples/checks/predicates.py meanings $prefix"
 case_ 'the Rust crate has the sources'\'' predicates' 0 '5' '' "python3 examples/checks/predicates.py rust | grep -c ': the same'"
 
 # what the pages say of C: block 0 of emitted C, the sign of a product, and the functions of SEGMENTS.md
