@@ -116,7 +116,7 @@ def main(verb="", *words):
         sys.exit(__doc__)
 
 
-if len(sys.argv) < 2 or sys.argv[1] not in ("compare", "of", "write"):
+if len(sys.argv) < 2 or sys.argv[1] not in ("compare", "of", "ran", "write"):
     print(__doc__, file=sys.stderr)
     sys.exit(2)
 main(*sys.argv[1:])
