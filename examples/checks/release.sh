@@ -41,7 +41,7 @@ case_ 'PROOF says which commit, by which prover and what the gate said' 0 "commi
 samples_there() {
   passed=0 failed=0 skipped=0
   show() {
-    case $2 in make\ * | cd\ *) skipped=$((skipped + 1)); return ;; esac
+    case $2 in make\ * | cd\ * | *examples/segments/segments*) skipped=$((skipped + 1)); return ;; esac
     judge "$1: $2" "$3status 0" "$(bash -c "$2" 2>&1 </dev/null; printf 'status %s' "$?")"
   }
   cd "$unpacked" || return
