@@ -51,8 +51,8 @@ for k in range(400): print(random.Random(k).randrange(2**20) / 2**16, random.Ran
 print(0.25, -1, 0, -0.0, 0.5, 0.5, 1e3, 0)" | tr ' ' '\n' | paste -d' ' - - >"$scratch/doubles"
 # the smallest corner of each triangle first
 turned="awk '{ a = \$1 + 0; b = \$2 + 0; c = \$3 + 0; while (a > b || a > c) { t = a; a = b; b = c; c = t } print a, b, c }' | sort"
-for program in ./triangles_c ./triangles_cpp "env PYTHONPATH=$small/share/lnc_predicates python3 -B triangles.py" target/debug/triangles; do
-  case_ "triangles by ${program##*[/ ]}" 0 'a Delaunay triangulation, and the same' '' "cd $scratch/programs && $program <$scratch/doubles >found && <found $turned >sorted &&
+for each_way in ./triangles_c ./triangles_cpp "env PYTHONPATH=$small/share/lnc_predicates python3 -B triangles.py" target/debug/triangles; do
+  case_ "triangles by ${each_way##*[/ ]}" 0 'a Delaunay triangulation, and the same' '' "cd $scratch/programs && $each_way <$scratch/doubles >found && <found $turned >sorted &&
     { [ -e first ] || cp sorted first; } && cmp sorted first && { cat $scratch/doubles; echo; cat found; } | python3 $PWD/examples/checks/triangles.py | sed 's/.*triangles, //; s/\$/, and the same/'"
 done
 case_ 'each has at most 60 lines' 0 'yes' '' "for file in predicates/users/triangles.*; do [ \$(wc -l <\$file) -le 60 ] || echo \$file; done; echo yes"
