@@ -86,7 +86,7 @@ there 'lnc_why finds the page of the language' 1 'write: another name: `left_of`
   "printf 'site a { x: 0 .. 9; } predicate a-b(p: a) { sign p.x; }' >../it.ln; '$prefix/bin/lnc_why' ../it.ln | grep ^write"
 # a copy of the samples elsewhere takes lnc from the path, or from LNC
 cp -R "$prefix/share/doc/lnc/examples" ../samples; find ../samples -name '*.o' -delete
-for sample in 'make -s -C mesh clean delaunay' 'make -s -C languages clean liborient.so' 'make -s -C tetrahedra delaunay3' 'hull/draw' "make -s -C cgal clean predicates.c" \
+for sample in 'make -s -C mesh clean delaunay' 'make -s -C languages clean liborient.so' 'make -s -C tetrahedra delaunay3' 'hull/draw' "make -s -C cgal clean plane.o" \
   'cmake -S languages -B made' 'cmake --build made' 'large orientation/orient.ln orient orientation/rows.csv'; do
   there "elsewhere: $sample" 0 '' '' "cd ../samples && PATH='$prefix/bin':.:\$PATH && $sample >said"
 done
