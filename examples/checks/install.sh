@@ -84,13 +84,13 @@ p,p.x,p.y,q,q.x,q.y,r,r.x,r.y
   lnc_exact --version && lnc_largest \"\$E/orientation/orient.ln\" && lnc_why \"\$E/orientation/orient.ln\" orient && lnc_rows \"\$E/incircle/incircle.ln\" incircle 1 8 | tail -1"
 there 'lnc_why finds the page of the language' 1 'write: another name: `left_of` (for `site a { x: 0 .. 9; } predicate left-of(p: a) { sign p.x; }`)' '' \
   "printf 'site a { x: 0 .. 9; } predicate a-b(p: a) { sign p.x; }' >../it.ln; '$prefix/bin/lnc_why' ../it.ln | grep ^write"
-# a copy of the samples elsewhere takes lnc from the path, or from LNC
+# a copy of the samples elsewhere takes lnc and lnc_exact from the path, or from LNC and LNC_EXACT
 cp -R "$prefix/share/doc/lnc/examples" ../samples; find ../samples -name '*.o' -delete
 for sample in 'make -s -C mesh clean delaunay' 'make -s -C languages clean liborient.so' 'make -s -C tetrahedra delaunay3' 'hull/draw' "make -s -C cgal clean plane.o" \
   'cmake -S languages -B made' 'cmake --build made' 'large orientation/orient.ln orient orientation/rows.csv'; do
   there "elsewhere: $sample" 0 '' '' "cd ../samples && PATH='$prefix/bin':.:\$PATH && $sample >said"
 done
-there 'elsewhere, by LNC' 0 '' '' "cd ../samples && export LNC='$prefix/bin/lnc' && make -s -C mesh clean delaunay && hull/draw >said && ./large orientation/orient.ln orient orientation/rows.csv >said"
+there 'elsewhere, by LNC and LNC_EXACT' 0 '' '' "cd ../samples && export LNC='$prefix/bin/lnc' LNC_EXACT='$prefix/bin/lnc_exact' && make -s -C mesh clean delaunay && hull/draw >said && ./large orientation/orient.ln orient orientation/rows.csv >said"
 there 'the man page has rows, places, faults of rows, kinds and examples' 0 '3 3 4 8' '' "for words in 'SH (ROWS|SOURCES|EXAMPLES)' 'fB[+] [F0K]' 'fB! (fields|number|range|index)' 'fB(lexical|syntax|limit|name|bound|terms|zero|stages).fR'; do
   s=\"\$s\${s:+ }\$(grep -cE \"^[.\\\\]\$words\" man/lnc.1)\"; done; echo \$s"
 there 'that of lnc_exact has its own statuses' 0 '0 1 2 6 7 8 9' '' "echo \$(grep -A1 '^\\.TP' man/lnc_exact.1 | grep '^[0-9]*\$')"
