@@ -46,6 +46,9 @@ plant 'a module of tests that is gone' "$tested/tests has (" "$checks/counts.py 
 mv "$scratch/module" "$copy/$module"
 plant 'a file that is in no module' "$module is in no module" "$checks/counts.py compare" "crates/$tested/src/lib.rt" "sed -i '/^mod $name;/d' crates/$tested/src/lib.rt"
 plant 'a file that an operation changes and no table names' 'CONTRIBUTING.md: <!-- from the sources: an operation of expressions -->' "$checks/operation.py compare" CONTRIBUTING.md "sed -i '0,/^| ln_tree | expr /s//| ln_tree | other /' CONTRIBUTING.md"
+meaning=$(sed -n 's/^abbrev pub \([a-z_]*\) : .*/\1/p' "$spec" | grep -vxFf examples/checks/twins.txt | head -1); other=$(find crates/ln_trace/specs crates/ln_verify/specs -name '*.antt' ! -name Lib.antt | LC_ALL=C sort | head -1)
+plant 'a definition under the name of one of another crate' "$meaning is defined in $crate and $(cut -d/ -f2 <<<"$other")" "$checks/twins.py compare" "$other" "printf '\npub $meaning : \xe2\x8a\xa4\n' >>$other"
+plant 'a list of names that is longer than it need be' 'nosuch is in examples/checks/twins.txt' "$checks/twins.py compare" examples/checks/twins.txt 'echo nosuch >>examples/checks/twins.txt'
 plant 'a script that takes CDPATH from its caller' 'bin/stamp: its first command' "$checks/scripts.py" bin/stamp "sed -i '/^unset /d' bin/stamp"
 code=$(find crates -path '*/src/*.rt' | LC_ALL=C sort | head -1)
 plant 'a refusal of an allocation under another name' 'use std::alloc::AllocError as Full;: a refusal under another name' "$checks/refused.py compare" "$code" "echo 'use std::alloc::AllocError as Full;' >>$code"
