@@ -4,7 +4,6 @@
 #define _GNU_SOURCE
 #include <dlfcn.h>
 #include <errno.h>
-#include <fcntl.h>
 #include <stdio.h>
 #include <stdlib.h>
 #include <unistd.h>
@@ -39,8 +38,6 @@ ssize_t write(int fd, const void *buf, size_t n) {
 
 __attribute__((destructor)) static void tell(void) {
   const char *name = getenv("INTERRUPTED");
-  int file = name ? open(name, O_WRONLY | O_CREAT | O_TRUNC, 0600) : -1;
-  ssize_t (*next)(int, const void *, size_t) = dlsym(RTLD_NEXT, "write");
-  char text[64];
-  if (file >= 0) { (void)!next(file, text, (size_t)sprintf(text, "%ld %ld\n", all, calls)); close(file); }
+  FILE *file = name ? fopen(name, "w") : NULL;
+  if (file) { fprintf(file, "%ld %ld\n", all, calls); fclose(file); }
 }
