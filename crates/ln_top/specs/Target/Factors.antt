@@ -1,8 +1,8 @@
 -- The predicates of a product as they are run: the first, and the programs of all, each made once.
-use Rattle.std.specs.Prelude.{◌≡◌, true, ℕ, ◌≤◌, ◌<◌, All, List, ◌∷◌, ◌++◌, length, slice_get, Some, Result}
+use Rattle.std.specs.Prelude.{◌≡◌, true, ℕ, ◌≤◌, ◌<◌, All, List, ◌++◌, length, slice_get, Some, Result}
 use Rattle.std.specs.List.{AllZip}
 use Rattle.ln_tree.specs.declared.pred.Pred.{Pred}
-use Rattle.ln_tree.specs.Table.{PredOf, pred_of}
+use Rattle.ln_tree.specs.Table.{PredOf}
 use Rattle.ln_tree.specs.Row.{InRange, Row}
 use Rattle.ln_code.specs.declared.row.Row as code
 use Rattle.ln_code.specs.declared.scratch.Scratch.{Scratch}

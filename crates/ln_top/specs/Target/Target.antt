@@ -1,5 +1,5 @@
 -- A predicate of a source as it is run, in an order of infinitesimals.
-use Rattle.std.specs.Prelude.{◌≡◌, ℕ, List, [], ◌∷◌}
+use Rattle.std.specs.Prelude.{ℕ, List}
 use Rattle.ln_algebra.specs.Orders.{BySmallest, ByDegree, Rank}
 use Rattle.ln_tree.specs.declared.pred.Pred.{Pred}
 use Rattle.ln_tree.specs.Row.{Row}

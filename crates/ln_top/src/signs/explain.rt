@@ -67,18 +67,18 @@ impl<'a> RecordWriter for Explainer<'a> {
         &self,
         room: &mut Scratch,
         number: u32,
-        record: Record<'_>,
+        found: Record<'_>,
         text: &mut Vec<u8>,
     ) -> Result<Option<Verdict>, NoMemory> {
         let alloc = *text.allocator();
-        match record.read {
+        match found.read {
             Ok(()) => {
                 explain_row(
                     alloc,
                     self.target.program(),
                     room,
                     u64::from(number),
-                    record.row,
+                    found.row,
                     text,
                 )?;
                 Ok(None)

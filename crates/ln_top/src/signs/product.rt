@@ -25,16 +25,16 @@ use ln_tree::{Pred, Table};
 use std::alloc::Global;
 
 // Returns the result of the factors on a record that was read: the sign of their product on its row, or why the record is invalid.
-fn sign_of(factors: &Factors<'_>, room: &mut Room, record: Record<'_>) -> Result<Sign, RowStop>
+fn sign_of(factors: &Factors<'_>, room: &mut Room, found: Record<'_>) -> Result<Sign, RowStop>
     requires room { IsRoomFor factors.now room.old.scratches.items room.old.verdicts.items }
-    requires range { OnOk record.read (IsInRangeOf factors.now.pred record.row.now) }
-    ensures says { (fields : List (List ℕ)) → IsReadOf factors.now.pred fields record.entry.read record.entry.row.now
+    requires range { OnOk found.read (IsInRangeOf factors.now.pred found.row.now) }
+    ensures says { (fields : List (List ℕ)) → IsReadOf factors.now.pred fields found.entry.read found.entry.row.now
         → (ps : List PredOf) → AreProgramsAt factors.now.programs factors.now.which ps
         → SaysProduct (pred_of factors.now.pred) ps fields (with_verdicts room.new.verdicts.items result) }
     ensures room { IsRoomFor factors.now room.new.scratches.items room.new.verdicts.items }
 {
-    match record.read {
-        Ok(()) => Ok(factors.verdicts(room, record.row)),
+    match found.read {
+        Ok(()) => Ok(factors.verdicts(room, found.row)),
         Err(stop) => Err(stop),
     }
 }
@@ -76,10 +76,10 @@ impl<'a> RecordWriter for Factors<'a> {
         &self,
         room: &mut Room,
         number: u32,
-        record: Record<'_>,
+        found: Record<'_>,
         text: &mut Vec<u8>,
     ) -> Result<Option<Verdict>, NoMemory> {
-        let said = sign_of(self, room, record);
+        let said = sign_of(self, room, found);
         add_product_line(
             *text.allocator(),
             self,

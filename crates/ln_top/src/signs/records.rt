@@ -86,15 +86,15 @@ pub(crate) trait RecordWriter {
         &self,
         room: &mut Self::Room,
         number: u32,
-        record: Record<'_>,
+        found: Record<'_>,
         text: &mut Vec<u8>,
     ) -> Result<Option<Verdict>, NoMemory>
         requires fits { fits self.now room.old }
         requires number { 1 ≤ number }
-        requires range { OnOk record.read (IsInRangeOf (over self.now) record.row.now) }
+        requires range { OnOk found.read (IsInRangeOf (over self.now) found.row.now) }
         requires less { vec_len text.old < piece }
         requires space { space self.now (vec_capacity text.old) }
-        ensures line { IfOk result (λ shown. (fields : List (List ℕ)) → IsReadOf (over self.now) fields record.entry.read record.entry.row.now
+        ensures line { IfOk result (λ shown. (fields : List (List ℕ)) → IsReadOf (over self.now) fields found.entry.read found.entry.row.now
             → (ps : List PredOf) → knows self.now ps → (out : List ℕ)
             × line self.now ps (pred_of (over self.now)) (columns self.now) number fields shown out
             × (text.new.items ≡ text.old.items ++ out)) }
@@ -115,16 +115,16 @@ fn take_record<C: Console, W: RecordWriter>(
     con: &mut C,
     writer: &W,
     room: &mut W::Room,
-    record: Record<'_>,
+    found: Record<'_>,
     text: &mut Vec<u8>,
     viewers: &mut Viewers,
 ) -> Result<bool, Early>
     requires fits { W.fits writer.now room.old }
-    requires range { OnOk record.read (IsInRangeOf (W.over writer.now) record.row.now) }
+    requires range { OnOk found.read (IsInRangeOf (W.over writer.now) found.row.now) }
     requires less { vec_len text.old < piece }
     requires space { W.space writer.now (vec_capacity text.old) }
     requires few { viewers.old.seen + 1 < 2 ^ 32 }
-    ensures takes { (fields : List (List ℕ)) → IsReadOf (W.over writer.now) fields record.entry.read record.entry.row.now
+    ensures takes { (fields : List (List ℕ)) → IsReadOf (W.over writer.now) fields found.entry.read found.entry.row.now
         → (ps : List PredOf) → W.knows writer.now ps
         → Takes (RowStep (W.line writer.now ps (pred_of (W.over writer.now)) (W.columns writer.now))) (is_row (pred_of (W.over writer.now)))
         (watching viewers.old.seen (states_of kind_of tally_of viewers.old.panel.watchers.items)) fields
@@ -135,9 +135,9 @@ fn take_record<C: Console, W: RecordWriter>(
     ensures fits { W.fits writer.now room.new }
     ensures space { W.space writer.now (vec_capacity text.new) }
 {
-    let good = is_good(&record.read);
+    let good = is_good(&found.read);
     let number = (viewers.seen + 1) as u32;
-    let shown = writer.add(room, number, record, text)?;
+    let shown = writer.add(room, number, found, text)?;
     if !view(con, viewers, shown) {
         return Err(Early::Write);
     }

@@ -28,15 +28,15 @@ use ln_watch::Watch;
 use std::alloc::Global;
 
 // Returns the result of the predicate on a record that was read: the verdict on its row, or why the record is invalid.
-fn verdict_of(target: &Target<'_>, s: &mut Scratch, record: Record<'_>) -> Result<Verdict, RowStop>
+fn verdict_of(target: &Target<'_>, s: &mut Scratch, found: Record<'_>) -> Result<Verdict, RowStop>
     requires made { MadeFor target.now.program s.old }
-    requires range { OnOk record.read (IsInRangeOf target.now.pred record.row.now) }
-    ensures says { (fields : List (List ℕ)) → IsReadOf target.now.pred fields record.entry.read record.entry.row.now
+    requires range { OnOk found.read (IsInRangeOf target.now.pred found.row.now) }
+    ensures says { (fields : List (List ℕ)) → IsReadOf target.now.pred fields found.entry.read found.entry.row.now
         → Says target.now.rank (pred_in target.now) fields result }
     ensures made { MadeFor target.now.program s.new }
 {
-    match record.read {
-        Ok(()) => Ok(target.verdict(s, record.row)),
+    match found.read {
+        Ok(()) => Ok(target.verdict(s, found.row)),
         Err(stop) => Err(stop),
     }
 }
@@ -55,22 +55,22 @@ fn shown_of(said: Result<Verdict, RowStop>) -> Option<Verdict>
 fn add_record(
     target: &Target<'_>,
     s: &mut Scratch,
-    record: Record<'_>,
+    found: Record<'_>,
     text: &mut Vec<u8>,
 ) -> Result<Result<Verdict, RowStop>, NoMemory>
     requires made { MadeFor target.now.program s.old }
-    requires range { OnOk record.read (IsInRangeOf target.now.pred record.row.now) }
+    requires range { OnOk found.read (IsInRangeOf target.now.pred found.row.now) }
     requires room { vec_len text.old + line_room ≤ vec_capacity text.old }
-    ensures says { IfOk result (λ said. (fields : List (List ℕ)) → IsReadOf target.now.pred fields record.entry.read record.entry.row.now
+    ensures says { IfOk result (λ said. (fields : List (List ℕ)) → IsReadOf target.now.pred fields found.entry.read found.entry.row.now
         → Says target.now.rank (pred_in target.now) fields said) }
     ensures line { IfOk result (λ said. text.new.items ≡ text.old.items ++ line (said_text target.now.names said)) }
     ensures err { OnErr result (text.new.items ≡ text.old.items) }
     ensures made { MadeFor target.now.program s.new }
     ensures room { vec_capacity text.old ≤ vec_capacity text.new }
-    ensures steady { (fields : List (List ℕ)) → IsReadOf target.now.pred fields record.entry.read record.entry.row.now
+    ensures steady { (fields : List (List ℕ)) → IsReadOf target.now.pred fields found.entry.read found.entry.row.now
         → is_bare_record (pred_in target.now) fields ≡ true → IsOk result }
 {
-    let said = verdict_of(target, s, record);
+    let said = verdict_of(target, s, found);
     add_line(*text.allocator(), text, target, said)?;
     Ok(said)
 }
@@ -112,10 +112,10 @@ impl<'a> RecordWriter for Target<'a> {
         &self,
         room: &mut Scratch,
         number: u32,
-        record: Record<'_>,
+        found: Record<'_>,
         text: &mut Vec<u8>,
     ) -> Result<Option<Verdict>, NoMemory> {
-        let said = add_record(self, room, record, text)?;
+        let said = add_record(self, room, found, text)?;
         Ok(shown_of(said))
     }
 }

@@ -14,4 +14,4 @@ returns-clause-takes g c fields r ps k =
     let l = c.in_ok-shown.ensures.line fields r ps k in
     takes_all (g.W.RecordWriter.line c.args.writer.now ps) (pred_of (g.W.RecordWriter.over c.args.writer.now)) (g.W.RecordWriter.columns c.args.writer.now)
     l.1 l.2 c.if-not-view.ensures.wrote (c.if-not-view.ensures.left refl)
-    (c.is_good-good.ensures (g.W.RecordWriter.over c.args.writer.now) fields c.args.record.row.now r)
+    (c.is_good-good.ensures (g.W.RecordWriter.over c.args.writer.now) fields c.args.found.row.now r)

@@ -5,7 +5,7 @@ use Rattle.ln_top.proofs.signs.explain.ExplainerRecordWriter.add.Goals as goal
 
 pub explain_row-requires-clause-row : goal.explain_row-requires-clause-row
 explain_row-requires-clause-row c =
-    rw c.program.ensures (row_for _ c.args.self.now.target.pred c.args.self.now.target.program c.args.record.row.now c.requires.fits.1 (search rules))
+    rw c.program.ensures (row_for _ c.args.self.now.target.pred c.args.self.now.target.program c.args.found.row.now c.requires.fits.1 (search rules))
 
 pub returns-in_ok-explain_row-in-Ok-clause-line : goal.returns-in_ok-explain_row-in-Ok-clause-line
 returns-in_ok-explain_row-in-Ok-clause-line c = λ fields r ps k.
