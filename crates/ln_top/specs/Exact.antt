@@ -4,7 +4,7 @@ use Rattle.ln_base.specs.Limits.{most_stages}
 use Rattle.ln_base.specs.Outside.{Shelf, Shown}
 use Rattle.ln_tree.specs.Table.{PredOf}
 use Rattle.ln_code.specs.Part.{Part, without_filter}
-use Rattle.ln_compile.specs.Compiled.{AreProgramsOf}
+use Rattle.ln_compile.specs.Compiled.{AreProgramsOf, IsProgramAt}
 use Rattle.ln_cemit.specs.Emitted.{BeginsFile}
 use Rattle.ln_top.specs.declared.frame.status.End.TheVariants.{Done}
 use Rattle.ln_top.specs.declared.frame.stop.Why.{Why}
@@ -42,6 +42,13 @@ pub record PutExact (preds : List PredOf) (was now : Option Shown) : Type 0 wher
 -- where the words are a file, and the source that it contains is accepted, C for its predicates came to Out
 abbrev pub CallsAreSigns : List (List ℕ) → Shelf → Option Shown → Option Shown → Type 0
 CallsAreSigns words shelf was now = WhereGiven (emit_words words) shelf Emit (λ g. PutExact g.table.preds was now)
+
+-- a program of predicate number i, with at most 65,536 blocks, without its filter
+pub record IsBareAt (preds : List PredOf) (i : ℕ) (part : Part) : Type 0 where
+  pub whole : Part
+  pub program : IsProgramAt preds i whole
+  pub small : length whole.blocks ≤ most_stages
+  pub bare : part ≡ without_filter whole
 
 -- the bytes begin the C of programs of the first i predicates without their filters, each with at most 65,536 blocks
 pub record BeginsExact (preds : List PredOf) (i : ℕ) (bytes : List ℕ) : Type 0 where

@@ -10,7 +10,7 @@ ghost use Rattle.ln_top.specs.Plan.{HasForm, plan_of, with_bytes};
 ghost use Rattle.ln_top.specs.Frame.Ready.{HasStanding, StandsFor};
 ghost use Rattle.ln_top.specs.Frame.Given.{Given};
 ghost use Rattle.ln_top.specs.Frame.Said.{count, status_of};
-ghost use Rattle.ln_top.specs.Exact.{BeginsExact, CallsAreSigns, ExactSaid, Owes, emit_words};
+ghost use Rattle.ln_top.specs.Exact.{BeginsExact, CallsAreSigns, ExactSaid, IsBareAt, Owes, emit_words};
 ghost use Rattle.ln_top.specs.ExactSigns.{IsExactC};
 
 use crate::frame::ready::Ready;
@@ -20,8 +20,19 @@ use crate::prepare::prepare;
 use crate::words::{Command, Plan};
 use ln_base::{Console, Files, NoMemory};
 use ln_cemit::{begin_file, put_program};
+use ln_code::Program;
 use ln_compile::Checked;
 use std::alloc::Global;
+
+// The program of predicate number i without its filter.
+#[tactic(auto, using(crate::proofs::ExactLemmas::BareLaws::bare_at))]
+fn bare(alloc: Global, source: &Checked, i: usize) -> Result<Program, NoMemory>
+    requires { i < length source.now.table.preds }
+    ensures bare { IfOk result (IsBareAt (map pred_of source.now.table.preds) i) }
+{
+    let program = source.program(alloc, i)?;
+    Ok(program.without_filter())
+}
 
 // Appends the functions of the program of predicate number i without its filter. The program is made here, and dropped.
 fn put_exact(alloc: Global, text: &mut Vec<u8>, source: &Checked, i: usize) -> Result<(), NoMemory>
@@ -29,7 +40,7 @@ fn put_exact(alloc: Global, text: &mut Vec<u8>, source: &Checked, i: usize) -> R
     ensures { IfOk result (λ x. BeginsExact (map pred_of source.now.table.preds) i text.old.items
         → BeginsExact (map pred_of source.now.table.preds) (i + 1) text.new.items) }
 {
-    let program = source.program(alloc, i)?.without_filter();
+    let program = bare(alloc, source, i)?;
     let done = put_program(alloc, text, &program);
     drop(program);
     done

@@ -31,7 +31,7 @@ use Rattle.ln_cemit.specs.Whole.{part_name}
 use Rattle.ln_cemit.specs.Emitted.{AllSay, AreKept, BeginsFile, CallSays, IsEmitted}
 use Rattle.ln_top.proofs.TextsLemmas.EmitLaws.{AreNamed, names_of, names_there, same_number, small_more}
 use Rattle.ln_top.proofs.Theorem.HeadlineLaws.{never_zero}
-use Rattle.ln_top.specs.Exact.{BeginsExact}
+use Rattle.ln_top.specs.Exact.{BeginsExact, IsBareAt}
 use Rattle.ln_top.specs.ExactSigns.{CallSigns, CallsSign, IsExactC}
 
 -- ---- a part without its filter
@@ -112,16 +112,21 @@ begun preds text b = record { programs = []; are_programs = none preds; small = 
   none [] = tt
   none (p ∷ ps) = tt
 
+-- a program without its filter
+pub bare_at : (preds : List PredOf) (i : ℕ) (c q : Part) → IsProgramAt preds i c → length c.blocks ≤ most_stages → q ≡ without_filter c
+    → IsBareAt preds i q
+bare_at preds i c q a l e = record { whole = c; program = a; small = l; bare = e }
+
 -- one program after others
-pub more : (preds : List Pred) (i : ℕ) (c q : Part) (old new : List ℕ) → i < length preds → IsProgramAt (map pred_of preds) i c
-    → length c.blocks ≤ most_stages → q ≡ without_filter c → ((cs : List Part) → BeginsFile old cs → BeginsFile new (cs ++ q ∷ []))
-    → BeginsExact (map pred_of preds) i old → BeginsExact (map pred_of preds) (i + 1) new
-more preds i c q old new h a l e t f = record {
-  programs = f.programs ++ c ∷ [];
-  are_programs = program-more (map pred_of preds) i f.programs c (omega (arith, length-map preds pred_of)) a f.are_programs;
-  small = small_more f.programs c f.small l;
+pub more : (preds : List Pred) (i : ℕ) (q : Part) (old new : List ℕ) → i < length preds → IsBareAt (map pred_of preds) i q
+    → ((cs : List Part) → BeginsFile old cs → BeginsFile new (cs ++ q ∷ [])) → BeginsExact (map pred_of preds) i old
+    → BeginsExact (map pred_of preds) (i + 1) new
+more preds i q old new h b t f = record {
+  programs = f.programs ++ b.whole ∷ [];
+  are_programs = program-more (map pred_of preds) i f.programs b.whole (omega (arith, length-map preds pred_of)) b.program f.are_programs;
+  small = small_more f.programs b.whole f.small b.small;
   begins =
-      subst (BeginsFile new) (ap (λ d. map without_filter f.programs ++ d ∷ []) e ∙ sym (map-append without_filter f.programs (c ∷ [])))
+      subst (BeginsFile new) (ap (λ d. map without_filter f.programs ++ d ∷ []) b.bare ∙ sym (map-append without_filter f.programs (b.whole ∷ [])))
       (t (map without_filter f.programs) f.begins);
 }
 

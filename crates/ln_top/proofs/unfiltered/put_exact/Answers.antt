@@ -5,6 +5,5 @@ use Rattle.ln_top.proofs.unfiltered.put_exact.Goals as goal
 
 pub returns : goal.returns
 returns c =
-    IfOk-weaker c.put_program-done.result _ _ (λ x h. more c.args.source.now.table.preds c.args.i c.in_ok-program.field-0
-    c.without_filter-program.result c.args.text.now.items c.put_program-done.new.out.items c.requires c.in_ok-program.ensures.program
-    c.in_ok-program.ensures.small c.without_filter-program.ensures h) c.put_program-done.ensures.ok
+    IfOk-weaker c.put_program-done.result _ _ (λ x h. more c.args.source.now.table.preds c.args.i c.in_ok-program.program
+    c.args.text.now.items c.put_program-done.new.out.items c.requires c.in_ok-program.ensures.bare h) c.put_program-done.ensures.ok
