@@ -1,6 +1,6 @@
 # shellcheck shell=bash disable=SC2154  # examples/check, which reads this file, gives the names that stand for nothing here
 # the edits: that bin/edits tried them on these very sources, and that each edit can be applied
-case_ 'edits were refused on these sources, and each edit can be applied' 0 "$(find crates -path '*must-fail/*.edit' | wc -l) edits" '' 'python3 examples/checks/edits.py compare'
+case_ 'edits were refused on these sources, and each edit can be applied' 0 "$(find crates/*/*must-fail -name '*.edit' | wc -l) edits" '' 'python3 examples/checks/edits.py compare'
 # bin/edits, in a small checkout of its own with a false rt, which says how the edits of one crate came out, and then works on
 home=$scratch/edits
 mkdir -p "$home/bin" "$home/examples/checks" "$home/tools"

@@ -12,12 +12,12 @@ plant() { # WHAT SAID CHECK FILE COMMAND: what a check says of a file that the c
 }
 first() { grep -m1 "$1" "$copy/$2"; }
 crate=$(sed -n 's/^\([a-z][a-z_0-9]*\):.*/\1/p' crates.txt | head -1)
-edit=$(find crates -path '*must-fail/*.edit' | LC_ALL=C sort | head -1)
+edit=$(find crates/*/*must-fail -name '*.edit' | LC_ALL=C sort | head -1)
 tested=$(sed -n 's|/tests .*||p' examples/checks/counts.txt | head -1)
 tests=$(python3 examples/checks/counts.py of "$tested/tests")
 module=$(grep -rl '^#\[test\]' "crates/$tested/src" | LC_ALL=C sort | head -1); name=${module##*/}; name=${name%.rt}
-lemma=$(find crates -path '*/proofs/*Laws.antt' | LC_ALL=C sort | head -1)
-spec=$(find crates -path '*/specs/*.antt' ! -name Lib.antt | LC_ALL=C sort | head -1)
+lemma=$(find crates/*/proofs -name '*Laws.antt' | LC_ALL=C sort | head -1)
+spec=$(find crates/*/specs -name '*.antt' ! -name Lib.antt | LC_ALL=C sort | head -1)
 checks='python3 examples/checks'
 
 plant 'a line of the list of crates that is not the one made' 'docs/MAP.md: <!-- from crates.txt: what each crate does -->' "$checks/crates.py compare" docs/MAP.md "sed -i 's/^- $crate: /&it /' docs/MAP.md"
@@ -50,7 +50,7 @@ meaning=$(sed -n 's/^abbrev pub \([a-z_]*\) : .*/\1/p' "$spec" | grep -vxFf exam
 plant 'a definition under the name of one of another crate' "$meaning is defined in $crate and $(cut -d/ -f2 <<<"$other")" "$checks/twins.py compare" "$other" "printf '\npub $meaning : \xe2\x8a\xa4\n' >>$other"
 plant 'a list of names that is longer than it need be' 'nosuch is in examples/checks/twins.txt' "$checks/twins.py compare" examples/checks/twins.txt 'echo nosuch >>examples/checks/twins.txt'
 plant 'a script that takes CDPATH from its caller' 'bin/stamp: its first command' "$checks/scripts.py" bin/stamp "sed -i '/^unset /d' bin/stamp"
-code=$(find crates -path '*/src/*.rt' | LC_ALL=C sort | head -1)
+code=$(find crates/*/src -name '*.rt' | LC_ALL=C sort | head -1)
 plant 'a refusal of an allocation under another name' 'use std::alloc::AllocError as Full;: a refusal under another name' "$checks/refused.py compare" "$code" "echo 'use std::alloc::AllocError as Full;' >>$code"
 plant 'a refusal of an allocation that is made' 'fn full() -> AllocError { > AllocError' "$checks/refused.py compare" "$code" "printf 'fn full() -> AllocError {\n    AllocError\n}\n' >>$code"
 plant 'an arm that leads to one' "examples/checks/refused.txt doesn't have" "$checks/refused.py compare" "$(sed -n 's/: .*reported_by(&.*//p' examples/checks/refused.txt | tail -1)" "sed -i 's/^\( *\)Err(e) => Err(NoMemory::/\1Err(_) => Err(NoMemory::/' $(sed -n 's/: .*reported_by(&.*//p' examples/checks/refused.txt | tail -1)"
