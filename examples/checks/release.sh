@@ -41,8 +41,10 @@ case_ 'PROOF says which commit, by which prover and what the gate said' 0 "commi
 samples_there() {
   passed=0 failed=0 skipped=0
   show() {
+    local got
     case $2 in make\ * | cd\ * | *examples/segments/segments*) skipped=$((skipped + 1)); return ;; esac
-    judge "$1: $2" "$3status 0" "$(bash -c "$2" 2>&1 </dev/null; printf 'status %s' "$?")"
+    got=$(bash -c "$2" 2>&1 </dev/null; printf 'status %s' "$?")
+    case $got in 'skipped: '*$'\n''status 0') skipped=$((skipped + 1)); echo "release.sh: $1: $2: ${got%$'\n'*}" >&2 ;; *) judge "$1: $2" "$3status 0" "$got" ;; esac
   }
   cd "$unpacked" || return
   PATH=/usr/bin:/bin
