@@ -1,7 +1,8 @@
 #!/usr/bin/env python3
 """Writes the C and C++ header of a source of predicates, to standard output. Usage:
 
-header.py NAME.ln [NAME.c]     lnc_NAME.h for the C that lnc_exact or `lnc emit` wrote of the source, with both checksums where NAME.c is given
+header.py NAME.ln [NAME.c]     lnc_NAME.h for the C that lnc_exact or `lnc emit` wrote of the source, with both checksums where NAME.c is given. C of one
+                               order, by `lnc_exact turning`, has to be given: which predicates it has of one order is read there
 header.py --grid BITS NAME.ln  no header but the source for smaller ranges: coordinates from -2^BITS to 2^BITS, weights w to 2^(2*BITS), and the names
                                of sites, params and predicates with _BITS at their ends, so that both sets can be linked together
 
@@ -208,6 +209,10 @@ def place_of(text, at):
     return f"{before.count(chr(10)) + 1}:{len(before) - before.rfind(chr(10))}"
 
 
+# what a predicate's function is named: right on every row, or on rows whose indices rise, where each exchange of two sites turns the sign or keeps it
+EVERY_ROW, ALTERNATING, SYMMETRIC = "ln", "la", "ls"
+
+
 class Code:
     """The C of a source: by which program it was written, and how it is called."""
 
@@ -218,16 +223,30 @@ class Code:
         called = {name for name, two, _ in functions if two}
         if re.search(r'["\\\n]', self.name) or not text.startswith("#include <stdint.h>\n"):
             raise Fault(0, "it isn't C that lnc_exact or `lnc emit` writes")
-        for name in source.predicates:
-            block, whole = self.functions.get(f"lb0_{name}"), self.functions.get(f"ln_{name}")
-            if whole is None or block is None:
-                raise Fault(0, f"it has no functions of the predicate {name}: it isn't the C of this source")
-            most = [max(map(int, re.findall(rf"\b{array}\[(\d+)\]", body)), default=-1) for array, body in (("v", block), ("x", whole))]
-            if most[0] >= len(source.values(name)) or most[1] >= max(1, len(source.indices(name))):
-                raise Fault(text.index(f" ln_{name}("), f"ln_{name} reads more values or indices than {name} has: it isn't the C of this source")
-        for name in called - {f"ln_{name}" for name in source.predicates}:
+        self.entries = {name: self.entry(name, source) for name in source.predicates}
+        for name in called - {f"{entry}_{name}" for name, entry in self.entries.items()}:
             raise Fault(text.index(f" {name}("), f"{name} is no predicate of the source: it isn't the C of this source")
-        self.program = "lnc emit" if any(name.startswith("lf_") for name in self.functions) else "lnc_exact"
+        self.program = ("lnc emit" if any(name.startswith("lf_") for name in self.functions) else
+                        "lnc_exact turning" if set(self.entries.values()) - {EVERY_ROW} else "lnc_exact")
+
+    def entry(self, name, source):
+        """Which function of the predicate is called; its arrays have to be those of the source's rows."""
+        found = [entry for entry in (EVERY_ROW, ALTERNATING, SYMMETRIC) if f"{entry}_{name}" in self.functions]
+        block = self.functions.get(f"lb0_{name}")
+        if not found or block is None:
+            raise Fault(0, f"it has no functions of the predicate {name}: it isn't the C of this source")
+        called, sites = f"{found[0]}_{name}", source.indices(name)
+        most = [max(map(int, re.findall(rf"\b{array}\[(\d+)\]", body)), default=-1) for array, body in (("v", block), ("x", self.functions[called]))]
+        if most[0] >= len(source.values(name)) or most[1] >= max(1, len(sites)):
+            raise Fault(self.text.index(f" {called}("), f"{called} reads more values or indices than {name} has: it isn't the C of this source")
+        kinds = dict(source.predicates[name])
+        if found[0] != EVERY_ROW and (len(sites) < 2 or len({tuple(it[:2] for _, it in source.sites[kinds[a]]) for a in sites}) > 1):
+            raise Fault(self.text.index(f" {called}("), f"{called} exchanges sites that aren't alike: it isn't the C of this source")
+        return found[0]
+
+    def of_one_order(self):
+        """The predicates whose function is right only on rows whose indices rise."""
+        return [name for name, entry in self.entries.items() if entry != EVERY_ROW]
 
 
 def commented(text, indent=""):
@@ -357,31 +376,96 @@ def overloads(source, calls):
     yield "#ifdef LNC_CHECKED\n}\n#endif\n}\n#undef LNC_CALL"
 
 
-def bodies(call):
+# what puts a row into the order of its indices, of all headers together
+IN_ORDER = """
+#ifndef LNC_HAS_ORDER
+#define LNC_HAS_ORDER
+#if defined(__clang__) || __GNUC__ < 8
+#define LNC_UNROLLED
+#else
+#define LNC_UNROLLED _Pragma("GCC unroll 8")
+#endif
+/* Writes the indices as they rise to y, and of each site as many values alike to w. Returns whether an odd number of pairs of sites was the other way round.
+   Two of one index stay as they are. (Without branches, since nothing foretells an order. There are at most 5 sites) */
+static inline __attribute__((always_inline)) int lr_in_order(int sites, int many, const int64_t *x, const int64_t *v, int64_t *y, int64_t *w) {
+  int turned = 0, rank[] = {0, 1, 2, 3, 4};
+  LNC_UNROLLED
+  for (int j = 1; j < sites; j++) {
+    LNC_UNROLLED
+    for (int k = 0; k < j; k++) {
+      const int is_turned = x[k] > x[j];
+      rank[k] += is_turned;
+      rank[j] -= is_turned;
+      turned += is_turned;
+    }
+  }
+  LNC_UNROLLED
+  for (int j = 0; j < sites; j++) {
+    y[rank[j]] = x[j];
+    LNC_UNROLLED
+    for (int c = 0; c < many; c++) w[many * rank[j] + c] = v[many * j + c];
+  }
+  return turned % 2;
+}
+#undef LNC_UNROLLED
+#endif"""
+
+
+def one_order(call, entry):
+    """ln_NAME over the function of C of one order, which is right on rows whose indices rise: block 0 on the row as it is; where that is 0, the call of
+    the row in order, with the sign turned, if exchanges turn it, where an odd number of pairs was the other way round. There block 0 is 0 too, which the
+    compiler is told, so that it doesn't compute it again (with -fsanitize=undefined it does, and tests it)."""
+    name, turned, row, own = call.name, entry == ALTERNATING, "w", "v"
+    of_sites = [k for k, (_, c) in enumerate(call.values) if c]
+    lines = [f"int64_t y[{len(call.sites)}], w[{len(of_sites)}];"]
+    if len(of_sites) < len(call.values):
+        # params stay where they are
+        row, own = "u", "s"
+        lines.append(f"const int64_t s[] = {{{', '.join(f'v[{k}]' for k in of_sites)}}};")
+    lines.append(f"{'const int odd = ' if turned else '(void)'}lr_in_order({len(call.sites)}, {len(of_sites) // len(call.sites)}, x, {own}, y, w);")
+    if row == "u":
+        lines.append(f"const int64_t u[] = {{{', '.join(f'w[{of_sites.index(k)}]' if c else f'v[{k}]' for k, (_, c) in enumerate(call.values))}}};")
+    lines.append(f"if (lb0_{name}({row}) != 0) __builtin_unreachable();")
+    lines += [f"const int sign = {entry}_{name}(y, {row});", "return odd ? -sign : sign;"] if turned else [f"return {entry}_{name}(y, {row});"]
+    yield f"static __attribute__((noinline)) int lm_{name}({ARRAYS}) {{" + "".join(f"\n  {line}" for line in lines) + "\n}"
+    yield f"int ln_{name}({ARRAYS}) {{\n  const int sign = lb0_{name}(v);\n  return sign != 0 ? sign : lm_{name}(x, v);\n}}"
+
+
+def bodies(call, entry):
     """What is compiled once for a predicate, over the functions of its C. Block 0, the plain value, is compiled into the calls over points, which
     then read them where they are; where it is 0, the values are copied into arrays."""
     name, sites, values = call.name, len(call.sites), len(call.values)
+    if entry != EVERY_ROW:
+        yield from one_order(call, entry)
     yield f"int ln_{name}_plain(const int64_t *v) {{ return lb0_{name}(v); }}"
     yield (f"void ln_{name}_rows({ROWS}) {{\n"
            f"  for (size_t i = 0; i < n; i++) signs[i] = (int8_t)ln_{name}(x + {sites} * i, v + {values} * i);\n}}")
-    yield f"static __attribute__((noinline)) int lm_{name}({call.points}) {{\n  {call.x}\n  {call.v}\n  return ln_{name}(x, v);\n}}"
+    yield (f"static __attribute__((noinline)) int lm_{name}_at({call.points}) {{\n  {call.x}\n  {call.v}\n"
+           f"  return {'ln' if entry == EVERY_ROW else 'lm'}_{name}(x, v);\n}}")
     yield f"__attribute__((flatten)) int ln_{name}_plain_at({call.points}) {{\n  {call.v}\n  return lb0_{name}(v);\n}}"
     yield (f"__attribute__((flatten)) int ln_{name}_at({call.points}) {{\n  {call.v}\n  const int sign = lb0_{name}(v);\n"
-           f"  return sign != 0 ? sign : lm_{name}({call.passed});\n}}")
+           f"  return sign != 0 ? sign : lm_{name}_at({call.passed});\n}}")
 
 
 CALLS = ("", "_plain", "_rows", "_at", "_plain_at")
 UNCAST = '#ifdef __cplusplus\n#pragma GCC diagnostic push\n#pragma GCC diagnostic ignored "-Wold-style-cast"\n#endif'
 
 
-def implementation(upper, calls, code):
-    """What is compiled once: the C itself, and what needs its block 0. Then the names by which calls that check are called."""
+def implementation(upper, calls, name, code):
+    """What is compiled once: the C itself, of this name, and what needs its block 0. Then the names by which calls that check are called."""
+    turning = code.of_one_order() if code else []
     yield f"\n#if defined(LNC_{upper}_IMPLEMENTATION) && !defined(LNC_{upper}_IMPLEMENTED)\n#define LNC_{upper}_IMPLEMENTED"
     for call in calls:
         yield from (f"#undef ln_{call.name}{end}" for end in CALLS)
-    yield f'#ifndef __SIZEOF_INT128__\n#error "no __int128 here: {code} takes gcc or clang for a 64-bit target"\n#endif\n{UNCAST}\n#include "{code}"'
+    yield f'#ifndef __SIZEOF_INT128__\n#error "no __int128 here: {name} takes gcc or clang for a 64-bit target"\n#endif\n{UNCAST}'
+    # (static by this declaration, so that nobody links what is right on some rows alone)
+    yield from (f"static inline __attribute__((always_inline)) int {code.entries[it]}_{it}({ARRAYS});" for it in turning)
+    if not code:
+        yield "/* C of one order, which declares these otherwise, isn't compiled: its header is written of it */"
+        yield from (f"extern char {ALTERNATING}_{call.name}, {SYMMETRIC}_{call.name};" for call in calls)
+    yield f'#include "{name}"' + IN_ORDER * bool(turning)
     for call in calls:
-        yield from bodies(call)
+        yield from bodies(call, code.entries[call.name] if code else EVERY_ROW)
     yield f"#ifdef __cplusplus\n#pragma GCC diagnostic pop\n#endif\n#endif\n\n#ifdef LNC_{upper}_CHECKED"
     for call in calls:
         yield from (f"#define ln_{call.name}{end} lc_{call.name}{end}" for end in CALLS)
@@ -410,7 +494,14 @@ ABOUT = """/* lnc_{stem}.h: written by header.py, so change {stem}.ln and not th
    ln_SITE_in_range(&p)         whether index and coordinates are in range; in C++ lnc::in_range(p). Test each point once, where it is made
 
    With `#define LNC_CHECKED` before the header is included, all these calls test what they are given. At the first value out of range, negative index or
-   index twice they call ln_on_refusal, a pointer that you may set, with the names of predicate and argument; else they print these and abort */"""
+   index twice they call ln_on_refusal, a pointer that you may set, with the names of predicate and argument; else they print these and abort{order} */"""
+
+# what the header says of C of one order
+ORDER = """
+
+   Of {names}
+   {code} has the sign in one order of the sites, la_NAME or ls_NAME, which is proved for rows whose indices rise. ln_NAME puts each row into this order
+   (lr_in_order below), by lines that are tested and that no proof reaches"""
 
 
 def header(stem, data, source, code):
@@ -418,7 +509,9 @@ def header(stem, data, source, code):
     upper, calls = stem.upper(), [Call(source, name) for name in source.predicates]
     made = f"the SHA-256 {hashlib.sha256(code.text.encode('latin-1')).hexdigest()}" if code else "is beside it"
     code_name, program = (code.name, code.program) if code else (stem + ".c", "lnc_exact or lnc emit")
-    yield ABOUT.format(stem=stem, upper=upper, code=code_name, program=program, made=made, source=hashlib.sha256(data).hexdigest())
+    names = "\n   ".join(textwrap.wrap(", ".join(code.of_one_order() if code else []), 116))
+    order = ORDER.format(code=code_name, names=names) if names else ""
+    yield ABOUT.format(stem=stem, upper=upper, code=code_name, program=program, made=made, source=hashlib.sha256(data).hexdigest(), order=order)
     yield f"#ifndef LNC_{upper}_H\n#define LNC_{upper}_H\n#include <stddef.h>\n#include <stdint.h>\n{REFUSAL}"
     yield '#ifdef __cplusplus\nextern "C" {\n#endif\n'
     yield from ranges(source)
@@ -429,7 +522,7 @@ def header(stem, data, source, code):
     yield "#endif\n\n#ifdef __cplusplus\n}\n\n#include <cstdint>"
     yield from overloads(source, calls)
     yield "#endif\n#endif"
-    yield from implementation(upper, calls, code_name)
+    yield from implementation(upper, calls, code_name, code)
 
 
 def narrower(source, bits):
@@ -488,11 +581,14 @@ def written(words):
         for line in (line for lines in source.comments.values() for line in lines):
             for end in re.finditer(r"\*/|/\*", line.text):
                 raise Fault(line.at + end.start(), f"the comment goes into one of C, where {end[0]} can't stand")
-        code = None
+        code, beside = None, path.with_suffix(".c")
         if len(words) == 2:
             path = Path(words[1])
             text = read(path).decode("latin-1")
             code = Code(path, text, source)
+        elif beside.exists() and re.search(rf"^int ({ALTERNATING}|{SYMMETRIC})_\w+\(", read(beside).decode("latin-1"), flags=re.M):
+            path = beside
+            raise Fault(None, "it is of one order of the sites: name it after the source")
         return "\n".join(header(Path(words[0]).stem, data, source, code)) + "\n"
     except Fault as fault:
         place = place_of(text, fault.place) if isinstance(fault.place, int) else fault.place

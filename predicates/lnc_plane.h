@@ -591,7 +591,7 @@ int ln_orient2_plain(const int64_t *v) { return lb0_orient2(v); }
 void ln_orient2_rows(size_t n, const int64_t *x, const int64_t *v, int8_t *signs) {
   for (size_t i = 0; i < n; i++) signs[i] = (int8_t)ln_orient2(x + 3 * i, v + 6 * i);
 }
-static __attribute__((noinline)) int lm_orient2(const ln_point2 *p, const ln_point2 *q, const ln_point2 *r) {
+static __attribute__((noinline)) int lm_orient2_at(const ln_point2 *p, const ln_point2 *q, const ln_point2 *r) {
   const int64_t x[] = {p->index, q->index, r->index};
   const int64_t v[] = {p->x, p->y, q->x, q->y, r->x, r->y};
   return ln_orient2(x, v);
@@ -603,13 +603,13 @@ __attribute__((flatten)) int ln_orient2_plain_at(const ln_point2 *p, const ln_po
 __attribute__((flatten)) int ln_orient2_at(const ln_point2 *p, const ln_point2 *q, const ln_point2 *r) {
   const int64_t v[] = {p->x, p->y, q->x, q->y, r->x, r->y};
   const int sign = lb0_orient2(v);
-  return sign != 0 ? sign : lm_orient2(p, q, r);
+  return sign != 0 ? sign : lm_orient2_at(p, q, r);
 }
 int ln_incircle_plain(const int64_t *v) { return lb0_incircle(v); }
 void ln_incircle_rows(size_t n, const int64_t *x, const int64_t *v, int8_t *signs) {
   for (size_t i = 0; i < n; i++) signs[i] = (int8_t)ln_incircle(x + 4 * i, v + 8 * i);
 }
-static __attribute__((noinline)) int lm_incircle(const ln_point2 *a, const ln_point2 *b, const ln_point2 *c, const ln_point2 *d) {
+static __attribute__((noinline)) int lm_incircle_at(const ln_point2 *a, const ln_point2 *b, const ln_point2 *c, const ln_point2 *d) {
   const int64_t x[] = {a->index, b->index, c->index, d->index};
   const int64_t v[] = {a->x, a->y, b->x, b->y, c->x, c->y, d->x, d->y};
   return ln_incircle(x, v);
@@ -621,13 +621,13 @@ __attribute__((flatten)) int ln_incircle_plain_at(const ln_point2 *a, const ln_p
 __attribute__((flatten)) int ln_incircle_at(const ln_point2 *a, const ln_point2 *b, const ln_point2 *c, const ln_point2 *d) {
   const int64_t v[] = {a->x, a->y, b->x, b->y, c->x, c->y, d->x, d->y};
   const int sign = lb0_incircle(v);
-  return sign != 0 ? sign : lm_incircle(a, b, c, d);
+  return sign != 0 ? sign : lm_incircle_at(a, b, c, d);
 }
 int ln_diametral2_plain(const int64_t *v) { return lb0_diametral2(v); }
 void ln_diametral2_rows(size_t n, const int64_t *x, const int64_t *v, int8_t *signs) {
   for (size_t i = 0; i < n; i++) signs[i] = (int8_t)ln_diametral2(x + 3 * i, v + 6 * i);
 }
-static __attribute__((noinline)) int lm_diametral2(const ln_point2 *p, const ln_point2 *q, const ln_point2 *r) {
+static __attribute__((noinline)) int lm_diametral2_at(const ln_point2 *p, const ln_point2 *q, const ln_point2 *r) {
   const int64_t x[] = {p->index, q->index, r->index};
   const int64_t v[] = {p->x, p->y, q->x, q->y, r->x, r->y};
   return ln_diametral2(x, v);
@@ -639,13 +639,13 @@ __attribute__((flatten)) int ln_diametral2_plain_at(const ln_point2 *p, const ln
 __attribute__((flatten)) int ln_diametral2_at(const ln_point2 *p, const ln_point2 *q, const ln_point2 *r) {
   const int64_t v[] = {p->x, p->y, q->x, q->y, r->x, r->y};
   const int sign = lb0_diametral2(v);
-  return sign != 0 ? sign : lm_diametral2(p, q, r);
+  return sign != 0 ? sign : lm_diametral2_at(p, q, r);
 }
 int ln_compare_x2_plain(const int64_t *v) { return lb0_compare_x2(v); }
 void ln_compare_x2_rows(size_t n, const int64_t *x, const int64_t *v, int8_t *signs) {
   for (size_t i = 0; i < n; i++) signs[i] = (int8_t)ln_compare_x2(x + 2 * i, v + 4 * i);
 }
-static __attribute__((noinline)) int lm_compare_x2(const ln_point2 *p, const ln_point2 *q) {
+static __attribute__((noinline)) int lm_compare_x2_at(const ln_point2 *p, const ln_point2 *q) {
   const int64_t x[] = {p->index, q->index};
   const int64_t v[] = {p->x, p->y, q->x, q->y};
   return ln_compare_x2(x, v);
@@ -657,13 +657,13 @@ __attribute__((flatten)) int ln_compare_x2_plain_at(const ln_point2 *p, const ln
 __attribute__((flatten)) int ln_compare_x2_at(const ln_point2 *p, const ln_point2 *q) {
   const int64_t v[] = {p->x, p->y, q->x, q->y};
   const int sign = lb0_compare_x2(v);
-  return sign != 0 ? sign : lm_compare_x2(p, q);
+  return sign != 0 ? sign : lm_compare_x2_at(p, q);
 }
 int ln_compare_y2_plain(const int64_t *v) { return lb0_compare_y2(v); }
 void ln_compare_y2_rows(size_t n, const int64_t *x, const int64_t *v, int8_t *signs) {
   for (size_t i = 0; i < n; i++) signs[i] = (int8_t)ln_compare_y2(x + 2 * i, v + 4 * i);
 }
-static __attribute__((noinline)) int lm_compare_y2(const ln_point2 *p, const ln_point2 *q) {
+static __attribute__((noinline)) int lm_compare_y2_at(const ln_point2 *p, const ln_point2 *q) {
   const int64_t x[] = {p->index, q->index};
   const int64_t v[] = {p->x, p->y, q->x, q->y};
   return ln_compare_y2(x, v);
@@ -675,13 +675,13 @@ __attribute__((flatten)) int ln_compare_y2_plain_at(const ln_point2 *p, const ln
 __attribute__((flatten)) int ln_compare_y2_at(const ln_point2 *p, const ln_point2 *q) {
   const int64_t v[] = {p->x, p->y, q->x, q->y};
   const int sign = lb0_compare_y2(v);
-  return sign != 0 ? sign : lm_compare_y2(p, q);
+  return sign != 0 ? sign : lm_compare_y2_at(p, q);
 }
 int ln_lexicographic2_plain(const int64_t *v) { return lb0_lexicographic2(v); }
 void ln_lexicographic2_rows(size_t n, const int64_t *x, const int64_t *v, int8_t *signs) {
   for (size_t i = 0; i < n; i++) signs[i] = (int8_t)ln_lexicographic2(x + 2 * i, v + 4 * i);
 }
-static __attribute__((noinline)) int lm_lexicographic2(const ln_point2 *p, const ln_point2 *q) {
+static __attribute__((noinline)) int lm_lexicographic2_at(const ln_point2 *p, const ln_point2 *q) {
   const int64_t x[] = {p->index, q->index};
   const int64_t v[] = {p->x, p->y, q->x, q->y};
   return ln_lexicographic2(x, v);
@@ -693,13 +693,13 @@ __attribute__((flatten)) int ln_lexicographic2_plain_at(const ln_point2 *p, cons
 __attribute__((flatten)) int ln_lexicographic2_at(const ln_point2 *p, const ln_point2 *q) {
   const int64_t v[] = {p->x, p->y, q->x, q->y};
   const int sign = lb0_lexicographic2(v);
-  return sign != 0 ? sign : lm_lexicographic2(p, q);
+  return sign != 0 ? sign : lm_lexicographic2_at(p, q);
 }
 int ln_compare_distance2_plain(const int64_t *v) { return lb0_compare_distance2(v); }
 void ln_compare_distance2_rows(size_t n, const int64_t *x, const int64_t *v, int8_t *signs) {
   for (size_t i = 0; i < n; i++) signs[i] = (int8_t)ln_compare_distance2(x + 3 * i, v + 6 * i);
 }
-static __attribute__((noinline)) int lm_compare_distance2(const ln_point2 *p, const ln_point2 *q, const ln_point2 *r) {
+static __attribute__((noinline)) int lm_compare_distance2_at(const ln_point2 *p, const ln_point2 *q, const ln_point2 *r) {
   const int64_t x[] = {p->index, q->index, r->index};
   const int64_t v[] = {p->x, p->y, q->x, q->y, r->x, r->y};
   return ln_compare_distance2(x, v);
@@ -711,13 +711,13 @@ __attribute__((flatten)) int ln_compare_distance2_plain_at(const ln_point2 *p, c
 __attribute__((flatten)) int ln_compare_distance2_at(const ln_point2 *p, const ln_point2 *q, const ln_point2 *r) {
   const int64_t v[] = {p->x, p->y, q->x, q->y, r->x, r->y};
   const int sign = lb0_compare_distance2(v);
-  return sign != 0 ? sign : lm_compare_distance2(p, q, r);
+  return sign != 0 ? sign : lm_compare_distance2_at(p, q, r);
 }
 int ln_dot2_plain(const int64_t *v) { return lb0_dot2(v); }
 void ln_dot2_rows(size_t n, const int64_t *x, const int64_t *v, int8_t *signs) {
   for (size_t i = 0; i < n; i++) signs[i] = (int8_t)ln_dot2(x + 4 * i, v + 8 * i);
 }
-static __attribute__((noinline)) int lm_dot2(const ln_point2 *p, const ln_point2 *q, const ln_point2 *r, const ln_point2 *s) {
+static __attribute__((noinline)) int lm_dot2_at(const ln_point2 *p, const ln_point2 *q, const ln_point2 *r, const ln_point2 *s) {
   const int64_t x[] = {p->index, q->index, r->index, s->index};
   const int64_t v[] = {p->x, p->y, q->x, q->y, r->x, r->y, s->x, s->y};
   return ln_dot2(x, v);
@@ -729,13 +729,13 @@ __attribute__((flatten)) int ln_dot2_plain_at(const ln_point2 *p, const ln_point
 __attribute__((flatten)) int ln_dot2_at(const ln_point2 *p, const ln_point2 *q, const ln_point2 *r, const ln_point2 *s) {
   const int64_t v[] = {p->x, p->y, q->x, q->y, r->x, r->y, s->x, s->y};
   const int sign = lb0_dot2(v);
-  return sign != 0 ? sign : lm_dot2(p, q, r, s);
+  return sign != 0 ? sign : lm_dot2_at(p, q, r, s);
 }
 int ln_compare_line2_plain(const int64_t *v) { return lb0_compare_line2(v); }
 void ln_compare_line2_rows(size_t n, const int64_t *x, const int64_t *v, int8_t *signs) {
   for (size_t i = 0; i < n; i++) signs[i] = (int8_t)ln_compare_line2(x + 4 * i, v + 8 * i);
 }
-static __attribute__((noinline)) int lm_compare_line2(const ln_point2 *p, const ln_point2 *q, const ln_point2 *r, const ln_point2 *s) {
+static __attribute__((noinline)) int lm_compare_line2_at(const ln_point2 *p, const ln_point2 *q, const ln_point2 *r, const ln_point2 *s) {
   const int64_t x[] = {p->index, q->index, r->index, s->index};
   const int64_t v[] = {p->x, p->y, q->x, q->y, r->x, r->y, s->x, s->y};
   return ln_compare_line2(x, v);
@@ -747,7 +747,7 @@ __attribute__((flatten)) int ln_compare_line2_plain_at(const ln_point2 *p, const
 __attribute__((flatten)) int ln_compare_line2_at(const ln_point2 *p, const ln_point2 *q, const ln_point2 *r, const ln_point2 *s) {
   const int64_t v[] = {p->x, p->y, q->x, q->y, r->x, r->y, s->x, s->y};
   const int sign = lb0_compare_line2(v);
-  return sign != 0 ? sign : lm_compare_line2(p, q, r, s);
+  return sign != 0 ? sign : lm_compare_line2_at(p, q, r, s);
 }
 #ifdef __cplusplus
 #pragma GCC diagnostic pop

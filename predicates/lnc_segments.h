@@ -329,7 +329,7 @@ int ln_side_a2_plain(const int64_t *v) { return lb0_side_a2(v); }
 void ln_side_a2_rows(size_t n, const int64_t *x, const int64_t *v, int8_t *signs) {
   for (size_t i = 0; i < n; i++) signs[i] = (int8_t)ln_side_a2(x + 2 * i, v + 8 * i);
 }
-static __attribute__((noinline)) int lm_side_a2(const ln_segment2 *s, const ln_segment2 *t) {
+static __attribute__((noinline)) int lm_side_a2_at(const ln_segment2 *s, const ln_segment2 *t) {
   const int64_t x[] = {s->index, t->index};
   const int64_t v[] = {s->ax, s->ay, s->bx, s->by, t->ax, t->ay, t->bx, t->by};
   return ln_side_a2(x, v);
@@ -341,13 +341,13 @@ __attribute__((flatten)) int ln_side_a2_plain_at(const ln_segment2 *s, const ln_
 __attribute__((flatten)) int ln_side_a2_at(const ln_segment2 *s, const ln_segment2 *t) {
   const int64_t v[] = {s->ax, s->ay, s->bx, s->by, t->ax, t->ay, t->bx, t->by};
   const int sign = lb0_side_a2(v);
-  return sign != 0 ? sign : lm_side_a2(s, t);
+  return sign != 0 ? sign : lm_side_a2_at(s, t);
 }
 int ln_side_b2_plain(const int64_t *v) { return lb0_side_b2(v); }
 void ln_side_b2_rows(size_t n, const int64_t *x, const int64_t *v, int8_t *signs) {
   for (size_t i = 0; i < n; i++) signs[i] = (int8_t)ln_side_b2(x + 2 * i, v + 8 * i);
 }
-static __attribute__((noinline)) int lm_side_b2(const ln_segment2 *s, const ln_segment2 *t) {
+static __attribute__((noinline)) int lm_side_b2_at(const ln_segment2 *s, const ln_segment2 *t) {
   const int64_t x[] = {s->index, t->index};
   const int64_t v[] = {s->ax, s->ay, s->bx, s->by, t->ax, t->ay, t->bx, t->by};
   return ln_side_b2(x, v);
@@ -359,13 +359,13 @@ __attribute__((flatten)) int ln_side_b2_plain_at(const ln_segment2 *s, const ln_
 __attribute__((flatten)) int ln_side_b2_at(const ln_segment2 *s, const ln_segment2 *t) {
   const int64_t v[] = {s->ax, s->ay, s->bx, s->by, t->ax, t->ay, t->bx, t->by};
   const int sign = lb0_side_b2(v);
-  return sign != 0 ? sign : lm_side_b2(s, t);
+  return sign != 0 ? sign : lm_side_b2_at(s, t);
 }
 int ln_turn2_plain(const int64_t *v) { return lb0_turn2(v); }
 void ln_turn2_rows(size_t n, const int64_t *x, const int64_t *v, int8_t *signs) {
   for (size_t i = 0; i < n; i++) signs[i] = (int8_t)ln_turn2(x + 2 * i, v + 8 * i);
 }
-static __attribute__((noinline)) int lm_turn2(const ln_segment2 *s, const ln_segment2 *t) {
+static __attribute__((noinline)) int lm_turn2_at(const ln_segment2 *s, const ln_segment2 *t) {
   const int64_t x[] = {s->index, t->index};
   const int64_t v[] = {s->ax, s->ay, s->bx, s->by, t->ax, t->ay, t->bx, t->by};
   return ln_turn2(x, v);
@@ -377,13 +377,13 @@ __attribute__((flatten)) int ln_turn2_plain_at(const ln_segment2 *s, const ln_se
 __attribute__((flatten)) int ln_turn2_at(const ln_segment2 *s, const ln_segment2 *t) {
   const int64_t v[] = {s->ax, s->ay, s->bx, s->by, t->ax, t->ay, t->bx, t->by};
   const int sign = lb0_turn2(v);
-  return sign != 0 ? sign : lm_turn2(s, t);
+  return sign != 0 ? sign : lm_turn2_at(s, t);
 }
 int ln_crossings2_plain(const int64_t *v) { return lb0_crossings2(v); }
 void ln_crossings2_rows(size_t n, const int64_t *x, const int64_t *v, int8_t *signs) {
   for (size_t i = 0; i < n; i++) signs[i] = (int8_t)ln_crossings2(x + 3 * i, v + 12 * i);
 }
-static __attribute__((noinline)) int lm_crossings2(const ln_segment2 *s, const ln_segment2 *t, const ln_segment2 *u) {
+static __attribute__((noinline)) int lm_crossings2_at(const ln_segment2 *s, const ln_segment2 *t, const ln_segment2 *u) {
   const int64_t x[] = {s->index, t->index, u->index};
   const int64_t v[] = {s->ax, s->ay, s->bx, s->by, t->ax, t->ay, t->bx, t->by, u->ax, u->ay, u->bx, u->by};
   return ln_crossings2(x, v);
@@ -395,7 +395,7 @@ __attribute__((flatten)) int ln_crossings2_plain_at(const ln_segment2 *s, const 
 __attribute__((flatten)) int ln_crossings2_at(const ln_segment2 *s, const ln_segment2 *t, const ln_segment2 *u) {
   const int64_t v[] = {s->ax, s->ay, s->bx, s->by, t->ax, t->ay, t->bx, t->by, u->ax, u->ay, u->bx, u->by};
   const int sign = lb0_crossings2(v);
-  return sign != 0 ? sign : lm_crossings2(s, t, u);
+  return sign != 0 ? sign : lm_crossings2_at(s, t, u);
 }
 #ifdef __cplusplus
 #pragma GCC diagnostic pop

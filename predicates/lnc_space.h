@@ -861,7 +861,7 @@ int ln_orient3_plain(const int64_t *v) { return lb0_orient3(v); }
 void ln_orient3_rows(size_t n, const int64_t *x, const int64_t *v, int8_t *signs) {
   for (size_t i = 0; i < n; i++) signs[i] = (int8_t)ln_orient3(x + 4 * i, v + 12 * i);
 }
-static __attribute__((noinline)) int lm_orient3(const ln_point3 *a, const ln_point3 *b, const ln_point3 *c, const ln_point3 *d) {
+static __attribute__((noinline)) int lm_orient3_at(const ln_point3 *a, const ln_point3 *b, const ln_point3 *c, const ln_point3 *d) {
   const int64_t x[] = {a->index, b->index, c->index, d->index};
   const int64_t v[] = {a->x, a->y, a->z, b->x, b->y, b->z, c->x, c->y, c->z, d->x, d->y, d->z};
   return ln_orient3(x, v);
@@ -873,13 +873,13 @@ __attribute__((flatten)) int ln_orient3_plain_at(const ln_point3 *a, const ln_po
 __attribute__((flatten)) int ln_orient3_at(const ln_point3 *a, const ln_point3 *b, const ln_point3 *c, const ln_point3 *d) {
   const int64_t v[] = {a->x, a->y, a->z, b->x, b->y, b->z, c->x, c->y, c->z, d->x, d->y, d->z};
   const int sign = lb0_orient3(v);
-  return sign != 0 ? sign : lm_orient3(a, b, c, d);
+  return sign != 0 ? sign : lm_orient3_at(a, b, c, d);
 }
 int ln_insphere_plain(const int64_t *v) { return lb0_insphere(v); }
 void ln_insphere_rows(size_t n, const int64_t *x, const int64_t *v, int8_t *signs) {
   for (size_t i = 0; i < n; i++) signs[i] = (int8_t)ln_insphere(x + 5 * i, v + 15 * i);
 }
-static __attribute__((noinline)) int lm_insphere(const ln_point3 *a, const ln_point3 *b, const ln_point3 *c, const ln_point3 *d, const ln_point3 *e) {
+static __attribute__((noinline)) int lm_insphere_at(const ln_point3 *a, const ln_point3 *b, const ln_point3 *c, const ln_point3 *d, const ln_point3 *e) {
   const int64_t x[] = {a->index, b->index, c->index, d->index, e->index};
   const int64_t v[] = {a->x, a->y, a->z, b->x, b->y, b->z, c->x, c->y, c->z, d->x, d->y, d->z, e->x, e->y, e->z};
   return ln_insphere(x, v);
@@ -891,13 +891,13 @@ __attribute__((flatten)) int ln_insphere_plain_at(const ln_point3 *a, const ln_p
 __attribute__((flatten)) int ln_insphere_at(const ln_point3 *a, const ln_point3 *b, const ln_point3 *c, const ln_point3 *d, const ln_point3 *e) {
   const int64_t v[] = {a->x, a->y, a->z, b->x, b->y, b->z, c->x, c->y, c->z, d->x, d->y, d->z, e->x, e->y, e->z};
   const int sign = lb0_insphere(v);
-  return sign != 0 ? sign : lm_insphere(a, b, c, d, e);
+  return sign != 0 ? sign : lm_insphere_at(a, b, c, d, e);
 }
 int ln_diametral3_plain(const int64_t *v) { return lb0_diametral3(v); }
 void ln_diametral3_rows(size_t n, const int64_t *x, const int64_t *v, int8_t *signs) {
   for (size_t i = 0; i < n; i++) signs[i] = (int8_t)ln_diametral3(x + 3 * i, v + 9 * i);
 }
-static __attribute__((noinline)) int lm_diametral3(const ln_point3 *p, const ln_point3 *q, const ln_point3 *r) {
+static __attribute__((noinline)) int lm_diametral3_at(const ln_point3 *p, const ln_point3 *q, const ln_point3 *r) {
   const int64_t x[] = {p->index, q->index, r->index};
   const int64_t v[] = {p->x, p->y, p->z, q->x, q->y, q->z, r->x, r->y, r->z};
   return ln_diametral3(x, v);
@@ -909,13 +909,13 @@ __attribute__((flatten)) int ln_diametral3_plain_at(const ln_point3 *p, const ln
 __attribute__((flatten)) int ln_diametral3_at(const ln_point3 *p, const ln_point3 *q, const ln_point3 *r) {
   const int64_t v[] = {p->x, p->y, p->z, q->x, q->y, q->z, r->x, r->y, r->z};
   const int sign = lb0_diametral3(v);
-  return sign != 0 ? sign : lm_diametral3(p, q, r);
+  return sign != 0 ? sign : lm_diametral3_at(p, q, r);
 }
 int ln_compare_x3_plain(const int64_t *v) { return lb0_compare_x3(v); }
 void ln_compare_x3_rows(size_t n, const int64_t *x, const int64_t *v, int8_t *signs) {
   for (size_t i = 0; i < n; i++) signs[i] = (int8_t)ln_compare_x3(x + 2 * i, v + 6 * i);
 }
-static __attribute__((noinline)) int lm_compare_x3(const ln_point3 *p, const ln_point3 *q) {
+static __attribute__((noinline)) int lm_compare_x3_at(const ln_point3 *p, const ln_point3 *q) {
   const int64_t x[] = {p->index, q->index};
   const int64_t v[] = {p->x, p->y, p->z, q->x, q->y, q->z};
   return ln_compare_x3(x, v);
@@ -927,13 +927,13 @@ __attribute__((flatten)) int ln_compare_x3_plain_at(const ln_point3 *p, const ln
 __attribute__((flatten)) int ln_compare_x3_at(const ln_point3 *p, const ln_point3 *q) {
   const int64_t v[] = {p->x, p->y, p->z, q->x, q->y, q->z};
   const int sign = lb0_compare_x3(v);
-  return sign != 0 ? sign : lm_compare_x3(p, q);
+  return sign != 0 ? sign : lm_compare_x3_at(p, q);
 }
 int ln_compare_y3_plain(const int64_t *v) { return lb0_compare_y3(v); }
 void ln_compare_y3_rows(size_t n, const int64_t *x, const int64_t *v, int8_t *signs) {
   for (size_t i = 0; i < n; i++) signs[i] = (int8_t)ln_compare_y3(x + 2 * i, v + 6 * i);
 }
-static __attribute__((noinline)) int lm_compare_y3(const ln_point3 *p, const ln_point3 *q) {
+static __attribute__((noinline)) int lm_compare_y3_at(const ln_point3 *p, const ln_point3 *q) {
   const int64_t x[] = {p->index, q->index};
   const int64_t v[] = {p->x, p->y, p->z, q->x, q->y, q->z};
   return ln_compare_y3(x, v);
@@ -945,13 +945,13 @@ __attribute__((flatten)) int ln_compare_y3_plain_at(const ln_point3 *p, const ln
 __attribute__((flatten)) int ln_compare_y3_at(const ln_point3 *p, const ln_point3 *q) {
   const int64_t v[] = {p->x, p->y, p->z, q->x, q->y, q->z};
   const int sign = lb0_compare_y3(v);
-  return sign != 0 ? sign : lm_compare_y3(p, q);
+  return sign != 0 ? sign : lm_compare_y3_at(p, q);
 }
 int ln_compare_z3_plain(const int64_t *v) { return lb0_compare_z3(v); }
 void ln_compare_z3_rows(size_t n, const int64_t *x, const int64_t *v, int8_t *signs) {
   for (size_t i = 0; i < n; i++) signs[i] = (int8_t)ln_compare_z3(x + 2 * i, v + 6 * i);
 }
-static __attribute__((noinline)) int lm_compare_z3(const ln_point3 *p, const ln_point3 *q) {
+static __attribute__((noinline)) int lm_compare_z3_at(const ln_point3 *p, const ln_point3 *q) {
   const int64_t x[] = {p->index, q->index};
   const int64_t v[] = {p->x, p->y, p->z, q->x, q->y, q->z};
   return ln_compare_z3(x, v);
@@ -963,13 +963,13 @@ __attribute__((flatten)) int ln_compare_z3_plain_at(const ln_point3 *p, const ln
 __attribute__((flatten)) int ln_compare_z3_at(const ln_point3 *p, const ln_point3 *q) {
   const int64_t v[] = {p->x, p->y, p->z, q->x, q->y, q->z};
   const int sign = lb0_compare_z3(v);
-  return sign != 0 ? sign : lm_compare_z3(p, q);
+  return sign != 0 ? sign : lm_compare_z3_at(p, q);
 }
 int ln_lexicographic3_plain(const int64_t *v) { return lb0_lexicographic3(v); }
 void ln_lexicographic3_rows(size_t n, const int64_t *x, const int64_t *v, int8_t *signs) {
   for (size_t i = 0; i < n; i++) signs[i] = (int8_t)ln_lexicographic3(x + 2 * i, v + 6 * i);
 }
-static __attribute__((noinline)) int lm_lexicographic3(const ln_point3 *p, const ln_point3 *q) {
+static __attribute__((noinline)) int lm_lexicographic3_at(const ln_point3 *p, const ln_point3 *q) {
   const int64_t x[] = {p->index, q->index};
   const int64_t v[] = {p->x, p->y, p->z, q->x, q->y, q->z};
   return ln_lexicographic3(x, v);
@@ -981,13 +981,13 @@ __attribute__((flatten)) int ln_lexicographic3_plain_at(const ln_point3 *p, cons
 __attribute__((flatten)) int ln_lexicographic3_at(const ln_point3 *p, const ln_point3 *q) {
   const int64_t v[] = {p->x, p->y, p->z, q->x, q->y, q->z};
   const int sign = lb0_lexicographic3(v);
-  return sign != 0 ? sign : lm_lexicographic3(p, q);
+  return sign != 0 ? sign : lm_lexicographic3_at(p, q);
 }
 int ln_compare_distance3_plain(const int64_t *v) { return lb0_compare_distance3(v); }
 void ln_compare_distance3_rows(size_t n, const int64_t *x, const int64_t *v, int8_t *signs) {
   for (size_t i = 0; i < n; i++) signs[i] = (int8_t)ln_compare_distance3(x + 3 * i, v + 9 * i);
 }
-static __attribute__((noinline)) int lm_compare_distance3(const ln_point3 *p, const ln_point3 *q, const ln_point3 *r) {
+static __attribute__((noinline)) int lm_compare_distance3_at(const ln_point3 *p, const ln_point3 *q, const ln_point3 *r) {
   const int64_t x[] = {p->index, q->index, r->index};
   const int64_t v[] = {p->x, p->y, p->z, q->x, q->y, q->z, r->x, r->y, r->z};
   return ln_compare_distance3(x, v);
@@ -999,13 +999,13 @@ __attribute__((flatten)) int ln_compare_distance3_plain_at(const ln_point3 *p, c
 __attribute__((flatten)) int ln_compare_distance3_at(const ln_point3 *p, const ln_point3 *q, const ln_point3 *r) {
   const int64_t v[] = {p->x, p->y, p->z, q->x, q->y, q->z, r->x, r->y, r->z};
   const int sign = lb0_compare_distance3(v);
-  return sign != 0 ? sign : lm_compare_distance3(p, q, r);
+  return sign != 0 ? sign : lm_compare_distance3_at(p, q, r);
 }
 int ln_dot3_plain(const int64_t *v) { return lb0_dot3(v); }
 void ln_dot3_rows(size_t n, const int64_t *x, const int64_t *v, int8_t *signs) {
   for (size_t i = 0; i < n; i++) signs[i] = (int8_t)ln_dot3(x + 4 * i, v + 12 * i);
 }
-static __attribute__((noinline)) int lm_dot3(const ln_point3 *p, const ln_point3 *q, const ln_point3 *r, const ln_point3 *s) {
+static __attribute__((noinline)) int lm_dot3_at(const ln_point3 *p, const ln_point3 *q, const ln_point3 *r, const ln_point3 *s) {
   const int64_t x[] = {p->index, q->index, r->index, s->index};
   const int64_t v[] = {p->x, p->y, p->z, q->x, q->y, q->z, r->x, r->y, r->z, s->x, s->y, s->z};
   return ln_dot3(x, v);
@@ -1017,13 +1017,13 @@ __attribute__((flatten)) int ln_dot3_plain_at(const ln_point3 *p, const ln_point
 __attribute__((flatten)) int ln_dot3_at(const ln_point3 *p, const ln_point3 *q, const ln_point3 *r, const ln_point3 *s) {
   const int64_t v[] = {p->x, p->y, p->z, q->x, q->y, q->z, r->x, r->y, r->z, s->x, s->y, s->z};
   const int sign = lb0_dot3(v);
-  return sign != 0 ? sign : lm_dot3(p, q, r, s);
+  return sign != 0 ? sign : lm_dot3_at(p, q, r, s);
 }
 int ln_compare_plane3_plain(const int64_t *v) { return lb0_compare_plane3(v); }
 void ln_compare_plane3_rows(size_t n, const int64_t *x, const int64_t *v, int8_t *signs) {
   for (size_t i = 0; i < n; i++) signs[i] = (int8_t)ln_compare_plane3(x + 5 * i, v + 15 * i);
 }
-static __attribute__((noinline)) int lm_compare_plane3(const ln_point3 *p, const ln_point3 *q, const ln_point3 *r, const ln_point3 *s, const ln_point3 *t) {
+static __attribute__((noinline)) int lm_compare_plane3_at(const ln_point3 *p, const ln_point3 *q, const ln_point3 *r, const ln_point3 *s, const ln_point3 *t) {
   const int64_t x[] = {p->index, q->index, r->index, s->index, t->index};
   const int64_t v[] = {p->x, p->y, p->z, q->x, q->y, q->z, r->x, r->y, r->z, s->x, s->y, s->z, t->x, t->y, t->z};
   return ln_compare_plane3(x, v);
@@ -1035,13 +1035,13 @@ __attribute__((flatten)) int ln_compare_plane3_plain_at(const ln_point3 *p, cons
 __attribute__((flatten)) int ln_compare_plane3_at(const ln_point3 *p, const ln_point3 *q, const ln_point3 *r, const ln_point3 *s, const ln_point3 *t) {
   const int64_t v[] = {p->x, p->y, p->z, q->x, q->y, q->z, r->x, r->y, r->z, s->x, s->y, s->z, t->x, t->y, t->z};
   const int sign = lb0_compare_plane3(v);
-  return sign != 0 ? sign : lm_compare_plane3(p, q, r, s, t);
+  return sign != 0 ? sign : lm_compare_plane3_at(p, q, r, s, t);
 }
 int ln_coplanar_xy_plain(const int64_t *v) { return lb0_coplanar_xy(v); }
 void ln_coplanar_xy_rows(size_t n, const int64_t *x, const int64_t *v, int8_t *signs) {
   for (size_t i = 0; i < n; i++) signs[i] = (int8_t)ln_coplanar_xy(x + 3 * i, v + 9 * i);
 }
-static __attribute__((noinline)) int lm_coplanar_xy(const ln_point3 *p, const ln_point3 *q, const ln_point3 *r) {
+static __attribute__((noinline)) int lm_coplanar_xy_at(const ln_point3 *p, const ln_point3 *q, const ln_point3 *r) {
   const int64_t x[] = {p->index, q->index, r->index};
   const int64_t v[] = {p->x, p->y, p->z, q->x, q->y, q->z, r->x, r->y, r->z};
   return ln_coplanar_xy(x, v);
@@ -1053,13 +1053,13 @@ __attribute__((flatten)) int ln_coplanar_xy_plain_at(const ln_point3 *p, const l
 __attribute__((flatten)) int ln_coplanar_xy_at(const ln_point3 *p, const ln_point3 *q, const ln_point3 *r) {
   const int64_t v[] = {p->x, p->y, p->z, q->x, q->y, q->z, r->x, r->y, r->z};
   const int sign = lb0_coplanar_xy(v);
-  return sign != 0 ? sign : lm_coplanar_xy(p, q, r);
+  return sign != 0 ? sign : lm_coplanar_xy_at(p, q, r);
 }
 int ln_coplanar_yz_plain(const int64_t *v) { return lb0_coplanar_yz(v); }
 void ln_coplanar_yz_rows(size_t n, const int64_t *x, const int64_t *v, int8_t *signs) {
   for (size_t i = 0; i < n; i++) signs[i] = (int8_t)ln_coplanar_yz(x + 3 * i, v + 9 * i);
 }
-static __attribute__((noinline)) int lm_coplanar_yz(const ln_point3 *p, const ln_point3 *q, const ln_point3 *r) {
+static __attribute__((noinline)) int lm_coplanar_yz_at(const ln_point3 *p, const ln_point3 *q, const ln_point3 *r) {
   const int64_t x[] = {p->index, q->index, r->index};
   const int64_t v[] = {p->x, p->y, p->z, q->x, q->y, q->z, r->x, r->y, r->z};
   return ln_coplanar_yz(x, v);
@@ -1071,13 +1071,13 @@ __attribute__((flatten)) int ln_coplanar_yz_plain_at(const ln_point3 *p, const l
 __attribute__((flatten)) int ln_coplanar_yz_at(const ln_point3 *p, const ln_point3 *q, const ln_point3 *r) {
   const int64_t v[] = {p->x, p->y, p->z, q->x, q->y, q->z, r->x, r->y, r->z};
   const int sign = lb0_coplanar_yz(v);
-  return sign != 0 ? sign : lm_coplanar_yz(p, q, r);
+  return sign != 0 ? sign : lm_coplanar_yz_at(p, q, r);
 }
 int ln_coplanar_zx_plain(const int64_t *v) { return lb0_coplanar_zx(v); }
 void ln_coplanar_zx_rows(size_t n, const int64_t *x, const int64_t *v, int8_t *signs) {
   for (size_t i = 0; i < n; i++) signs[i] = (int8_t)ln_coplanar_zx(x + 3 * i, v + 9 * i);
 }
-static __attribute__((noinline)) int lm_coplanar_zx(const ln_point3 *p, const ln_point3 *q, const ln_point3 *r) {
+static __attribute__((noinline)) int lm_coplanar_zx_at(const ln_point3 *p, const ln_point3 *q, const ln_point3 *r) {
   const int64_t x[] = {p->index, q->index, r->index};
   const int64_t v[] = {p->x, p->y, p->z, q->x, q->y, q->z, r->x, r->y, r->z};
   return ln_coplanar_zx(x, v);
@@ -1089,7 +1089,7 @@ __attribute__((flatten)) int ln_coplanar_zx_plain_at(const ln_point3 *p, const l
 __attribute__((flatten)) int ln_coplanar_zx_at(const ln_point3 *p, const ln_point3 *q, const ln_point3 *r) {
   const int64_t v[] = {p->x, p->y, p->z, q->x, q->y, q->z, r->x, r->y, r->z};
   const int sign = lb0_coplanar_zx(v);
-  return sign != 0 ? sign : lm_coplanar_zx(p, q, r);
+  return sign != 0 ? sign : lm_coplanar_zx_at(p, q, r);
 }
 #ifdef __cplusplus
 #pragma GCC diagnostic pop

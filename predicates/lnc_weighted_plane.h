@@ -726,7 +726,7 @@ int ln_worient2_plain(const int64_t *v) { return lb0_worient2(v); }
 void ln_worient2_rows(size_t n, const int64_t *x, const int64_t *v, int8_t *signs) {
   for (size_t i = 0; i < n; i++) signs[i] = (int8_t)ln_worient2(x + 3 * i, v + 9 * i);
 }
-static __attribute__((noinline)) int lm_worient2(const ln_weighted2 *p, const ln_weighted2 *q, const ln_weighted2 *r) {
+static __attribute__((noinline)) int lm_worient2_at(const ln_weighted2 *p, const ln_weighted2 *q, const ln_weighted2 *r) {
   const int64_t x[] = {p->index, q->index, r->index};
   const int64_t v[] = {p->x, p->y, p->w, q->x, q->y, q->w, r->x, r->y, r->w};
   return ln_worient2(x, v);
@@ -738,13 +738,13 @@ __attribute__((flatten)) int ln_worient2_plain_at(const ln_weighted2 *p, const l
 __attribute__((flatten)) int ln_worient2_at(const ln_weighted2 *p, const ln_weighted2 *q, const ln_weighted2 *r) {
   const int64_t v[] = {p->x, p->y, p->w, q->x, q->y, q->w, r->x, r->y, r->w};
   const int sign = lb0_worient2(v);
-  return sign != 0 ? sign : lm_worient2(p, q, r);
+  return sign != 0 ? sign : lm_worient2_at(p, q, r);
 }
 int ln_power2_plain(const int64_t *v) { return lb0_power2(v); }
 void ln_power2_rows(size_t n, const int64_t *x, const int64_t *v, int8_t *signs) {
   for (size_t i = 0; i < n; i++) signs[i] = (int8_t)ln_power2(x + 4 * i, v + 12 * i);
 }
-static __attribute__((noinline)) int lm_power2(const ln_weighted2 *a, const ln_weighted2 *b, const ln_weighted2 *c, const ln_weighted2 *d) {
+static __attribute__((noinline)) int lm_power2_at(const ln_weighted2 *a, const ln_weighted2 *b, const ln_weighted2 *c, const ln_weighted2 *d) {
   const int64_t x[] = {a->index, b->index, c->index, d->index};
   const int64_t v[] = {a->x, a->y, a->w, b->x, b->y, b->w, c->x, c->y, c->w, d->x, d->y, d->w};
   return ln_power2(x, v);
@@ -756,13 +756,13 @@ __attribute__((flatten)) int ln_power2_plain_at(const ln_weighted2 *a, const ln_
 __attribute__((flatten)) int ln_power2_at(const ln_weighted2 *a, const ln_weighted2 *b, const ln_weighted2 *c, const ln_weighted2 *d) {
   const int64_t v[] = {a->x, a->y, a->w, b->x, b->y, b->w, c->x, c->y, c->w, d->x, d->y, d->w};
   const int sign = lb0_power2(v);
-  return sign != 0 ? sign : lm_power2(a, b, c, d);
+  return sign != 0 ? sign : lm_power2_at(a, b, c, d);
 }
 int ln_wdiametral2_plain(const int64_t *v) { return lb0_wdiametral2(v); }
 void ln_wdiametral2_rows(size_t n, const int64_t *x, const int64_t *v, int8_t *signs) {
   for (size_t i = 0; i < n; i++) signs[i] = (int8_t)ln_wdiametral2(x + 3 * i, v + 9 * i);
 }
-static __attribute__((noinline)) int lm_wdiametral2(const ln_weighted2 *p, const ln_weighted2 *q, const ln_weighted2 *r) {
+static __attribute__((noinline)) int lm_wdiametral2_at(const ln_weighted2 *p, const ln_weighted2 *q, const ln_weighted2 *r) {
   const int64_t x[] = {p->index, q->index, r->index};
   const int64_t v[] = {p->x, p->y, p->w, q->x, q->y, q->w, r->x, r->y, r->w};
   return ln_wdiametral2(x, v);
@@ -774,13 +774,13 @@ __attribute__((flatten)) int ln_wdiametral2_plain_at(const ln_weighted2 *p, cons
 __attribute__((flatten)) int ln_wdiametral2_at(const ln_weighted2 *p, const ln_weighted2 *q, const ln_weighted2 *r) {
   const int64_t v[] = {p->x, p->y, p->w, q->x, q->y, q->w, r->x, r->y, r->w};
   const int sign = lb0_wdiametral2(v);
-  return sign != 0 ? sign : lm_wdiametral2(p, q, r);
+  return sign != 0 ? sign : lm_wdiametral2_at(p, q, r);
 }
 int ln_wcompare_x2_plain(const int64_t *v) { return lb0_wcompare_x2(v); }
 void ln_wcompare_x2_rows(size_t n, const int64_t *x, const int64_t *v, int8_t *signs) {
   for (size_t i = 0; i < n; i++) signs[i] = (int8_t)ln_wcompare_x2(x + 2 * i, v + 6 * i);
 }
-static __attribute__((noinline)) int lm_wcompare_x2(const ln_weighted2 *p, const ln_weighted2 *q) {
+static __attribute__((noinline)) int lm_wcompare_x2_at(const ln_weighted2 *p, const ln_weighted2 *q) {
   const int64_t x[] = {p->index, q->index};
   const int64_t v[] = {p->x, p->y, p->w, q->x, q->y, q->w};
   return ln_wcompare_x2(x, v);
@@ -792,13 +792,13 @@ __attribute__((flatten)) int ln_wcompare_x2_plain_at(const ln_weighted2 *p, cons
 __attribute__((flatten)) int ln_wcompare_x2_at(const ln_weighted2 *p, const ln_weighted2 *q) {
   const int64_t v[] = {p->x, p->y, p->w, q->x, q->y, q->w};
   const int sign = lb0_wcompare_x2(v);
-  return sign != 0 ? sign : lm_wcompare_x2(p, q);
+  return sign != 0 ? sign : lm_wcompare_x2_at(p, q);
 }
 int ln_wcompare_y2_plain(const int64_t *v) { return lb0_wcompare_y2(v); }
 void ln_wcompare_y2_rows(size_t n, const int64_t *x, const int64_t *v, int8_t *signs) {
   for (size_t i = 0; i < n; i++) signs[i] = (int8_t)ln_wcompare_y2(x + 2 * i, v + 6 * i);
 }
-static __attribute__((noinline)) int lm_wcompare_y2(const ln_weighted2 *p, const ln_weighted2 *q) {
+static __attribute__((noinline)) int lm_wcompare_y2_at(const ln_weighted2 *p, const ln_weighted2 *q) {
   const int64_t x[] = {p->index, q->index};
   const int64_t v[] = {p->x, p->y, p->w, q->x, q->y, q->w};
   return ln_wcompare_y2(x, v);
@@ -810,13 +810,13 @@ __attribute__((flatten)) int ln_wcompare_y2_plain_at(const ln_weighted2 *p, cons
 __attribute__((flatten)) int ln_wcompare_y2_at(const ln_weighted2 *p, const ln_weighted2 *q) {
   const int64_t v[] = {p->x, p->y, p->w, q->x, q->y, q->w};
   const int sign = lb0_wcompare_y2(v);
-  return sign != 0 ? sign : lm_wcompare_y2(p, q);
+  return sign != 0 ? sign : lm_wcompare_y2_at(p, q);
 }
 int ln_wcompare_w2_plain(const int64_t *v) { return lb0_wcompare_w2(v); }
 void ln_wcompare_w2_rows(size_t n, const int64_t *x, const int64_t *v, int8_t *signs) {
   for (size_t i = 0; i < n; i++) signs[i] = (int8_t)ln_wcompare_w2(x + 2 * i, v + 6 * i);
 }
-static __attribute__((noinline)) int lm_wcompare_w2(const ln_weighted2 *p, const ln_weighted2 *q) {
+static __attribute__((noinline)) int lm_wcompare_w2_at(const ln_weighted2 *p, const ln_weighted2 *q) {
   const int64_t x[] = {p->index, q->index};
   const int64_t v[] = {p->x, p->y, p->w, q->x, q->y, q->w};
   return ln_wcompare_w2(x, v);
@@ -828,13 +828,13 @@ __attribute__((flatten)) int ln_wcompare_w2_plain_at(const ln_weighted2 *p, cons
 __attribute__((flatten)) int ln_wcompare_w2_at(const ln_weighted2 *p, const ln_weighted2 *q) {
   const int64_t v[] = {p->x, p->y, p->w, q->x, q->y, q->w};
   const int sign = lb0_wcompare_w2(v);
-  return sign != 0 ? sign : lm_wcompare_w2(p, q);
+  return sign != 0 ? sign : lm_wcompare_w2_at(p, q);
 }
 int ln_wlexicographic2_plain(const int64_t *v) { return lb0_wlexicographic2(v); }
 void ln_wlexicographic2_rows(size_t n, const int64_t *x, const int64_t *v, int8_t *signs) {
   for (size_t i = 0; i < n; i++) signs[i] = (int8_t)ln_wlexicographic2(x + 2 * i, v + 6 * i);
 }
-static __attribute__((noinline)) int lm_wlexicographic2(const ln_weighted2 *p, const ln_weighted2 *q) {
+static __attribute__((noinline)) int lm_wlexicographic2_at(const ln_weighted2 *p, const ln_weighted2 *q) {
   const int64_t x[] = {p->index, q->index};
   const int64_t v[] = {p->x, p->y, p->w, q->x, q->y, q->w};
   return ln_wlexicographic2(x, v);
@@ -846,13 +846,13 @@ __attribute__((flatten)) int ln_wlexicographic2_plain_at(const ln_weighted2 *p, 
 __attribute__((flatten)) int ln_wlexicographic2_at(const ln_weighted2 *p, const ln_weighted2 *q) {
   const int64_t v[] = {p->x, p->y, p->w, q->x, q->y, q->w};
   const int sign = lb0_wlexicographic2(v);
-  return sign != 0 ? sign : lm_wlexicographic2(p, q);
+  return sign != 0 ? sign : lm_wlexicographic2_at(p, q);
 }
 int ln_wcompare_distance2_plain(const int64_t *v) { return lb0_wcompare_distance2(v); }
 void ln_wcompare_distance2_rows(size_t n, const int64_t *x, const int64_t *v, int8_t *signs) {
   for (size_t i = 0; i < n; i++) signs[i] = (int8_t)ln_wcompare_distance2(x + 3 * i, v + 9 * i);
 }
-static __attribute__((noinline)) int lm_wcompare_distance2(const ln_weighted2 *p, const ln_weighted2 *q, const ln_weighted2 *r) {
+static __attribute__((noinline)) int lm_wcompare_distance2_at(const ln_weighted2 *p, const ln_weighted2 *q, const ln_weighted2 *r) {
   const int64_t x[] = {p->index, q->index, r->index};
   const int64_t v[] = {p->x, p->y, p->w, q->x, q->y, q->w, r->x, r->y, r->w};
   return ln_wcompare_distance2(x, v);
@@ -864,13 +864,13 @@ __attribute__((flatten)) int ln_wcompare_distance2_plain_at(const ln_weighted2 *
 __attribute__((flatten)) int ln_wcompare_distance2_at(const ln_weighted2 *p, const ln_weighted2 *q, const ln_weighted2 *r) {
   const int64_t v[] = {p->x, p->y, p->w, q->x, q->y, q->w, r->x, r->y, r->w};
   const int sign = lb0_wcompare_distance2(v);
-  return sign != 0 ? sign : lm_wcompare_distance2(p, q, r);
+  return sign != 0 ? sign : lm_wcompare_distance2_at(p, q, r);
 }
 int ln_compare_power2_plain(const int64_t *v) { return lb0_compare_power2(v); }
 void ln_compare_power2_rows(size_t n, const int64_t *x, const int64_t *v, int8_t *signs) {
   for (size_t i = 0; i < n; i++) signs[i] = (int8_t)ln_compare_power2(x + 3 * i, v + 9 * i);
 }
-static __attribute__((noinline)) int lm_compare_power2(const ln_weighted2 *p, const ln_weighted2 *q, const ln_weighted2 *r) {
+static __attribute__((noinline)) int lm_compare_power2_at(const ln_weighted2 *p, const ln_weighted2 *q, const ln_weighted2 *r) {
   const int64_t x[] = {p->index, q->index, r->index};
   const int64_t v[] = {p->x, p->y, p->w, q->x, q->y, q->w, r->x, r->y, r->w};
   return ln_compare_power2(x, v);
@@ -882,13 +882,13 @@ __attribute__((flatten)) int ln_compare_power2_plain_at(const ln_weighted2 *p, c
 __attribute__((flatten)) int ln_compare_power2_at(const ln_weighted2 *p, const ln_weighted2 *q, const ln_weighted2 *r) {
   const int64_t v[] = {p->x, p->y, p->w, q->x, q->y, q->w, r->x, r->y, r->w};
   const int sign = lb0_compare_power2(v);
-  return sign != 0 ? sign : lm_compare_power2(p, q, r);
+  return sign != 0 ? sign : lm_compare_power2_at(p, q, r);
 }
 int ln_wdot2_plain(const int64_t *v) { return lb0_wdot2(v); }
 void ln_wdot2_rows(size_t n, const int64_t *x, const int64_t *v, int8_t *signs) {
   for (size_t i = 0; i < n; i++) signs[i] = (int8_t)ln_wdot2(x + 4 * i, v + 12 * i);
 }
-static __attribute__((noinline)) int lm_wdot2(const ln_weighted2 *p, const ln_weighted2 *q, const ln_weighted2 *r, const ln_weighted2 *s) {
+static __attribute__((noinline)) int lm_wdot2_at(const ln_weighted2 *p, const ln_weighted2 *q, const ln_weighted2 *r, const ln_weighted2 *s) {
   const int64_t x[] = {p->index, q->index, r->index, s->index};
   const int64_t v[] = {p->x, p->y, p->w, q->x, q->y, q->w, r->x, r->y, r->w, s->x, s->y, s->w};
   return ln_wdot2(x, v);
@@ -900,13 +900,13 @@ __attribute__((flatten)) int ln_wdot2_plain_at(const ln_weighted2 *p, const ln_w
 __attribute__((flatten)) int ln_wdot2_at(const ln_weighted2 *p, const ln_weighted2 *q, const ln_weighted2 *r, const ln_weighted2 *s) {
   const int64_t v[] = {p->x, p->y, p->w, q->x, q->y, q->w, r->x, r->y, r->w, s->x, s->y, s->w};
   const int sign = lb0_wdot2(v);
-  return sign != 0 ? sign : lm_wdot2(p, q, r, s);
+  return sign != 0 ? sign : lm_wdot2_at(p, q, r, s);
 }
 int ln_wcompare_line2_plain(const int64_t *v) { return lb0_wcompare_line2(v); }
 void ln_wcompare_line2_rows(size_t n, const int64_t *x, const int64_t *v, int8_t *signs) {
   for (size_t i = 0; i < n; i++) signs[i] = (int8_t)ln_wcompare_line2(x + 4 * i, v + 12 * i);
 }
-static __attribute__((noinline)) int lm_wcompare_line2(const ln_weighted2 *p, const ln_weighted2 *q, const ln_weighted2 *r, const ln_weighted2 *s) {
+static __attribute__((noinline)) int lm_wcompare_line2_at(const ln_weighted2 *p, const ln_weighted2 *q, const ln_weighted2 *r, const ln_weighted2 *s) {
   const int64_t x[] = {p->index, q->index, r->index, s->index};
   const int64_t v[] = {p->x, p->y, p->w, q->x, q->y, q->w, r->x, r->y, r->w, s->x, s->y, s->w};
   return ln_wcompare_line2(x, v);
@@ -918,7 +918,7 @@ __attribute__((flatten)) int ln_wcompare_line2_plain_at(const ln_weighted2 *p, c
 __attribute__((flatten)) int ln_wcompare_line2_at(const ln_weighted2 *p, const ln_weighted2 *q, const ln_weighted2 *r, const ln_weighted2 *s) {
   const int64_t v[] = {p->x, p->y, p->w, q->x, q->y, q->w, r->x, r->y, r->w, s->x, s->y, s->w};
   const int sign = lb0_wcompare_line2(v);
-  return sign != 0 ? sign : lm_wcompare_line2(p, q, r, s);
+  return sign != 0 ? sign : lm_wcompare_line2_at(p, q, r, s);
 }
 #ifdef __cplusplus
 #pragma GCC diagnostic pop

@@ -938,7 +938,7 @@ int ln_worient3_plain(const int64_t *v) { return lb0_worient3(v); }
 void ln_worient3_rows(size_t n, const int64_t *x, const int64_t *v, int8_t *signs) {
   for (size_t i = 0; i < n; i++) signs[i] = (int8_t)ln_worient3(x + 4 * i, v + 16 * i);
 }
-static __attribute__((noinline)) int lm_worient3(const ln_weighted3 *a, const ln_weighted3 *b, const ln_weighted3 *c, const ln_weighted3 *d) {
+static __attribute__((noinline)) int lm_worient3_at(const ln_weighted3 *a, const ln_weighted3 *b, const ln_weighted3 *c, const ln_weighted3 *d) {
   const int64_t x[] = {a->index, b->index, c->index, d->index};
   const int64_t v[] = {a->x, a->y, a->z, a->w, b->x, b->y, b->z, b->w, c->x, c->y, c->z, c->w, d->x, d->y, d->z, d->w};
   return ln_worient3(x, v);
@@ -950,13 +950,13 @@ __attribute__((flatten)) int ln_worient3_plain_at(const ln_weighted3 *a, const l
 __attribute__((flatten)) int ln_worient3_at(const ln_weighted3 *a, const ln_weighted3 *b, const ln_weighted3 *c, const ln_weighted3 *d) {
   const int64_t v[] = {a->x, a->y, a->z, a->w, b->x, b->y, b->z, b->w, c->x, c->y, c->z, c->w, d->x, d->y, d->z, d->w};
   const int sign = lb0_worient3(v);
-  return sign != 0 ? sign : lm_worient3(a, b, c, d);
+  return sign != 0 ? sign : lm_worient3_at(a, b, c, d);
 }
 int ln_power3_plain(const int64_t *v) { return lb0_power3(v); }
 void ln_power3_rows(size_t n, const int64_t *x, const int64_t *v, int8_t *signs) {
   for (size_t i = 0; i < n; i++) signs[i] = (int8_t)ln_power3(x + 5 * i, v + 20 * i);
 }
-static __attribute__((noinline)) int lm_power3(const ln_weighted3 *a, const ln_weighted3 *b, const ln_weighted3 *c, const ln_weighted3 *d, const ln_weighted3 *e) {
+static __attribute__((noinline)) int lm_power3_at(const ln_weighted3 *a, const ln_weighted3 *b, const ln_weighted3 *c, const ln_weighted3 *d, const ln_weighted3 *e) {
   const int64_t x[] = {a->index, b->index, c->index, d->index, e->index};
   const int64_t v[] = {a->x, a->y, a->z, a->w, b->x, b->y, b->z, b->w, c->x, c->y, c->z, c->w, d->x, d->y, d->z, d->w, e->x, e->y, e->z, e->w};
   return ln_power3(x, v);
@@ -968,13 +968,13 @@ __attribute__((flatten)) int ln_power3_plain_at(const ln_weighted3 *a, const ln_
 __attribute__((flatten)) int ln_power3_at(const ln_weighted3 *a, const ln_weighted3 *b, const ln_weighted3 *c, const ln_weighted3 *d, const ln_weighted3 *e) {
   const int64_t v[] = {a->x, a->y, a->z, a->w, b->x, b->y, b->z, b->w, c->x, c->y, c->z, c->w, d->x, d->y, d->z, d->w, e->x, e->y, e->z, e->w};
   const int sign = lb0_power3(v);
-  return sign != 0 ? sign : lm_power3(a, b, c, d, e);
+  return sign != 0 ? sign : lm_power3_at(a, b, c, d, e);
 }
 int ln_wdiametral3_plain(const int64_t *v) { return lb0_wdiametral3(v); }
 void ln_wdiametral3_rows(size_t n, const int64_t *x, const int64_t *v, int8_t *signs) {
   for (size_t i = 0; i < n; i++) signs[i] = (int8_t)ln_wdiametral3(x + 3 * i, v + 12 * i);
 }
-static __attribute__((noinline)) int lm_wdiametral3(const ln_weighted3 *p, const ln_weighted3 *q, const ln_weighted3 *r) {
+static __attribute__((noinline)) int lm_wdiametral3_at(const ln_weighted3 *p, const ln_weighted3 *q, const ln_weighted3 *r) {
   const int64_t x[] = {p->index, q->index, r->index};
   const int64_t v[] = {p->x, p->y, p->z, p->w, q->x, q->y, q->z, q->w, r->x, r->y, r->z, r->w};
   return ln_wdiametral3(x, v);
@@ -986,13 +986,13 @@ __attribute__((flatten)) int ln_wdiametral3_plain_at(const ln_weighted3 *p, cons
 __attribute__((flatten)) int ln_wdiametral3_at(const ln_weighted3 *p, const ln_weighted3 *q, const ln_weighted3 *r) {
   const int64_t v[] = {p->x, p->y, p->z, p->w, q->x, q->y, q->z, q->w, r->x, r->y, r->z, r->w};
   const int sign = lb0_wdiametral3(v);
-  return sign != 0 ? sign : lm_wdiametral3(p, q, r);
+  return sign != 0 ? sign : lm_wdiametral3_at(p, q, r);
 }
 int ln_wcompare_x3_plain(const int64_t *v) { return lb0_wcompare_x3(v); }
 void ln_wcompare_x3_rows(size_t n, const int64_t *x, const int64_t *v, int8_t *signs) {
   for (size_t i = 0; i < n; i++) signs[i] = (int8_t)ln_wcompare_x3(x + 2 * i, v + 8 * i);
 }
-static __attribute__((noinline)) int lm_wcompare_x3(const ln_weighted3 *p, const ln_weighted3 *q) {
+static __attribute__((noinline)) int lm_wcompare_x3_at(const ln_weighted3 *p, const ln_weighted3 *q) {
   const int64_t x[] = {p->index, q->index};
   const int64_t v[] = {p->x, p->y, p->z, p->w, q->x, q->y, q->z, q->w};
   return ln_wcompare_x3(x, v);
@@ -1004,13 +1004,13 @@ __attribute__((flatten)) int ln_wcompare_x3_plain_at(const ln_weighted3 *p, cons
 __attribute__((flatten)) int ln_wcompare_x3_at(const ln_weighted3 *p, const ln_weighted3 *q) {
   const int64_t v[] = {p->x, p->y, p->z, p->w, q->x, q->y, q->z, q->w};
   const int sign = lb0_wcompare_x3(v);
-  return sign != 0 ? sign : lm_wcompare_x3(p, q);
+  return sign != 0 ? sign : lm_wcompare_x3_at(p, q);
 }
 int ln_wcompare_y3_plain(const int64_t *v) { return lb0_wcompare_y3(v); }
 void ln_wcompare_y3_rows(size_t n, const int64_t *x, const int64_t *v, int8_t *signs) {
   for (size_t i = 0; i < n; i++) signs[i] = (int8_t)ln_wcompare_y3(x + 2 * i, v + 8 * i);
 }
-static __attribute__((noinline)) int lm_wcompare_y3(const ln_weighted3 *p, const ln_weighted3 *q) {
+static __attribute__((noinline)) int lm_wcompare_y3_at(const ln_weighted3 *p, const ln_weighted3 *q) {
   const int64_t x[] = {p->index, q->index};
   const int64_t v[] = {p->x, p->y, p->z, p->w, q->x, q->y, q->z, q->w};
   return ln_wcompare_y3(x, v);
@@ -1022,13 +1022,13 @@ __attribute__((flatten)) int ln_wcompare_y3_plain_at(const ln_weighted3 *p, cons
 __attribute__((flatten)) int ln_wcompare_y3_at(const ln_weighted3 *p, const ln_weighted3 *q) {
   const int64_t v[] = {p->x, p->y, p->z, p->w, q->x, q->y, q->z, q->w};
   const int sign = lb0_wcompare_y3(v);
-  return sign != 0 ? sign : lm_wcompare_y3(p, q);
+  return sign != 0 ? sign : lm_wcompare_y3_at(p, q);
 }
 int ln_wcompare_z3_plain(const int64_t *v) { return lb0_wcompare_z3(v); }
 void ln_wcompare_z3_rows(size_t n, const int64_t *x, const int64_t *v, int8_t *signs) {
   for (size_t i = 0; i < n; i++) signs[i] = (int8_t)ln_wcompare_z3(x + 2 * i, v + 8 * i);
 }
-static __attribute__((noinline)) int lm_wcompare_z3(const ln_weighted3 *p, const ln_weighted3 *q) {
+static __attribute__((noinline)) int lm_wcompare_z3_at(const ln_weighted3 *p, const ln_weighted3 *q) {
   const int64_t x[] = {p->index, q->index};
   const int64_t v[] = {p->x, p->y, p->z, p->w, q->x, q->y, q->z, q->w};
   return ln_wcompare_z3(x, v);
@@ -1040,13 +1040,13 @@ __attribute__((flatten)) int ln_wcompare_z3_plain_at(const ln_weighted3 *p, cons
 __attribute__((flatten)) int ln_wcompare_z3_at(const ln_weighted3 *p, const ln_weighted3 *q) {
   const int64_t v[] = {p->x, p->y, p->z, p->w, q->x, q->y, q->z, q->w};
   const int sign = lb0_wcompare_z3(v);
-  return sign != 0 ? sign : lm_wcompare_z3(p, q);
+  return sign != 0 ? sign : lm_wcompare_z3_at(p, q);
 }
 int ln_wcompare_w3_plain(const int64_t *v) { return lb0_wcompare_w3(v); }
 void ln_wcompare_w3_rows(size_t n, const int64_t *x, const int64_t *v, int8_t *signs) {
   for (size_t i = 0; i < n; i++) signs[i] = (int8_t)ln_wcompare_w3(x + 2 * i, v + 8 * i);
 }
-static __attribute__((noinline)) int lm_wcompare_w3(const ln_weighted3 *p, const ln_weighted3 *q) {
+static __attribute__((noinline)) int lm_wcompare_w3_at(const ln_weighted3 *p, const ln_weighted3 *q) {
   const int64_t x[] = {p->index, q->index};
   const int64_t v[] = {p->x, p->y, p->z, p->w, q->x, q->y, q->z, q->w};
   return ln_wcompare_w3(x, v);
@@ -1058,13 +1058,13 @@ __attribute__((flatten)) int ln_wcompare_w3_plain_at(const ln_weighted3 *p, cons
 __attribute__((flatten)) int ln_wcompare_w3_at(const ln_weighted3 *p, const ln_weighted3 *q) {
   const int64_t v[] = {p->x, p->y, p->z, p->w, q->x, q->y, q->z, q->w};
   const int sign = lb0_wcompare_w3(v);
-  return sign != 0 ? sign : lm_wcompare_w3(p, q);
+  return sign != 0 ? sign : lm_wcompare_w3_at(p, q);
 }
 int ln_wlexicographic3_plain(const int64_t *v) { return lb0_wlexicographic3(v); }
 void ln_wlexicographic3_rows(size_t n, const int64_t *x, const int64_t *v, int8_t *signs) {
   for (size_t i = 0; i < n; i++) signs[i] = (int8_t)ln_wlexicographic3(x + 2 * i, v + 8 * i);
 }
-static __attribute__((noinline)) int lm_wlexicographic3(const ln_weighted3 *p, const ln_weighted3 *q) {
+static __attribute__((noinline)) int lm_wlexicographic3_at(const ln_weighted3 *p, const ln_weighted3 *q) {
   const int64_t x[] = {p->index, q->index};
   const int64_t v[] = {p->x, p->y, p->z, p->w, q->x, q->y, q->z, q->w};
   return ln_wlexicographic3(x, v);
@@ -1076,13 +1076,13 @@ __attribute__((flatten)) int ln_wlexicographic3_plain_at(const ln_weighted3 *p, 
 __attribute__((flatten)) int ln_wlexicographic3_at(const ln_weighted3 *p, const ln_weighted3 *q) {
   const int64_t v[] = {p->x, p->y, p->z, p->w, q->x, q->y, q->z, q->w};
   const int sign = lb0_wlexicographic3(v);
-  return sign != 0 ? sign : lm_wlexicographic3(p, q);
+  return sign != 0 ? sign : lm_wlexicographic3_at(p, q);
 }
 int ln_wcompare_distance3_plain(const int64_t *v) { return lb0_wcompare_distance3(v); }
 void ln_wcompare_distance3_rows(size_t n, const int64_t *x, const int64_t *v, int8_t *signs) {
   for (size_t i = 0; i < n; i++) signs[i] = (int8_t)ln_wcompare_distance3(x + 3 * i, v + 12 * i);
 }
-static __attribute__((noinline)) int lm_wcompare_distance3(const ln_weighted3 *p, const ln_weighted3 *q, const ln_weighted3 *r) {
+static __attribute__((noinline)) int lm_wcompare_distance3_at(const ln_weighted3 *p, const ln_weighted3 *q, const ln_weighted3 *r) {
   const int64_t x[] = {p->index, q->index, r->index};
   const int64_t v[] = {p->x, p->y, p->z, p->w, q->x, q->y, q->z, q->w, r->x, r->y, r->z, r->w};
   return ln_wcompare_distance3(x, v);
@@ -1094,13 +1094,13 @@ __attribute__((flatten)) int ln_wcompare_distance3_plain_at(const ln_weighted3 *
 __attribute__((flatten)) int ln_wcompare_distance3_at(const ln_weighted3 *p, const ln_weighted3 *q, const ln_weighted3 *r) {
   const int64_t v[] = {p->x, p->y, p->z, p->w, q->x, q->y, q->z, q->w, r->x, r->y, r->z, r->w};
   const int sign = lb0_wcompare_distance3(v);
-  return sign != 0 ? sign : lm_wcompare_distance3(p, q, r);
+  return sign != 0 ? sign : lm_wcompare_distance3_at(p, q, r);
 }
 int ln_compare_power3_plain(const int64_t *v) { return lb0_compare_power3(v); }
 void ln_compare_power3_rows(size_t n, const int64_t *x, const int64_t *v, int8_t *signs) {
   for (size_t i = 0; i < n; i++) signs[i] = (int8_t)ln_compare_power3(x + 3 * i, v + 12 * i);
 }
-static __attribute__((noinline)) int lm_compare_power3(const ln_weighted3 *p, const ln_weighted3 *q, const ln_weighted3 *r) {
+static __attribute__((noinline)) int lm_compare_power3_at(const ln_weighted3 *p, const ln_weighted3 *q, const ln_weighted3 *r) {
   const int64_t x[] = {p->index, q->index, r->index};
   const int64_t v[] = {p->x, p->y, p->z, p->w, q->x, q->y, q->z, q->w, r->x, r->y, r->z, r->w};
   return ln_compare_power3(x, v);
@@ -1112,13 +1112,13 @@ __attribute__((flatten)) int ln_compare_power3_plain_at(const ln_weighted3 *p, c
 __attribute__((flatten)) int ln_compare_power3_at(const ln_weighted3 *p, const ln_weighted3 *q, const ln_weighted3 *r) {
   const int64_t v[] = {p->x, p->y, p->z, p->w, q->x, q->y, q->z, q->w, r->x, r->y, r->z, r->w};
   const int sign = lb0_compare_power3(v);
-  return sign != 0 ? sign : lm_compare_power3(p, q, r);
+  return sign != 0 ? sign : lm_compare_power3_at(p, q, r);
 }
 int ln_wdot3_plain(const int64_t *v) { return lb0_wdot3(v); }
 void ln_wdot3_rows(size_t n, const int64_t *x, const int64_t *v, int8_t *signs) {
   for (size_t i = 0; i < n; i++) signs[i] = (int8_t)ln_wdot3(x + 4 * i, v + 16 * i);
 }
-static __attribute__((noinline)) int lm_wdot3(const ln_weighted3 *p, const ln_weighted3 *q, const ln_weighted3 *r, const ln_weighted3 *s) {
+static __attribute__((noinline)) int lm_wdot3_at(const ln_weighted3 *p, const ln_weighted3 *q, const ln_weighted3 *r, const ln_weighted3 *s) {
   const int64_t x[] = {p->index, q->index, r->index, s->index};
   const int64_t v[] = {p->x, p->y, p->z, p->w, q->x, q->y, q->z, q->w, r->x, r->y, r->z, r->w, s->x, s->y, s->z, s->w};
   return ln_wdot3(x, v);
@@ -1130,13 +1130,13 @@ __attribute__((flatten)) int ln_wdot3_plain_at(const ln_weighted3 *p, const ln_w
 __attribute__((flatten)) int ln_wdot3_at(const ln_weighted3 *p, const ln_weighted3 *q, const ln_weighted3 *r, const ln_weighted3 *s) {
   const int64_t v[] = {p->x, p->y, p->z, p->w, q->x, q->y, q->z, q->w, r->x, r->y, r->z, r->w, s->x, s->y, s->z, s->w};
   const int sign = lb0_wdot3(v);
-  return sign != 0 ? sign : lm_wdot3(p, q, r, s);
+  return sign != 0 ? sign : lm_wdot3_at(p, q, r, s);
 }
 int ln_wcoplanar_xy_plain(const int64_t *v) { return lb0_wcoplanar_xy(v); }
 void ln_wcoplanar_xy_rows(size_t n, const int64_t *x, const int64_t *v, int8_t *signs) {
   for (size_t i = 0; i < n; i++) signs[i] = (int8_t)ln_wcoplanar_xy(x + 3 * i, v + 12 * i);
 }
-static __attribute__((noinline)) int lm_wcoplanar_xy(const ln_weighted3 *p, const ln_weighted3 *q, const ln_weighted3 *r) {
+static __attribute__((noinline)) int lm_wcoplanar_xy_at(const ln_weighted3 *p, const ln_weighted3 *q, const ln_weighted3 *r) {
   const int64_t x[] = {p->index, q->index, r->index};
   const int64_t v[] = {p->x, p->y, p->z, p->w, q->x, q->y, q->z, q->w, r->x, r->y, r->z, r->w};
   return ln_wcoplanar_xy(x, v);
@@ -1148,13 +1148,13 @@ __attribute__((flatten)) int ln_wcoplanar_xy_plain_at(const ln_weighted3 *p, con
 __attribute__((flatten)) int ln_wcoplanar_xy_at(const ln_weighted3 *p, const ln_weighted3 *q, const ln_weighted3 *r) {
   const int64_t v[] = {p->x, p->y, p->z, p->w, q->x, q->y, q->z, q->w, r->x, r->y, r->z, r->w};
   const int sign = lb0_wcoplanar_xy(v);
-  return sign != 0 ? sign : lm_wcoplanar_xy(p, q, r);
+  return sign != 0 ? sign : lm_wcoplanar_xy_at(p, q, r);
 }
 int ln_wcoplanar_yz_plain(const int64_t *v) { return lb0_wcoplanar_yz(v); }
 void ln_wcoplanar_yz_rows(size_t n, const int64_t *x, const int64_t *v, int8_t *signs) {
   for (size_t i = 0; i < n; i++) signs[i] = (int8_t)ln_wcoplanar_yz(x + 3 * i, v + 12 * i);
 }
-static __attribute__((noinline)) int lm_wcoplanar_yz(const ln_weighted3 *p, const ln_weighted3 *q, const ln_weighted3 *r) {
+static __attribute__((noinline)) int lm_wcoplanar_yz_at(const ln_weighted3 *p, const ln_weighted3 *q, const ln_weighted3 *r) {
   const int64_t x[] = {p->index, q->index, r->index};
   const int64_t v[] = {p->x, p->y, p->z, p->w, q->x, q->y, q->z, q->w, r->x, r->y, r->z, r->w};
   return ln_wcoplanar_yz(x, v);
@@ -1166,13 +1166,13 @@ __attribute__((flatten)) int ln_wcoplanar_yz_plain_at(const ln_weighted3 *p, con
 __attribute__((flatten)) int ln_wcoplanar_yz_at(const ln_weighted3 *p, const ln_weighted3 *q, const ln_weighted3 *r) {
   const int64_t v[] = {p->x, p->y, p->z, p->w, q->x, q->y, q->z, q->w, r->x, r->y, r->z, r->w};
   const int sign = lb0_wcoplanar_yz(v);
-  return sign != 0 ? sign : lm_wcoplanar_yz(p, q, r);
+  return sign != 0 ? sign : lm_wcoplanar_yz_at(p, q, r);
 }
 int ln_wcoplanar_zx_plain(const int64_t *v) { return lb0_wcoplanar_zx(v); }
 void ln_wcoplanar_zx_rows(size_t n, const int64_t *x, const int64_t *v, int8_t *signs) {
   for (size_t i = 0; i < n; i++) signs[i] = (int8_t)ln_wcoplanar_zx(x + 3 * i, v + 12 * i);
 }
-static __attribute__((noinline)) int lm_wcoplanar_zx(const ln_weighted3 *p, const ln_weighted3 *q, const ln_weighted3 *r) {
+static __attribute__((noinline)) int lm_wcoplanar_zx_at(const ln_weighted3 *p, const ln_weighted3 *q, const ln_weighted3 *r) {
   const int64_t x[] = {p->index, q->index, r->index};
   const int64_t v[] = {p->x, p->y, p->z, p->w, q->x, q->y, q->z, q->w, r->x, r->y, r->z, r->w};
   return ln_wcoplanar_zx(x, v);
@@ -1184,7 +1184,7 @@ __attribute__((flatten)) int ln_wcoplanar_zx_plain_at(const ln_weighted3 *p, con
 __attribute__((flatten)) int ln_wcoplanar_zx_at(const ln_weighted3 *p, const ln_weighted3 *q, const ln_weighted3 *r) {
   const int64_t v[] = {p->x, p->y, p->z, p->w, q->x, q->y, q->z, q->w, r->x, r->y, r->z, r->w};
   const int sign = lb0_wcoplanar_zx(v);
-  return sign != 0 ? sign : lm_wcoplanar_zx(p, q, r);
+  return sign != 0 ? sign : lm_wcoplanar_zx_at(p, q, r);
 }
 #ifdef __cplusplus
 #pragma GCC diagnostic pop

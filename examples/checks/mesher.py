@@ -53,6 +53,11 @@ REFUSED_C = [
     (SITE + SIGN, C.replace("lb0_f(const", "lb0_g(const"), "1:1", "it has no functions of the predicate f: it isn't the C of this source"),
     (SITE + SIGN, C.replace("v[0]", "v[1]"), "7:4", "ln_f reads more values or indices than f has: it isn't the C of this source"),
     (SITE, C, "7:4", "ln_f is no predicate of the source: it isn't the C of this source"),
+    # C of one order: of two sites or more, which are alike; of a predicate with one function
+    (SITE + SIGN, C.replace("ln_f", "la_f"), "7:4", "la_f exchanges sites that aren't alike: it isn't the C of this source"),
+    (SITE + "site t { x: -5 .. 6; }\npredicate f(p: s, q: t) { sign p.x - q.x; }\n", C.replace("ln_f", "ls_f"), "7:4",
+     "ls_f exchanges sites that aren't alike: it isn't the C of this source"),
+    (SITE + SIGN, C + "\nint la_f(const int64_t *x, const int64_t *v) {\n  return ((int)lb0_f(v));\n}\n", "11:4", "la_f is no predicate of the source: it isn't the C of this source"),
 ]
 # sources of which a header can be written, however they are spelled
 KEPT = {
@@ -79,20 +84,28 @@ def refused(lnc, folder):
         if (run.returncode, run.stdout, run.stderr) != (1, "", f"{source if c is None else code}:{place}: {said}\n"):
             print(f"{text!r}: status {run.returncode}, {len(run.stdout)} bytes, {run.stderr}")
             wrong += 1
+    code.write_text(C.replace("ln_f", "la_f"))
+    unnamed = headed(lnc, source)
+    wrong += (unnamed.returncode, unnamed.stdout, unnamed.stderr) != (1, "", f"{code}: it is of one order of the sites: name it after the source\n")
     missing = headed(lnc, Path(folder, "nosuch.ln"))
     wrong += (missing.returncode, missing.stdout, missing.stderr) != (1, "", f"{folder}/nosuch.ln: can't be read: No such file or directory\n")
-    print(f"{len(cases) + 1} sources, {wrong} not refused as they should be")
+    print(f"{len(cases) + 2} sources, {wrong} not refused as they should be")
 
 
 def kept(lnc, folder):
     wrong = 0
-    for name, text in KEPT.items():
+    # (that one has C of one order beside it)
+    kept_too = Path("examples/checks/exchanges.ln")
+    sources = {**KEPT, kept_too.stem: kept_too.read_text()}
+    for name, text in sources.items():
         source = Path(folder, name + ".ln")
         source.write_text(text)
         code = Path(folder, name + ".c")
-        code.write_text(subprocess.run([lnc, "emit", source], capture_output=True, text=True, check=True).stdout)
+        of_one_order = name == kept_too.stem
+        code.write_text(kept_too.with_suffix(".c").read_text() if of_one_order else
+                        subprocess.run([lnc, "emit", source], capture_output=True, text=True, check=True).stdout)
         run = headed(lnc, source, code)
-        wrong += run.returncode != 0 or f"{name}.c, which lnc emit writes of it" not in run.stdout
+        wrong += run.returncode != 0 or f"{name}.c, which {'lnc_exact turning' if of_one_order else 'lnc emit'} writes of it" not in run.stdout
         Path(folder, f"lnc_{name}.h").write_text(run.stdout)
         for kind, calls in COMPILERS.items():
             for call in calls:
@@ -103,7 +116,7 @@ def kept(lnc, folder):
                     if built.returncode:
                         print(name, call, flags, built.stderr[:2000])
                         wrong += 1
-    print(f"{len(KEPT)} sources, {wrong} wrong")
+    print(f"{len(sources)} sources, {wrong} wrong")
 
 
 def answer(call, *arguments):

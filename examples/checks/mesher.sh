@@ -1,7 +1,7 @@
 # shellcheck shell=bash disable=SC2154  # examples/check, which reads this file, gives the names that stand for nothing here
 # what a mesh generator meets first: headers of sources of its own, calls that check, and the largest ranges with weights
-case_ 'header.py refuses what it can'\''t write' 0 '35 sources, 0 not refused as they should be' '' "mkdir $scratch/headers && python3 examples/checks/mesher.py refused $lnc $scratch/headers"
-case_ 'and takes what it can' 0 '3 sources, 0 wrong' '' "python3 examples/checks/mesher.py kept $lnc $scratch/headers"
+case_ 'header.py refuses what it can'\''t write' 0 '39 sources, 0 not refused as they should be' '' "mkdir $scratch/headers && python3 examples/checks/mesher.py refused $lnc $scratch/headers"
+case_ 'and takes what it can' 0 '4 sources, 0 wrong' '' "python3 examples/checks/mesher.py kept $lnc $scratch/headers"
 case_ 'all are narrowed' 0 $'site p_8 { x:-256 .. 256;\n  w: 0 .. 65536; }\nparam c_8: 0 .. 9;\npredicate f_8(f_8: p_8, c_8: param) { sign f_8.x*c_8 - f_8.w; } // f of p' '' \
   "printf 'site p { x:-\\n5\\n..  5;\\n  w: 0 .. 1; }\\nparam c: 0 .. 9;\\npredicate f(f: p, c: param) { sign f.x*c - f.w; } // f of p\\n' >$scratch/wide.ln
   LNC=$lnc python3 predicates/header.py --grid 8 $scratch/wide.ln | tail -n +2"

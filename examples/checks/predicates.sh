@@ -21,6 +21,15 @@ case_ 'a second set for grids of 2^20, beside the first' 0 '1 1' '' "make -s -C 
     gcc -std=gnu99 -Wall -Wextra -Werror -Ipredicates -I$scratch/grid $scratch/both.c -o $scratch/both && $scratch/both"
 shown predicates/README.md
 
+# C of one order: its header puts each row into this order, and nothing else can call it
+mkdir "$scratch/one"; cp examples/checks/exchanges.{ln,c} "$scratch/one"
+case_ 'a header for it' 0 '' '' "LNC=$lnc python3 predicates/header.py $scratch/one/exchanges.{ln,c} >$scratch/one/lnc_exchanges.h"
+case_ 'rows in every order of their indices' 0 '7200 rows, 0 wrong' '' "python3 examples/checks/predicates.py orders $lnc $scratch/one exchanges"
+case_ 'it has no function of its own to link' 0 'ln_alone ln_behind ln_large ln_left ln_near' '' "cd $scratch/one && gcc -std=gnu99 -DLNC_EXCHANGES_IMPLEMENTATION -x c -c lnc_exchanges.h -o one.o &&
+  nm -g --defined-only one.o | cut -d' ' -f3 | grep -v '_\(at\|plain\|rows\)\$' | sort | paste -sd' '"
+case_ 'a header that was written before the C takes none of one order' 0 'la_left' '' "cd $scratch/one && mv exchanges.c of_one && LNC=$lnc python3 $PWD/predicates/header.py exchanges.ln >lnc_exchanges.h && mv of_one exchanges.c &&
+  { gcc -std=gnu99 -DLNC_EXCHANGES_IMPLEMENTATION -x c -c lnc_exchanges.h -o one.o 2>said || grep -o 'la_left. redeclared' said | grep -o '^la_left'; }"
+
 # two files, copied
 mkdir "$scratch/copied"; cp predicates/plane.c predicates/lnc_plane.h "$scratch/copied"
 sed '1a #define LNC_PLANE_IMPLEMENTATION
