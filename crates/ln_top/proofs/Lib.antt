@@ -5,5 +5,6 @@ pub mod JudgesLemmas
 pub mod SignsLemmas
 pub mod Steps
 pub mod Theorem
+pub mod GuaranteeLemmas
 pub mod AgreeLaws
 pub mod ExactLemmas

@@ -14,6 +14,7 @@ pub mod Listed
 pub mod Perturbed
 pub mod ByValue
 pub mod Headline
+pub mod Guarantee
 pub mod Products
 pub mod Edged
 pub mod Explained

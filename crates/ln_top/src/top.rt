@@ -10,6 +10,7 @@ ghost use Rattle.ln_top.specs.Edged.{EdgesAreListed};
 ghost use Rattle.ln_top.specs.Emitted.{CallsArePerturbed};
 ghost use Rattle.ln_top.specs.Explained.{TracesExplain};
 ghost use Rattle.ln_top.specs.Headline.{GradedSignsArePerturbed, SignsArePerturbed};
+ghost use Rattle.ln_top.specs.Guarantee.{RunWritesSigns};
 ghost use Rattle.ln_top.specs.Listed.{ListingGivesSigns};
 ghost use Rattle.ln_top.specs.Plan.{HasForm, with_bytes};
 ghost use Rattle.ln_top.specs.Products.{ProductsArePerturbed};
@@ -151,6 +152,10 @@ pub fn lnc<F: Files, C: Console>(
     // that isn't 0, in the order of infinitesimals by the row's own indices, of the predicate at perturbed inputs.
     ensures headline { IsSettled result → IfSome (F.told files.old) (λ shelf. SignsArePerturbed (map string_bytes words.now) shelf
         (states_of kind_of tally_of watchers.items) (C.shown con.old) (C.shown con.new)) }
+    // The same from the words, the bytes of the files and the status alone, in as few definitions as it takes: the language of the source, the
+    // fields of a row, its perturbed sign, and the line that begins with it.
+    ensures run_signs { IfSome (F.told files.old) (λ shelf. RunWritesSigns (map string_bytes words.now) shelf result (C.shown con.old)
+        (C.shown con.new)) }
     // And in the other order of infinitesimals: where `graded` came to its end, each line of a row in range is the sign of the first
     // coefficient that isn't 0 by total degree first, and what decides it.
     ensures graded { IsSettled result → IfSome (F.told files.old) (λ shelf. GradedSignsArePerturbed (map string_bytes words.now) shelf

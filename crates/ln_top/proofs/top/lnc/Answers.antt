@@ -2,6 +2,7 @@ use Rattle.ln_top.specs.Frame.Said.{count}
 use Rattle.ln_top.specs.declared.words.Command.TheVariants as command
 use Rattle.ln_top.proofs.Steps.TopLaws.{by_work, keeps}
 use Rattle.ln_top.proofs.Theorem.HeadlineLaws.{graded_headline, headline}
+use Rattle.ln_top.proofs.GuaranteeLemmas.Clause.{run_signs}
 use Rattle.ln_top.proofs.Theorem.ProductsLaws.{products}
 use Rattle.ln_top.proofs.Theorem.EdgedLaws.{edged}
 use Rattle.ln_top.proofs.Theorem.ExplainedLaws.{explained}
@@ -18,6 +19,9 @@ returns-clause-kept g c =
 
 pub returns-clause-headline : goal.returns-clause-headline
 returns-clause-headline g c s = by_work command.Run _ c.status_of.ensures c.carry_out.ensures.done (λ k i w. headline k i (w s))
+
+pub returns-clause-run_signs : goal.returns-clause-run_signs
+returns-clause-run_signs g c = run_signs c.status_of.ensures c.carry_out.ensures.done
 
 pub returns-clause-graded : goal.returns-clause-graded
 returns-clause-graded g c s = by_work command.Graded _ c.status_of.ensures c.carry_out.ensures.done (λ k i w. graded_headline k i (w s))
