@@ -16,3 +16,6 @@ pub mod ByTable
 pub mod ByTableLaws
 pub mod Run
 pub mod Clause
+pub mod Emit
+pub mod AllAgreed
+pub mod Listing

@@ -10,7 +10,7 @@ ghost use Rattle.ln_top.specs.Edged.{EdgesAreListed};
 ghost use Rattle.ln_top.specs.Emitted.{CallsArePerturbed};
 ghost use Rattle.ln_top.specs.Explained.{TracesExplain};
 ghost use Rattle.ln_top.specs.Headline.{GradedSignsArePerturbed, SignsArePerturbed};
-ghost use Rattle.ln_top.specs.Guarantee.{RunWritesSigns};
+ghost use Rattle.ln_top.specs.Guarantee.{EmitWritesC, ListWritesListing, RunWritesSigns};
 ghost use Rattle.ln_top.specs.Listed.{ListingGivesSigns};
 ghost use Rattle.ln_top.specs.Plan.{HasForm, with_bytes};
 ghost use Rattle.ln_top.specs.Products.{ProductsArePerturbed};
@@ -170,12 +170,19 @@ pub fn lnc<F: Files, C: Console>(
     // the row isn't 0, it comes by one call and nothing in 128 bits where the filter decides, and else by the call of block 0.
     ensures emitted { IsSettled result → IfSome (F.told files.old) (λ shelf. CallsArePerturbed (map string_bytes words.now) shelf
         (C.shown con.old) (C.shown con.new)) }
+    // The same of the C from the bytes of the source on: a call on a row means the perturbed sign.
+    ensures emit_signs { IfSome (F.told files.old) (λ shelf. EmitWritesC (map string_bytes words.now) shelf result (C.shown con.old)
+        (C.shown con.new)) }
     // And the listing: where `list` came to its end, what is on Out is the text of a listing that is valid, and `verify` of it says
     // so; for each predicate and each row in its declared ranges the machine of the listing's part has a verdict, so no operation
     // leaves its certified width, and its sign is the perturbed sign. Where the value on the row isn't 0, the filter decides, by one
     // call and nothing in 128 bits, or block 0 does.
     ensures listed { IsSettled result → IfSome (F.told files.old) (λ shelf. ListingGivesSigns (map string_bytes words.now) shelf
         (C.shown con.old) (C.shown con.new)) }
+    // The same of the listing from the bytes of the source on: the machine of each predicate's part has a verdict on each row, with the
+    // perturbed sign.
+    ensures list_signs { IfSome (F.told files.old) (λ shelf. ListWritesListing (map string_bytes words.now) shelf result (C.shown con.old)
+        (C.shown con.new)) }
     // And the edges: where `edges` came to its end, what is on Out is exactly one line for each ordered pair of points that is an edge,
     // in order of the first record and then of the second: every other point is on the plus side of the two by the perturbed sign.
     ensures edged { IsSettled result → IfSome (F.told files.old) (λ shelf. EdgesAreListed (map string_bytes words.now) shelf

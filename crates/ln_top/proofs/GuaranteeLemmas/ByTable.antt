@@ -58,16 +58,16 @@ pub data FieldsSay : List VarInfo → List (List ℕ) → List ℤ → List ℤ 
       → FieldsSay (i ∷ is) (g ∷ fields) index (z ∷ values)
 
 -- one line for each record, in order: that of a row in range begins with its sign
-pub data AreLines (p : PredOf) : Records → List ℕ → Type 0 where
-  no_line : AreLines p [] []
+pub data AreSignLines (p : PredOf) : Records → List ℕ → Type 0 where
+  no_line : AreSignLines p [] []
   a_line : {fields : List (List ℕ)} {rest : Records} {lines : List ℕ} (text : List ℕ) → All (λ b. b ≢ 10) text
       → ((row : Row) → FieldsSay p.vars fields row.index row.values → InRange p.sites p.vars row → BeginsWithSign p row text)
-      → AreLines p rest lines → AreLines p (fields ∷ rest) (text ++ 10 ∷ lines)
+      → AreSignLines p rest lines → AreSignLines p (fields ∷ rest) (text ++ 10 ∷ lines)
 
 -- such lines were written to standard output
 pub record WritesLines (p : PredOf) (records : Records) (was now : Option Shown) : Type 0 where
   pub lines : List ℕ
-  pub are : AreLines p records lines
+  pub are : AreSignLines p records lines
   pub out : option_map (λ s. s.out) now ≡ option_map (λ s. s.out ++ lines) was
 
 -- Where the words are `run FILE NAME ROWS`, FILE's bytes tell a table, NAME is the name of its predicate p, the records of ROWS are the names of p's

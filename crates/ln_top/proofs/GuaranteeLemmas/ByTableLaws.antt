@@ -78,7 +78,7 @@ use Rattle.ln_top.specs.Signature.{Asks}
 use Rattle.ln_top.specs.Steps as step
 use Rattle.ln_top.specs.Steps.{Compiles, Each, Finds, Prepares, Reads, WhereGiven}
 use Rattle.ln_top.proofs.GuaranteeLemmas.ByTable as by_table
-use Rattle.ln_top.proofs.GuaranteeLemmas.ByTable.{AreLines, no_line, a_line, BeginsWithSign, CallMeansSign, EmitWritesC, FieldsSay}
+use Rattle.ln_top.proofs.GuaranteeLemmas.ByTable.{AreSignLines, no_line, a_line, BeginsWithSign, CallMeansSign, EmitWritesC, FieldsSay}
 use Rattle.ln_top.proofs.GuaranteeLemmas.ByTable.{IsPartFor, ListWritesListing, WritesC, WritesLines, WritesListing, RunWritesSigns, Tells}
 
 -- ---- the table
@@ -104,6 +104,7 @@ table_is : (bytes : List ℕ) (u t : TableOf) → Compiles bytes (gives u) → T
 table_is bytes u t (step.accepted _ a) k = one_told bytes u t a.accepted.text k
 
 -- ---- what the steps give
+-- what was read of a file is its bytes
 pub read_is : (shelf : Shelf) (limit : ℕ) (name bytes known : List ℕ) → Reads (Some shelf) limit name (gives bytes)
     → bytes_of name shelf ≡ Some known → bytes ≡ known
 read_is shelf limit name bytes known (step.there _ m l) e = same_Some bytes known (sym m ∙ e)
@@ -127,6 +128,7 @@ texts_are shelf limit name texts text (step.goes x f (step.goes xs g h)) e =
     let c : texts ≡ x ∷ xs = cc in
     c ∙ ap (λ y. x ∷ y) b ∙ ap (λ y. y ∷ []) a
 
+-- the plan of the words `run FILE NAME ROWS`
 abbrev pub run_plan : List ℕ → List ℕ → List ℕ → Plan
 run_plan file name rows = record { source = file; names = name ∷ []; files = rows ∷ []; command = Run }
 
@@ -268,11 +270,11 @@ begins p row text body e h = record {
   is = snoc_same body (sign_text h.verdict.sign ++ 32 ∷ decider_text h.verdict.by) (sym e ∙ h.text_is);
 }
 
-are_lines : (p : PredOf) {records : Records} {lines : List ℕ} → HavePerturbedSigns BySmallest p records lines → AreLines p records lines
+are_lines : (p : PredOf) {records : Records} {lines : List ℕ} → HavePerturbedSigns BySmallest p records lines → AreSignLines p records lines
 are_lines p head.none = no_line
 are_lines p (head.more {fields = fields} {rest = rest} text texts one f h) =
     let e : text ++ texts ≡ one.body ++ 10 ∷ texts = ap (λ (x : List ℕ). x ++ texts) one.is ∙ append_assoc one.body (10 ∷ []) texts in
-    subst (λ (x : List ℕ). AreLines p (fields ∷ rest) x) (sym e)
+    subst (λ (x : List ℕ). AreSignLines p (fields ∷ rest) x) (sym e)
     (a_line one.body (no_feed one.body one.none)
     (λ row r i. begins p row text one.body one.is (f row (row_read p.sites p.vars fields row r i))) (are_lines p h))
 
@@ -294,6 +296,7 @@ settled : (result : Status) → (result ≡ status.Done) ⊎ (result ≡ status.
 settled result (inl e) = record { read = λ f. cc; write = λ f. cc; memory = λ f. cc }
 settled result (inr e) = record { read = λ f. cc; write = λ f. cc; memory = λ f. cc }
 
+-- a command whose status is done or rows was given what its steps prepare
 pub given_by : (words : List (List ℕ)) (shelf : Shelf) (plan : Plan) (result : Status) (reads puts : Type 0) → plan_of words ≡ Some plan
     → ((preds : List PredOf) → Asks plan.command preds) → (result ≡ status.Done) ⊎ (result ≡ status.Rows)
     → EndsExactly words shelf result reads puts → (g : Given) × Prepares plan (Some shelf) (gives g)
@@ -323,6 +326,7 @@ by_run words shelf boxes result reads puts was now ends signs = λ file name row
     (signs (settled result d) plan given.0 form refl given.1 p (columns_of t p) records (has_records t p text records given.0 are x))
 
 -- ---- `emit` and `list`
+-- the plan of the words of a command with a file alone
 abbrev pub text_plan : Command → List ℕ → Plan
 text_plan c file = record { source = file; names = []; files = []; command = c }
 

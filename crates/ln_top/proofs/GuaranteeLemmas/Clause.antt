@@ -19,6 +19,7 @@ use Rattle.ln_top.specs.Guarantee.{RunWritesSigns}
 use Rattle.ln_top.proofs.GuaranteeLemmas.ByTableLaws.{given_by, run_by_table, read_is, run_plan}
 use Rattle.ln_top.proofs.GuaranteeLemmas.Run.{HasTable, run_from_table}
 
+-- what was compiled is the table of the text
 pub compiled : (bytes : List ℕ) (t : TableOf) → Compiles bytes (gives t) → TextOf bytes t
 compiled bytes t (step.accepted _ a) = a.accepted.text
 
@@ -36,6 +37,7 @@ has_table words shelf result reads puts ends = λ file name rows source w a d.
     let given = given_by words shelf plan result reads puts form (λ preds. tt) d ends in
     source_text shelf file name rows source given.0 a given.1
 
+-- the clause
 pub run_signs : {words : List (List ℕ)} {told : Option Shelf} {boxes : List State} {reads : Type 0} {puts : Count} {r : Result End Early}
     {result : Status} {was now : Option Shown} → result ≡ status_of r → Carried words told boxes reads puts r was now
     → IfSome told (λ shelf. RunWritesSigns words shelf result was now)

@@ -24,7 +24,7 @@ use Rattle.ln_tree.specs.Formula.{tree}
 use Rattle.ln_tree.specs.declared.shape.VarInfo.{VarInfo}
 use Rattle.ln_parse.proofs.Texts.WordTokens.{name_kind}
 use Rattle.ln_top.specs.Guarantee as told
-use Rattle.ln_top.specs.Guarantee.{Level, Says, Scope, Word}
+use Rattle.ln_top.specs.Guarantee.{Level, SaysTree, NameScope, Word}
 
 -- the tokens from place i up to place j have these texts, and the kinds of these texts
 pub data Placed (bytes : List ℕ) (ts : List Token) : ℕ → List Word → ℕ → Type 0 where
@@ -32,17 +32,19 @@ pub data Placed (bytes : List ℕ) (ts : List Token) : ℕ → List Word → ℕ
   word : {i j : ℕ} {ws : List Word} {w : Word} → kind_at ts i ≡ kind_of w → text bytes (span_at ts i) ≡ w → Placed bytes ts (suc i) ws j
       → Placed bytes ts i (w ∷ ws) j
 
+-- words in two parts
 pub record Parts (bytes : List ℕ) (ts : List Token) (i : ℕ) (us ws : List Word) (j : ℕ) : Type 0 where
   pub at : ℕ
   pub left : Placed bytes ts i us at
   pub right : Placed bytes ts at ws j
 
+-- the words of two lists are in two parts
 pub split : (bytes : List ℕ) (ts : List Token) {i j : ℕ} (us ws : List Word) → Placed bytes ts i (us ++ ws) j → Parts bytes ts i us ws j
 split bytes ts [] ws p = record { at = _; left = none; right = p }
 split bytes ts (u ∷ us) ws (word k t p) = let r = split bytes ts us ws p in record { at = r.at; left = word k t r.left; right = r.right }
 
 -- what a tree of the source's grammar is, with names looked up in a scope
-pub data Means (scope : Scope) (bytes : List ℕ) : Tree → algebra.Tree → Type 0 where
+pub data Means (scope : NameScope) (bytes : List ℕ) : Tree → algebra.Tree → Type 0 where
   num : {at : Span} → Means scope bytes (TNum at) (algebra.Num (pos (decimal_value (text bytes at))))
   name : {at : Span} {e : algebra.Tree} → Contains scope (text bytes at ∷ [], e) → Means scope bytes (TName at) e
   input : {at x : Span} {e : algebra.Tree} → Contains scope (text bytes at ∷ codes "." ∷ text bytes x ∷ [], e) → Means scope bytes (TInput at x) e
@@ -58,9 +60,11 @@ pub data IsKey : List Word → Type 0 where
   short : {n : Word} → is_name n ≡ true → IsKey (n ∷ [])
   long : {n x : Word} → is_name n ≡ true → is_name x ≡ true → IsKey (n ∷ codes "." ∷ x ∷ [])
 
-abbrev pub HasKeys : Scope → Type 0
+-- a scope names nothing by other words
+abbrev pub HasKeys : NameScope → Type 0
 HasKeys scope = (ws : List Word) (e : algebra.Tree) → Contains scope (ws, e) → IsKey ws
 
+-- the sort of a level
 abbrev pub sort : Level → Sort
 sort told.Atom = grammar.Atom
 sort told.Power = grammar.Power
@@ -68,7 +72,8 @@ sort told.Unary = grammar.Unary
 sort told.Term = grammar.Term
 sort told.Sum = grammar.Sum
 
-pub record Read (scope : Scope) (bytes : List ℕ) (ts : List Token) (s : Sort) (i j : ℕ) (e : algebra.Tree) : Type 0 where
+-- tokens from place i up to place j that derive a tree which means e
+pub record Read (scope : NameScope) (bytes : List ℕ) (ts : List Token) (s : Sort) (i j : ℕ) (e : algebra.Tree) : Type 0 where
   pub tree : Tree
   pub derives : Derives ts s i j tree
   pub means : Means scope bytes tree e
@@ -122,7 +127,7 @@ sum_less : {ts : List Token} {i j k : ℕ} {e g : Tree} → Derives ts grammar.S
     → Derives ts grammar.Sum i k (TSub (span_at ts j) e g)
 sum_less (grammar.sum d f) s c = grammar.sum d (less_more f s c)
 
-module _ (scope : Scope) (bytes : List ℕ) (ts : List Token) (keys : HasKeys scope) where
+module _ (scope : NameScope) (bytes : List ℕ) (ts : List Token) (keys : HasKeys scope) where
   named : {i j : ℕ} {ws : List Word} {e : algebra.Tree} → Contains scope (ws, e) → IsKey ws → Placed bytes ts i ws j
       → Read scope bytes ts grammar.Atom i j e
   named {i = i} {e = e} c (short {n = n} h) (word k t none) = record {
@@ -157,7 +162,7 @@ module _ (scope : Scope) (bytes : List ℕ) (ts : List Token) (keys : HasKeys sc
   }
 
   -- the words of an expression are tokens of one
-  pub read : {l : Level} {i j : ℕ} {ws : List Word} {e : algebra.Tree} → Says scope l ws e → Placed bytes ts i ws j
+  pub read : {l : Level} {i j : ℕ} {ws : List Word} {e : algebra.Tree} → SaysTree scope l ws e → Placed bytes ts i ws j
       → Read scope bytes ts (sort l) i j e
   read {i = i} (told.number n d) (word k t none) = record {
     tree = TNum (span_at ts i);
@@ -206,18 +211,19 @@ running n (d ∷ ds) =
     let q : 10 ^ suc (length ds) ≡ 10 * 10 ^ length ds = omega (arith, pow-suc 10 (length ds)) in
     running (10 * n + (d - 48)) ds ∙ one_more n (d - 48) (10 ^ length ds) (decimal_value ds) (10 ^ suc (length ds)) q
 
+-- the number of a token is the value of its digits
 pub number_is : (bytes : List ℕ) (at : Span) → names.number bytes at ≡ decimal_value (text bytes at)
 number_is bytes at = running 0 (text bytes at) ∙ omega arith
 
 -- names resolve to what the scope has for them
-pub record Linked (scope : Scope) (bytes : List ℕ) (s : rules.Scope) (vars : List VarInfo) (closed : List algebra.Tree) : Type 0 where
+pub record Linked (scope : NameScope) (bytes : List ℕ) (s : rules.Scope) (vars : List VarInfo) (closed : List algebra.Tree) : Type 0 where
   pub short : (at : Span) (e : algebra.Tree) → Contains scope (text bytes at ∷ [], e)
       → algebra.inlined closed (tree vars (resolved bytes s (TName at))) ≡ e
   pub long : (at x : Span) (e : algebra.Tree) → Contains scope (text bytes at ∷ codes "." ∷ text bytes x ∷ [], e)
       → algebra.inlined closed (tree vars (resolved bytes s (TInput at x))) ≡ e
 
 -- so a tree that means e is a formula whose closed tree is e
-pub closed_tree : {scope : Scope} {bytes : List ℕ} (s : rules.Scope) (vars : List VarInfo) (closed : List algebra.Tree)
+pub closed_tree : {scope : NameScope} {bytes : List ℕ} (s : rules.Scope) (vars : List VarInfo) (closed : List algebra.Tree)
     → Linked scope bytes s vars closed → {t : Tree} {e : algebra.Tree} → Means scope bytes t e
     → algebra.inlined closed (tree vars (resolved bytes s t)) ≡ e
 closed_tree {bytes = bytes} s vars lets k (num {at = at}) = ap (λ (n : ℕ). algebra.Num (pos n)) (number_is bytes at)

@@ -6,11 +6,12 @@ use Rattle.ln_lex.specs.declared.token.Token.{Token}
 use Rattle.ln_lex.specs.Tokens.{Lexed, Stand, kind_of}
 use Rattle.ln_syntax.specs.Raw.{Item, kind_at, span_at, span_or, text}
 use Rattle.ln_syntax.specs.File.{Spelt}
-use Rattle.ln_top.specs.Guarantee.{Declares, Predicate, Word}
+use Rattle.ln_top.specs.Guarantee.{SourceDeclares, Predicate, Word}
 use Rattle.ln_top.proofs.GuaranteeLemmas.Expr.{Placed, none, word}
 use Rattle.ln_top.proofs.GuaranteeLemmas.Items.{ItemsMean, read_items}
 use Rattle.ln_top.proofs.GuaranteeLemmas.Lex.{Texts, lexed}
 
+-- what is after a list
 pub get_at : {A : Type 0} (done rest : List A) (x : A) → slice_get (done ++ x ∷ rest) (length done) ≡ Some x
 get_at [] rest x = refl
 get_at (y ∷ ys) rest x = get_at ys rest x
@@ -36,6 +37,7 @@ placed_behind bytes done (x ∷ rest) (w ∷ ws) at to s t =
     (append_assoc done (x ∷ []) rest) r)) in
     word kind_is text_is moved
 
+-- tokens and items that mean the predicates
 pub record Declared (source : List ℕ) (ps : List Predicate) : Type 0 where
   pub tokens : List Token
   pub lexed : Lexed source tokens
@@ -44,7 +46,7 @@ pub record Declared (source : List ℕ) (ps : List Predicate) : Type 0 where
   pub means : ItemsMean source tokens [] [] items ps
 
 -- the source's tokens and items
-pub declared : (source : List ℕ) (ps : List Predicate) → Declares source ps → Declared source ps
+pub declared : (source : List ℕ) (ps : List Predicate) → SourceDeclares source ps → Declared source ps
 declared source ps d =
     let l = lexed source d.words d.are in
     let p : Placed source l.0 0 d.words (length l.0) =

@@ -21,46 +21,53 @@ use Rattle.ln_syntax.specs.Expression.{Derives, Tree}
 use Rattle.ln_syntax.specs.File as file
 use Rattle.ln_parse.proofs.Texts.WordTokens.{name_kind}
 use Rattle.ln_top.specs.Guarantee as told
-use Rattle.ln_top.specs.Guarantee.{Argument, OfParam, OfType, Predicate, Ranged, Says, Scope, SiteType, Word, inputs, numbered}
+use Rattle.ln_top.specs.Guarantee.{PredArgument, OfParam, OfType, Predicate, Ranged, SaysTree, NameScope, SiteType, Word, inputs, numbered_inputs}
 use Rattle.ln_top.proofs.GuaranteeLemmas.Expr.{HasKeys, IsKey, short, long, Means, Placed, none, word, number_kind, read, split}
 
 -- ---- what raw items mean
+-- the end of a range
 pub data EndMeans (bytes : List ℕ) : RawEnd → ℤ → Type 0 where
   plain : {e : RawEnd} → e.negative ≡ false → EndMeans bytes e (pos (decimal_value (text bytes e.at)))
   minus : {e : RawEnd} → e.negative ≡ true → EndMeans bytes e (neg_ℤ (pos (decimal_value (text bytes e.at))))
 
+-- a range
 pub record RangeMeans (bytes : List ℕ) (range : RawRange) (r : Ranged) : Type 0 where
   pub low : EndMeans bytes range.low r.lo
   pub high : EndMeans bytes range.high r.hi
 
+-- coordinates
 pub data CoordsMean (bytes : List ℕ) : List RawCoord → List Ranged → Type 0 where
   no_coord : CoordsMean bytes [] []
   coord : {c : RawCoord} {cs : List RawCoord} {r : Ranged} {rs : List Ranged} → text bytes c.name ≡ r.name → RangeMeans bytes c.range r
       → CoordsMean bytes cs rs → CoordsMean bytes (c ∷ cs) (r ∷ rs)
 
-pub data ArgMeans (bytes : List ℕ) (types : List SiteType) (params : List Ranged) : RawArg → Argument → Type 0 where
+-- an argument
+pub data ArgMeans (bytes : List ℕ) (types : List SiteType) (params : List Ranged) : RawArg → PredArgument → Type 0 where
   a_site : {a : RawArg} {t : SiteType} → a.is_param ≡ false → is_name (text bytes a.name) ≡ true → Contains types t → text bytes a.kind ≡ t.name
       → ArgMeans bytes types params a (OfType (text bytes a.name) t)
   a_param : {a : RawArg} {p : Ranged} → a.is_param ≡ true → Contains params p → text bytes a.name ≡ p.name
       → ArgMeans bytes types params a (OfParam p)
 
-pub data ArgsMean (bytes : List ℕ) (types : List SiteType) (params : List Ranged) : List RawArg → List Argument → Type 0 where
+-- arguments
+pub data ArgsMean (bytes : List ℕ) (types : List SiteType) (params : List Ranged) : List RawArg → List PredArgument → Type 0 where
   no_arg : ArgsMean bytes types params [] []
-  an_arg : {a : RawArg} {as' : List RawArg} {b : Argument} {bs : List Argument} → ArgMeans bytes types params a b
+  an_arg : {a : RawArg} {as' : List RawArg} {b : PredArgument} {bs : List PredArgument} → ArgMeans bytes types params a b
       → ArgsMean bytes types params as' bs → ArgsMean bytes types params (a ∷ as') (b ∷ bs)
 
 -- the tokens from one place to another, before a semicolon, mean this tree
-pub record ValueMeans (bytes : List ℕ) (ts : List Token) (scope : Scope) (p : Places) (e : algebra.Tree) : Type 0 where
+pub record ValueMeans (bytes : List ℕ) (ts : List Token) (scope : NameScope) (p : Places) (e : algebra.Tree) : Type 0 where
   pub tree : Tree
   pub derives : Derives ts grammar.Sum p.from p.to tree
   pub ends : Is ts p.to kind.Semi
   pub means : Means scope bytes tree e
 
-pub data LetsMean (bytes : List ℕ) (ts : List Token) : Scope → List RawLet → Scope → Type 0 where
-  no_let : {scope : Scope} → LetsMean bytes ts scope [] scope
-  a_let : {scope all : Scope} {l : RawLet} {ls : List RawLet} {e : algebra.Tree} → ValueMeans bytes ts scope l.value e
+-- lets, from the scope before them to the one after them
+pub data LetsMean (bytes : List ℕ) (ts : List Token) : NameScope → List RawLet → NameScope → Type 0 where
+  no_let : {scope : NameScope} → LetsMean bytes ts scope [] scope
+  a_let : {scope all : NameScope} {l : RawLet} {ls : List RawLet} {e : algebra.Tree} → ValueMeans bytes ts scope l.value e
       → LetsMean bytes ts ((text bytes l.name ∷ [], e) ∷ scope) ls all → LetsMean bytes ts scope (l ∷ ls) all
 
+-- items, after these site types and params
 pub data ItemsMean (bytes : List ℕ) (ts : List Token) : List SiteType → List Ranged → List Item → List Predicate → Type 0 where
   no_item : {types : List SiteType} {params : List Ranged} → ItemsMean bytes ts types params [] []
   a_type : {types : List SiteType} {params : List Ranged} {name : _} {cs : List RawCoord} {is : List Item} {ps : List Predicate} (t : SiteType)
@@ -70,8 +77,8 @@ pub data ItemsMean (bytes : List ℕ) (ts : List Token) : List SiteType → List
       → text bytes name ≡ p.name → RangeMeans bytes r p → ItemsMean bytes ts types (p ∷ params) is ps
       → ItemsMean bytes ts types params (ParamItem name r ∷ is) ps
   predicate : {types : List SiteType} {params : List Ranged} {name : _} {args : List RawArg} {ls : List RawLet} {root : Places} {is : List Item}
-      {p : Predicate} {ps : List Predicate} {scope : Scope} → text bytes name ≡ p.name → ArgsMean bytes types params args p.args
-      → LetsMean bytes ts (numbered 0 (inputs p.args)) ls scope → ValueMeans bytes ts scope root p.root → ItemsMean bytes ts types params is ps
+      {p : Predicate} {ps : List Predicate} {scope : NameScope} → text bytes name ≡ p.name → ArgsMean bytes types params args p.args
+      → LetsMean bytes ts (numbered_inputs 0 (inputs p.args)) ls scope → ValueMeans bytes ts scope root p.root → ItemsMean bytes ts types params is ps
       → ItemsMean bytes ts types params (PredItem name args ls root ∷ is) (p ∷ ps)
 
 -- ---- ranges
@@ -112,9 +119,6 @@ module _ (bytes : List ℕ) (ts : List Token) where
 
   rest_of : {i j : ℕ} {w : Word} {ws : List Word} → Placed bytes ts i (w ∷ ws) j → Placed bytes ts (suc i) ws j
   rest_of (word k t p) = p
-
-  text_first : {i j : ℕ} {w : Word} {ws : List Word} → Placed bytes ts i (w ∷ ws) j → text bytes (span_at ts i) ≡ w
-  text_first (word k t p) = t
 
   ranged_parts : {i j : ℕ} (n : Word) (l h ws : List Word)
       → Placed bytes ts i (n ∷ codes ":" ∷ (l ++ (codes ".." ∷ (h ++ (codes ";" ∷ ws))))) j → RangedParts i j n l h ws
@@ -163,7 +167,7 @@ module _ (bytes : List ℕ) (ts : List Token) where
   some_coords c (coord {c = x} {cs = xs} a b m) = record { first = x; others = xs; coords = c; means = coord a b m }
 
   -- ---- arguments
-  record ReadArgs (types : List SiteType) (params : List Ranged) (i j : ℕ) (args : List Argument) : Type 0 where
+  record ReadArgs (types : List SiteType) (params : List Ranged) (i j : ℕ) (args : List PredArgument) : Type 0 where
     raw : List RawArg
     close : ℕ
     is_args : file.Args ts i close raw
@@ -171,12 +175,12 @@ module _ (bytes : List ℕ) (ts : List Token) where
     ends : j ≡ suc close
     means : ArgsMean bytes types params raw args
 
-  record ReadArg (types : List SiteType) (params : List Ranged) (i : ℕ) (a : Argument) : Type 0 where
+  record ReadArg (types : List SiteType) (params : List Ranged) (i : ℕ) (a : PredArgument) : Type 0 where
     raw : RawArg
     is_arg : file.Arg ts i raw
     means : ArgMeans bytes types params raw a
 
-  read_arg : {types : List SiteType} {params : List Ranged} {i j : ℕ} {n k : Word} {a : Argument} {ws : List Word}
+  read_arg : {types : List SiteType} {params : List Ranged} {i j : ℕ} {n k : Word} {a : PredArgument} {ws : List Word}
       → ((p : Ranged) → Contains params p → is_name p.name ≡ true) → ((t : SiteType) → Contains types t → is_name t.name ≡ true)
       → told.IsArgument types params n k a → Placed bytes ts i (n ∷ codes ":" ∷ k ∷ ws) j → ReadArg types params i a
   read_arg {types = types} {params = params} {i = i} ps ss (told.site {n = n} {t = t} h c) (word k x (word l u (word m v p))) =
@@ -200,7 +204,7 @@ module _ (bytes : List ℕ) (ts : List Token) where
   ended : {i j : ℕ} {w : Word} → Placed bytes ts i (w ∷ []) j → j ≡ suc i
   ended (word k t none) = refl
 
-  read_args : {types : List SiteType} {params : List Ranged} {ws : List Word} {args : List Argument}
+  read_args : {types : List SiteType} {params : List Ranged} {ws : List Word} {args : List PredArgument}
       → ((p : Ranged) → Contains params p → is_name p.name ≡ true) → ((t : SiteType) → Contains types t → is_name t.name ≡ true)
       → told.AreArguments types params ws args → {i j : ℕ} → Placed bytes ts i ws j → ReadArgs types params i j args
   read_args ps ss (told.last h) {i = i} p =
@@ -226,11 +230,11 @@ module _ (bytes : List ℕ) (ts : List Token) where
       }
 
   -- ---- lets and values
-  record ReadValue (scope : Scope) (i m : ℕ) (e : algebra.Tree) : Type 0 where
+  record ReadValue (scope : NameScope) (i m : ℕ) (e : algebra.Tree) : Type 0 where
     is_expr : grammar.IsExpr ts i m
     means : ValueMeans bytes ts scope (record { from = i; to = m }) e
 
-  read_value : {scope : Scope} {i m j : ℕ} {ws rest : List Word} {e : algebra.Tree} → HasKeys scope → Says scope told.Sum ws e
+  read_value : {scope : NameScope} {i m j : ℕ} {ws rest : List Word} {e : algebra.Tree} → HasKeys scope → SaysTree scope told.Sum ws e
       → Placed bytes ts i ws m → Placed bytes ts m (codes ";" ∷ rest) j → ReadValue scope i m e
   read_value {scope = scope} keys s p q =
       let r = read scope bytes ts keys s p in
@@ -240,20 +244,20 @@ module _ (bytes : List ℕ) (ts : List Token) where
       }
 
   -- a scope with one more entry has keys
-  keys_cons : (scope : Scope) (key : List Word) (e : algebra.Tree) → IsKey key → HasKeys scope → HasKeys ((key, e) ∷ scope)
+  keys_cons : (scope : NameScope) (key : List Word) (e : algebra.Tree) → IsKey key → HasKeys scope → HasKeys ((key, e) ∷ scope)
   keys_cons scope key e h keys ws f c = go c.0 c.1 c.2
     where
       go : (k : ℕ) → k < suc (length scope) → slice_index_or ((key, e) ∷ scope) k (ws, f) ≡ (ws, f) → IsKey ws
       go zero l x = subst IsKey (ap (λ (y : List Word × algebra.Tree). y.0) x) h
       go (suc k) l x = keys ws f (k, omega (arith, l), x)
 
-  record ReadLets (scope all : Scope) (i j : ℕ) : Type 0 where
+  record ReadLets (scope all : NameScope) (i j : ℕ) : Type 0 where
     raw : List RawLet
     lets : file.Lets ts i j raw
     means : LetsMean bytes ts scope raw all
     keys : HasKeys all
 
-  read_lets : {scope all : Scope} {ws : List Word} → told.AreLets scope ws all → HasKeys scope → {i j : ℕ} → Placed bytes ts i ws j
+  read_lets : {scope all : NameScope} {ws : List Word} → told.AreLets scope ws all → HasKeys scope → {i j : ℕ} → Placed bytes ts i ws j
       → ReadLets scope all i j
   read_lets told.none keys none = record { raw = []; lets = file.no_let; means = no_let; keys = keys }
   read_lets (told.more {scope = scope} {all = all} {n = n} {ws = ws} {rest = rest} {e = e} h s behind) keys {i = i} (word k t (word l u (word m v p))) =
@@ -268,18 +272,22 @@ module _ (bytes : List ℕ) (ts : List Token) where
       }
 
   -- ---- items
+  -- tokens that spell items which mean these predicates
   pub record ReadItems (types : List SiteType) (params : List Ranged) (i j : ℕ) (ps : List Predicate) : Type 0 where
     pub raw : List Item
     pub items : file.Items ts i j raw
     pub means : ItemsMean bytes ts types params raw ps
 
+  -- a site type and its coordinates have names
   pub record TypeNamed (t : SiteType) : Type 0 where
     name : is_name t.name ≡ true
     coords : All (λ (c : Ranged). is_name c.name ≡ true) t.coords
 
+  -- so have all of these
   abbrev pub TypesNamed : List SiteType → Type 0
   TypesNamed types = (t : SiteType) → Contains types t → TypeNamed t
 
+  -- params have names
   abbrev pub ParamsNamed : List Ranged → Type 0
   ParamsNamed params = (p : Ranged) → Contains params p → is_name p.name ≡ true
 
@@ -341,27 +349,27 @@ module _ (bytes : List ℕ) (ts : List Token) where
   coord_keys n h cs a =
       All-map IsKey (λ (c : Ranged). n ∷ codes "." ∷ c.name ∷ []) cs (λ k d l. long h (a k d l))
 
-  arg_keys : {types : List SiteType} {params : List Ranged} {n k : Word} {a : Argument} → TypesNamed types → ParamsNamed params
+  arg_keys : {types : List SiteType} {params : List Ranged} {n k : Word} {a : PredArgument} → TypesNamed types → ParamsNamed params
       → told.IsArgument types params n k a → All IsKey (inputs (a ∷ []))
   arg_keys ss ps (told.site {n = n} {t = t} h c) =
       All-append IsKey (map (λ (c : Ranged). n ∷ codes "." ∷ c.name ∷ []) t.coords) [] (coord_keys n h t.coords (ss t c).coords) (All-nil IsKey)
   arg_keys ss ps (told.param {p = p} c) = All-cons IsKey (p.name ∷ []) [] (short (ps p c)) (All-nil IsKey)
 
-  both_keys : (a : Argument) (rest : List Argument) → All IsKey (inputs (a ∷ [])) → All IsKey (inputs rest) → All IsKey (inputs (a ∷ rest))
+  both_keys : (a : PredArgument) (rest : List PredArgument) → All IsKey (inputs (a ∷ [])) → All IsKey (inputs rest) → All IsKey (inputs (a ∷ rest))
   both_keys (OfType n t) rest h k =
       let cs = map (λ (c : Ranged). n ∷ codes "." ∷ c.name ∷ []) t.coords in
       All-append IsKey cs (inputs rest) (rw append-nil at h) k
   both_keys (OfParam p) rest h k = All-cons IsKey (p.name ∷ []) (inputs rest) (All-head IsKey (p.name ∷ []) [] h) k
 
-  args_keys : {types : List SiteType} {params : List Ranged} {ws : List Word} {args : List Argument} → TypesNamed types → ParamsNamed params
+  args_keys : {types : List SiteType} {params : List Ranged} {ws : List Word} {args : List PredArgument} → TypesNamed types → ParamsNamed params
       → told.AreArguments types params ws args → All IsKey (inputs args)
   args_keys ss ps (told.last {a = a} h) = arg_keys ss ps h
   args_keys ss ps (told.more {a = a} {rest = rest} h k) = both_keys a rest (arg_keys ss ps h) (args_keys ss ps k)
 
-  scope_keys : (v : ℕ) (keys : List (List Word)) → All IsKey keys → HasKeys (numbered v keys)
+  scope_keys : (v : ℕ) (keys : List (List Word)) → All IsKey keys → HasKeys (numbered_inputs v keys)
   scope_keys v [] h = λ ws e c. absurd (omega (arith, c.1))
   scope_keys v (key ∷ keys) h =
-      keys_cons (numbered (suc v) keys) key (algebra.Input v) (All-head IsKey key keys h)
+      keys_cons (numbered_inputs (suc v) keys) key (algebra.Input v) (All-head IsKey key keys h)
       (scope_keys (suc v) keys (All-tail IsKey key keys h))
 
   -- the words of items are tokens of items, which mean the same

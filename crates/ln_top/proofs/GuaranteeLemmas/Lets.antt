@@ -23,7 +23,7 @@ use Rattle.ln_parse.proofs.Expressions.Found.{position_below}
 use Rattle.ln_parse.proofs.ReadBack.NamePlaces.{same_bytes}
 use Rattle.ln_tree.specs.declared.shape.VarInfo.{VarInfo}
 use Rattle.ln_tree.specs.Formula.{Formula, tree}
-use Rattle.ln_top.specs.Guarantee.{Scope, Word}
+use Rattle.ln_top.specs.Guarantee.{NameScope, Word}
 use Rattle.ln_top.proofs.GuaranteeLemmas.Expr.{Linked, closed_tree}
 use Rattle.ln_top.proofs.GuaranteeLemmas.Items.{LetsMean, a_let, no_let, ValueMeans}
 use Rattle.ln_syntax.specs.declared.raw.Places.{Places}
@@ -106,11 +106,11 @@ first (w ∷ ws) = w
 
 module _ (bytes : List ℕ) (ts : List Token) (is : List Item) (args : List RawArg) (vars : List VarInfo) where
   -- no name of the scope is that of the let, and no earlier let has it
-  pub record IsNew (names : Scope) (before : List RawLet) (l : RawLet) : Type 0 where
+  pub record IsNew (names : NameScope) (before : List RawLet) (l : RawLet) : Type 0 where
     pub fresh : (f : algebra.Tree) → Contains names (text bytes l.name ∷ [], f) → ⊥
     pub none : (at : Span) → text bytes l.name ≡ text bytes at → position (λ (k : RawLet). same bytes k.name at) before ≡ None
 
-  link_more : (names : Scope) (before : List RawLet) (l : RawLet) (closed : List algebra.Tree) (e : algebra.Tree) → length closed ≡ length before
+  link_more : (names : NameScope) (before : List RawLet) (l : RawLet) (closed : List algebra.Tree) (e : algebra.Tree) → length closed ≡ length before
       → Linked names bytes (scope is args before) vars closed → IsNew names before l
       → Linked ((text bytes l.name ∷ [], e) ∷ names) bytes (scope is args (before ++ l ∷ [])) vars (closed ++ e ∷ [])
   link_more names before l closed e size k new = record { short = short; long = long }
@@ -162,13 +162,13 @@ module _ (bytes : List ℕ) (ts : List Token) (is : List Item) (args : List RawA
           go (suc n) h y = k.long at x f (n, omega (arith, h), y)
 
   -- each let is new after those before it, whatever they mean
-  pub data AreNew : Scope → List RawLet → List RawLet → Type 0 where
-    no_more : {names : Scope} {before : List RawLet} → AreNew names before []
-    one_more : {names : Scope} {before : List RawLet} {l : RawLet} {ls : List RawLet} → IsNew names before l
+  pub data AreNew : NameScope → List RawLet → List RawLet → Type 0 where
+    no_more : {names : NameScope} {before : List RawLet} → AreNew names before []
+    one_more : {names : NameScope} {before : List RawLet} {l : RawLet} {ls : List RawLet} → IsNew names before l
         → ((e : algebra.Tree) → AreNew ((text bytes l.name ∷ [], e) ∷ names) (before ++ l ∷ []) ls) → AreNew names before (l ∷ ls)
 
   -- the tokens of a value say a formula whose closed tree is what it means
-  value_closed : {names : Scope} (ls : List RawLet) (closed : List algebra.Tree) (p : Places) (e : algebra.Tree) (x : Formula)
+  value_closed : {names : NameScope} (ls : List RawLet) (closed : List algebra.Tree) (p : Places) (e : algebra.Tree) (x : Formula)
       → Linked names bytes (scope is args ls) vars closed → ValueMeans bytes ts names p e → Says bytes ts (scope is args ls) p x
       → algebra.inlined closed (tree vars x) ≡ e
   value_closed ls closed p e x k v s =
@@ -177,7 +177,7 @@ module _ (bytes : List ℕ) (ts : List Token) (is : List Item) (args : List RawA
       ap (λ (y : Formula). algebra.inlined closed (tree vars y)) (sym is_formula) ∙ closed_tree (scope is args ls) vars closed k v.means
 
   -- after all lets their names are linked to their closed trees
-  pub lets_linked : {names all : Scope} {ls : List RawLet} → LetsMean bytes ts names ls all → (before : List RawLet) (xs : List Formula)
+  pub lets_linked : {names all : NameScope} {ls : List RawLet} → LetsMean bytes ts names ls all → (before : List RawLet) (xs : List Formula)
       (closed : List algebra.Tree) → LetsSay bytes ts is args before ls xs → length closed ≡ length before
       → Linked names bytes (scope is args before) vars closed → AreNew names before ls
       → Linked all bytes (scope is args (before ++ ls)) vars (algebra.inlined_after closed (map (tree vars) xs))
@@ -197,7 +197,7 @@ module _ (bytes : List ℕ) (ts : List Token) (is : List Item) (args : List RawA
       (algebra.inlined_after (closed ++ y ∷ []) (map (tree vars) xs))) (sym is_e) moved
 
   -- so the root of the predicate, with its lets in place of their names, is the tree that its words are
-  pub root_closed : {names all : Scope} {ls : List RawLet} (p : Places) (e : algebra.Tree) (xs : List Formula) (x : Formula)
+  pub root_closed : {names all : NameScope} {ls : List RawLet} (p : Places) (e : algebra.Tree) (xs : List Formula) (x : Formula)
       → Linked names bytes (scope is args []) vars [] → AreNew names [] ls → LetsMean bytes ts names ls all
       → ValueMeans bytes ts all p e → LetsSay bytes ts is args [] ls xs → Says bytes ts (scope is args ls) p x → closed_root vars xs x ≡ e
   root_closed {ls = ls} p e xs x k new l v s r =

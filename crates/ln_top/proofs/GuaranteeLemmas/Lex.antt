@@ -19,7 +19,7 @@ use Rattle.ln_lex.specs.declared.token.Kind.{Kind}
 use Rattle.ln_lex.specs.Tokens as lex
 use Rattle.ln_lex.specs.Tokens.{IsFirst, Lexed, Skips, Stand, begins_blank, begins_comment, comment_len, in_comment, kind_of}
 use Rattle.ln_syntax.specs.Raw.{text}
-use Rattle.ln_top.specs.Guarantee.{AreWords, Word, is_token}
+use Rattle.ln_top.specs.Guarantee.{HasWords, Word, is_source_word}
 use Rattle.ln_top.specs.Guarantee as told
 
 -- the tokens have these texts
@@ -94,6 +94,7 @@ chain false false false false false false false false false false false true s13
 chain false false false false false false false false false false false false true = refl
 chain false false false false false false false false false false false false false = refl
 
+-- the signs
 abbrev pub signs : List Word
 signs = codes ".." ∷ map (λ (b : ℕ). b ∷ []) (codes "{}():;,.+-*^=")
 
@@ -114,15 +115,17 @@ sign_some b (c ∷ d ∷ bs) =
     sym (ap (λ (x : Bool). (nat_eq b 46 && (nat_eq c 46 && false)) || x) (long_among b c (d ∷ bs) (codes "{}():;,.+-*^="))
     ∙ or_no (nat_eq b 46 && (nat_eq c 46 && false)) ∙ ap (λ (x : Bool). nat_eq b 46 && x) (and_no (nat_eq c 46)) ∙ and_no (nat_eq b 46))
 
+-- two tests of digits are one
 pub same_digits : (bs : List ℕ) → every is_digit bs ≡ list_all is_ascii_digit bs
 same_digits [] = refl
 same_digits (b ∷ bs) = let e : is_digit b ≡ is_ascii_digit b = refl in rw (e, same_digits bs) refl
 
-pub some_kind : (w : Word) → is_some (kind_of w) ≡ is_token w
+-- a text has a kind where it is a word of a source
+pub some_kind : (w : Word) → is_some (kind_of w) ≡ is_source_word w
 some_kind [] = refl
 some_kind (b ∷ bs) = go (is_letter b) (is_digit b) refl refl
   where
-    go : (x y : Bool) → is_letter b ≡ x → is_digit b ≡ y → is_some (kind_of (b ∷ bs)) ≡ is_token (b ∷ bs)
+    go : (x y : Bool) → is_letter b ≡ x → is_digit b ≡ y → is_some (kind_of (b ∷ bs)) ≡ is_source_word (b ∷ bs)
     go true y e f =
         let a = none_among is_letter b bs e signs refl in
         let n : is_ascii_digit b ≡ false = grind (arith, nat_tests, e) in
@@ -144,16 +147,19 @@ none_by : (o : Option Kind) → is_some o ≡ false → o ≡ None
 none_by None h = refl
 none_by (Some k) h = absurd (cc)
 
-pub kind_there : (w : Word) → is_token w ≡ true → (k : Kind) × (kind_of w ≡ Some k)
+-- which kind
+pub kind_there : (w : Word) → is_source_word w ≡ true → (k : Kind) × (kind_of w ≡ Some k)
 kind_there w h = kind_by (kind_of w) (some_kind w ∙ h)
 
-no_kind : (w : Word) → is_token w ≡ false → kind_of w ≡ None
+no_kind : (w : Word) → is_source_word w ≡ false → kind_of w ≡ None
 no_kind w h = none_by (kind_of w) (some_kind w ∙ h)
 
+-- what is left of the bytes at a place
 pub record Here (bytes : List ℕ) (at : ℕ) (bs : List ℕ) : Type 0 where
   pub is : drop at bytes ≡ bs
   pub size : at + length bs ≡ length bytes
 
+-- from a place on the bytes are tokens with these texts
 pub record Lexes (bytes : List ℕ) (at : ℕ) (ws : List Word) : Type 0 where
   pub tokens : List Token
   pub to : ℕ
@@ -166,6 +172,7 @@ drop_nil : (n : ℕ) → (let none : List ℕ = [] in drop n none ≡ none)
 drop_nil zero = refl
 drop_nil (suc n) = refl
 
+-- to leave out m and then n is to leave out both
 pub drop_plus : (m n : ℕ) (xs : List ℕ) → drop n (drop m xs) ≡ drop (m + n) xs
 drop_plus zero n xs = ap (λ (k : ℕ). drop k xs) (omega arith)
 drop_plus (suc m) n [] = drop_nil n ∙ sym (drop_nil (suc m + n))
@@ -214,6 +221,7 @@ run_text (b ∷ text) bs a e =
     let t : in_comment b ≡ true = grind (arith, nat_tests, h.0, h.1) in
     rw t (ap suc (run_text text bs (All-tail (λ b. (b < 128) × (b ≢ 10)) b text a) e))
 
+-- the blanks
 pub blank_is : (b : ℕ) → Contains (32 ∷ 9 ∷ 10 ∷ 13 ∷ []) b → lex.is_blank b ≡ true
 blank_is b c = go c.0 c.1 c.2
   where
@@ -238,13 +246,13 @@ module _ (bytes : List ℕ) where
       lex.comment (ap begins_comment h.is) (ap (λ (n : ℕ). n + m) (sym len))
       (subst (λ (x : List ℕ). Skips x m) (sym (ap (λ (n : ℕ). drop n (drop at bytes)) len ∙ drop_plus at (2 + length text) bytes)) s)
 
-  some_bytes : (w : Word) → is_token w ≡ true → 0 < length w
+  some_bytes : (w : Word) → is_source_word w ≡ true → 0 < length w
   some_bytes [] h = absurd (cc)
   some_bytes (b ∷ bs) h = omega arith
 
   -- the longest token at a place
-  longest_first : (w bs : List ℕ) (k : Kind) → is_token w ≡ true → kind_of w ≡ Some k
-      → ((more rest : List ℕ) → more ++ rest ≡ bs → is_token (w ++ more) ≡ true → more ≡ []) → IsFirst (w ++ bs) (length w) k
+  longest_first : (w bs : List ℕ) (k : Kind) → is_source_word w ≡ true → kind_of w ≡ Some k
+      → ((more rest : List ℕ) → more ++ rest ≡ bs → is_source_word (w ++ more) ≡ true → more ≡ []) → IsFirst (w ++ bs) (length w) k
   longest_first w bs k t e longest = record {
     some = some_bytes w t;
     within = omega (arith, length-append w bs);
@@ -252,7 +260,7 @@ module _ (bytes : List ℕ) where
     longest = longer;
   }
     where
-      by_test : (n : ℕ) → 0 < n → n ≤ length bs → (b : Bool) → is_token (w ++ take n bs) ≡ b → kind_of (w ++ take n bs) ≡ None
+      by_test : (n : ℕ) → 0 < n → n ≤ length bs → (b : Bool) → is_source_word (w ++ take n bs) ≡ b → kind_of (w ++ take n bs) ≡ None
       by_test n l h true c =
           let z : take n bs ≡ [] = longest (take n bs) (drop n bs) (take-append-drop n bs) c in
           let y : length (take n bs) ≡ n = length-take-le n bs h in
@@ -264,10 +272,10 @@ module _ (bytes : List ℕ) where
           let n : ℕ = m - length w in
           let sum : length w + n ≡ m = omega (arith, l) in
           let cut : take m (w ++ bs) ≡ w ++ take n bs = ap (λ (x : ℕ). take x (w ++ bs)) (sym sum) ∙ take-append-add w bs n in
-          ap kind_of cut ∙ by_test n (omega (arith, l)) (omega (arith, h, length-append w bs)) (is_token (w ++ take n bs)) refl
+          ap kind_of cut ∙ by_test n (omega (arith, l)) (omega (arith, h, length-append w bs)) (is_source_word (w ++ take n bs)) refl
 
   -- bytes that are words are tokens
-  pub lexes : {bs : List ℕ} {ws : List Word} → AreWords bs ws → (at : ℕ) → Here bytes at bs → Lexes bytes at ws
+  pub lexes : {bs : List ℕ} {ws : List Word} → HasWords bs ws → (at : ℕ) → Here bytes at bs → Lexes bytes at ws
   lexes told.none at h = record {
     tokens = [];
     to = at;
@@ -304,7 +312,7 @@ module _ (bytes : List ℕ) where
       }
 
 -- so a source that is words is tokens, each with the text of its word
-pub lexed : (bytes : List ℕ) (ws : List Word) → AreWords bytes ws → (ts : List Token) × Lexed bytes ts × Texts bytes ts ws
+pub lexed : (bytes : List ℕ) (ws : List Word) → HasWords bytes ws → (ts : List Token) × Lexed bytes ts × Texts bytes ts ws
 lexed bytes ws a =
     let r = lexes bytes a 0 (record { is = refl; size = omega arith }) in
     (r.tokens, record { to = r.to; tokens = r.stand; within = r.within; rest = r.rest }, r.texts)

@@ -19,13 +19,14 @@ use Rattle.ln_parse.specs.Says.{place}
 use Rattle.ln_parse.proofs.ReadBack.NamePlaces.{same_bytes}
 use Rattle.ln_tree.specs.declared.shape.VarInfo.{VarInfo}
 use Rattle.ln_tree.specs.Variables.{is_var, number_or_end}
-use Rattle.ln_top.specs.Guarantee.{Argument, Ranged, SiteType, Word, inputs, numbered}
+use Rattle.ln_top.specs.Guarantee.{PredArgument, Ranged, SiteType, Word, inputs, numbered_inputs}
 use Rattle.ln_top.proofs.GuaranteeLemmas.Expr.{Linked}
 use Rattle.ln_top.proofs.GuaranteeLemmas.Items.{a_param, a_site, ArgsMean, an_arg, no_arg, CoordsMean, coord, no_coord, RangeMeans}
 use Rattle.ln_top.proofs.GuaranteeLemmas.Rows.{coords_vars, vars_for}
 
 -- ---- the first that passes
 module _ {A : Type 0} (p : A → Bool) where
+  -- the first that passes is this one
   pub first_here : (before : List A) (x : A) (rest : List A) → list_any p before ≡ false → p x ≡ true
       → position_or_len p (before ++ x ∷ rest) ≡ length before
   first_here [] x rest n h = rw h refl
@@ -36,6 +37,7 @@ module _ {A : Type 0} (p : A → Bool) where
       go true e k ih = absurd (cc)
       go false e k ih = let r = ih k in rw e (omega (arith, r))
 
+  -- and so is its place
   pub position_here : (before : List A) (x : A) (rest : List A) → list_any p before ≡ false → p x ≡ true
       → position p (before ++ x ∷ rest) ≡ Some (length before)
   position_here before x rest n h =
@@ -45,6 +47,7 @@ module _ {A : Type 0} (p : A → Bool) where
       lt-ltb (position_or_len p (before ++ x ∷ rest)) (length (before ++ x ∷ rest)) (omega (arith, here, long)) in
       ap (λ (b : Bool). cond b (Some (position_or_len p (before ++ x ∷ rest))) None) less ∙ ap (λ (n : ℕ). Some n) here
 
+  -- and it is what is found
   pub find_here : (before : List A) (x : A) (rest : List A) → list_any p before ≡ false → p x ≡ true → find p (before ++ x ∷ rest) ≡ Some x
   find_here [] x rest n h = rw h refl
   find_here (y ∷ ys) x rest n h = go (p y) refl n (λ k. find_here ys x rest k h)
@@ -54,6 +57,7 @@ module _ {A : Type 0} (p : A → Bool) where
       go true e k ih = absurd (cc)
       go false e k ih = rw e (ih k)
 
+  -- where none passes, there is no place
   pub none_len : (xs : List A) → list_any p xs ≡ false → position_or_len p xs ≡ length xs
   none_len [] h = refl
   none_len (y ∷ ys) h = go (p y) refl h (λ k. none_len ys k)
@@ -63,6 +67,7 @@ module _ {A : Type 0} (p : A → Bool) where
       go true e k ih = absurd (cc)
       go false e k ih = let r = ih k in rw e (omega (arith, r))
 
+  -- and none is found
   pub nowhere : (xs : List A) → list_any p xs ≡ false → position p xs ≡ None
   nowhere xs h =
       let n = none_len xs h in
@@ -80,16 +85,15 @@ module _ {A : Type 0} (p : A → Bool) where
       go true e false d k ih = let t = f x e in absurd (let z : true ≡ false = sym t ∙ d in cc)
       go false e false d k ih = rw e (ih k)
 
+  -- where none passes in two lists, none does in both
   pub free_more : (xs ys : List A) → list_any p xs ≡ false → list_any p ys ≡ false → list_any p (xs ++ ys) ≡ false
   free_more xs ys a b = list_any-append p xs ys ∙ rw (a, b) refl
 
+  -- the place of the first that passes
   pub place_here : (before : List A) (x : A) (rest : List A) → list_any p before ≡ false → p x ≡ true → place p (before ++ x ∷ rest) ≡ length before
   place_here before x rest n h = ap (λ (o : Option ℕ). unwrap_or o 0) (position_here before x rest n h)
 
--- ---- members of numbered names
-abbrev is_long : List Word → Type 0
-is_long ws = length ws ≡ 3
-
+-- a member is the first or one of the others
 pub tail_of : {A : Type 0} (x y : A) (xs : List A) (P : Type 0) → Contains (x ∷ xs) y → (x ≡ y → P) → (Contains xs y → P) → P
 tail_of x y xs P c f g = go c.0 c.1 c.2
   where
@@ -97,6 +101,7 @@ tail_of x y xs P c f g = go c.0 c.1 c.2
     go zero h e = f e
     go (suc n) h e = g (n, omega (arith, h), e)
 
+-- the number of a variable that comes first with its argument and coordinate
 pub number_here : (done more : List VarInfo) (i : VarInfo) (m d : ℕ) → list_any (is_var m d) done ≡ false → is_var m d i ≡ true
     → number_or_end (done ++ i ∷ more) m d ≡ length done
 number_here done more i m d n h = ap (λ (o : Option ℕ). unwrap_or o (length (done ++ i ∷ more))) (position_here (is_var m d) done i more n h)
@@ -122,19 +127,17 @@ is_arg k m c d h g = and_from (k == m) (c == d) (eq-eqb k m h) (eq-eqb c d g)
 not_coord : (k c d : ℕ) → c < d → (((k == k) && (c == d)) || false) ≡ false
 not_coord k c d h = let e : (c == d) ≡ false = grind (arith, nat_tests, h) in let f : (k == k) ≡ true = eq-eqb k k refl in rw (e, f) refl
 
-abbrev dotted : Word → Ranged → List Word
-dotted n c = n ∷ codes "." ∷ c.name ∷ []
-
 -- a name alone is behind those with a dot
 pub skip : (n : Word) (rs : List Ranged) (more : List (List Word)) (v w : ℕ) (t : Word) (e : algebra.Tree) → w ≡ v + length rs
-    → Contains (numbered v (map (λ (c : Ranged). n ∷ codes "." ∷ c.name ∷ []) rs ++ more)) (t ∷ [], e) → Contains (numbered w more) (t ∷ [], e)
-skip n [] more v w t e h c = let q : v ≡ w = omega (arith, h) in subst (λ (x : ℕ). Contains (numbered x more) (t ∷ [], e)) q c
+    → Contains (numbered_inputs v (map (λ (c : Ranged). n ∷ codes "." ∷ c.name ∷ []) rs ++ more)) (t ∷ [], e) → Contains (numbered_inputs w more) (t ∷ [], e)
+skip n [] more v w t e h c = let q : v ≡ w = omega (arith, h) in subst (λ (x : ℕ). Contains (numbered_inputs x more) (t ∷ [], e)) q c
 skip n (r ∷ rs) more v w t e h c =
     tail_of (n ∷ codes "." ∷ r.name ∷ [], algebra.Input v) (t ∷ [], e)
-    (numbered (suc v) (map (λ (c : Ranged). n ∷ codes "." ∷ c.name ∷ []) rs ++ more)) (Contains (numbered w more) (t ∷ [], e)) c
+    (numbered_inputs (suc v) (map (λ (c : Ranged). n ∷ codes "." ∷ c.name ∷ []) rs ++ more)) (Contains (numbered_inputs w more) (t ∷ [], e)) c
     (λ x. let z : 3 ≡ length (t ∷ []) = ap (λ (y : List Word × algebra.Tree). length y.0) x in absurd (omega (arith, z)))
     (λ d. skip n rs more (suc v) w t e (omega (arith, h)) d)
 
+-- a word of several
 abbrev pub word_at : ℕ → List Word → Word
 word_at n ws = slice_index_or ws n []
 
@@ -161,9 +164,11 @@ module _ (bytes : List ℕ) (is : List Item) (types : List SiteType) (params : L
     pub named : text bytes name ≡ p.name
     pub means : RangeMeans bytes range p
 
+  -- each param of these is found by its name
   abbrev pub ParamsThere : Type 0
   ParamsThere = (p : Ranged) (at : Span) → Contains params p → text bytes at ≡ p.name → ParamFound p at
 
+  -- each site type of these is found by its name
   abbrev pub TypesThere : Type 0
   TypesThere = (t : SiteType) (kind : Span) → Contains types t → text bytes kind ≡ t.name → TypeFound t kind
 
@@ -180,9 +185,9 @@ module _ (bytes : List ℕ) (is : List Item) (types : List SiteType) (params : L
       none_weaker (λ (b : RawArg). test b && same bytes b.name at) (λ (b : RawArg). same bytes b.name a.name)
       (λ b h. same_at b.name a.name at q (and_parts (test b) (same bytes b.name at) h).1) before n
 
-  short_ok : {rargs : List RawArg} {bs : List Argument} → ArgsMean bytes types params rargs bs → (before : List RawArg) (done : List VarInfo)
+  short_ok : {rargs : List RawArg} {bs : List PredArgument} → ArgsMean bytes types params rargs bs → (before : List RawArg) (done : List VarInfo)
       (k s v : ℕ) (at : Span) (e : algebra.Tree) → Each (ArgWithin bytes is) before rargs → k ≡ length before → v ≡ length done → Free k done
-      → Contains (numbered v (inputs bs)) (text bytes at ∷ [], e)
+      → Contains (numbered_inputs v (inputs bs)) (text bytes at ∷ [], e)
       → algebra.Input (number_or_end (done ++ vars_for k s bs)
       (place (λ (a : RawArg). is_param_arg a && same bytes a.name at) (before ++ rargs)) 0) ≡ e
   short_ok no_arg before done k s v at e w kl vl free c = absurd (omega (arith, c.1))
@@ -200,7 +205,7 @@ module _ (bytes : List ℕ) (is : List Item) (types : List SiteType) (params : L
   short_ok (an_arg {as' = rest} {bs = bs} (a_param {a = a} {p = p} q d x) m) before done k s v at e w kl vl free c =
       let f : RawArg → Bool = λ (a : RawArg). is_param_arg a && same bytes a.name at in
       let i : VarInfo = record { arg = k; site = None; coord = 0; lo = p.lo; hi = p.hi } in
-      tail_of (p.name ∷ [], algebra.Input v) (text bytes at ∷ [], e) (numbered (suc v) (inputs bs))
+      tail_of (p.name ∷ [], algebra.Input v) (text bytes at ∷ [], e) (numbered_inputs (suc v) (inputs bs))
       (algebra.Input (number_or_end (done ++ i ∷ vars_for (suc k) s bs) (place f (before ++ a ∷ rest)) 0) ≡ e) c
       (λ y.
       let nm : text bytes a.name ≡ text bytes at = x ∙ ap (λ (z : List Word × algebra.Tree). word_at 0 z.0) y in
@@ -224,16 +229,16 @@ module _ (bytes : List ℕ) (is : List Item) (types : List SiteType) (params : L
       → v ≡ length done → w ≡ v + length rs → FreeFrom k c done
       → (n ≡ text bytes at → algebra.Input (number_or_end (done ++ (coords_vars k s c rs ++ vmore)) k
       (place (λ (d : RawCoord). same bytes d.name x) (before ++ cs))) ≡ e → P)
-      → (Contains (numbered w more) (text bytes at ∷ codes "." ∷ text bytes x ∷ [], e) → P)
-      → Contains (numbered v (map (λ (c : Ranged). n ∷ codes "." ∷ c.name ∷ []) rs ++ more)) (text bytes at ∷ codes "." ∷ text bytes x ∷ [], e) → P
+      → (Contains (numbered_inputs w more) (text bytes at ∷ codes "." ∷ text bytes x ∷ [], e) → P)
+      → Contains (numbered_inputs v (map (λ (c : Ranged). n ∷ codes "." ∷ c.name ∷ []) rs ++ more)) (text bytes at ∷ codes "." ∷ text bytes x ∷ [], e) → P
   coords_ok no_coord n before done vmore more k s c v w at x e P ws cl vl wl free f g h =
       let q : v ≡ w = omega (arith, wl) in
-      g (subst (λ (y : ℕ). Contains (numbered y more) (text bytes at ∷ codes "." ∷ text bytes x ∷ [], e)) q h)
+      g (subst (λ (y : ℕ). Contains (numbered_inputs y more) (text bytes at ∷ codes "." ∷ text bytes x ∷ [], e)) q h)
   coords_ok (coord {c = rc} {cs = cs} {r = r} {rs = rs} nm rm m) n before done vmore more k s c v w at x e P ws cl vl wl free f g h =
       let i : VarInfo = record { arg = k; site = Some s; coord = c; lo = r.lo; hi = r.hi } in
       let p : RawCoord → Bool = λ (d : RawCoord). same bytes d.name x in
       tail_of (n ∷ codes "." ∷ r.name ∷ [], algebra.Input v) (text bytes at ∷ codes "." ∷ text bytes x ∷ [], e)
-      (numbered (suc v) (map (λ (c : Ranged). n ∷ codes "." ∷ c.name ∷ []) rs ++ more)) P h
+      (numbered_inputs (suc v) (map (λ (c : Ranged). n ∷ codes "." ∷ c.name ∷ []) rs ++ more)) P h
       (λ y.
       let a : n ≡ text bytes at = ap (λ (z : List Word × algebra.Tree). word_at 0 z.0) y in
       let b : text bytes rc.name ≡ text bytes x = nm ∙ ap (λ (z : List Word × algebra.Tree). word_at 2 z.0) y in
@@ -258,9 +263,9 @@ module _ (bytes : List ℕ) (is : List Item) (types : List SiteType) (params : L
   long_tree vars args at x = algebra.Input (number_or_end vars (place (λ (a : RawArg). is_site_arg a && same bytes a.name at) args)
       (place (λ (c : RawCoord). same bytes c.name x) (coords_of bytes is (find (λ (a : RawArg). is_site_arg a && same bytes a.name at) args))))
 
-  long_ok : TypesThere → {rargs : List RawArg} {bs : List Argument} → ArgsMean bytes types params rargs bs → (before : List RawArg)
+  long_ok : TypesThere → {rargs : List RawArg} {bs : List PredArgument} → ArgsMean bytes types params rargs bs → (before : List RawArg)
       (done : List VarInfo) (k s v : ℕ) (at x : Span) (e : algebra.Tree) → Each (ArgWithin bytes is) before rargs → k ≡ length before
-      → v ≡ length done → Free k done → Contains (numbered v (inputs bs)) (text bytes at ∷ codes "." ∷ text bytes x ∷ [], e)
+      → v ≡ length done → Free k done → Contains (numbered_inputs v (inputs bs)) (text bytes at ∷ codes "." ∷ text bytes x ∷ [], e)
       → long_tree (done ++ vars_for k s bs) (before ++ rargs) at x ≡ e
   long_ok there no_arg before done k s v at x e w kl vl free c = absurd (omega (arith, c.1))
   long_ok there (an_arg {as' = rest} {bs = bs} (a_site {a = a} {t = t} q n d kd) m) before done k s v at x e w kl vl free c =
@@ -288,7 +293,7 @@ module _ (bytes : List ℕ) (is : List Item) (types : List SiteType) (params : L
       ∙ ap (λ (z : List RawArg). long_tree ((done ++ cv) ++ vars_for (suc k) (suc s) bs) z at x) (sym (append_assoc before (a ∷ []) rest)) ∙ r) c
   long_ok there (an_arg {as' = rest} {bs = bs} (a_param {a = a} {p = p} q d y) m) before done k s v at x e w kl vl free c =
       let i : VarInfo = record { arg = k; site = None; coord = 0; lo = p.lo; hi = p.hi } in
-      tail_of (p.name ∷ [], algebra.Input v) (text bytes at ∷ codes "." ∷ text bytes x ∷ [], e) (numbered (suc v) (inputs bs))
+      tail_of (p.name ∷ [], algebra.Input v) (text bytes at ∷ codes "." ∷ text bytes x ∷ [], e) (numbered_inputs (suc v) (inputs bs))
       (long_tree (done ++ i ∷ vars_for (suc k) s bs) (before ++ a ∷ rest) at x ≡ e) c
       (λ u. let z : 1 ≡ length (text bytes at ∷ codes "." ∷ text bytes x ∷ []) = ap (λ (y : List Word × algebra.Tree). length y.0) u in
       absurd (omega (arith, z)))
@@ -300,8 +305,8 @@ module _ (bytes : List ℕ) (is : List Item) (types : List SiteType) (params : L
       ∙ ap (λ (z : List RawArg). long_tree ((done ++ i ∷ []) ++ vars_for (suc k) s bs) z at x) (sym (append_assoc before (a ∷ []) rest)) ∙ r)
 
   -- the names of the inputs resolve to their variables
-  pub linked : {rargs : List RawArg} {bs : List Argument} (vars : List VarInfo) → ArgsMean bytes types params rargs bs → TypesThere
-      → Each (ArgWithin bytes is) [] rargs → vars ≡ vars_for 0 0 bs → Linked (numbered 0 (inputs bs)) bytes (scope is rargs []) vars []
+  pub linked : {rargs : List RawArg} {bs : List PredArgument} (vars : List VarInfo) → ArgsMean bytes types params rargs bs → TypesThere
+      → Each (ArgWithin bytes is) [] rargs → vars ≡ vars_for 0 0 bs → Linked (numbered_inputs 0 (inputs bs)) bytes (scope is rargs []) vars []
   linked {rargs = rargs} {bs = bs} vars m there w q = record {
     short = λ at e c.
         ap (λ (z : List VarInfo). algebra.Input (number_or_end z (place (λ (a : RawArg). is_param_arg a && same bytes a.name at) rargs) 0)) q

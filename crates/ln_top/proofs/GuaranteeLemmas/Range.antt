@@ -8,22 +8,19 @@ use Rattle.std.proofs.lemmas.Bool.Decides.{nat_tests}
 use Rattle.ln_tree.specs.declared.shape.VarInfo.{VarInfo}
 use Rattle.ln_tree.specs.Row.{InRange}
 use Rattle.ln_top.specs.Guarantee as told
-use Rattle.ln_top.specs.Guarantee.{AreFields, AreValues, Argument, OfParam, OfType, Ranged, sites_after}
+use Rattle.ln_top.specs.Guarantee.{AreRowFields, AreValues, PredArgument, OfParam, OfType, Ranged, sites_after}
 use Rattle.ln_top.proofs.GuaranteeLemmas.Rows.{coords_vars, fields_within, vars_for}
 
 -- how many sites there are
-abbrev pub sites_in : List Argument → ℕ
+abbrev pub sites_in : List PredArgument → ℕ
 sites_in [] = 0
 sites_in (OfType n t ∷ args) = suc (sites_in args)
 sites_in (OfParam p ∷ args) = sites_in args
 
-as_many : {args : List Argument} {fs : List (List ℕ)} {ns : List ℕ} {zs : List ℤ} → AreFields args fs ns zs → length ns ≡ sites_in args
+as_many : {args : List PredArgument} {fs : List (List ℕ)} {ns : List ℕ} {zs : List ℤ} → AreRowFields args fs ns zs → length ns ≡ sites_in args
 as_many told.none = refl
 as_many (told.site a b v rest) = ap suc (as_many rest)
 as_many (told.param v rest) = as_many rest
-
-abbrev IsIndex : ℤ → Type 0
-IsIndex z = (pos 0 ≤ℤ z) × (z ≤ℤ pos (2 ^ 63 - 1))
 
 low : (n : ℕ) → pos 0 ≤ℤ pos n
 low n = grind (arith, nat_tests, ints)
@@ -31,7 +28,7 @@ low n = grind (arith, nat_tests, ints)
 high : (n : ℕ) → n < 2 ^ 63 → pos n ≤ℤ pos (2 ^ 63 - 1)
 high n h = grind (arith, nat_tests, ints, h)
 
-are_indices : {args : List Argument} {fs : List (List ℕ)} {ns : List ℕ} {zs : List ℤ} → AreFields args fs ns zs
+are_indices : {args : List PredArgument} {fs : List (List ℕ)} {ns : List ℕ} {zs : List ℤ} → AreRowFields args fs ns zs
     → All (λ z. (pos 0 ≤ℤ z) × (z ≤ℤ pos (2 ^ 63 - 1))) (map pos ns)
 are_indices told.none = All-nil (λ z. (pos 0 ≤ℤ z) × (z ≤ℤ pos (2 ^ 63 - 1)))
 are_indices (told.site {n = n} {ns = ns} a b v rest) =
@@ -52,7 +49,8 @@ differ_there ns h = λ i j d l b e.
     h i j 0 l m (pos_same (slice_index_or ns i 0) (slice_index_or ns j 0)
     (sym (get_pos ns i d (omega (arith, l, m))) ∙ e ∙ get_pos ns j d m))
 
-pub in_range : {args : List Argument} {fs : List (List ℕ)} {ns : List ℕ} {zs : List ℤ} → AreFields args fs ns zs → AllPairs (λ m n. m ≢ n) ns
+-- a row of declared arguments is in range
+pub in_range : {args : List PredArgument} {fs : List (List ℕ)} {ns : List ℕ} {zs : List ℤ} → AreRowFields args fs ns zs → AllPairs (λ m n. m ≢ n) ns
     → InRange (sites_in args) (vars_for 0 0 args) (record { index = map pos ns; values = zs })
 in_range {ns = ns} f d = record {
   size = length-map ns pos ∙ as_many f;
@@ -70,7 +68,8 @@ coords_sites : (k s c : ℕ) (rs : List Ranged) → map (λ (i : VarInfo). i.sit
 coords_sites k s c [] = refl
 coords_sites k s c (r ∷ rs) = ap (λ (x : List (Option ℕ)). Some s ∷ x) (coords_sites k s (suc c) rs)
 
-pub vars_sites : (k s : ℕ) (args : List Argument) → map (λ (i : VarInfo). i.site) (vars_for k s args) ≡ sites_after s args
+-- the sites of the variables
+pub vars_sites : (k s : ℕ) (args : List PredArgument) → map (λ (i : VarInfo). i.site) (vars_for k s args) ≡ sites_after s args
 vars_sites k s [] = refl
 vars_sites k s (OfType n t ∷ args) =
     append_sites (coords_vars k s 0 t.coords) (vars_for (suc k) (suc s) args)

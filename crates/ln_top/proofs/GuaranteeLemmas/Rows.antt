@@ -11,7 +11,7 @@ use Rattle.ln_base.specs.Decimal.{decimal_value, integer_value, is_digits, natur
 use Rattle.ln_tree.specs.declared.shape.VarInfo.{VarInfo}
 use Rattle.ln_tree.specs.Row.{AreWithin}
 use Rattle.ln_top.specs.Guarantee as told
-use Rattle.ln_top.specs.Guarantee.{AreFields, AreValues, Argument, OfParam, OfType, Ranged}
+use Rattle.ln_top.specs.Guarantee.{AreRowFields, AreValues, PredArgument, OfParam, OfType, Ranged}
 use Rattle.ln_top.proofs.GuaranteeLemmas.ByTable as by_table
 use Rattle.ln_top.proofs.GuaranteeLemmas.ByTable.{FieldsSay}
 
@@ -20,13 +20,14 @@ abbrev pub coords_vars : ℕ → ℕ → ℕ → List Ranged → List VarInfo
 coords_vars k s c [] = []
 coords_vars k s c (r ∷ rs) = record { arg = k; site = Some s; coord = c; lo = r.lo; hi = r.hi } ∷ coords_vars k s (suc c) rs
 
-abbrev pub vars_for : ℕ → ℕ → List Argument → List VarInfo
+-- of all arguments
+abbrev pub vars_for : ℕ → ℕ → List PredArgument → List VarInfo
 vars_for k s [] = []
 vars_for k s (OfType n t ∷ args) = coords_vars k s 0 t.coords ++ vars_for (suc k) (suc s) args
 vars_for k s (OfParam p ∷ args) = record { arg = k; site = None; coord = 0; lo = p.lo; hi = p.hi } ∷ vars_for (suc k) s args
 
 -- each site type has a coordinate
-abbrev pub HaveCoords : List Argument → Type 0
+abbrev pub HaveCoords : List PredArgument → Type 0
 HaveCoords [] = Unit {0}
 HaveCoords (OfType n t ∷ args) = (t.coords ≢ []) × HaveCoords args
 HaveCoords (OfParam p ∷ args) = HaveCoords args
@@ -52,7 +53,8 @@ rest_say : {rs : List Ranged} {gs fs : List (List ℕ)} {ys zs : List ℤ} {vs :
 rest_say told.none k s c h = h
 rest_say (told.more e l u rest) k s c h = by_table.next (later_coord c) e (rest_say rest k s (suc c) h)
 
-pub fields_say : {args : List Argument} {fs : List (List ℕ)} {ns : List ℕ} {zs : List ℤ} → AreFields args fs ns zs → (k s : ℕ)
+-- fields that are a row of arguments are one of their variables
+pub fields_say : {args : List PredArgument} {fs : List (List ℕ)} {ns : List ℕ} {zs : List ℤ} → AreRowFields args fs ns zs → (k s : ℕ)
     → HaveCoords args → FieldsSay (vars_for k s args) fs (map pos ns) zs
 fields_say told.none k s h = by_table.none
 fields_say (told.site {f = f} {n = n} a b told.none rest) k s h = absurd (h.0 refl)
@@ -65,7 +67,8 @@ rest_within : {rs : List Ranged} {gs : List (List ℕ)} {ys : List ℤ} (zs : Li
 rest_within zs vs told.none k s c w = w
 rest_within zs vs (told.more e l u rest) k s c w = (l, u, rest_within zs vs rest k s (suc c) w)
 
-pub fields_within : {args : List Argument} {fs : List (List ℕ)} {ns : List ℕ} {zs : List ℤ} → AreFields args fs ns zs → (k s : ℕ)
+-- whose values are in their ranges
+pub fields_within : {args : List PredArgument} {fs : List (List ℕ)} {ns : List ℕ} {zs : List ℤ} → AreRowFields args fs ns zs → (k s : ℕ)
     → AreWithin (vars_for k s args) zs
 fields_within told.none k s = tt
 fields_within (told.site {args = args} {zs = zs} a b v rest) k s = rest_within zs (vars_for (suc k) (suc s) args) v k s 0 (fields_within rest (suc k) (suc s))

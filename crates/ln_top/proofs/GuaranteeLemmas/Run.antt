@@ -18,7 +18,7 @@ use Rattle.ln_tree.specs.Table.{PredOf, TableOf}
 use Rattle.ln_top.proofs.GuaranteeLemmas.ByTable as by_table
 use Rattle.ln_top.proofs.GuaranteeLemmas.ByTable.{FieldsSay}
 use Rattle.ln_top.specs.Guarantee as told
-use Rattle.ln_top.specs.Guarantee.{AreFields, Predicate, sites_after}
+use Rattle.ln_top.specs.Guarantee.{AreRowFields, Predicate, sites_after}
 use Rattle.ln_top.proofs.GuaranteeLemmas.Range.{in_range, sites_in, vars_sites}
 use Rattle.ln_top.proofs.GuaranteeLemmas.Rows.{fields_say}
 use Rattle.ln_top.proofs.GuaranteeLemmas.Signs.{sign_there}
@@ -38,6 +38,7 @@ some_param (i ∷ is) = go i.site refl (some_param is)
     go (Some s) e (inl c) = inl (later c)
     go (Some s) e (inr a) = inr (All-cons (λ (i : VarInfo). i.site ≢ None) i is (λ q. cc) a)
 
+-- the sign whose number is 0
 pub is_zero : (s : Sign) → sign_number s ≡ pos 0 → s ≡ Zero
 is_zero Minus h = absurd (cc)
 is_zero Zero h = refl
@@ -79,7 +80,8 @@ begins t p q ns zs text a b =
     param (inr n) z = absurd (b.never_zero n z)
 
 -- a row of the declared arguments is one of the predicate of the table
-pub row_there : (t : TableOf) (p : Predicate) (q : PredOf) (fields : List (List ℕ)) (ns : List ℕ) (zs : List ℤ) → Agreed t p q → AreFields p.args fields ns zs
+pub row_there : (t : TableOf) (p : Predicate) (q : PredOf) (fields : List (List ℕ)) (ns : List ℕ) (zs : List ℤ) → Agreed t p q
+    → AreRowFields p.args fields ns zs
     → AllPairs (λ m n. m ≢ n) ns → FieldsSay q.vars fields (map pos ns) zs × InRange q.sites q.vars (record { index = map pos ns; values = zs })
 row_there t p q fields ns zs a f d = (
   subst (λ (vs : List VarInfo). FieldsSay vs fields (map pos ns) zs) (sym a.vars) (fields_say f 0 0 a.coords),
@@ -87,8 +89,8 @@ row_there t p q fields ns zs a f d = (
       (subst (λ (vs : List VarInfo). InRange (sites_in p.args) vs (record { index = map pos ns; values = zs })) (sym a.vars) (in_range f d)),
 )
 
-are_lines : (t : TableOf) (p : Predicate) (q : PredOf) → Agreed t p q → {records : Records} {lines : List ℕ} → by_table.AreLines q records lines
-    → told.AreLines p records lines
+are_lines : (t : TableOf) (p : Predicate) (q : PredOf) → Agreed t p q → {records : Records} {lines : List ℕ} → by_table.AreSignLines q records lines
+    → told.AreSignLines p records lines
 are_lines t p q a by_table.no_line = told.none
 are_lines t p q a (by_table.a_line {fields = fields} text n f rest) =
     told.more text n (λ ns zs m d.
@@ -101,6 +103,7 @@ HasTable words shelf result =
     (file name rows source : List ℕ) → words ≡ codes "run" ∷ file ∷ name ∷ rows ∷ [] → bytes_of file shelf ≡ Some source
     → (result ≡ Done) ⊎ (result ≡ Rows) → (t : TableOf) × TextOf source t
 
+-- what is promised of the table is promised of what the source declares
 pub run_from_table : (words : List (List ℕ)) (shelf : Shelf) (result : Status) (was now : Option Shown) → HasTable words shelf result
     → by_table.RunWritesSigns words shelf result was now → told.RunWritesSigns words shelf result was now
 run_from_table words shelf result was now has run = λ file name rows source text ps p records w a b d c n r o.

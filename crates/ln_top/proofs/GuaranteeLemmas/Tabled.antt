@@ -16,7 +16,7 @@ use Rattle.ln_parse.proofs.Expressions.Found.{any_param, any_site, get_longer, p
 use Rattle.ln_rows.specs.Header as header
 use Rattle.ln_tree.specs.Table.{ArgOf, CoordOf, SiteOf}
 use Rattle.ln_tree.specs.Whole.{coords_or, param_vars, site_vars, vars_behind}
-use Rattle.ln_top.specs.Guarantee.{Argument, Ranged, SiteType, Word, columns}
+use Rattle.ln_top.specs.Guarantee.{PredArgument, Ranged, SiteType, Word, columns_of_arguments}
 use Rattle.ln_top.proofs.GuaranteeLemmas.Expr.{number_is}
 use Rattle.ln_top.proofs.GuaranteeLemmas.Items.{a_param, a_site, ArgsMean, an_arg, no_arg, CoordsMean, coord, no_coord, EndMeans, minus, plain}
 use Rattle.ln_top.proofs.GuaranteeLemmas.Names.{ParamsThere, TypesThere}
@@ -95,6 +95,7 @@ coords_named bytes n (coord {c = rc} {r = r} e m rest) =
 
 -- ---- arguments
 module _ (bytes : List ℕ) (is : List Item) (types : List SiteType) (params : List Ranged) (S : List SiteOf) (P : List CoordOf) where
+  -- the items so far are among those of the table, and found by name
   pub record Holds : Type 0 where
     pub types_there : TypesThere bytes is types params
     pub params_there : ParamsThere bytes is types params
@@ -132,7 +133,8 @@ module _ (bytes : List ℕ) (is : List Item) (types : List SiteType) (params : L
       ∙ ap (λ (z : List CoordOf). slice_get z (position_or_len p (param_names is))) h.params_are
       ∙ get_longer (params_said bytes is) h.more_params (position_or_len p (param_names is)) (ranged bytes n r) (param_found bytes p is n r f)
 
-  pub args_vars : Holds → {rargs : List RawArg} {bs : List Argument} → ArgsMean bytes types params rargs bs → (before : List RawArg) (k s : ℕ)
+  -- the variables of the table are those of the arguments
+  pub args_vars : Holds → {rargs : List RawArg} {bs : List PredArgument} → ArgsMean bytes types params rargs bs → (before : List RawArg) (k s : ℕ)
       → Each (ArgWithin bytes is) before rargs → vars_behind S P k s (args_said rargs) ≡ vars_for k s bs
   args_vars h no_arg before k s w = refl
   args_vars h (an_arg {as' = rest} {bs = bs} (a_site {a = a} {t = t} q n d x) m) before k s w =
@@ -152,8 +154,9 @@ module _ (bytes : List ℕ) (is : List Item) (types : List SiteType) (params : L
       ∙ ap (λ (o : Option CoordOf). param_vars k o ++ vars_behind S P (suc k) s (args_said rest)) g
       ∙ (λ i. record { arg = k; site = None; coord = 0; lo = lo i; hi = hi i } ∷ ih i)
 
-  pub args_columns : Holds → {rargs : List RawArg} {bs : List Argument} → ArgsMean bytes types params rargs bs → (before : List RawArg)
-      → Each (ArgWithin bytes is) before rargs → header.names_over S P (args_said rargs) ≡ columns bs
+  -- and so are the columns
+  pub args_columns : Holds → {rargs : List RawArg} {bs : List PredArgument} → ArgsMean bytes types params rargs bs → (before : List RawArg)
+      → Each (ArgWithin bytes is) before rargs → header.names_over S P (args_said rargs) ≡ columns_of_arguments bs
   args_columns h no_arg before w = refl
   args_columns h (an_arg {as' = rest} {bs = bs} (a_site {a = a} {t = t} q n d x) m) before w =
       let y = h.types_there t a.kind d x in

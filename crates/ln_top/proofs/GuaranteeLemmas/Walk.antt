@@ -30,7 +30,8 @@ use Rattle.ln_rows.specs.Header as header
 use Rattle.ln_rows.specs.Header.{columns_of}
 use Rattle.ln_tree.specs.Table.{PredOf, TableOf}
 use Rattle.ln_tree.specs.Whole.{vars_behind}
-use Rattle.ln_top.specs.Guarantee.{Argument, Declares, Predicate, Ranged, Scope, SiteType, Word, columns, inputs, numbered}
+use Rattle.ln_top.specs.Guarantee.{PredArgument, SourceDeclares, Predicate, Ranged, NameScope}
+use Rattle.ln_top.specs.Guarantee.{SiteType, Word, columns_of_arguments, inputs, numbered_inputs}
 use Rattle.ln_top.proofs.GuaranteeLemmas.Items.{a_param, a_site, ArgsMean, an_arg, no_arg, CoordsMean}
 use Rattle.ln_top.proofs.GuaranteeLemmas.Items.{coord, no_coord, ItemsMean, a_type, no_item, param, predicate}
 use Rattle.ln_top.proofs.GuaranteeLemmas.Items.{LetsMean, RangeMeans, ValueMeans}
@@ -42,12 +43,14 @@ use Rattle.ln_top.proofs.GuaranteeLemmas.Rows.{HaveCoords, vars_for}
 use Rattle.ln_top.proofs.GuaranteeLemmas.Tabled.{Holds, args_columns, args_vars}
 
 -- ---- site types have coordinates
+-- each site type of the items has a coordinate
 abbrev pub HaveSome : List Item → Type 0
 HaveSome [] = Unit {0}
 HaveSome (SiteItem n cs ∷ is) = (cs ≢ []) × HaveSome is
 HaveSome (ParamItem n r ∷ is) = HaveSome is
 HaveSome (PredItem n a l r ∷ is) = HaveSome is
 
+-- items that tokens spell have
 pub have_some : {ts : List Token} {i k : ℕ} {is : List Item} → file.Items ts i k is → HaveSome is
 have_some file.no_item = tt
 have_some (file.an_item (file.site a b c d e) y) = ((λ q. cc), have_some y)
@@ -69,6 +72,7 @@ find_longer p (x ∷ xs) ys y h = go (p x) refl h (find_longer p xs ys y)
     go false e k ih = rw e (ih k)
 
 module _ (bytes : List ℕ) (before : List Item) (x : Item) where
+  -- a site type that was found is found after one item more
   pub type_on : (types types' : List SiteType) (params params' : List Ranged) (t : SiteType) (kind : Span)
       → TypeFound bytes before types params t kind → TypeFound bytes (before ++ x ∷ []) types' params' t kind
   type_on types types' params params' t kind f = record {
@@ -80,6 +84,7 @@ module _ (bytes : List ℕ) (before : List Item) (x : Item) where
     own = f.own;
   }
 
+  -- and so is a param
   pub param_on : (types types' : List SiteType) (params params' : List Ranged) (p : Ranged) (at : Span)
       → ParamFound bytes before types params p at → ParamFound bytes (before ++ x ∷ []) types' params' p at
   param_on types types' params params' p at f = record {
@@ -100,6 +105,7 @@ item_free bytes test name at before q n =
 own_name : (bytes : List ℕ) (n at : Span) → text bytes n ≡ text bytes at → same bytes n at ≡ true
 own_name bytes n at q = subst (λ (w : List ℕ). bytes_eq (text bytes n) w ≡ true) q (same_bytes (text bytes n))
 
+-- a site type more
 pub types_more : (bytes : List ℕ) (before : List Item) (types : List SiteType) (params : List Ranged) (t : SiteType) (name : Span) (cs : List RawCoord)
     → TypesThere bytes before types params → text bytes name ≡ t.name → CoordsMean bytes cs t.coords → cs ≢ [] → Each (CoordWithin bytes) [] cs
     → list_any (λ (j : Item). same bytes (item_name j) name) before ≡ false
@@ -119,6 +125,7 @@ types_more bytes before types params t name cs there n m s own new = λ u kind c
     }))
     (λ d. type_on bytes before (SiteItem name cs) types (t ∷ types) params params u kind (there u kind d q))
 
+-- a param more
 pub params_more : (bytes : List ℕ) (before : List Item) (types : List SiteType) (params : List Ranged) (p : Ranged) (name : Span) (r : RawRange)
     → ParamsThere bytes before types params → text bytes name ≡ p.name → RangeMeans bytes r p
     → list_any (λ (j : Item). same bytes (item_name j) name) before ≡ false
@@ -138,14 +145,15 @@ params_more bytes before types params p name r there n m new = λ u at c q.
     (λ d. param_on bytes before (ParamItem name r) types types params (p ∷ params) u at (there u at d q))
 
 -- ---- one predicate
+-- a predicate of the table agrees with a declared one
 pub record Agreed (t : TableOf) (p : Predicate) (q : PredOf) : Type 0 where
   pub vars : q.vars ≡ vars_for 0 0 p.args
-  pub cols : columns_of t q ≡ columns p.args
+  pub cols : columns_of t q ≡ columns_of_arguments p.args
   pub root : root_of q ≡ p.root
   pub sites : q.sites ≡ sites_in p.args
   pub coords : HaveCoords p.args
 
-sites_said_in : (bytes : List ℕ) (is : List Item) (types : List SiteType) (params : List Ranged) {rargs : List RawArg} {bs : List Argument}
+sites_said_in : (bytes : List ℕ) (is : List Item) (types : List SiteType) (params : List Ranged) {rargs : List RawArg} {bs : List PredArgument}
     → ArgsMean bytes types params rargs bs → count_by is_site_said (map (λ (a : RawArg). arg_said bytes is a a.is_param) rargs) ≡ sites_in bs
 sites_said_in bytes is types params no_arg = refl
 sites_said_in bytes is types params (an_arg {as' = rest} {bs = bs} (a_site {a = a} {t = t} q n d x) m) =
@@ -159,17 +167,18 @@ sites_said_in bytes is types params (an_arg {as' = rest} {bs = bs} (a_param {a =
     ap (λ (b : Bool). count_by is_site_said (arg_said bytes is a b ∷ more)) q ∙ count_cons is_site_said (arg_said bytes is a true) more
     ∙ omega (arith, ih)
 
-have_coords : (bytes : List ℕ) (is : List Item) (types : List SiteType) (params : List Ranged) {rargs : List RawArg} {bs : List Argument}
+have_coords : (bytes : List ℕ) (is : List Item) (types : List SiteType) (params : List Ranged) {rargs : List RawArg} {bs : List PredArgument}
     → TypesThere bytes is types params → ArgsMean bytes types params rargs bs → HaveCoords bs
 have_coords bytes is types params there no_arg = tt
 have_coords bytes is types params there (an_arg (a_site {a = a} {t = t} q n d x) m) =
     ((there t a.kind d x).some, have_coords bytes is types params there m)
 have_coords bytes is types params there (an_arg (a_param q d x) m) = have_coords bytes is types params there m
 
+-- a predicate that means a declared one agrees with it
 pub agrees : (bytes : List ℕ) (ts : List Token) (before : List Item) (t : TableOf) (types : List SiteType) (params : List Ranged) (name : Span)
-    (rargs : List RawArg) (ls : List RawLet) (root : Places) (p : Predicate) (q : PredOf) (all : Scope)
+    (rargs : List RawArg) (ls : List RawLet) (root : Places) (p : Predicate) (q : PredOf) (all : NameScope)
     → Holds bytes before types params t.sites t.params → ArgsMean bytes types params rargs p.args
-    → LetsMean bytes ts (numbered 0 (inputs p.args)) ls all → ValueMeans bytes ts all root p.root
+    → LetsMean bytes ts (numbered_inputs 0 (inputs p.args)) ls all → ValueMeans bytes ts all root p.root
     → PredSays bytes ts before t name rargs ls root q → PredWithin bytes ts before rargs ls root → Agreed t p q
 agrees bytes ts before t types params name rargs ls root p q all h m l v s w =
     let vars : q.vars ≡ vars_for 0 0 p.args = s.vars_are ∙ ap (vars_behind t.sites t.params 0 0) s.args_are
@@ -186,6 +195,7 @@ agrees bytes ts before t types params name rargs ls root p q all h m l v s w =
     }
 
 -- ---- all items
+-- what is taken from two lists
 pub fm_append : {A B : Type 0} (f : A → Option B) (xs ys : List A) → filter_map f (xs ++ ys) ≡ filter_map f xs ++ filter_map f ys
 fm_append {B = B} f [] ys = refl
 fm_append {B = B} f (x ∷ xs) ys = ap (λ z. cons_option (f x) z) (fm_append f xs ys) ∙ go (f x) (filter_map f xs) (filter_map f ys)
@@ -194,6 +204,7 @@ fm_append {B = B} f (x ∷ xs) ys = ap (λ z. cons_option (f x) z) (fm_append f 
     go None us vs = refl
     go (Some y) us vs = refl
 
+-- the first of its name among these agrees
 pub record InTable (t : TableOf) (p : Predicate) (qs : List PredOf) : Type 0 where
   pub q : PredOf
   pub found : find (λ (r : PredOf). bytes_eq r.name p.name) qs ≡ Some q
@@ -270,7 +281,7 @@ module _ (bytes : List ℕ) (ts : List Token) (t : TableOf) (all : List Item) (s
       (kept_more bytes before x done q s.0.name_is kept) p d))
 
 -- each declared predicate is the first of its name in the table of the source
-pub in_table : (source : List ℕ) (ps : List Predicate) (p : Predicate) (t : TableOf) → TextOf source t → Declares source ps → Contains ps p
+pub in_table : (source : List ℕ) (ps : List Predicate) (p : Predicate) (t : TableOf) → TextOf source t → SourceDeclares source ps → Contains ps p
     → InTable t p t.preds
 in_table source ps p t x d c =
     let k = declared source ps d in

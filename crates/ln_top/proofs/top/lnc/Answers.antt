@@ -3,6 +3,8 @@ use Rattle.ln_top.specs.declared.words.Command.TheVariants as command
 use Rattle.ln_top.proofs.Steps.TopLaws.{by_work, keeps}
 use Rattle.ln_top.proofs.Theorem.HeadlineLaws.{graded_headline, headline}
 use Rattle.ln_top.proofs.GuaranteeLemmas.Clause.{run_signs}
+use Rattle.ln_top.proofs.GuaranteeLemmas.Emit.{emit_signs}
+use Rattle.ln_top.proofs.GuaranteeLemmas.Listing.{list_signs}
 use Rattle.ln_top.proofs.Theorem.ProductsLaws.{products}
 use Rattle.ln_top.proofs.Theorem.EdgedLaws.{edged}
 use Rattle.ln_top.proofs.Theorem.ExplainedLaws.{explained}
@@ -32,8 +34,14 @@ returns-clause-products g c s = by_work command.Product _ c.status_of.ensures c.
 pub returns-clause-emitted : goal.returns-clause-emitted
 returns-clause-emitted g c s = by_work command.Emit _ c.status_of.ensures c.carry_out.ensures.done (λ k i w. emitted k i (w s))
 
+pub returns-clause-emit_signs : goal.returns-clause-emit_signs
+returns-clause-emit_signs g c = emit_signs c.status_of.ensures c.carry_out.ensures.done
+
 pub returns-clause-listed : goal.returns-clause-listed
 returns-clause-listed g c s = by_work command.List _ c.status_of.ensures c.carry_out.ensures.done (λ k i w. listed k i (w s))
+
+pub returns-clause-list_signs : goal.returns-clause-list_signs
+returns-clause-list_signs g c = list_signs c.status_of.ensures c.carry_out.ensures.done
 
 pub returns-clause-edged : goal.returns-clause-edged
 returns-clause-edged g c s = by_work command.Edges _ c.status_of.ensures c.carry_out.ensures.done (λ k i w. edged k i (w s))
