@@ -19,3 +19,9 @@ pub mod Clause
 pub mod Emit
 pub mod AllAgreed
 pub mod Listing
+pub mod Tokens
+pub mod LexBack
+pub mod Spoken
+pub mod Declared
+pub mod SourcesLaws
+pub mod Worked

@@ -15,6 +15,7 @@ pub mod Perturbed
 pub mod ByValue
 pub mod Headline
 pub mod Guarantee
+pub mod Sources
 pub mod Products
 pub mod Edged
 pub mod Explained

@@ -1,5 +1,5 @@
-//! Laws: words and files whose bytes are known end in one way, and require one output; what decides a row whose value isn't 0; and of the C that
-//! `emit` puts lnc_c says what the headline does.
+//! Laws: words and files whose bytes are known end in one way, and require one output; what decides a row whose value isn't 0; of the C that
+//! `emit` puts lnc_c says what the headline does; and accepted sources declare the predicates of their tables.
 ghost use Rattle.std.specs.Prelude.{◌≡◌, ℕ, List, Some};
 ghost use Rattle.ln_base.specs.Outside.{Shelf};
 ghost use Rattle.ln_watch.specs.Panel.{State};
@@ -10,6 +10,7 @@ ghost use Rattle.ln_top.specs.Answer.{Answer};
 ghost use Rattle.ln_top.specs.ByValue.{ValuesDecide};
 ghost use Rattle.ln_top.specs.Causes.{Ends};
 ghost use Rattle.ln_top.specs.Plan.{Plan};
+ghost use Rattle.ln_top.specs.Sources.{AcceptedDeclare, DeclaredAreOf, OrientationIsDeclared};
 ghost use Rattle.ln_top.specs.Frame.Given.{Outcome, Given};
 ghost use Rattle.ln_top.specs.Steps.{Prepares};
 ghost use Rattle.ln_top.specs.Works.{AreOneValued};
@@ -46,4 +47,18 @@ pub fn values_decide()
 pub fn emitted_calls_agree()
     ensures meanings { MeaningsAgree }
     ensures programs { ProgramsAgree }
+{}
+
+/// A law: an accepted source declares predicates, which have the names, the columns and the expressions of those of its table, one by one, and
+/// it declares no others.
+///
+/// So what `run`, `emit` and `list` promise of declared predicates they promise of each predicate of an accepted source.
+pub fn sources_declare()
+    ensures some { AcceptedDeclare }
+    ensures only { DeclaredAreOf }
+{}
+
+/// A law: the bytes of examples/orientation/orient.ln declare the orientation of three points.
+pub fn orientation_is_declared()
+    ensures { OrientationIsDeclared }
 {}
