@@ -17,6 +17,7 @@ lemmas=$(all_of \( -path '*/proofs/*' -o -path '*/specs/*' \) -name '*.antt' | g
 case_ 'public lemmas and definitions have a line each, and each is named somewhere' 0 "$lemmas files" '' 'python3 examples/checks/proofs.py'
 case_ 'docs/THEOREM.md names each law and each clause of lnc' 0 "$(grep -rlE '^ *(ensures|requires)\b' crates/*/src --include='*.rt' | cut -d/ -f2 | sort -u | wc -l) crates, $clauses clauses of lnc" '' 'python3 examples/checks/laws.py'
 case_ 'docs/THEOREM.md says how much bin/statement prints' 0 "$clauses clauses" '' 'bin/statement --compare'
+case_ 'the source that a law works out is the sample' 0 "$(cat examples/orientation/orient.ln)" '' "sed -n 's/^ .*codes \"\\(.*\\)\\\\n\".*/\\1/p' crates/ln_top/specs/Sources.antt"
 case_ 'README.md says which promises edits are against' 0 "$(all_of -path '*must-fail/*.edit' | wc -l) edits" '' 'python3 examples/checks/matrix.py --compare'
 # the logic decides what is proved, whatever the letter of the kit that brings it
 named=$(grep -om1 'logic [0-9a-f]\{16\}' README.md)
