@@ -15,9 +15,7 @@ pub mod Walk
 pub mod ByTable
 pub mod ByTableLaws
 pub mod Run
-pub mod Clause
 pub mod Emit
-pub mod AllAgreed
 pub mod Listing
 pub mod Tokens
 pub mod LexBack

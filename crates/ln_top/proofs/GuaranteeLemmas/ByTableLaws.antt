@@ -104,8 +104,7 @@ table_is : (bytes : List ℕ) (u t : TableOf) → Compiles bytes (gives u) → T
 table_is bytes u t (step.accepted _ a) k = one_told bytes u t a.accepted.text k
 
 -- ---- what the steps give
--- what was read of a file is its bytes
-pub read_is : (shelf : Shelf) (limit : ℕ) (name bytes known : List ℕ) → Reads (Some shelf) limit name (gives bytes)
+read_is : (shelf : Shelf) (limit : ℕ) (name bytes known : List ℕ) → Reads (Some shelf) limit name (gives bytes)
     → bytes_of name shelf ≡ Some known → bytes ≡ known
 read_is shelf limit name bytes known (step.there _ m l) e = same_Some bytes known (sym m ∙ e)
 
@@ -297,11 +296,24 @@ settled result (inl e) = record { read = λ f. cc; write = λ f. cc; memory = λ
 settled result (inr e) = record { read = λ f. cc; write = λ f. cc; memory = λ f. cc }
 
 -- a command whose status is done or rows was given what its steps prepare
-pub given_by : (words : List (List ℕ)) (shelf : Shelf) (plan : Plan) (result : Status) (reads puts : Type 0) → plan_of words ≡ Some plan
+given_by : (words : List (List ℕ)) (shelf : Shelf) (plan : Plan) (result : Status) (reads puts : Type 0) → plan_of words ≡ Some plan
     → ((preds : List PredOf) → Asks plan.command preds) → (result ≡ status.Done) ⊎ (result ≡ status.Rows)
     → EndsExactly words shelf result reads puts → (g : Given) × Prepares plan (Some shelf) (gives g)
 given_by words shelf plan result reads puts f r (inl e) ends = was_given words shelf plan end.Done f r refl ((ends end.Done).only e)
 given_by words shelf plan result reads puts f r (inr e) ends = was_given words shelf plan end.Rows f r refl ((ends end.Rows).only e)
+
+-- the source of such a command has a table
+pub source_text : (words : List (List ℕ)) (shelf : Shelf) (plan : Plan) (result : Status) (reads puts : Type 0) (source : List ℕ)
+    → plan_of words ≡ Some plan → ((preds : List PredOf) → Asks plan.command preds) → (result ≡ status.Done) ⊎ (result ≡ status.Rows)
+    → EndsExactly words shelf result reads puts → bytes_of plan.source shelf ≡ Some source → (t : TableOf) × TextOf source t
+source_text words shelf plan result reads puts source f r d ends a =
+    let given = given_by words shelf plan result reads puts f r d ends in
+    has_text given.0 given.1
+  where
+    has_text : (g : Given) → Prepares plan (Some shelf) (gives g) → (t : TableOf) × TextOf source t
+    has_text g (step.goes bytes b (step.goes table (step.accepted _ c) h)) =
+        let s : bytes ≡ source = read_is shelf _ plan.source bytes source b a in
+        (table, subst (λ (z : List ℕ). TextOf z table) s c.accepted.text)
 
 has_records : (t : TableOf) (p : PredOf) (text : List ℕ) (records : Records) (g : Given) → AreGiven t p text g
     → records_in text ≡ columns_of t p ∷ records → HasRecords g p (columns_of t p) (columns_of t p ∷ records)

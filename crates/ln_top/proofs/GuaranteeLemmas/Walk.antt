@@ -233,27 +233,36 @@ kept_more bytes before x done q e h = λ w n.
     let b : bytes_eq q.name w ≡ false = ap (λ (z : List ℕ). bytes_eq z w) e ∙ a in
     free_more (λ (r : PredOf). bytes_eq r.name w) done (q ∷ []) (h w s.0) (rw b refl)
 
+-- the predicates of the table, after these, are the declared ones, one by one; each has a name that none before it has
+abbrev pub AreAgreed : TableOf → List PredOf → List Predicate → List PredOf → Type 0
+AreAgreed t done [] [] = Unit {0}
+AreAgreed t done [] (q ∷ qs) = ⊥
+AreAgreed t done (p ∷ ps) [] = ⊥
+AreAgreed t done (p ∷ ps) (q ∷ qs) = (q.name ≡ p.name) × (list_any (λ (r : PredOf). bytes_eq r.name p.name) done ≡ false) × Agreed t p q
+    × AreAgreed t (done ++ q ∷ []) ps qs
+
 module _ (bytes : List ℕ) (ts : List Token) (t : TableOf) (all : List Item) (sites_are : t.sites ≡ sites_said bytes all)
     (params_are : t.params ≡ params_said bytes all) where
   walk : {types : List SiteType} {params : List Ranged} {is : List Item} {ps : List Predicate} → ItemsMean bytes ts types params is ps
       → (before : List Item) (done qs : List PredOf) → all ≡ before ++ is → TypesThere bytes before types params
       → ParamsThere bytes before types params → Each (ItemWithin bytes ts) before is → HaveSome is → PredsSay bytes ts before t is qs
-      → NamesKept bytes before done → (p : Predicate) → Contains ps p → InTable t p (done ++ qs)
-  walk no_item before done qs whole st pt w hs s kept p c = absurd (omega (arith, c.1))
-  walk {types = types} {params = params} (a_type {name = name} {cs = cs} {is = is} u n m rest) before done qs whole st pt w hs s kept p c =
+      → NamesKept bytes before done → AreAgreed t done ps qs
+  walk no_item before done [] whole st pt w hs s kept = tt
+  walk no_item before done (q ∷ qs) whole st pt w hs s kept = absurd s
+  walk {types = types} {params = params} (a_type {name = name} {cs = cs} {is = is} u n m rest) before done qs whole st pt w hs s kept =
       walk rest (before ++ SiteItem name cs ∷ []) done qs (whole ∙ sym (append_assoc before (SiteItem name cs ∷ []) is))
       (types_more bytes before types params u name cs st n m hs.0 w.0.parts.1 w.0.new)
       (λ r at d e. param_on bytes before (SiteItem name cs) types (u ∷ types) params params r at (pt r at d e)) w.1 hs.1 s
-      (kept_on bytes before (SiteItem name cs) done kept) p c
-  walk {types = types} {params = params} (param {name = name} {r = r} {is = is} u n m rest) before done qs whole st pt w hs s kept p c =
+      (kept_on bytes before (SiteItem name cs) done kept)
+  walk {types = types} {params = params} (param {name = name} {r = r} {is = is} u n m rest) before done qs whole st pt w hs s kept =
       walk rest (before ++ ParamItem name r ∷ []) done qs (whole ∙ sym (append_assoc before (ParamItem name r ∷ []) is))
       (λ v kind d e. type_on bytes before (ParamItem name r) types types params (u ∷ params) v kind (st v kind d e))
       (params_more bytes before types params u name r pt n m w.0.new) w.1 hs s
-      (kept_on bytes before (ParamItem name r) done kept) p c
-  walk (predicate n m l v rest) before done [] whole st pt w hs s kept p c = absurd s
+      (kept_on bytes before (ParamItem name r) done kept)
+  walk (predicate n m l v rest) before done [] whole st pt w hs s kept = absurd s
   walk {types = types} {params = params}
       (predicate {name = name} {args = rargs} {ls = ls} {root = root} {is = is} {p = p0} {ps = ps} {scope = scope} n m l v rest) before done (q ∷ qs)
-      whole st pt w hs s kept p c =
+      whole st pt w hs s kept =
       let x : Item = PredItem name rargs ls root in
       let h : Holds bytes before types params t.sites t.params = record {
         types_there = st;
@@ -262,28 +271,19 @@ module _ (bytes : List ℕ) (ts : List Token) (t : TableOf) (all : List Item) (s
         sites_are = sites_are ∙ ap (sites_said bytes) whole ∙ fm_append (site_said bytes) before (x ∷ is);
         more_params = params_said bytes (x ∷ is);
         params_are = params_are ∙ ap (params_said bytes) whole ∙ fm_append (param_said bytes) before (x ∷ is);
-      } in
-      tail_of p0 p ps (InTable t p (done ++ q ∷ qs)) c
-      (λ e.
-      let none = kept p0.name (subst (λ (z : List ℕ). list_any (λ (j : Item). bytes_eq (text bytes (item_name j)) z) before ≡ false) n w.0.new) in
-      let pass : bytes_eq q.name p0.name ≡ true =
-      subst (λ (z : List ℕ). bytes_eq z p0.name ≡ true) (sym (s.0.name_is ∙ n)) (same_bytes p0.name) in
-      subst (λ (z : Predicate). InTable t z (done ++ q ∷ qs)) e (record {
-        q = q;
-        found = find_here (λ (r : PredOf). bytes_eq r.name p0.name) done q qs none pass;
-        agreed = agrees bytes ts before t types params name rargs ls root p0 q scope h m l v s.0 w.0.parts;
-      }))
-      (λ d.
-      subst (λ (z : List PredOf). InTable t p z) (append_assoc done (q ∷ []) qs)
-      (walk rest (before ++ x ∷ []) (done ++ q ∷ []) qs (whole ∙ sym (append_assoc before (x ∷ []) is))
-      (λ u kind a b. type_on bytes before x types types params params u kind (st u kind a b))
-      (λ u at a b. param_on bytes before x types types params params u at (pt u at a b)) w.1 hs s.1
-      (kept_more bytes before x done q s.0.name_is kept) p d))
+      } in (
+        s.0.name_is ∙ n,
+        kept p0.name (subst (λ (z : List ℕ). list_any (λ (j : Item). bytes_eq (text bytes (item_name j)) z) before ≡ false) n w.0.new),
+        agrees bytes ts before t types params name rargs ls root p0 q scope h m l v s.0 w.0.parts,
+        walk rest (before ++ x ∷ []) (done ++ q ∷ []) qs (whole ∙ sym (append_assoc before (x ∷ []) is))
+            (λ u kind a b. type_on bytes before x types types params params u kind (st u kind a b))
+            (λ u at a b. param_on bytes before x types types params params u at (pt u at a b)) w.1 hs s.1
+            (kept_more bytes before x done q s.0.name_is kept),
+      )
 
--- each declared predicate is the first of its name in the table of the source
-pub in_table : (source : List ℕ) (ps : List Predicate) (p : Predicate) (t : TableOf) → TextOf source t → SourceDeclares source ps → Contains ps p
-    → InTable t p t.preds
-in_table source ps p t x d c =
+-- of a source with a table
+pub all_agreed : (source : List ℕ) (ps : List Predicate) (t : TableOf) → TextOf source t → SourceDeclares source ps → AreAgreed t [] ps t.preds
+all_agreed source ps t x d =
     let k = declared source ps d in
     let q : k.tokens ≡ x.tokens = one_list source k.tokens x.tokens k.lexed x.lexed in
     let spelt : Spelt k.tokens x.items = subst (λ (w : List Token). Spelt w x.items) (sym q) x.spelt in
@@ -293,5 +293,22 @@ in_table source ps p t x d c =
     let says : ItemsSay source k.tokens k.items t = subst (λ (w : List Item). ItemsSay source k.tokens w t) (sym e)
     (subst (λ (w : List Token). ItemsSay source w x.items t) (sym q) x.says) in
     walk source k.tokens t k.items says.sites_are says.params_are k.means [] [] t.preds refl (λ u kind a b. absurd (omega (arith, a.1)))
-    (λ u at a b. absurd (omega (arith, a.1))) (faultless_is_within source k.tokens k.items clean).each (have_some k.spelt) says.preds_are
-    (λ w n. refl) p c
+    (λ u at a b. absurd (omega (arith, a.1))) (faultless_is_within source k.tokens k.items clean).each (have_some k.spelt) says.preds_are (λ w n. refl)
+
+-- a declared predicate is the first of its name
+find_in : (t : TableOf) (done : List PredOf) (ps : List Predicate) (qs : List PredOf) → AreAgreed t done ps qs → (p : Predicate) → Contains ps p
+    → InTable t p (done ++ qs)
+find_in t done [] qs a p c = absurd (omega (arith, c.1))
+find_in t done (p0 ∷ ps) [] a p c = absurd a
+find_in t done (p0 ∷ ps) (q ∷ qs) (n, none, a, rest) p c =
+    tail_of p0 p ps (InTable t p (done ++ q ∷ qs)) c
+    (λ e.
+    let pass : bytes_eq q.name p0.name ≡ true = subst (λ (z : List ℕ). bytes_eq z p0.name ≡ true) (sym n) (same_bytes p0.name) in
+    subst (λ (z : Predicate). InTable t z (done ++ q ∷ qs)) e
+    (record { q = q; found = find_here (λ (r : PredOf). bytes_eq r.name p0.name) done q qs none pass; agreed = a }))
+    (λ d. subst (λ (z : List PredOf). InTable t p z) (append_assoc done (q ∷ []) qs) (find_in t (done ++ q ∷ []) ps qs rest p d))
+
+-- so it is in the table of the source
+pub in_table : (source : List ℕ) (ps : List Predicate) (p : Predicate) (t : TableOf) → TextOf source t → SourceDeclares source ps → Contains ps p
+    → InTable t p t.preds
+in_table source ps p t x d c = find_in t [] ps t.preds (all_agreed source ps t x d) p c

@@ -2,7 +2,7 @@ use Rattle.ln_top.specs.Frame.Said.{count}
 use Rattle.ln_top.specs.declared.words.Command.TheVariants as command
 use Rattle.ln_top.proofs.Steps.TopLaws.{by_work, keeps}
 use Rattle.ln_top.proofs.Theorem.HeadlineLaws.{graded_headline, headline}
-use Rattle.ln_top.proofs.GuaranteeLemmas.Clause.{run_signs}
+use Rattle.ln_top.proofs.GuaranteeLemmas.Run.{run_signs}
 use Rattle.ln_top.proofs.GuaranteeLemmas.Emit.{emit_signs}
 use Rattle.ln_top.proofs.GuaranteeLemmas.Listing.{list_signs}
 use Rattle.ln_top.proofs.Theorem.ProductsLaws.{products}
