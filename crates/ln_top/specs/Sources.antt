@@ -1,10 +1,10 @@
 -- What sources declare: each accepted source the predicates of its table, and a source worked out by hand.
-use Rattle.std.specs.Prelude.{◌≡◌, ℕ, pos, neg_ℤ, List, [], ◌∷◌, ◌++◌, codes}
-use Rattle.ln_algebra.specs.Tree.{Input, Sub, Mul}
+use Rattle.std.specs.Prelude.{◌≡◌, ◌≢◌, ℕ, ℤ, pos, neg_ℤ, List, [], ◌∷◌, ◌++◌, map, AllPairs, codes}
+use Rattle.ln_algebra.specs.Worked.{orientation}
 use Rattle.ln_tree.specs.Table.{PredOf, TableOf}
 use Rattle.ln_compile.specs.Accepted.{Accepted, root_of}
 use Rattle.ln_rows.specs.Header.{columns_of}
-use Rattle.ln_top.specs.Guarantee.{SourceDeclares, OfType, Predicate, Ranged, SiteType, columns_of_arguments}
+use Rattle.ln_top.specs.Guarantee.{AreRowFields, HasSign, OfType, Predicate, Ranged, SiteType, SourceDeclares, columns_of_arguments}
 
 -- ---- accepted sources
 -- a predicate of the table has the name, the columns and the expression of a declared one
@@ -44,14 +44,32 @@ thousand name = record { name = name; lo = neg_ℤ (pos 1000); hi = pos 1000 }
 abbrev pub plane_point : SiteType
 plane_point = record { name = codes "point"; coords = thousand (codes "x") ∷ thousand (codes "y") ∷ [] }
 
--- its predicate: the orientation of three points, whose coordinates are the inputs 0 to 5
+-- its predicate: the orientation of three points (ln_algebra, specs/Worked.antt)
 abbrev pub orientation_of_points : Predicate
 orientation_of_points = record {
   name = codes "orient";
   args = OfType (codes "p") plane_point ∷ OfType (codes "q") plane_point ∷ OfType (codes "r") plane_point ∷ [];
-  root = Sub (Mul (Sub (Input 0) (Input 4)) (Sub (Input 3) (Input 5))) (Mul (Sub (Input 1) (Input 5)) (Sub (Input 2) (Input 4)));
+  root = orientation;
 }
 
 -- the source declares the orientation of three points
 abbrev pub OrientationIsDeclared : Type 0
 OrientationIsDeclared = SourceDeclares orientation_source (orientation_of_points ∷ [])
+
+-- The fields of three points on a line, (0, 0), (1, 1) and (2, 2), with the indices 1, 2 and 3.
+abbrev pub collinear_fields : List (List ℕ)
+collinear_fields = map (λ b. b ∷ []) (codes "100211322")
+
+-- their indices
+abbrev pub collinear_indices : List ℕ
+collinear_indices = 1 ∷ 2 ∷ 3 ∷ []
+
+-- their values
+abbrev pub collinear_values : List ℤ
+collinear_values = pos 0 ∷ pos 0 ∷ pos 1 ∷ pos 1 ∷ pos 2 ∷ pos 2 ∷ []
+
+-- They are a row, whose indices differ, and its perturbed sign is plus.
+abbrev pub CollinearIsPlus : Type 0
+CollinearIsPlus =
+    AreRowFields orientation_of_points.args collinear_fields collinear_indices collinear_values × AllPairs (λ m n. m ≢ n) collinear_indices
+    × HasSign orientation_of_points collinear_indices collinear_values (pos 1)

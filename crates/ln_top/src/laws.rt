@@ -10,7 +10,7 @@ ghost use Rattle.ln_top.specs.Answer.{Answer};
 ghost use Rattle.ln_top.specs.ByValue.{ValuesDecide};
 ghost use Rattle.ln_top.specs.Causes.{Ends};
 ghost use Rattle.ln_top.specs.Plan.{Plan};
-ghost use Rattle.ln_top.specs.Sources.{AcceptedDeclare, DeclaredAreOf, OrientationIsDeclared};
+ghost use Rattle.ln_top.specs.Sources.{AcceptedDeclare, CollinearIsPlus, DeclaredAreOf, OrientationIsDeclared};
 ghost use Rattle.ln_top.specs.Frame.Given.{Outcome, Given};
 ghost use Rattle.ln_top.specs.Steps.{Prepares};
 ghost use Rattle.ln_top.specs.Works.{AreOneValued};
@@ -58,7 +58,9 @@ pub fn sources_declare()
     ensures only { DeclaredAreOf }
 {}
 
-/// A law: the bytes of examples/orientation/orient.ln declare the orientation of three points.
+/// A law: the bytes of examples/orientation/orient.ln declare the orientation of three points; the fields of three points on a line are a row of it,
+/// whose perturbed sign is plus.
 pub fn orientation_is_declared()
-    ensures { OrientationIsDeclared }
+    ensures declared { OrientationIsDeclared }
+    ensures collinear { CollinearIsPlus }
 {}

@@ -1,16 +1,24 @@
 -- The worked source declares what it is said to declare.
-use Rattle.std.proofs.Common.{◌≡◌, ◌⊎◌, inl, inr, ℕ, arith, ◌<◌, Bool, true, false, refl, ap, sym, ◌∙◌, subst}
-use Rattle.std.specs.Prelude.{◌≢◌, ◌&&◌, ◌==◌, not, nat_lt, All, Contains, List, [], ◌∷◌, ◌++◌, codes}
+use Rattle.std.proofs.Common.{◌≡◌, ◌⊎◌, inl, inr, ℕ, zero, suc, arith, ◌<◌, ◌≤◌, ◌^◌, Bool, true, false, refl, ap, sym, ◌∙◌, subst}
+use Rattle.std.proofs.Common.{Option, Some, None, ℤ, pos, ◌≤ℤ◌}
+use Rattle.std.specs.Prelude.{◌≢◌, ◌&&◌, ◌==◌, not, nat_lt, All, Contains, List, [], ◌∷◌, ◌++◌, codes, neg_ℤ, slice_index_or}
 use Rattle.std.proofs.lemmas.Bool.{and_parts, ltb-true, not-true}
 use Rattle.std.proofs.lemmas.Bool.Decides.{nat_tests}
+use Rattle.std.proofs.lemmas.Int.{ints}
 use Rattle.std.proofs.lemmas.List.Elements.{All-cons, All-nil}
+use Rattle.ln_base.specs.Decimal.{integer_value, natural_value}
 use Rattle.ln_base.specs.Words.{every, is_name}
 use Rattle.ln_lex.specs.Tokens.{in_comment}
+use Rattle.ln_algebra.proofs.Examples.WorkedValues.{signs_of_orientation}
+use Rattle.ln_algebra.specs.Earlier.{Sites}
+use Rattle.ln_algebra.specs.Sign.{IsPerturbedSign}
 use Rattle.ln_algebra.specs.Tree.{Tree, Input, Mul, Sub}
+use Rattle.ln_algebra.specs.Worked.{orientation, owner_in}
 use Rattle.ln_top.specs.Guarantee as told
-use Rattle.ln_top.specs.Guarantee.{AreItems, AreRanged, HasWords, PredArgument, OfType, Ranged}
+use Rattle.ln_top.specs.Guarantee.{AreItems, AreRanged, AreRowFields, HasSign, HasWords, PredArgument, OfType, Ranged, sites_after}
 use Rattle.ln_top.specs.Guarantee.{SaysTree, NameScope, Word, inputs, is_among, is_source_word, numbered_inputs}
-use Rattle.ln_top.specs.Sources.{OrientationIsDeclared, orientation_of_points, orientation_source, plane_point, thousand}
+use Rattle.ln_top.specs.Sources.{CollinearIsPlus, OrientationIsDeclared, collinear_fields, collinear_indices, collinear_values, orientation_of_points}
+use Rattle.ln_top.specs.Sources.{orientation_source, plane_point, thousand}
 use Rattle.ln_top.proofs.GuaranteeLemmas.Tokens.{front_token}
 
 -- ---- bytes in pieces
@@ -196,3 +204,51 @@ orientation_is_declared = record {
   are = subst (λ (bs : List ℕ). HasWords bs (words_in pieces)) pieces_are (are_words pieces refl);
   items = items;
 }
+
+-- ---- three points on a line
+in_thousand : (n : ℕ) → n ≤ 1000 → (neg_ℤ (pos 1000) ≤ℤ pos n) × (pos n ≤ℤ pos 1000)
+in_thousand n h = (grind (arith, nat_tests, ints, h), grind (arith, nat_tests, ints, h))
+
+few : (n : ℕ) → n ≤ 1000 → n < 2 ^ 63
+few n h = grind (arith, nat_tests, h)
+
+-- a point of this index, with both coordinates this number
+one_point : (s f g : Word) (n k : ℕ) {args : List PredArgument} {fs : List (List ℕ)} {ns : List ℕ} {zs : List ℤ} → natural_value f ≡ Some n
+    → integer_value g ≡ Some (pos k) → n ≤ 1000 → k ≤ 1000 → AreRowFields args fs ns zs
+    → AreRowFields (OfType s plane_point ∷ args) (f ∷ g ∷ g ∷ fs) (n ∷ ns) (pos k ∷ pos k ∷ zs)
+one_point s f g n k {args = args} {fs = fs} {ns = ns} {zs = zs} e d h l rest =
+    let r = in_thousand k l in
+    told.site {s = s} {t = plane_point} {args = args} {f = f} {gs = g ∷ g ∷ []} {fs = fs} {n = n} {ns = ns} {ys = pos k ∷ pos k ∷ []} {zs = zs} e
+    (few n h) (told.more d r.0 r.1 (told.more d r.0 r.1 told.none)) rest
+
+collinear_row : AreRowFields orientation_of_points.args collinear_fields collinear_indices collinear_values
+collinear_row =
+    one_point (codes "p") (codes "1") (codes "0") 1 0 refl refl (omega arith) (omega arith)
+    (one_point (codes "q") (codes "2") (codes "1") 2 1 refl refl (omega arith) (omega arith)
+    (one_point (codes "r") (codes "3") (codes "2") 3 2 refl refl (omega arith) (omega arith) told.none))
+
+indices_differ : (i j d : ℕ) → i < j → j < 3 → slice_index_or collinear_indices i d ≡ slice_index_or collinear_indices j d → ⊥
+indices_differ zero zero d l b e = omega (arith, l)
+indices_differ zero (suc zero) d l b e = omega (arith, e)
+indices_differ zero (suc (suc zero)) d l b e = omega (arith, e)
+indices_differ zero (suc (suc (suc j))) d l b e = omega (arith, b)
+indices_differ (suc zero) zero d l b e = omega (arith, l)
+indices_differ (suc zero) (suc zero) d l b e = omega (arith, l)
+indices_differ (suc zero) (suc (suc zero)) d l b e = omega (arith, e)
+indices_differ (suc zero) (suc (suc (suc j))) d l b e = omega (arith, b)
+indices_differ (suc (suc i)) j d l b e = omega (arith, l, b)
+
+owner_at : (os : List (Option ℕ)) (v : ℕ) → owner_in os v ≡ slice_index_or os v None
+owner_at [] v = refl
+owner_at (o ∷ os) zero = refl
+owner_at (o ∷ os) (suc v) = owner_at os v
+
+collinear_sign : HasSign orientation_of_points collinear_indices collinear_values (pos 1)
+collinear_sign =
+    subst (λ (s : Sites). IsPerturbedSign 6 s (λ v. slice_index_or collinear_values v (pos 0)) orientation (pos 1))
+    (λ i. record { site = λ v. owner_at (sites_after 0 orientation_of_points.args) v i; index = λ k. slice_index_or collinear_indices k 0 })
+    signs_of_orientation.0
+
+-- three points on a line have the sign plus
+pub collinear_is_plus : CollinearIsPlus
+collinear_is_plus = (collinear_row, indices_differ, collinear_sign)
