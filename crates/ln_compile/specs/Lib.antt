@@ -6,3 +6,4 @@ pub mod Refused
 pub mod Weighed
 pub mod Faultless
 pub mod Polynomial
+pub mod Symmetry

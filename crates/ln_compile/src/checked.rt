@@ -6,14 +6,17 @@ ghost use Rattle.ln_compile.specs.Accepted.{Accepted};
 ghost use Rattle.ln_compile.specs.Compiled.{AreProgramsOf, AreStageCounts, IsProgramAt, IsStageCountAt, number_of};
 ghost use Rattle.ln_compile.specs.Polynomial.{IsPolynomialAt};
 ghost use Rattle.ln_compile.specs.Refused.{IsRefusal, IsTheOne, IsUnaccepted};
+ghost use Rattle.ln_compile.specs.Symmetry.{IsSymmetryAt};
 
 use crate::polynomial::polynomial_of;
 use crate::programs::{counts, program_of, programs};
 use crate::refusal::{Refusal, refusal_of};
+use crate::symmetry::symmetry_at;
 use ln_base::{NoMemory, Seq};
 use ln_code::{Program, Programs};
 use ln_parse::parse;
 use ln_poly::Poly;
+use ln_stage::Symmetry;
 use ln_tree::{Pred, Table};
 use std::alloc::Global;
 use std::marker::Model;
@@ -123,6 +126,15 @@ impl Checked {
         ensures { IfOk result (IsPolynomialAt (map pred_of self.now.table.preds) i) }
     {
         polynomial_of(alloc, &self.table.preds.as_slice()[i])
+    }
+
+    /// The symmetry of a predicate, by its number: whether its sites are of one type and each exchange of two of them turns its sign, or keeps
+    /// it; none exactly where neither holds. Its normal polynomial is made anew from the table.
+    pub fn symmetry(&self, alloc: Global, i: usize) -> Result<Option<Symmetry>, NoMemory>
+        requires { i < length self.now.table.preds }
+        ensures { IfOk result (IsSymmetryAt (map pred_of self.now.table.preds) i) }
+    {
+        symmetry_at(alloc, self.table.preds.as_slice(), i)
     }
 
     /// The programs of all predicates, in order.

@@ -22,6 +22,7 @@ pub(crate) mod program;
 pub(crate) mod programs;
 pub mod refusal;
 pub mod source;
+pub(crate) mod symmetry;
 
 pub use checked::{Checked, check};
 pub use refusal::Refusal;

@@ -109,14 +109,19 @@ pub counted-numbers : (g : ℕ → List ℕ) (ls : List (List ℕ)) → count_nu
 counted-numbers g [] = refl
 counted-numbers g (l ∷ ls) = omega (arith, counted-numbers g ls, length-map l g)
 
+-- what holds of a predicate holds of the one of its number
+pub pred-at : (P : PredOf → Type 0) (preds : List Pred) (i : ℕ) (p : Pred) → i < length preds → p ≡ get_or preds i p → P (pred_of p)
+    → (q : PredOf) → slice_get (map pred_of preds) i ≡ Some q → P q
+pred-at P [] i p h e o q f = absurd (omega (arith, h))
+pred-at P (x ∷ ps) zero p h e o q f =
+    let d : pred_of x ≡ q = cc in
+    subst P d (subst (λ (y : Pred). P (pred_of y)) e o)
+pred-at P (x ∷ ps) (suc i) p h e o q f = pred-at P ps i p (omega (arith, h)) e o q f
+
 -- the program of a predicate, by its number
 pub program-at : (preds : List Pred) (i : ℕ) (p : Pred) (c : Part) → i < length preds → p ≡ get_or preds i p → IsProgramOf (pred_of p) c
     → (q : PredOf) → slice_get (map pred_of preds) i ≡ Some q → IsProgramOf q c
-program-at [] i p c h e o q f = absurd (omega (arith, h))
-program-at (x ∷ ps) zero p c h e o q f =
-    let d : pred_of x ≡ q = cc in
-    subst (λ (r : PredOf). IsProgramOf r c) d (subst (λ (y : Pred). IsProgramOf (pred_of y) c) e o)
-program-at (x ∷ ps) (suc i) p c h e o q f = program-at ps i p c (omega (arith, h)) e o q f
+program-at preds i p c = pred-at (λ q. IsProgramOf q c) preds i p
 
 -- the stage count of a predicate, by its number
 pub count-at : (ps : List PredOf) (ns : List ℕ) (i : ℕ) → AreStageCounts ps ns → (p : PredOf) → slice_get ps i ≡ Some p → IsStageCount p (get_or ns i 0)

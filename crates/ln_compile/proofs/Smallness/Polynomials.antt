@@ -1,6 +1,6 @@
 -- The normal polynomial of a predicate that has no fault.
-use Rattle.std.proofs.Common.{◌≡◌, ℕ, ◌<◌, ◌≤◌, zero, suc, List, [], ◌∷◌, length, map, get_or, subst, arith, Some}
-use Rattle.std.specs.Prelude.{All, slice_get}
+use Rattle.std.proofs.Common.{◌≡◌, ℕ, ◌<◌, ◌≤◌, List, length, map, get_or, Some, None}
+use Rattle.std.specs.Prelude.{All, IfNone, IfSome, Option, slice_get}
 use Rattle.ln_algebra.specs.Vector.{total_degree}
 use Rattle.ln_algebra.specs.Weights.{weighted_sum}
 use Rattle.ln_tree.specs.declared.pred.Pred.{Pred}
@@ -10,9 +10,13 @@ use Rattle.ln_bound.specs.Light.{most}
 use Rattle.ln_bound.specs.Value.{weights}
 use Rattle.ln_poly.specs.Expansion.{HaveFewTerms, IsNormal}
 use Rattle.ln_poly.specs.Sparse.{Sparse, terms_of}
+use Rattle.ln_stage.specs.declared.symmetry.Symmetry.{Symmetry}
+use Rattle.ln_stage.specs.Symmetry.{HasSymmetry, LacksSymmetry}
 use Rattle.ln_poly.proofs.TermLists.Counting.{no-terms-zero}
 use Rattle.ln_compile.specs.Accepted.{IsSound, expanded_of, root_of}
 use Rattle.ln_compile.specs.Polynomial.{IsPolynomialOf}
+use Rattle.ln_compile.specs.Symmetry.{IsSymmetryOf}
+use Rattle.ln_compile.proofs.Making.BuildingLemmas.{pred-at}
 use Rattle.ln_compile.proofs.Smallness.SmallBlocks.{root-terms}
 
 -- the normal polynomial of a predicate without a fault isn't 0 and is within the limits of terms, degrees and weight
@@ -31,8 +35,11 @@ is-polynomial p f s few normal degrees weight = record {
 -- that of a predicate, by its number
 pub polynomial-at : (preds : List Pred) (i : ℕ) (p : Pred) (f : Sparse) → i < length preds → p ≡ get_or preds i p
     → IsPolynomialOf (pred_of p) f → (q : PredOf) → slice_get (map pred_of preds) i ≡ Some q → IsPolynomialOf q f
-polynomial-at [] i p f h e o q g = absurd (omega (arith, h))
-polynomial-at (x ∷ ps) zero p f h e o q g =
-    let d : pred_of x ≡ q = cc in
-    subst (λ (r : PredOf). IsPolynomialOf r f) d (subst (λ (y : Pred). IsPolynomialOf (pred_of y) f) e o)
-polynomial-at (x ∷ ps) (suc i) p f h e o q g = polynomial-at ps i p f (omega (arith, h)) e o q g
+polynomial-at preds i p f = pred-at (λ q. IsPolynomialOf q f) preds i p
+
+-- the symmetry of that polynomial is that of the predicate
+pub symmetry-is : (p : Pred) (f : Sparse) (o : Option Symmetry) → IsNormal (length p.shape.vars) (root_of (pred_of p)) f
+    → IfSome o (λ y. HasSymmetry p.shape.sites p.shape.vars y f) → IfNone o ((y : Symmetry) → LacksSymmetry p.shape.sites p.shape.vars y f)
+    → IsSymmetryOf (pred_of p) o
+symmetry-is p f (Some y) normal found none = found (root_of (pred_of p)) normal
+symmetry-is p f None normal found none = λ y. none y (root_of (pred_of p)) normal

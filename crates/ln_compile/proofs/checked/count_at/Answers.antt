@@ -1,4 +1,4 @@
-use Rattle.std.proofs.Common.{arith, length, map}
+use Rattle.std.proofs.Common.{arith, map}
 use Rattle.std.proofs.lemmas.List.{length-map}
 use Rattle.ln_tree.specs.Table.{pred_of}
 use Rattle.ln_compile.proofs.Making.BuildingLemmas.{as-many-counts, count-at}
