@@ -1,9 +1,9 @@
 -- The functions of the emitted file, as their heads show them.
-use Rattle.std.specs.Prelude.{ℕ, zero, suc, Bool, true, false, List, [], ◌∷◌, ◌++◌, length, Option, Some, None}
+use Rattle.std.specs.Prelude.{ℕ, zero, suc, Bool, true, false, List, [], ◌∷◌, ◌++◌, length, map, Option, Some, None}
 use Rattle.ln_code.specs.Part.{FilterCode, Part}
 use Rattle.ln_csyn.specs.Tree.{Fun}
-use Rattle.ln_cemit.specs.Names.{block_name, call_name, filter_name}
-use Rattle.ln_cemit.specs.Whole.{part_name}
+use Rattle.ln_cemit.specs.Names.{block_name, filter_name}
+use Rattle.ln_cemit.specs.Whole.{Entered, every_row, outer_name, part_name}
 
 -- whether a function is static, whether it takes indices beside values, and its name
 pub record Head : Type 0 where
@@ -33,11 +33,16 @@ abbrev pub block_heads : List ℕ → ℕ → ℕ → List Head
 block_heads x i zero = []
 block_heads x i (suc k) = inner (block_name x i) ∷ block_heads x (suc i) k
 
--- the functions of a program: its filter's, its blocks', and `ln_NAME`, the one that isn't static
-abbrev pub part_heads : Part → List Head
-part_heads p = filter_heads (part_name p) p.filter ++ (block_heads (part_name p) 0 (length p.blocks) ++ outer (call_name (part_name p)) ∷ [])
+-- the functions of a program: its filter's, its blocks', and the one that is called from outside, which isn't static
+abbrev pub part_heads : Entered → List Head
+part_heads x =
+    filter_heads (part_name x.part) x.part.filter ++ (block_heads (part_name x.part) 0 (length x.part.blocks) ++ outer (outer_name x) ∷ [])
 
 -- those of each program in turn
+abbrev pub heads_as : List Entered → List Head
+heads_as [] = []
+heads_as (x ∷ xs) = part_heads x ++ heads_as xs
+
+-- where each has `ln_NAME`
 abbrev pub heads_of : List Part → List Head
-heads_of [] = []
-heads_of (p ∷ ps) = part_heads p ++ heads_of ps
+heads_of parts = heads_as (map every_row parts)

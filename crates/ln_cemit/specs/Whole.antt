@@ -4,10 +4,12 @@ use Rattle.ln_tree.specs.Names.{name_bytes}
 use Rattle.ln_code.specs.Part.{Code, FilterCode, Part}
 use Rattle.ln_code.specs.Lists.{segment_of}
 use Rattle.ln_csyn.specs.Tree.{Body, Fun}
+use Rattle.ln_cemit.specs.declared.entry.Entry.{Entry}
+use Rattle.ln_cemit.specs.declared.entry.Entry.TheVariants.{EveryRow}
 use Rattle.ln_cemit.specs.Ways.{block_lines, filter_lines}
 use Rattle.ln_cemit.specs.Emit.{body_of, touching_index}
 use Rattle.ln_cemit.specs.Law.{error_of}
-use Rattle.ln_cemit.specs.Names.{decl_name, answer_name, filter_name, block_name, call_name}
+use Rattle.ln_cemit.specs.Names.{decl_name, answer_name, filter_name, block_name, entry_name}
 use Rattle.ln_cemit.specs.Walked.{body_for}
 use Rattle.ln_cemit.specs.File.{one_funs, two_fun}
 
@@ -51,12 +53,33 @@ call_body p =
     (body_for (numbered (part_name p) p.filter) answer_name (λ q. moved p.filter (segment_of p q))
     (first_of p.filter) p.shape.sites)
 
+-- a program, and what its function that is called from outside is for
+pub record Entered : Type 0 where
+  pub entry : Entry
+  pub part : Part
+
+-- it is for every row
+abbrev pub every_row : Part → Entered
+every_row p = record { entry = EveryRow; part = p }
+
+-- the programs alone
+abbrev pub parts_entered : List Entered → List Part
+parts_entered [] = []
+parts_entered (x ∷ xs) = x.part ∷ parts_entered xs
+
+-- the name of the function that is called from outside
+abbrev pub outer_name : Entered → List ℕ
+outer_name x = entry_name x.entry (part_name x.part)
+
+-- that function
+abbrev pub outer_fun : Entered → Fun
+outer_fun x = two_fun (outer_name x) (call_body x.part)
+
 -- the functions of a program, and after them others
-abbrev pub funs_before : Part → List Fun → List Fun
-funs_before p rest = one_funs (numbered (part_name p) p.filter) 0 (bodies_of p.filter p.blocks)
-    ++ two_fun (call_name (part_name p)) (call_body p) ∷ rest
+abbrev pub funs_before : Entered → List Fun → List Fun
+funs_before x rest = one_funs (numbered (part_name x.part) x.part.filter) 0 (bodies_of x.part.filter x.part.blocks) ++ outer_fun x ∷ rest
 
 -- those of each program
-abbrev pub file_of : List Part → List Fun
+abbrev pub file_of : List Entered → List Fun
 file_of [] = []
-file_of (p ∷ ps) = funs_before p (file_of ps)
+file_of (x ∷ xs) = funs_before x (file_of xs)

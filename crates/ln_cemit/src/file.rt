@@ -7,14 +7,15 @@ ghost use Rattle.ln_csyn.specs.Tree.{Body, Group};
 ghost use Rattle.ln_code.specs.Kept.{IsProgram};
 ghost use Rattle.ln_code.specs.Lists.{segment_of};
 ghost use Rattle.ln_code.specs.Part.{Part};
-ghost use Rattle.ln_cemit.specs.Emitted.{BeginsFile, IsEmitted};
+ghost use Rattle.ln_cemit.specs.Emitted.{BeginsFile, BeginsFileAs, IsEmitted};
 ghost use Rattle.ln_cemit.specs.File.{one_fun, one_funs, two_fun};
-ghost use Rattle.ln_cemit.specs.Names.{answer_name, block_name, call_name, filter_name};
+ghost use Rattle.ln_cemit.specs.Names.{answer_name, block_name, entry_name, filter_name};
 ghost use Rattle.ln_cemit.specs.Puts.{filter_funs, filter_tried};
 ghost use Rattle.ln_cemit.specs.Walked.{attempt, walked};
-ghost use Rattle.ln_cemit.specs.Whole.{block_body, call_body, filter_body, part_name};
+ghost use Rattle.ln_cemit.specs.Whole.{Entered, block_body, call_body, filter_body, part_name};
 
 use crate::body::{put_block_fun, put_filter_fun, put_may_touch_index, put_two_head};
+use crate::entry::Entry;
 use crate::title::{block_title, call_title, filter_title};
 use crate::walk::{Prefix, name_of, put_try, put_walked};
 use ln_base::NoMemory;
@@ -137,29 +138,34 @@ fn put_call_body(alloc: Global, out: &mut Vec<u8>, p: &Program) -> Result<(), No
     put_all_sites(alloc, out, p, sites)
 }
 
-fn put_call_head(alloc: Global, out: &mut Vec<u8>, p: &Program) -> Result<(), NoMemory>
-    ensures { IfOk result (λ x. Puts out.old.items out.new.items (λ r. lexeme (codes "int") ∷ lexeme (call_name (part_name p.now))
+fn put_call_head(
+    alloc: Global,
+    out: &mut Vec<u8>,
+    p: &Program,
+    entry: Entry,
+) -> Result<(), NoMemory>
+    ensures { IfOk result (λ x. Puts out.old.items out.new.items (λ r. lexeme (codes "int") ∷ lexeme (entry_name entry (part_name p.now))
         ∷ lexeme (codes "(") ∷ spell_parameters true (lexeme (codes ")") ∷ r))) }
 {
     let name = name_of(p);
-    let title = call_title(alloc, name)?;
+    let title = call_title(alloc, entry, name)?;
     put_two_head(out, title.as_slice())
 }
 
-fn put_call_fun(alloc: Global, out: &mut Vec<u8>, p: &Program) -> Result<(), NoMemory>
-    ensures { IfOk result (λ x. Puts out.old.items out.new.items (spell_fun (two_fun (call_name (part_name p.now)) (call_body p.now)))) }
+fn put_call_fun(alloc: Global, out: &mut Vec<u8>, p: &Program, entry: Entry) -> Result<(), NoMemory>
+    ensures { IfOk result (λ x. Puts out.old.items out.new.items (spell_fun (two_fun (entry_name entry (part_name p.now)) (call_body p.now)))) }
 {
-    put_call_head(alloc, out, p)?;
+    put_call_head(alloc, out, p, entry)?;
     put(out, b"{")?;
     put_call_body(alloc, out, p)?;
     put(out, b"}")
 }
 
-fn put_call(alloc: Global, out: &mut Vec<u8>, p: &Program) -> Result<(), NoMemory>
-    ensures { IfOk result (λ x. Lays out.old.items out.new.items (two_fun (call_name (part_name p.now)) (call_body p.now) ∷ [])) }
+fn put_call(alloc: Global, out: &mut Vec<u8>, p: &Program, entry: Entry) -> Result<(), NoMemory>
+    ensures { IfOk result (λ x. Lays out.old.items out.new.items (two_fun (entry_name entry (part_name p.now)) (call_body p.now) ∷ [])) }
 {
     let mut tokens = Vec::new(alloc);
-    put_call_fun(alloc, &mut tokens, p)?;
+    put_call_fun(alloc, &mut tokens, p, entry)?;
     lay_fun(out, &mut tokens)
 }
 
@@ -173,12 +179,13 @@ pub fn begin_file(alloc: Global) -> Result<Vec<u8>, NoMemory>
 }
 
 // Appends the functions of a program.
-fn put_funs(alloc: Global, out: &mut Vec<u8>, p: &Program) -> Result<(), NoMemory>
-    ensures { IfOk result (λ x. (ps : List Part) → BeginsFile out.old.items ps → BeginsFile out.new.items (ps ++ p.now ∷ [])) }
+fn put_funs(alloc: Global, out: &mut Vec<u8>, p: &Program, entry: Entry) -> Result<(), NoMemory>
+    ensures { IfOk result (λ x. (xs : List Entered) → BeginsFileAs out.old.items xs
+        → BeginsFileAs out.new.items (xs ++ record { entry = entry; part = p.now } ∷ [])) }
 {
     put_filter_of(alloc, out, p)?;
     put_blocks_of(alloc, out, p)?;
-    put_call(alloc, out, p)
+    put_call(alloc, out, p, entry)
 }
 
 /// Appends the functions of a program to the C of others. For programs whose names differ, each with at most 65,536 blocks, the text is
@@ -187,8 +194,22 @@ pub fn put_program(alloc: Global, out: &mut Vec<u8>, p: &Program) -> Result<(), 
     ensures ok { IfOk result (λ x. (ps : List Part) → BeginsFile out.old.items ps → BeginsFile out.new.items (ps ++ p.now ∷ [])) }
     ensures err { OnErr result (out.new.items ≡ []) }
 {
+    put_program_as(alloc, out, p, Entry::EveryRow)
+}
+
+/// Appends the functions of a program to the C of others, as `put_program`, where the one that is called from outside has the name of `entry`.
+pub fn put_program_as(
+    alloc: Global,
+    out: &mut Vec<u8>,
+    p: &Program,
+    entry: Entry,
+) -> Result<(), NoMemory>
+    ensures ok { IfOk result (λ x. (xs : List Entered) → BeginsFileAs out.old.items xs
+        → BeginsFileAs out.new.items (xs ++ record { entry = entry; part = p.now } ∷ [])) }
+    ensures err { OnErr result (out.new.items ≡ []) }
+{
     let mut text = replace(out, Vec::new(alloc));
-    put_funs(alloc, &mut text, p)?;
+    put_funs(alloc, &mut text, p, entry)?;
     *out = text;
     Ok(())
 }

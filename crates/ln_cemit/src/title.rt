@@ -1,7 +1,8 @@
 //! Makes the names of the emitted functions from the name of a predicate.
 ghost use Rattle.std.specs.Prelude.{◌≡◌, ◌++◌, IfOk};
-ghost use Rattle.ln_cemit.specs.Names.{block_name, call_name, filter_name};
+ghost use Rattle.ln_cemit.specs.Names.{block_name, entry_name, filter_name};
 
+use crate::entry::Entry;
 use itoa::Buffer;
 use ln_base::NoMemory;
 use std::alloc::Global;
@@ -34,9 +35,13 @@ pub(crate) fn block_title(alloc: Global, name: &[u8], number: usize) -> Result<V
     Ok(title)
 }
 
-/// `ln_NAME`.
-pub(crate) fn call_title(alloc: Global, name: &[u8]) -> Result<Vec<u8>, NoMemory>
-    ensures { IfOk result (λ v. v.items ≡ call_name name.now) }
+/// `ln_NAME`, `la_NAME` or `ls_NAME`.
+pub(crate) fn call_title(alloc: Global, entry: Entry, name: &[u8]) -> Result<Vec<u8>, NoMemory>
+    ensures { IfOk result (λ v. v.items ≡ entry_name entry name.now) }
 {
-    joined(alloc, b"ln_", name)
+    match entry {
+        Entry::EveryRow => joined(alloc, b"ln_", name),
+        Entry::Alternating => joined(alloc, b"la_", name),
+        Entry::Symmetric => joined(alloc, b"ls_", name),
+    }
 }

@@ -4,10 +4,10 @@ use Rattle.std.proofs.lemmas.List.{map-append}
 use Rattle.ln_code.specs.Part.{Code, FilterCode, Part}
 use Rattle.ln_csyn.specs.Tree.{Fun}
 use Rattle.ln_csyn.specs.Lines.{SameFun, SameUpToLines, none, one}
-use Rattle.ln_cemit.specs.File.{one_funs, two_fun}
-use Rattle.ln_cemit.specs.Heads.{Head, block_heads, filter_heads, head, heads_of, inner, outer}
-use Rattle.ln_cemit.specs.Names.{block_name, call_name, filter_name}
-use Rattle.ln_cemit.specs.Whole.{block_body, bodies_of, call_body, file_of, numbered, part_name}
+use Rattle.ln_cemit.specs.File.{one_funs}
+use Rattle.ln_cemit.specs.Heads.{Head, block_heads, filter_heads, head, heads_as, inner, outer}
+use Rattle.ln_cemit.specs.Names.{block_name, filter_name}
+use Rattle.ln_cemit.specs.Whole.{Entered, block_body, bodies_of, file_of, numbered, outer_fun, outer_name, part_name}
 
 -- those of blocks alone
 plain-heads : (x : List ℕ) (cs : List Code) (i : ℕ) → map head (one_funs (numbered x None) i (map block_body cs)) ≡ block_heads x i (length cs)
@@ -32,14 +32,15 @@ glued fs bs hs o =
     ∙ sym (append_assoc fs (bs ++ (o ∷ [])) hs)
 
 -- those of the file
-pub heads-file : (ps : List Part) → map head (file_of ps) ≡ heads_of ps
+pub heads-file : (xs : List Entered) → map head (file_of xs) ≡ heads_as xs
 heads-file [] = refl
-heads-file (p ∷ ps) =
-    map-append head (one_funs (numbered (part_name p) p.filter) 0 (bodies_of p.filter p.blocks)) (two_fun (call_name (part_name p)) (call_body p) ∷ file_of ps)
-    ∙ ap (λ (hs : List Head). hs ++ (outer (call_name (part_name p)) ∷ map head (file_of ps))) (inner-heads (part_name p) p.filter p.blocks)
-    ∙ ap (λ (hs : List Head). (filter_heads (part_name p) p.filter ++ block_heads (part_name p) 0 (length p.blocks)) ++ (outer (call_name (part_name p)) ∷ hs))
-    (heads-file ps)
-    ∙ glued (filter_heads (part_name p) p.filter) (block_heads (part_name p) 0 (length p.blocks)) (heads_of ps) (outer (call_name (part_name p)))
+heads-file (x ∷ xs) =
+    let p : Part = x.part in
+    map-append head (one_funs (numbered (part_name p) p.filter) 0 (bodies_of p.filter p.blocks)) (outer_fun x ∷ file_of xs)
+    ∙ ap (λ (hs : List Head). hs ++ (outer (outer_name x) ∷ map head (file_of xs))) (inner-heads (part_name p) p.filter p.blocks)
+    ∙ ap (λ (hs : List Head). (filter_heads (part_name p) p.filter ++ block_heads (part_name p) 0 (length p.blocks)) ++ (outer (outer_name x) ∷ hs))
+    (heads-file xs)
+    ∙ glued (filter_heads (part_name p) p.filter) (block_heads (part_name p) 0 (length p.blocks)) (heads_as xs) (outer (outer_name x))
 
 same-head : (f g : Fun) → SameFun f g → head f ≡ head g
 same-head f g s = rw (s.own, s.name, s.indexed) refl

@@ -36,13 +36,14 @@ use Rattle.ln_cemit.specs.Checked.{plus, sign_of, ups}
 use Rattle.ln_cemit.specs.Choose.{first_of_signs}
 use Rattle.ln_cemit.specs.Chosen.{decided, list_of_order}
 use Rattle.ln_cemit.specs.Emit.{touching_index, wide_lines}
-use Rattle.ln_cemit.specs.Emitted.{AllSay, AreKept, CallSays, FileIsEmitted, number_of}
+use Rattle.ln_cemit.specs.Emitted.{AreKept, EntriesSay, EntrySays, FileIsEmitted, number_of}
 use Rattle.ln_cemit.specs.File.{AreAway, one_funs, two_fun}
 use Rattle.ln_cemit.specs.Law.{BlockSays, FilterSays, Means}
-use Rattle.ln_cemit.specs.Names.{call_name, decl_name, answer_name}
+use Rattle.ln_cemit.specs.Names.{decl_name, answer_name}
 use Rattle.ln_cemit.specs.Walked.{body_for}
 use Rattle.ln_cemit.specs.Ways.{block_lines, block_way, filter_lines, filter_way}
-use Rattle.ln_cemit.specs.Whole.{block_body, bodies_of, call_body, file_of, filter_body, first_of, funs_before, moved, numbered, part_name}
+use Rattle.ln_cemit.specs.Whole.{Entered, block_body, bodies_of, file_of, filter_body, first_of, funs_before, moved, numbered, outer_fun, outer_name}
+use Rattle.ln_cemit.specs.Whole.{part_name, parts_entered}
 use Rattle.ln_cemit.proofs.Choices.Agrees.{Leaves, Same, Valued, afters, block_sign, both_same, held_sign, signs, value_or, wide_of}
 use Rattle.ln_cemit.proofs.Choices.Files.{file-means}
 use Rattle.ln_cemit.proofs.Choices.Heads.{heads-file, same-heads}
@@ -50,7 +51,7 @@ use Rattle.ln_cemit.proofs.Conditions.Kept.{AllFacts, Facts, NamesDiffer, NoneHa
 use Rattle.ln_cemit.proofs.Conditions.Kept.{short_bodies, to_numbers}
 use Rattle.ln_cemit.proofs.Meanings.Means.{blocks_say, filters_say}
 use Rattle.ln_cemit.proofs.Conditions.Named.{names_serve}
-use Rattle.ln_cemit.proofs.Conditions.Titles.{away_more, away_one, call_family, family, numbered_differ, numbered_family}
+use Rattle.ln_cemit.proofs.Conditions.Titles.{away_more, away_one, entry_family, family, numbered_differ, numbered_family}
 
 -- ---- what the functions with one parameter return
 module _ (vars : List VarInfo) (zs : List ℤ) (range : AreWithin vars zs) where
@@ -146,11 +147,11 @@ fits-64 (negsuc n) a b = absurd (omega (arith, ints, a))
 
 -- ---- one program
 -- the file's statement, where the function with two parameters is the one for n sites
-abbrev MeansFor : List Fun → List Fun → Part → tree.Row → List ℕ → ℕ → Type 0
-MeansFor front rest p row places n = (j : Counts)
-    × (CCall (front ++ (one_funs (numbered (part_name p) p.filter) 0 (bodies_of p.filter p.blocks) ++ two_fun (call_name (part_name p))
+abbrev MeansFor : List Fun → List Fun → List ℕ → Part → tree.Row → List ℕ → ℕ → Type 0
+MeansFor front rest name p row places n = (j : Counts)
+    × (CCall (front ++ (one_funs (numbered (part_name p) p.filter) 0 (bodies_of p.filter p.blocks) ++ two_fun name
     (touching_index (nat_le 2 p.shape.sites) (body_for (numbered (part_name p) p.filter) answer_name (λ q. moved p.filter (segment_of p q)) (first_of p.filter)
-    n)) ∷ rest)) (call_name (part_name p)) row.index row.values
+    n)) ∷ rest)) name row.index row.values
     ≡ Some (Signed (decided (signs row.values p.filter p.blocks) (first_of p.filter ++ list_of_order (λ q. moved p.filter (segment_of p q)) n places)).0 j))
     × (j.calls ≡ ups (decided (signs row.values p.filter p.blocks) (first_of p.filter ++ list_of_order (λ q. moved p.filter (segment_of p q)) n places)).1 0)
     × (first_of_signs (signs row.values p.filter p.blocks) (afters p.filter p.blocks)
@@ -158,13 +159,16 @@ MeansFor front rest p row places n = (j : Counts)
     ≡ Said (decided (signs row.values p.filter p.blocks) (first_of p.filter ++ list_of_order (λ q. moved p.filter (segment_of p q)) n places)).0 j)
 
 -- along a list that is equal, as in the machine's verdict
-as-verdict : (fs : List Fun) (p : Part) (row : tree.Row) (places xs ys : List ℕ) (s : Same row.values p.filter p.blocks (list_of p places)) (j : Counts)
-    → IsOrder row.index places → IsOrderOf p.shape.sites places → xs ≡ ys → ys ≡ first_of p.filter ++ moved p.filter (list_of p places) → length ys < 2 ^ 32
-    → CCall fs (call_name (part_name p)) row.index row.values ≡ Some (Signed (decided (signs row.values p.filter p.blocks) xs).0 j)
-    → j.calls ≡ ups (decided (signs row.values p.filter p.blocks) xs).1 0
-    → first_of_signs (signs row.values p.filter p.blocks) (afters p.filter p.blocks) xs (record { wide = 0; calls = 0 })
-    ≡ Said (decided (signs row.values p.filter p.blocks) xs).0 j → CallSays fs p row
-as-verdict fs p row places xs ys s j o u e f few called calls said =
+as-verdict : (fs : List Fun) (x : Entered) (row : tree.Row) (places xs ys : List ℕ)
+    (s : Same row.values x.part.filter x.part.blocks (list_of x.part places)) (j : Counts)
+    → IsOrder row.index places → IsOrderOf x.part.shape.sites places → xs ≡ ys
+    → ys ≡ first_of x.part.filter ++ moved x.part.filter (list_of x.part places) → length ys < 2 ^ 32
+    → CCall fs (outer_name x) row.index row.values ≡ Some (Signed (decided (signs row.values x.part.filter x.part.blocks) xs).0 j)
+    → j.calls ≡ ups (decided (signs row.values x.part.filter x.part.blocks) xs).1 0
+    → first_of_signs (signs row.values x.part.filter x.part.blocks) (afters x.part.filter x.part.blocks) xs (record { wide = 0; calls = 0 })
+    ≡ Said (decided (signs row.values x.part.filter x.part.blocks) xs).0 j → EntrySays fs x row
+as-verdict fs x row places xs ys s j o u e f few called calls said =
+    let p : Part = x.part in
     let zs : List ℤ = row.values in
     let g : ℕ → ℤ = signs zs p.filter p.blocks in
     let q : xs ≡ first_of p.filter ++ moved p.filter (list_of p places) = e ∙ f in
@@ -182,9 +186,12 @@ as-verdict fs p row places xs ys s j o u e f few called calls said =
           (subst (λ ns. first_of_signs g (afters p.filter p.blocks) ns (record { wide = 0; calls = 0 }) ≡ Said (decided g xs).0 j) q said);
     }
 
-call-says : (front rest : List Fun) (p : Part) (row : tree.Row) → Facts p → InRange p.shape.sites p.shape.vars row → AreAway front (call_name (part_name p))
-    → ((b : ℕ) → b < length (bodies_of p.filter p.blocks) → AreAway front (numbered (part_name p) p.filter b)) → CallSays (front ++ funs_before p rest) p row
-call-says front rest p row h r away blocks_away =
+call-says : (front rest : List Fun) (y : Entered) (row : tree.Row) → Facts y.part → InRange y.part.shape.sites y.part.shape.vars row
+    → AreAway front (outer_name y)
+    → ((b : ℕ) → b < length (bodies_of y.part.filter y.part.blocks) → AreAway front (numbered (part_name y.part) y.part.filter b))
+    → EntrySays (front ++ funs_before y rest) y row
+call-says front rest y row h r away blocks_away =
+    let p : Part = y.part in
     let k : IsProgram p = h.kept in
     let x : List ℕ = part_name p in
     let zs : List ℤ = row.values in
@@ -195,19 +202,19 @@ call-says front rest p row h r away blocks_away =
     let list : List ℕ = list_of p o.0 in
     let is : IsList (length p.blocks) list = k.lists o.0 u in
     let few = list_few p.shape.vars p.blocks list k.blocks is in
-    let m = file-means front rest (numbered x p.filter) answer_name (call_name x) (nat_le 2 p.shape.sites) (bodies_of p.filter p.blocks)
+    let m = file-means front rest (numbered x p.filter) answer_name (outer_name y) (nat_le 2 p.shape.sites) (bodies_of p.filter p.blocks)
     (signs zs p.filter p.blocks) (afters p.filter p.blocks) (λ q. moved p.filter (segment_of p q)) (first_of p.filter) o.0 row.index zs away blocks_away
     (λ i j l n e. numbered_differ x p.filter i j (omega (arith, l, short)) (omega (arith, n, short)) e)
     (bodies_mean p.shape.vars zs r.values p.filter p.blocks (omega (arith, small)) k.filter k.blocks)
     (first_numbers p.filter p.blocks) (segment_numbers p h) (λ i l. (let z = r.indices i (pos 0) l in fits-64 (index_at row.index i) z.0 z.1)) o.1 in
-    let n = subst (λ k. MeansFor front rest p row o.0 k) r.size m in
+    let n = subst (λ k. MeansFor front rest (outer_name y) p row o.0 k) r.size m in
     let s = both_same zs p.filter p.blocks list (leaves p.shape.vars zs r.values p.filter (omega (arith, small)) k.filter)
     (λ b i. valued p.shape.vars zs r.values p.blocks (omega (arith, small)) k.blocks b (to_numbers (length p.blocks) list is.within b i)) in
     let e : first_of p.filter ++ list_of_order (λ q. moved p.filter (segment_of p q)) p.shape.sites o.0 ≡ first_of p.filter ++ moved p.filter list
     = ap (λ z. first_of p.filter ++ z) (moved-list p.filter (segment_of p) p.shape.sites o.0 ∙ ap (moved p.filter) (list-is p p.shape.sites o.0 u.size)) in
     let size : length (first_of p.filter ++ moved p.filter list) < 2 ^ 32 = (let a = first-few p.shape.vars p.filter k.filter in let b = few.members in
     let c = length-append (first_of p.filter) (moved p.filter list) in omega (arith, a, b, c, small, moved-length p.filter list)) in
-    as-verdict (front ++ funs_before p rest) p row o.0 (first_of p.filter ++ list_of_order (λ q. moved p.filter (segment_of p q)) p.shape.sites o.0)
+    as-verdict (front ++ funs_before y rest) y row o.0 (first_of p.filter ++ list_of_order (λ q. moved p.filter (segment_of p q)) p.shape.sites o.0)
     (first_of p.filter ++ moved p.filter list) s n.0 o.1 u e refl size n.1 n.2 n.3
 
 -- ---- all of them
@@ -221,31 +228,34 @@ apart-more front gs [] h k = tt
 apart-more front gs (p ∷ ps) h k = ((λ y e. away_more front gs y (h.0 y e) (k.0 y e)), apart-more front gs ps h.1 k.1)
 
 -- the functions of a program, without others after
-abbrev own-funs : Part → List Fun
-own-funs p = one_funs (numbered (part_name p) p.filter) 0 (bodies_of p.filter p.blocks) ++ two_fun (call_name (part_name p)) (call_body p) ∷ []
+abbrev own-funs : Entered → List Fun
+own-funs x = one_funs (numbered (part_name x.part) x.part.filter) 0 (bodies_of x.part.filter x.part.blocks) ++ outer_fun x ∷ []
 
-own-apart : (p : Part) → Facts p → (ps : List Part) → NoneHas (part_name p) ps → Apart (own-funs p) ps
-own-apart p h [] n = tt
-own-apart p h (q ∷ ps) n = ((λ y e. one y e), own-apart p h ps n.1) where
-  one : (y : List ℕ) → family y ≡ part_name q → AreAway (own-funs p) y
+own-apart : (x : Entered) → Facts x.part → (ps : List Part) → NoneHas (part_name x.part) ps → Apart (own-funs x) ps
+own-apart x h [] n = tt
+own-apart x h (q ∷ ps) n = ((λ y e. one y e), own-apart x h ps n.1) where
+  one : (y : List ℕ) → family y ≡ part_name q → AreAway (own-funs x) y
   one y e =
+      let p : Part = x.part in
       let short = short_bodies p h in
-      away_more (one_funs (numbered (part_name p) p.filter) 0 (bodies_of p.filter p.blocks)) (two_fun (call_name (part_name p)) (call_body p) ∷ []) y
+      away_more (one_funs (numbered (part_name p) p.filter) 0 (bodies_of p.filter p.blocks)) (outer_fun x ∷ []) y
       (away_one (numbered (part_name p) p.filter) 0 (bodies_of p.filter p.blocks) y
       (λ j l m i. n.0 (sym e ∙ sym (ap family i) ∙ numbered_family (part_name p) p.filter j (omega (arith, m, short)))))
-      ((λ i. n.0 (sym e ∙ sym (ap family i) ∙ call_family (part_name p))), tt)
+      ((λ i. n.0 (sym e ∙ sym (ap family i) ∙ entry_family x.entry (part_name p))), tt)
 
-all-say : (front : List Fun) (ps : List Part) → AllFacts ps → NamesDiffer ps → Apart front ps → AllSay (front ++ file_of ps) ps
+all-say : (front : List Fun) (xs : List Entered) → AllFacts (parts_entered xs) → NamesDiffer (parts_entered xs) → Apart front (parts_entered xs)
+    → EntriesSay (front ++ file_of xs) xs
 all-say front [] h d a = tt
-all-say front (p ∷ ps) h d a =
+all-say front (x ∷ xs) h d a =
+    let p : Part = x.part in
+    let ps : List Part = parts_entered xs in
     let short = short_bodies p h.0 in
-    let f : Fun = two_fun (call_name (part_name p)) (call_body p) in
     let ones : List Fun = one_funs (numbered (part_name p) p.filter) 0 (bodies_of p.filter p.blocks) in
-    let e : (front ++ own-funs p) ++ file_of ps ≡ front ++ funs_before p (file_of ps) =
-    append_assoc front (own-funs p) (file_of ps) ∙ ap (λ z. front ++ z) (append_assoc ones (f ∷ []) (file_of ps)) in (
-      (λ row r. call-says front (file_of ps) p row h.0 r (a.0 (call_name (part_name p)) (call_family (part_name p)))
+    let e : (front ++ own-funs x) ++ file_of xs ≡ front ++ funs_before x (file_of xs) =
+    append_assoc front (own-funs x) (file_of xs) ∙ ap (λ z. front ++ z) (append_assoc ones (outer_fun x ∷ []) (file_of xs)) in (
+      (λ row r. call-says front (file_of xs) x row h.0 r (a.0 (outer_name x) (entry_family x.entry (part_name p)))
           (λ b l. a.0 (numbered (part_name p) p.filter b) (numbered_family (part_name p) p.filter b (omega (arith, l, short))))),
-      subst (λ fs. AllSay fs ps) e (all-say (front ++ own-funs p) ps h.1 d.1 (apart-more front (own-funs p) ps a.1 (own-apart p h.0 ps d.0))),
+      subst (λ fs. EntriesSay fs xs) e (all-say (front ++ own-funs x) xs h.1 d.1 (apart-more front (own-funs x) ps a.1 (own-apart x h.0 ps d.0))),
     )
 
 none-apart : (ps : List Part) → Apart [] ps
@@ -269,9 +279,9 @@ differ-of (p ∷ ps) h = (
 )
 
 -- what is said of a file is said of the same on other lines
-says_too : (fs gs : List Fun) (ps : List Part) → SameUpToLines gs fs → AllSay fs ps → AllSay gs ps
+says_too : (fs gs : List Fun) (xs : List Entered) → SameUpToLines gs fs → EntriesSay fs xs → EntriesSay gs xs
 says_too fs gs [] e a = tt
-says_too fs gs (p ∷ ps) e a = (
+says_too fs gs (x ∷ xs) e a = (
   (
       λ row r.
       let s = a.0 row r in
@@ -279,25 +289,26 @@ says_too fs gs (p ∷ ps) e a = (
         verdict = s.verdict;
         counts = s.counts;
         machine = s.machine;
-        called = (lines_say_nothing gs fs e (call_name (part_name p)) row.index row.values (number_of s.verdict.sign) s.counts).1 s.called;
+        called = (lines_say_nothing gs fs e (outer_name x) row.index row.values (number_of s.verdict.sign) s.counts).1 s.called;
         calls = s.calls;
         narrow = s.narrow;
       }
       ),
-  says_too fs gs ps e a.1,
+  says_too fs gs xs e a.1,
 )
 
 -- the text of the file of programs is what is promised of their C
 pub file_is_emitted : FileIsEmitted
-file_is_emitted ps bytes a k e =
+file_is_emitted xs bytes a k e =
+    let ps : List Part = parts_entered xs in
     let h = facts-of ps k a.small in
     let d = differ-of ps a.names in
-    let t = text_is_laid bytes (file_of ps) (file_kept ps h d) e in
+    let t = text_is_laid bytes (file_of xs) (file_kept xs h d) e in
     record {
       file = t.file;
       text = t.text;
-      heads = same-heads t.same ∙ heads-file ps;
-      says = says_too (file_of ps) t.file ps t.same (all-say [] ps h d (none-apart ps));
+      heads = same-heads t.same ∙ heads-file xs;
+      says = says_too (file_of xs) t.file xs t.same (all-say [] xs h d (none-apart ps));
       layout = e;
-      lines = subst (λ z. lines_end z ≡ true) (sym e) (laid_ends_lines (file_of ps) (file_kept ps h d));
+      lines = subst (λ z. lines_end z ≡ true) (sym e) (laid_ends_lines (file_of xs) (file_kept xs h d));
     }

@@ -27,17 +27,18 @@ use Rattle.ln_cemit.specs.declared.slot.Way.{Way}
 use Rattle.ln_cemit.specs.Chosen.{AreNumbers}
 use Rattle.ln_cemit.specs.Conditions.{MeetsConditions, is_free}
 use Rattle.ln_cemit.specs.File.{AreAway, one_fun, one_funs, two_fun}
-use Rattle.ln_cemit.specs.Names.{all_begin, begins_with_l, call_name, decl_name, answer_name}
+use Rattle.ln_cemit.specs.Names.{all_begin, begins_with_l, decl_name, answer_name}
 use Rattle.ln_cemit.specs.Walked.{body_for}
 use Rattle.ln_cemit.specs.Ways.{block_lines, block_way, filter_lines, filter_way, ways}
-use Rattle.ln_cemit.specs.Whole.{block_body, bodies_of, call_body, file_of, filter_body, first_of, moved, numbered, part_name}
+use Rattle.ln_cemit.specs.Whole.{Entered, block_body, bodies_of, call_body, file_of, filter_body, first_of, moved, numbered, outer_fun, outer_name, part_name}
+use Rattle.ln_cemit.specs.Whole.{parts_entered}
 use Rattle.ln_cemit.proofs.Conditions.Keeping.{blocks_keep, filters_keep}
 use Rattle.ln_cemit.proofs.Conditions.Named.{names_serve}
 use Rattle.ln_cemit.proofs.Choices.Orders.{member-range}
 use Rattle.ln_cemit.proofs.Conditions.Numbered.{meets}
 use Rattle.ln_cemit.proofs.Conditions.Steps.{Steps, above_one, body_steps, room_few, room_for, touch_steps}
-use Rattle.ln_cemit.proofs.Conditions.Titles.{away_among, away_more, away_one, call_c_name, call_family, distinct_one, family, name_passes}
-use Rattle.ln_cemit.proofs.Conditions.Titles.{numbered_begins, numbered_c_name, numbered_differ, numbered_family, numbered_no_call}
+use Rattle.ln_cemit.proofs.Conditions.Titles.{away_among, away_more, away_one, distinct_one, entry_begins, entry_c_name, entry_family, entry_own, family}
+use Rattle.ln_cemit.proofs.Conditions.Titles.{name_passes, numbered_begins, numbered_c_name, numbered_differ, numbered_family, numbered_no_entry}
 use Rattle.ln_cemit.proofs.Conditions.Titles.{numbered_own, sign_apart}
 
 -- ---- facts of a program
@@ -151,8 +152,9 @@ segment_numbers p h q =
     moved_numbers p.filter p.blocks (segment_of p q) (beside_numbers (length p.blocks) (prefixes_of p.shape.sites) p.segments q h.kept.named)
 
 -- ---- the function with two parameters
-call_stands : (names : List (List ℕ)) → all_begin names ≡ true → (p : Part) → Facts p → MeetsConditions names (two_fun (call_name (part_name p)) (call_body p))
-call_stands names begin p h =
+call_stands : (names : List (List ℕ)) → all_begin names ≡ true → (x : Entered) → Facts x.part → MeetsConditions names (outer_fun x)
+call_stands names begin x h =
+    let p : Part = x.part in
     let few : p.shape.sites ≤ 5 = (laid_out p.shape.sites p.shape.vars p.shape.kept).few_sites in
     let name : ℕ → List ℕ = numbered (part_name p) p.filter in
     let top : ℕ = length (bodies_of p.filter p.blocks) in
@@ -166,8 +168,9 @@ call_stands names begin p h =
     (omega (arith, length-range_with_len 0 p.shape.sites, few)) (λ j l. omega (arith, (member-range 0 p.shape.sites j l).1, few)) in
     let e : room_for p.shape.sites ≡ suc (suc r.0) = r.1 in
     let s : Steps answer_name refl (suc (suc r.0)) (call_body p) = touch_steps answer_name refl (suc r.0) (nat_le 2 p.shape.sites) _ (rw e at inside) in
-    meets (λ i. answer_name) 1 true (λ i j l m q. omega arith) names false (call_name (part_name p)) {d = suc (suc r.0)} (call_body p)
-    (λ i l. free (sign_apart names begin)) (call_c_name (part_name p) passes) refl (omega (arith, e, room_few p.shape.sites, few)) s
+    meets (λ i. answer_name) 1 true (λ i j l m q. omega arith) names false (outer_name x) {d = suc (suc r.0)} (call_body p)
+    (λ i l. free (sign_apart names begin)) (entry_c_name x.entry (part_name p) passes) (entry_own x.entry (part_name p))
+    (omega (arith, e, room_few p.shape.sites, few)) s
   where
     free : among names answer_name ≡ false → is_free names answer_name ≡ true
     free e = rw e refl
@@ -194,35 +197,39 @@ one_begin name i [] rest h r = r
 one_begin name i (b ∷ bs) rest h r = rw (h i, one_begin name (suc i) bs rest h r) refl
 
 -- the names of all functions of the file begin with l
-pub file_begins : (ps : List Part) → all_begin (names_of (file_of ps)) ≡ true
+pub file_begins : (xs : List Entered) → all_begin (names_of (file_of xs)) ≡ true
 file_begins [] = refl
-file_begins (p ∷ ps) = one_begin (numbered (part_name p) p.filter) 0 (bodies_of p.filter p.blocks)
-    (two_fun (call_name (part_name p)) (call_body p) ∷ file_of ps) (numbered_begins (part_name p) p.filter) (file_begins ps)
+file_begins (x ∷ xs) =
+    let p : Part = x.part in
+    one_begin (numbered (part_name p) p.filter) 0 (bodies_of p.filter p.blocks) (outer_fun x ∷ file_of xs) (numbered_begins (part_name p) p.filter)
+    (and_from _ _ (entry_begins x.entry (part_name p)) (file_begins xs))
 
 -- a name of another predicate's function stands nowhere
-pub file_away : (y x : List ℕ) → family y ≡ x → (ps : List Part) → AllFacts ps → NoneHas x ps → AreAway (file_of ps) y
+pub file_away : (y x : List ℕ) → family y ≡ x → (xs : List Entered) → AllFacts (parts_entered xs) → NoneHas x (parts_entered xs) → AreAway (file_of xs) y
 file_away y x e [] h n = tt
-file_away y x e (p ∷ ps) h n =
+file_away y x e (z ∷ zs) h n =
+    let p : Part = z.part in
     let short = short_bodies p h.0 in
-    away_more (one_funs (numbered (part_name p) p.filter) 0 (bodies_of p.filter p.blocks)) (two_fun (call_name (part_name p)) (call_body p) ∷ file_of ps) y
+    away_more (one_funs (numbered (part_name p) p.filter) 0 (bodies_of p.filter p.blocks)) (outer_fun z ∷ file_of zs) y
     (away_one (numbered (part_name p) p.filter) 0 (bodies_of p.filter p.blocks) y
     (λ j l m q. n.0 (sym (numbered_family (part_name p) p.filter j (omega (arith, m, short))) ∙ ap family q ∙ e)))
-    ((λ q. n.0 (sym (call_family (part_name p)) ∙ ap family q ∙ e)), file_away y x e ps h.1 n.1)
+    ((λ q. n.0 (sym (entry_family z.entry (part_name p)) ∙ ap family q ∙ e)), file_away y x e zs h.1 n.1)
 
-file_distinct : (ps : List Part) → AllFacts ps → NamesDiffer ps → distinct (names_of (file_of ps)) ≡ true
+file_distinct : (xs : List Entered) → AllFacts (parts_entered xs) → NamesDiffer (parts_entered xs) → distinct (names_of (file_of xs)) ≡ true
 file_distinct [] h d = refl
-file_distinct (p ∷ ps) h d =
+file_distinct (z ∷ zs) h d =
+    let p : Part = z.part in
     let x : List ℕ = part_name p in
     let short = short_bodies p h.0 in
-    let rest : List Fun = two_fun (call_name x) (call_body p) ∷ file_of ps in
-    let call_away : AreAway (file_of ps) (call_name x) = file_away (call_name x) x (call_family x) ps h.1 d.0 in
+    let rest : List Fun = outer_fun z ∷ file_of zs in
+    let call_away : AreAway (file_of zs) (outer_name z) = file_away (outer_name z) x (entry_family z.entry x) zs h.1 d.0 in
     let behind : distinct (names_of rest) ≡ true =
-    two_distinct (call_name x) (call_body p) (file_of ps) (away_among (file_of ps) (call_name x) call_away) (file_distinct ps h.1 d.1) in
+    two_distinct (outer_name z) (call_body p) (file_of zs) (away_among (file_of zs) (outer_name z) call_away) (file_distinct zs h.1 d.1) in
     distinct_one (numbered x p.filter) 0 (length (bodies_of p.filter p.blocks)) (bodies_of p.filter p.blocks) rest (omega arith)
     (λ j k l m e. numbered_differ x p.filter j k (omega (arith, l, short)) (omega (arith, m, short)) e)
     (λ j l. (
-      (λ q. numbered_no_call x p.filter j (sym q)),
-      file_away (numbered x p.filter j) x (numbered_family x p.filter j (omega (arith, l, short))) ps h.1 d.0,
+      (λ q. numbered_no_entry z.entry x p.filter j (sym q)),
+      file_away (numbered x p.filter j) x (numbered_family x p.filter j (omega (arith, l, short))) zs h.1 d.0,
     )) behind
   where
     two_distinct : (x : List ℕ) (b : Body) (fs : List Fun) → among (names_of fs) x ≡ false → distinct (names_of fs) ≡ true
@@ -239,23 +246,21 @@ module _ (names : List (List ℕ)) (begin : all_begin names ≡ true) where
       (omega (arith, h.kept.few)) h.kept.filter h.kept.blocks n l (numbered (part_name p) p.filter j)
       (numbered_c_name (part_name p) p.filter j (omega (arith, e, l, short)) passes) (numbered_own (part_name p) p.filter j)
 
-  each_kept : (ps : List Part) → AllFacts ps → each_fun (fun_keeps names) (file_of ps) ≡ true
+  each_kept : (xs : List Entered) → AllFacts (parts_entered xs) → each_fun (fun_keeps names) (file_of xs) ≡ true
   each_kept [] h = refl
-  each_kept (p ∷ ps) h =
-      each_one (fun_keeps names) (numbered (part_name p) p.filter) 0 (bodies_of p.filter p.blocks)
-      (two_fun (call_name (part_name p)) (call_body p) ∷ file_of ps) (λ j n e l. (one_stands p h.0 j n e l).keeps)
-      (and_from _ _ (call_stands names begin p h.0).keeps (each_kept ps h.1))
+  each_kept (x ∷ xs) h =
+      each_one (fun_keeps names) (numbered (part_name x.part) x.part.filter) 0 (bodies_of x.part.filter x.part.blocks) (outer_fun x ∷ file_of xs)
+      (λ j n e l. (one_stands x.part h.0 j n e l).keeps) (and_from _ _ (call_stands names begin x h.0).keeps (each_kept xs h.1))
 
-  each_words : (ps : List Part) → AllFacts ps → each_fun fun_words (file_of ps) ≡ true
+  each_words : (xs : List Entered) → AllFacts (parts_entered xs) → each_fun fun_words (file_of xs) ≡ true
   each_words [] h = refl
-  each_words (p ∷ ps) h =
-      each_one fun_words (numbered (part_name p) p.filter) 0 (bodies_of p.filter p.blocks)
-      (two_fun (call_name (part_name p)) (call_body p) ∷ file_of ps) (λ j n e l. (one_stands p h.0 j n e l).words)
-      (and_from _ _ (call_stands names begin p h.0).words (each_words ps h.1))
+  each_words (x ∷ xs) h =
+      each_one fun_words (numbered (part_name x.part) x.part.filter) 0 (bodies_of x.part.filter x.part.blocks) (outer_fun x ∷ file_of xs)
+      (λ j n e l. (one_stands x.part h.0 j n e l).words) (and_from _ _ (call_stands names begin x h.0).words (each_words xs h.1))
 
 -- the functions of programs whose names differ are a file of the subset
-pub file_kept : (ps : List Part) → AllFacts ps → NamesDiffer ps → is_file (file_of ps) ≡ true
-file_kept ps h d =
-    let names : List (List ℕ) = names_of (file_of ps) in
-    let b = file_begins ps in
-    rw (file_distinct ps h d, each_kept names b ps h, each_words names b ps h) refl
+pub file_kept : (xs : List Entered) → AllFacts (parts_entered xs) → NamesDiffer (parts_entered xs) → is_file (file_of xs) ≡ true
+file_kept xs h d =
+    let names : List (List ℕ) = names_of (file_of xs) in
+    let b = file_begins xs in
+    rw (file_distinct xs h d, each_kept names b xs h, each_words names b xs h) refl

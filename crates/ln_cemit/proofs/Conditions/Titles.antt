@@ -18,7 +18,9 @@ use Rattle.ln_csyn.specs.Keeps.{distinct, is_own, names_of}
 use Rattle.ln_csyn.proofs.Writing.Spells.{digits_every}
 use Rattle.ln_csyn.proofs.Writing.Laying.{every_digit_name}
 use Rattle.ln_cemit.specs.File.{AreAway, one_funs}
-use Rattle.ln_cemit.specs.Names.{all_begin, begins_with_l, block_name, call_name, filter_name, answer_name}
+use Rattle.ln_cemit.specs.declared.entry.Entry.{Entry}
+use Rattle.ln_cemit.specs.declared.entry.Entry.TheVariants.{Alternating, EveryRow, Symmetric}
+use Rattle.ln_cemit.specs.Names.{all_begin, begins_with_l, block_name, entry_name, filter_name, answer_name}
 use Rattle.ln_cemit.specs.Whole.{numbered}
 use Rattle.ln_cemit.proofs.Conditions.Named.{apart}
 
@@ -44,8 +46,22 @@ filter_c_name : (x : List ℕ) → every is_name_byte x ≡ true → is_c_name (
 filter_c_name x h = rw h refl
 
 -- the name of the function that is called from outside is a NAME
-pub call_c_name : (x : List ℕ) → every is_name_byte x ≡ true → is_c_name (call_name x) ≡ true
-call_c_name x h = rw h refl
+pub entry_c_name : (n : Entry) (x : List ℕ) → every is_name_byte x ≡ true → is_c_name (entry_name n x) ≡ true
+entry_c_name EveryRow x h = rw h refl
+entry_c_name Alternating x h = rw h refl
+entry_c_name Symmetric x h = rw h refl
+
+-- and neither v nor x
+pub entry_own : (n : Entry) (x : List ℕ) → is_own (entry_name n x) ≡ true
+entry_own EveryRow x = refl
+entry_own Alternating x = refl
+entry_own Symmetric x = refl
+
+-- it begins with l
+pub entry_begins : (n : Entry) (x : List ℕ) → begins_with_l (entry_name n x) ≡ true
+entry_begins EveryRow x = refl
+entry_begins Alternating x = refl
+entry_begins Symmetric x = refl
 
 block_c_name : (x : List ℕ) (b : ℕ) → b ≤ 2 ^ 63 → every is_name_byte x ≡ true → is_c_name (block_name x b) ≡ true
 block_c_name x b l h = word (decimal b ++ 95 ∷ x) (every_more is_name_byte (decimal b) (95 ∷ x) (every_digit_name (decimal b) (number_digits b l)) h) where
@@ -98,8 +114,10 @@ numbered_family x (Some f) zero l = refl
 numbered_family x (Some f) (suc b) l = family_past (decimal b) x (number_digits b (omega (arith, l)))
 
 -- so it does in the name of the function that is called from outside
-pub call_family : (x : List ℕ) → family (call_name x) ≡ x
-call_family x = refl
+pub entry_family : (n : Entry) (x : List ℕ) → family (entry_name n x) ≡ x
+entry_family EveryRow x = refl
+entry_family Alternating x = refl
+entry_family Symmetric x = refl
 
 -- ---- they differ
 tail_same : (a b : ℕ) (xs ys : List ℕ) → a ∷ b ∷ xs ≡ a ∷ b ∷ ys → xs ≡ ys
@@ -123,11 +141,21 @@ numbered_differ x (Some f) zero (suc j) l m e = let q : 102 ≡ 98 = ap second e
 numbered_differ x (Some f) (suc i) zero l m e = let q : 98 ≡ 102 = ap second e in absurd (omega (arith, q))
 numbered_differ x (Some f) (suc i) (suc j) l m e = ap suc (block_differs x i j (omega (arith, l)) (omega (arith, m)) e)
 
+no_block : (n : Entry) (x : List ℕ) (b : ℕ) → block_name x b ≢ entry_name n x
+no_block EveryRow x b e = let q : 98 ≡ 110 = ap second e in absurd (omega (arith, q))
+no_block Alternating x b e = let q : 98 ≡ 97 = ap second e in absurd (omega (arith, q))
+no_block Symmetric x b e = let q : 98 ≡ 115 = ap second e in absurd (omega (arith, q))
+
+no_filter : (n : Entry) (x : List ℕ) → filter_name x ≢ entry_name n x
+no_filter EveryRow x e = let q : 102 ≡ 110 = ap second e in absurd (omega (arith, q))
+no_filter Alternating x e = let q : 102 ≡ 97 = ap second e in absurd (omega (arith, q))
+no_filter Symmetric x e = let q : 102 ≡ 115 = ap second e in absurd (omega (arith, q))
+
 -- no function with one parameter has the name of the one that is called from outside
-pub numbered_no_call : (x : List ℕ) (f : Option FilterCode) (b : ℕ) → numbered x f b ≢ call_name x
-numbered_no_call x None b e = let q : 98 ≡ 110 = ap second e in absurd (omega (arith, q))
-numbered_no_call x (Some f) zero e = let q : 102 ≡ 110 = ap second e in absurd (omega (arith, q))
-numbered_no_call x (Some f) (suc b) e = let q : 98 ≡ 110 = ap second e in absurd (omega (arith, q))
+pub numbered_no_entry : (n : Entry) (x : List ℕ) (f : Option FilterCode) (b : ℕ) → numbered x f b ≢ entry_name n x
+numbered_no_entry n x None b e = no_block n x b e
+numbered_no_entry n x (Some f) zero e = no_filter n x e
+numbered_no_entry n x (Some f) (suc b) e = no_block n x b e
 
 -- ---- lists of functions
 other : (x y : List ℕ) → (y ≢ x) → bytes_eq x y ≡ false

@@ -32,13 +32,13 @@ use Rattle.ln_cemit.specs.declared.slot.Slot.{Slot}
 use Rattle.ln_cemit.specs.declared.slot.Way.{Way}
 use Rattle.ln_cemit.specs.Emit.{body_of, constant, emitted, touching_index, pushing, put_get, type_of, put_op, put_sign, naming}
 use Rattle.ln_cemit.specs.Emit.{ops_of, unread, reads, reads_row, touching}
-use Rattle.ln_cemit.specs.File.{one_fun, one_funs, two_fun}
-use Rattle.ln_cemit.specs.Names.{answer_name, block_name, call_name, decl_name, filter_name}
+use Rattle.ln_cemit.specs.File.{one_fun, one_funs}
+use Rattle.ln_cemit.specs.Names.{answer_name, block_name, decl_name, filter_name}
 use Rattle.ln_cemit.specs.Puts.{Does, MayMove, Moves, any_reads, filter_funs, filter_tried, close_braces, locals_of}
 use Rattle.ln_cemit.specs.Puts.{open_guards, picks_on, rest_or}
 use Rattle.ln_cemit.specs.Walked.{attempt, body_for, guarded, less, picks, says_nothing, tries, walked, without}
 use Rattle.ln_cemit.specs.Ways.{ways}
-use Rattle.ln_cemit.specs.Whole.{block_body, bodies_of, call_body, filter_body, first_of, funs_before, moved, numbered, part_name}
+use Rattle.ln_cemit.specs.Whole.{Entered, block_body, bodies_of, call_body, filter_body, first_of, funs_before, moved, numbered, outer_fun, part_name}
 
 -- ---- the cases of `put_operation`
 module _ {a b : List ℕ} (o : Op) (way : Way) (n : ℕ) (st su : List Slot) (os : List (Option Slot)) where
@@ -343,11 +343,10 @@ named_laid {tokens = tokens} x y b e q p h =
     h (one_fun y b) (subst (λ z. Puts [] tokens (spell_fun (one_fun z b))) q p2)
 
 -- the functions of a program were written
-pub program_put : {a l m n : List ℕ} (p : Part) → Lays a l (filter_funs (part_name p) p.filter)
-    → Lays l m (one_funs (block_name (part_name p)) 0 (map block_body p.blocks))
-    → Lays m n (two_fun (call_name (part_name p)) (call_body p) ∷ []) → Lays a n (funs_before p [])
-program_put {a} {n = n} p g h u =
-    let e = ap (λ z. z ++ two_fun (call_name (part_name p)) (call_body p) ∷ []) (ones-are (part_name p) p.filter p.blocks) in
+pub program_put : {a l m n : List ℕ} (x : Entered) → Lays a l (filter_funs (part_name x.part) x.part.filter)
+    → Lays l m (one_funs (block_name (part_name x.part)) 0 (map block_body x.part.blocks)) → Lays m n (outer_fun x ∷ []) → Lays a n (funs_before x [])
+program_put {a} {n = n} x g h u =
+    let e = ap (λ z. z ++ outer_fun x ∷ []) (ones-are (part_name x.part) x.part.filter x.part.blocks) in
     subst (λ z. Lays a n z) (sym e) (lays_then (lays_then g h) u)
 
 module _ {start cur : List ℕ} {all : List Fun} (name : List ℕ) (cs : List Code) (k : ℕ) where

@@ -29,6 +29,7 @@ use Rattle.ln_csyn.specs.Meaning.{CCall, Signed}
 use Rattle.ln_cemit.specs.Names.{call_name}
 use Rattle.ln_cemit.specs.Whole.{part_name}
 use Rattle.ln_cemit.specs.Emitted.{AllSay, AreKept, BeginsFile, CallSays, IsEmitted}
+use Rattle.ln_cemit.proofs.Writing.Whole.{begun_kept}
 use Rattle.ln_top.proofs.TextsLemmas.EmitLaws.{AreNamed, names_of, names_there, same_number, small_more}
 use Rattle.ln_top.proofs.Theorem.HeadlineLaws.{never_zero}
 use Rattle.ln_top.specs.Exact.{BeginsExact, IsBareAt}
@@ -36,7 +37,7 @@ use Rattle.ln_top.specs.ExactSigns.{CallSigns, CallsSign, IsExactC}
 
 -- ---- a part without its filter
 -- it carries what the part carries
-bare_carries : (rank : Rank) (c : Part) (e : Tree) (f : List Term) → Carries rank c e f → Carries rank (without_filter c) e f
+pub bare_carries : (rank : Rank) (c : Part) (e : Tree) (f : List Term) → Carries rank c e f → Carries rank (without_filter c) e f
 bare_carries rank c e f k = record {
   inputs = k.inputs;
   normal = k.normal;
@@ -67,7 +68,7 @@ bare_programs cs h = record { names = bare_names cs h.names; small = All-map IsS
 
 -- ---- calls
 -- the call on a row means the perturbed sign
-call_sign : (file : List Fun) (p : Pred) (c : Part) (row : Row) → IsProgram (without_filter c) → IsProgramOf (pred_of p) c
+pub call_sign : (file : List Fun) (p : Pred) (c : Part) (row : Row) → IsProgram (without_filter c) → IsProgramOf (pred_of p) c
     → name_bytes p.shape.name ≡ name_bytes p.name → IsSound (pred_of p) → InRange p.shape.sites p.shape.vars row
     → CallSays file (without_filter c) row → CallsSign file (pred_of p) row
 call_sign file p c row k o n sound range s =
@@ -142,7 +143,7 @@ all t i text h sound ends f =
     record {
       file = c.file;
       text = c.text;
-      signs = all_signs c.file t.preds f.programs a (names_there t) sound f.begins.kept c.says;
+      signs = all_signs c.file t.preds f.programs a (names_there t) sound (begun_kept cs text f.begins) c.says;
       programs = cs;
       bare = All-map (λ (q : Part). q.filter ≡ None) without_filter f.programs (λ k d within. refl);
       names = same_names f.programs ∙ names_of (map pred_of t.preds) f.programs a (names_there t);

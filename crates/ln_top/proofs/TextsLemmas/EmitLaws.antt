@@ -21,6 +21,7 @@ use Rattle.ln_compile.proofs.Listing.FilteredLemmas.{programs_answer}
 use Rattle.ln_csyn.specs.Tree.{Fun}
 use Rattle.ln_cemit.specs.Whole.{part_name}
 use Rattle.ln_cemit.specs.Emitted.{AllSay, AreKept, BeginsFile, CallSays, IsEmitted, number_of}
+use Rattle.ln_cemit.proofs.Writing.Whole.{begun_kept}
 use Rattle.ln_top.specs.Frame.Signature.{asks_nothing}
 use Rattle.ln_top.specs.Texts.Emit.{AllAreDue, BeginsCOfFirst, CallIsDue, IsCOf, emit_work}
 use Rattle.ln_top.proofs.FrameLemmas.Laws.{IsLawful}
@@ -129,7 +130,8 @@ pub all : (t : Table) (i : ℕ) (text : List ℕ) → length t.preds ≤ i → (
 all t i text h ends f =
     let e : take i (map pred_of t.preds) ≡ map pred_of t.preds = take_all i (map pred_of t.preds) (omega (arith, length-map t.preds pred_of)) in
     let a : AreProgramsOf (map pred_of t.preds) f.programs = subst (λ ps. AreProgramsOf ps f.programs) e f.are_programs in
-    c_of (map pred_of t.preds) f.programs text a (names_there t) f.begins.kept (ends f.programs (programs-of-table t f.programs a f.small) f.begins)
+    c_of (map pred_of t.preds) f.programs text a (names_there t) (begun_kept f.programs text f.begins)
+    (ends f.programs (programs-of-table t f.programs a f.small) f.begins)
 
 -- the laws of a work hold for `emit`
 pub lawful : IsLawful asks_nothing emit_work
