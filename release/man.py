@@ -87,7 +87,7 @@ def page(name, version, forms, status, more):
 def main(version, folder):
     readme, c, language = (Path(file).read_text() for file in ("README.md", "docs/C.md", "docs/LANGUAGE.md"))
     head = "| status | means | on standard error |"
-    forms = {"lnc": rows(readme, "| command | prints |"), "lnc_c": [["`lnc_c FILE CALLS`", ""]], "lnc_exact": [["`lnc_exact FILE`", ""]]}
+    forms = {"lnc": rows(readme, "| command | prints |"), "lnc_c": [["`lnc_c FILE CALLS`", ""]], "lnc_exact": [["`lnc_exact FILE`", "C that is for every row"], ["`lnc_exact turning FILE`", "C of one order, where that is enough"]]}
     more = {"lnc": list(sections(readme, language))}
     for name, text in (("lnc", readme), ("lnc_c", c), ("lnc_exact", c[c.index("## C without filters") :])):
         Path(folder, name + ".1").write_text(page(name, version, forms[name], rows(text, head), more.get(name, [])))

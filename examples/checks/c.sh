@@ -81,3 +81,24 @@ same_end 'a word that is no text' "PROGRAM $'\\xff'"
 same_end 'a full device for the text' "PROGRAM $orient >/dev/full"
 same_end 'a full device for the line' "PROGRAM $scratch/none 2>/dev/full"
 same_end 'little memory' "ulimit -v 5000; PROGRAM $insphere"
+
+# of one order: la_ where each exchange of two sites turns the sign, ls_ where it keeps it, ln_ where neither holds or there is one site
+cat >"$scratch/four.ln" <<'LN'
+site point { x: -9 .. 9; y: -9 .. 9; }
+predicate orient(p: point, q: point, r: point) { sign (p.x - r.x)*(q.y - r.y) - (p.y - r.y)*(q.x - r.x); }
+predicate apart(p: point, q: point) { sign (p.x - q.x)^2 + (p.y - q.y)^2 - 5; }
+predicate wide(p: point, q: point, r: point) { sign (p.x - r.x)*(q.x - r.x) + (p.y - r.y)*(q.y - r.y); }
+predicate right(p: point) { sign p.x; }
+LN
+case_ 'the functions of one order' 0 'la_orient ls_apart ln_wide ln_right' '' "echo \$($exact turning $scratch/four.ln | sed -n 's/^int \(l[a-z]_[a-z]*\)(.*/\1/p')"
+grep -v 'orient\|apart' "$scratch/four.ln" >"$scratch/turning"
+case_ 'none of one order: the text is the same' 0 same '' "$exact $scratch/turning >$scratch/once && $exact turning $scratch/turning | cmp - $scratch/once && echo same"
+case_ 'a file that is named turning' 0 same '' "cd $scratch && $exact turning | cmp - once && echo same"
+case_ 'of one order: a file that is not there' 6 '' 'error read' "$exact turning $scratch/none"
+for compiler in gcc clang; do
+  made a,a.x,a.y,b,b.x,b.y,c,c.x,c.y,d,d.x,d.y -1048576 1048576 1200 | awk -F, 'NR == 1 || $1 < $4' >"$scratch/made.csv"
+  case_ "la_incircle on rows whose indices rise, by $compiler" 0 'equal' '' "$exact turning examples/incircle/incircle.ln >$scratch/it.c &&
+    $compiler -std=gnu99 -Wall -Wextra -Werror -O2 -DCALL=la_incircle examples/signs.c $scratch/it.c -o $scratch/it &&
+    $lnc run examples/incircle/incircle.ln incircle $scratch/made.csv | cut -c1 >$scratch/once && $scratch/it <$scratch/made.csv >$scratch/twice &&
+    cmp $scratch/once $scratch/twice && [ \$(wc -l <$scratch/once) -gt 500 ] && echo equal"
+done

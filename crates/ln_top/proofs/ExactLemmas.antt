@@ -1,3 +1,4 @@
 -- C without filters: the functions that are written, and the ends of the call.
 pub mod BareLaws
+pub mod TurningLaws
 pub mod AnswerLaws

@@ -13,13 +13,17 @@ use Rattle.ln_cemit.specs.Names.{call_name}
 use Rattle.ln_cemit.specs.Whole.{part_name}
 use Rattle.ln_top.specs.Perturbed.{IsSignOn, NotZeroWithoutParams}
 
--- on this row the call of `ln_NAME` has a meaning: the perturbed sign of the predicate, which without params isn't 0
-pub record CallsSign (file : List Fun) (p : PredOf) (row : Row) : Type 0 where
+-- on this row the call of the function of this name has a meaning: the perturbed sign of the predicate, which without params isn't 0
+pub record MeansSign (file : List Fun) (name : List ℕ) (p : PredOf) (row : Row) : Type 0 where
   pub sign : Sign
   pub counts : Counts
-  pub called : CCall file (call_name p.name) row.index row.values ≡ Some (Signed (sign_number sign) counts)
+  pub called : CCall file name row.index row.values ≡ Some (Signed (sign_number sign) counts)
   pub perturbed : IsSignOn p row sign
   pub never_zero : NotZeroWithoutParams p sign
+
+-- so that of `ln_NAME`
+abbrev pub CallsSign : List Fun → PredOf → Row → Type 0
+CallsSign file p row = MeansSign file (call_name p.name) p row
 
 -- so for each predicate, on each row in its declared ranges
 abbrev pub CallSigns : List Fun → List PredOf → Type 0

@@ -26,4 +26,5 @@ pub mod Causes
 pub mod Call
 pub mod Agree
 pub mod ExactSigns
+pub mod OneOrder
 pub mod Exact

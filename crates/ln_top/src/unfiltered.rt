@@ -1,5 +1,6 @@
-//! The work of the program: the steps are those of `lnc emit`, and the text is C for programs without filters.
-ghost use Rattle.std.specs.Prelude.{◌≡◌, ◌≢◌, ◌<◌, ◌+◌, ℕ, List, Err, IfOk, IfSome, OnOk, Some, length, map, option_map, string_bytes};
+//! The work of the program: the steps are those of `lnc emit`, and the text is C for programs without filters, each for every row, or for rows whose
+//! indices rise where that is enough.
+ghost use Rattle.std.specs.Prelude.{◌≡◌, ◌≢◌, ◌<◌, ◌+◌, ℕ, List, [], ◌∷◌, codes, Err, IfOk, IfSome, OnOk, Some, length, map, option_map, string_bytes};
 ghost use Rattle.ln_base.specs.Outside.{Rose};
 ghost use Rattle.ln_tree.specs.Table.{pred_of};
 ghost use Rattle.ln_compile.specs.Accepted.{AreSound};
@@ -10,8 +11,10 @@ ghost use Rattle.ln_top.specs.Plan.{HasForm, plan_of, with_bytes};
 ghost use Rattle.ln_top.specs.Frame.Ready.{HasStanding, StandsFor};
 ghost use Rattle.ln_top.specs.Frame.Given.{Given};
 ghost use Rattle.ln_top.specs.Frame.Said.{count, status_of};
-ghost use Rattle.ln_top.specs.Exact.{BeginsExact, CallsAreSigns, ExactSaid, IsBareAt, Owes, emit_words};
+ghost use Rattle.ln_top.specs.Exact.{BeginsExact, BeginsTurning, CallsAreSigns, ExactSaid, IsBareAt, IsCIn, Owes, TurningCallsAreSigns};
+ghost use Rattle.ln_top.specs.Exact.{emit_words, style_named, style_of};
 ghost use Rattle.ln_top.specs.ExactSigns.{IsExactC};
+ghost use Rattle.ln_top.specs.OneOrder.{HasEntryAt, IsReducedAt, IsTurningC, entry_for};
 
 use crate::frame::ready::Ready;
 use crate::frame::status::{Early, End};
@@ -19,10 +22,18 @@ use crate::frame::stop::{Stop, Why, put_text, say};
 use crate::prepare::prepare;
 use crate::words::{Command, Plan};
 use ln_base::{Console, Files, NoMemory};
-use ln_cemit::{begin_file, put_program};
+use ln_cemit::{Entry, begin_file, put_program, put_program_as};
 use ln_code::Program;
 use ln_compile::Checked;
+use ln_stage::Symmetry;
 use std::alloc::Global;
+
+/// The rows that functions are for: every row, or rows whose indices rise where these decide all others.
+#[derive(Clone, Copy)]
+pub enum Style {
+    EveryRow,
+    OneOrder,
+}
 
 // The program of predicate number i without its filter.
 #[tactic(auto, using(crate::proofs::ExactLemmas::BareLaws::bare_at))]
@@ -58,16 +69,139 @@ fn written(alloc: Global, source: &Checked) -> Result<Vec<u8>, NoMemory>
     Ok(text)
 }
 
+// The entry of a predicate of two sites or more.
+fn entry_for(symmetry: Option<Symmetry>) -> Entry
+    ensures { result ≡ entry_for symmetry }
+{
+    match symmetry {
+        Some(Symmetry::Alternating) => Entry::Alternating,
+        Some(Symmetry::Symmetric) => Entry::Symmetric,
+        None => Entry::EveryRow,
+    }
+}
+
+// The entry of predicate number i: which rows its function is for.
+fn entry_of(alloc: Global, source: &Checked, i: usize) -> Result<Entry, NoMemory>
+    requires { i < length source.now.table.preds }
+    ensures { IfOk result (HasEntryAt (map pred_of source.now.table.preds) i) }
+{
+    if source.pred(i).shape.sites < 2 {
+        return Ok(Entry::EveryRow);
+    }
+    let symmetry = source.symmetry(alloc, i)?;
+    Ok(entry_for(symmetry))
+}
+
+// The program of predicate number i without its filter, and of one order of its sites where its function is for rows whose indices rise.
+fn reduced(alloc: Global, source: &Checked, i: usize, entry: Entry) -> Result<Program, NoMemory>
+    requires { i < length source.now.table.preds }
+    ensures { IfOk result (IsReducedAt (map pred_of source.now.table.preds) i entry) }
+{
+    let whole = source.program(alloc, i)?;
+    let _blocks = whole.blocks();
+    match entry {
+        Entry::EveryRow => Ok(whole.without_filter()),
+        Entry::Alternating => whole.in_one_order(alloc),
+        Entry::Symmetric => whole.in_one_order(alloc),
+    }
+}
+
+// Appends the functions of predicate number i, of one order where it has a symmetry. The program is made here, and dropped.
+fn put_turning(
+    alloc: Global,
+    text: &mut Vec<u8>,
+    source: &Checked,
+    i: usize,
+) -> Result<(), NoMemory>
+    requires { i < length source.now.table.preds }
+    ensures { IfOk result (λ x. BeginsTurning (map pred_of source.now.table.preds) i text.old.items
+        → BeginsTurning (map pred_of source.now.table.preds) (i + 1) text.new.items) }
+{
+    let entry = entry_of(alloc, source, i)?;
+    let program = reduced(alloc, source, i, entry)?;
+    let done = put_program_as(alloc, text, &program, entry);
+    drop(program);
+    done
+}
+
+// C without filters for the predicates of a source, of one order where they have a symmetry.
+fn written_turning(alloc: Global, source: &Checked) -> Result<Vec<u8>, NoMemory>
+    requires { AreSound (map pred_of source.now.table.preds) }
+    ensures { IfOk result (λ v. IsTurningC (map pred_of source.now.table.preds) v.items) }
+{
+    let mut text = begin_file(alloc)?;
+    'each: for i in 0..source.table().preds.as_slice().len() {
+        put_turning(alloc, &mut text, source, i)?;
+    }
+    Ok(text)
+}
+
+// The C of a style for the predicates of a source.
+fn text_of(alloc: Global, source: &Checked, style: Style) -> Result<Vec<u8>, NoMemory>
+    requires { AreSound (map pred_of source.now.table.preds) }
+    ensures { IfOk result (λ v. IsCIn style (map pred_of source.now.table.preds) v.items) }
+{
+    match style {
+        Style::EveryRow => written(alloc, source),
+        Style::OneOrder => written_turning(alloc, source),
+    }
+}
+
 // Writes the C; all of it is made before the first byte is written.
-fn work<C: Console>(alloc: Global, con: &mut C, ready: Ready) -> Result<End, Early>
+fn work<C: Console>(alloc: Global, con: &mut C, ready: Ready, style: Style) -> Result<End, Early>
     requires { HasStanding ready }
-    ensures { (g : Given) → StandsFor ready g → CarriesOut (ExactSaid g) NoPart ⊥ ⊥
+    ensures { (g : Given) → StandsFor ready g → CarriesOut (ExactSaid style g) NoPart ⊥ ⊥
         (count (C.faults con.old) (C.faults con.new)) result (C.shown con.old) (C.shown con.new) }
 {
-    let made = written(alloc, &ready.compiled);
+    let made = text_of(alloc, &ready.compiled, style);
     drop(ready);
     let text = made?;
     put_text(con, &text, End::Done)
+}
+
+// The style that a word before the file asks for.
+fn style_named(word: &str) -> Style
+    ensures { result ≡ style_named word.now }
+{
+    if word == "turning" {
+        Style::OneOrder
+    } else {
+        Style::EveryRow
+    }
+}
+
+// The style that the words ask for.
+fn style_of(words: &[String]) -> Style
+    ensures { result ≡ style_of (map string_bytes words.now) }
+{
+    match words {
+        [word, _] => style_named(word.as_str()),
+        _ => Style::EveryRow,
+    }
+}
+
+// The plan of `emit` for a file.
+fn emit_of(file: &str) -> Plan<'_>
+    ensures is { Some (with_bytes result) ≡ plan_of (codes "emit" ∷ file.now ∷ []) }
+    ensures form { HasForm (with_bytes result) }
+{
+    Plan {
+        source: file,
+        names: &[],
+        files: &[],
+        command: Command::Emit,
+    }
+}
+
+// The plan of a word and a file: that of the file where the word names the style.
+fn after_word<'a>(word: &str, file: &'a str) -> Option<Plan<'a>>
+    ensures is { option_map with_bytes result ≡ plan_of (emit_words (word.now ∷ file.now ∷ [])) }
+    ensures form { IfSome result (λ p. HasForm (with_bytes p)) }
+{
+    match style_named(word) {
+        Style::OneOrder => Some(emit_of(file)),
+        Style::EveryRow => None,
+    }
 }
 
 // The plan of the words: that of `emit` for the one file that they name.
@@ -76,12 +210,8 @@ fn plan_of(words: &[String]) -> Option<Plan<'_>>
     ensures form { IfSome result (λ p. HasForm (with_bytes p)) }
 {
     match words {
-        [file] => Some(Plan {
-            source: file.as_str(),
-            names: &[],
-            files: &[],
-            command: Command::Emit,
-        }),
+        [file] => Some(emit_of(file.as_str())),
+        [word, file] => after_word(word.as_str(), file.as_str()),
         _ => None,
     }
 }
@@ -92,22 +222,24 @@ fn carry_plan<F: Files, C: Console>(
     files: &mut F,
     con: &mut C,
     plan: Plan<'_>,
+    style: Style,
 ) -> Result<End, Early>
     requires { HasForm (with_bytes plan) }
-    ensures done { (words : List (List ℕ)) → plan_of (emit_words words) ≡ Some (with_bytes plan.entry)
+    ensures done { (words : List (List ℕ)) → plan_of (emit_words words) ≡ Some (with_bytes plan.entry) → style_of words ≡ style
         → CarriesOut (Owes words (F.told files.old)) NoPart (IsMissing (emit_words words) (F.told files.old))
         (Rose (F.faults files.old) (F.faults files.new))
         (count (C.faults con.old) (C.faults con.new)) result (C.shown con.old) (C.shown con.new) }
     ensures quiet { result ≢ Err Early.Read → result ≢ Err Early.Write → F.faults files.new ≡ F.faults files.old }
 {
     match prepare(alloc, files, plan) {
-        Ok(ready) => work(alloc, con, ready),
+        Ok(ready) => work(alloc, con, ready, style),
         Err(stop) => say(alloc, con, stop),
     }
 }
 
 /// Writes C without filters for the predicates of the source file that the one word names. It ends as `lnc emit` does with that word, by the
-/// same causes and with the same lines on Err.
+/// same causes and with the same lines on Err. With the word `turning` before the file the C is of one order: the function of a predicate that
+/// each exchange of two sites turns, or keeps, is for rows whose indices rise, and has another name.
 pub fn exact<F: Files, C: Console>(
     alloc: Global,
     words: &[String],
@@ -127,9 +259,14 @@ pub fn exact<F: Files, C: Console>(
     // `ln_NAME` has a meaning, by the subset's written meaning: the perturbed sign.
     ensures signs { OnOk result (IfSome (F.told files.old) (λ shelf. CallsAreSigns (map string_bytes words.now) shelf
         (C.shown con.old) (C.shown con.new))) }
+    // With `turning`: what is on Out has a function `la_NAME` or `ls_NAME` for each predicate of two sites or more whose sign each exchange of two
+    // sites turns, or keeps, and for no other. Its call on each row in range whose indices rise means the perturbed sign, and so each row in range
+    // has its sign by the call on the row with its sites sorted.
+    ensures turning { OnOk result (IfSome (F.told files.old) (λ shelf. TurningCallsAreSigns (map string_bytes words.now) shelf
+        (C.shown con.old) (C.shown con.new))) }
 {
     match plan_of(words) {
-        Some(plan) => carry_plan(alloc, files, con, plan),
+        Some(plan) => carry_plan(alloc, files, con, plan, style_of(words)),
         None => say(alloc, con, Stop::Tell(Why::Usage)),
     }
 }

@@ -2,6 +2,7 @@
 //!
 //! `lnc_exact FILE` writes what `lnc emit FILE` writes, but for the functions of filters and their calls: each `ln_NAME` computes the stages of
 //! a row in turn, each exactly, from the first on. It ends with the statuses of `lnc emit`, and writes the same lines on standard error.
+//! `lnc_exact turning FILE` writes C of one order for predicates whose sign each exchange of two sites turns, or keeps.
 #![tactic(auto)]
 
 use ln_base::NoMemory;

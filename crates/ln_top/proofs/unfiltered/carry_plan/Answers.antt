@@ -10,12 +10,12 @@ use Rattle.ln_top.proofs.unfiltered.carry_plan.Goals as goal
 
 pub returns-in-Ok-clause-done : goal.returns-in-Ok-clause-done
 returns-in-Ok-clause-done g c =
-    λ words f. let r = c.in-Ok.ensures.ok in work_carried words (with_bytes c.args.plan)
-    (g.F.Files.told c.args.files.now) r.given _ _ _ _ _ f r.prepared (c.work.ensures r.given r.stands)
+    λ words f e. let r = c.in-Ok.ensures.ok in work_carried words c.args.style (with_bytes c.args.plan)
+    (g.F.Files.told c.args.files.now) r.given _ _ _ _ _ f e r.prepared (c.work.ensures r.given r.stands)
 
 pub returns-in-Err-clause-done : goal.returns-in-Err-clause-done
 returns-in-Err-clause-done g c =
-    λ words f. stop_carried words (with_bytes c.args.plan) (g.F.Files.told c.args.files.now) _ _ _ _ _ _ f c.in-Err.ensures.err c.say.ensures
+    λ words f e. stop_carried words (with_bytes c.args.plan) (g.F.Files.told c.args.files.now) _ _ _ _ _ _ f c.in-Err.ensures.err c.say.ensures
 
 pub returns-in-Err-clause-quiet : goal.returns-in-Err-clause-quiet
 returns-in-Err-clause-quiet g c n m =
