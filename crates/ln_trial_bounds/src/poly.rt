@@ -1,16 +1,16 @@
 //! Polynomials: expanded predicates, sums, products, derivatives and weights.
-ghost use Rattle.std.specs.Prelude.{◌<◌, ◌≤◌, ◌^◌, length, unsigned_abs};
+ghost use Rattle.std.specs.Prelude.{◌≡◌, ◌<◌, ◌≤◌, ◌^◌, ◌∷◌, [], pos, length, unsigned_abs, IfOk};
 ghost use Rattle.ln_algebra.specs.Weights.{weighted_sum};
 ghost use Rattle.ln_bound.specs.Light.{most};
 ghost use Rattle.ln_bound.specs.Value.{weights};
 ghost use Rattle.ln_poly.specs.Sparse.{AreBelow, terms_of};
 
 use crate::sources::{poly_of, table};
-use ln_base::NoMemory;
+use ln_base::{NoMemory, Seq};
 use ln_poly::{
-    Poly, PolyStop, add, derive, heft, is_constant, is_zero, mul_within, number, power, weight,
+    Poly, PolyStop, add, derive, heft, is_constant, is_zero, mul, mul_within, number, power, weight,
 };
-use ln_tree::{Pred, Shape};
+use ln_tree::{Exps, Pred, Shape};
 use std::alloc::Global;
 
 /// A term: the pairs of its exponents, and its factor.
@@ -36,14 +36,23 @@ fn are_twice(sum: &Poly, square: &Poly) -> bool {
     apart && has(sum, TWO_X) && has(square, X_SQUARED)
 }
 
+/// Variable 0, from its one term.
+fn x0(alloc: Global) -> Result<Poly, NoMemory>
+    ensures { IfOk result (λ f. f ≡ ((0, 1) ∷ [], pos 1) ∷ []) }
+{
+    let mut exps = Exps::new(alloc);
+    exps.push(0, 1)?;
+    let mut terms = Seq::new(alloc);
+    terms.push((exps, 1))?;
+    Ok(Poly::seal(terms))
+}
+
 /// Have x + x and x * x, of variable 0, their coefficients?
 fn twice(alloc: Global) -> Result<bool, NoMemory> {
-    let x = power(alloc, 0, 1, 1)?;
+    let x = x0(alloc)?;
     let sum = add(alloc, &x, &x)?;
-    match mul_within(alloc, &x, &x, 1)? {
-        Some(square) => Ok(are_twice(&sum, &square)),
-        None => Ok(false),
-    }
+    let square = mul(alloc, &x, &x)?;
+    Ok(are_twice(&sum, &square))
 }
 
 #[test]
@@ -92,12 +101,12 @@ predicate cube(a: num) { sign a.t^3; }
 predicate none(a: num) { sign a.t - a.t; }
 ";
 
-/// The terms of a predicate's normal polynomial, their weighted sums, and the terms of its derivative by the last variable, this many
-/// times.
+/// The terms of a predicate's normal polynomial, their weighted sums, and the terms of its derivative by a variable, this many times.
 struct Case {
     terms: &'static [Want],
     weight: u128,
     heft: u128,
+    by: u8,
     times: u8,
     derived: &'static [Want],
 }
@@ -114,8 +123,9 @@ const ORIENT: &Case = &Case {
     // Six products: 6 * 1000 * 1000, and 6 * 1001 * 1001.
     weight: 6_000_000,
     heft: 6_012_006,
+    by: 1,
     times: 1,
-    derived: &[(&[(2, 1)], 1), (&[(0, 1)], -1)],
+    derived: &[(&[(4, 1)], 1), (&[(2, 1)], -1)],
 };
 
 // The second derivative of the cube is six times the number; scaled, three times.
@@ -123,6 +133,7 @@ const CUBE: &Case = &Case {
     terms: &[(&[(0, 3)], 1)],
     weight: 1000000000,
     heft: 1003003001,
+    by: 0,
     times: 2,
     derived: &[(&[(0, 1)], 3)],
 };
@@ -131,6 +142,7 @@ const NONE: &Case = &Case {
     terms: &[],
     weight: 0,
     heft: 0,
+    by: 0,
     times: 1,
     derived: &[],
 };
@@ -140,11 +152,10 @@ fn is_derived(alloc: Global, f: &Poly, s: &Shape, case: &Case) -> bool
     requires below { AreBelow (length s.now.vars) f.now }
     requires light { weighted_sum (weights s.now.vars) (terms_of (length s.now.vars) f.now) ≤ most }
 {
-    let n = s.vars.len();
-    if n == 0 || n > 168 {
+    if usize::from(case.by) >= s.vars.len() {
         return false;
     }
-    match derive(alloc, f, s, (n - 1) as u8, case.times) {
+    match derive(alloc, f, s, case.by, case.times) {
         Ok(g) => has(&g, case.derived),
         Err(_) => false,
     }

@@ -77,13 +77,15 @@ fn is_segment(st: &Stages, indices: &[i64], j: u8, numbers: &[u32]) -> bool
     }
 }
 
-/// Have the two orders these segments? Each second segment comes after the cut.
+/// Have the two orders these segments? Their lists are three long each; each second segment comes after the cut.
 fn have_segments(st: &Stages) -> bool
     requires { st.now.sites ≡ 2 }
 {
     st.segments().len() == 5
         && is_segment(st, &[5, 8], 0, &[0])
         && is_segment(st, &[5, 8], 1, &[1, 2])
+        && is_segment(st, &[5, 8], 2, &[])
+        && is_segment(st, &[8, 5], 0, &[0])
         && is_segment(st, &[8, 5], 1, &[3, 4])
         && is_segment(st, &[8, 5], 2, &[])
 }

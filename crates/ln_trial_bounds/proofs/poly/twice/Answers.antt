@@ -9,7 +9,7 @@ add-requires c =
     let e : size_of c.in_ok-x.x ≡ 1 = rw c.in_ok-x.ensures (omega (arith, size-cons ((0, 1) ∷ [], pos 1) [], size-nil)) in
     omega (arith, e)
 
-pub mul_within-requires-clause-room : goal.mul_within-requires-clause-room
-mul_within-requires-clause-room c =
+pub mul-requires-clause-room : goal.mul-requires-clause-room
+mul-requires-clause-room c =
     let e : size_of c.in_ok-x.x ≡ 1 = rw c.in_ok-x.ensures (omega (arith, size-cons ((0, 1) ∷ [], pos 1) [], size-nil)) in
     rw e (omega arith)
