@@ -96,6 +96,16 @@ fn a_fault_of_writing_leaves_the_first_bytes(rt: HostRuntime) -> Result<(), Fail
     Ok(())
 }
 
+#[test]
+fn a_stream_of_three_bytes_takes_the_first_three_of_a_line(rt: HostRuntime) -> Result<(), Fail> {
+    let alloc = rt.alloc();
+    let mut files = shelf(alloc, ORIENT, "", &[])?;
+    let con = MemConsole::new(alloc, 3, 100, Vec::new(alloc))?;
+    let case = (CHECK, ORIENT, "", Status::Write, "ori", "");
+    assert!(rt; is_said(alloc, &case, &mut files, con, Vec::new(alloc))?);
+    Ok(())
+}
+
 // Was the file with this number asked for?
 fn asks(files: &MemFiles, file: usize) -> bool {
     files.asked().iter().any(|call| call.file == Some(file))

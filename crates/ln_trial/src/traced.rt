@@ -10,26 +10,27 @@ use ln_compile::{Refusal, check};
 use ln_rows::Rows;
 use ln_trace::{Trace, TraceStop, judge, read_trace};
 use ln_tree::Pred;
-use ln_trial_programs::sample::ORIENT;
+use ln_trial_programs::sample::{ONE_POINT, ONE_POINT_TRACE, ORIENT};
 use ln_verify::cases::case_of;
 use std::alloc::Global;
 use std::test::Fail;
 
-// Three points in one place, without the names of the columns.
-const RECORD: &[u8] = b"1,5,5,2,5,5,3,5,5\n";
-
-// Their trace.
-const TRACE: &str =
-    "trace 1\nrow 1\nat : 0\nat 1^1 : 0\nat 0^1 : 0\nat 3^1 : 0\nat 0^1 3^1 : 1\nsign +\n";
-
 // A trace in which a text stands for another, with the first line that fails, 0 where none does and 1 where a form fault is in line 1.
 const WANTED: &[(&str, &str, &str, u32)] = &[
-    (TRACE, "", "", 0),
-    // Another value, a stage that is left out, another sign, no sign, no record.
-    (TRACE, "at : 0", "at : 1", 3),
-    (TRACE, "at 0^1 : 0\n", "", 5),
-    (TRACE, "sign +", "sign -", 8),
-    (TRACE, "sign +\n", "", 8),
+    (ONE_POINT_TRACE, "", "", 0),
+    // A further vector after line 4, which no stage has.
+    (
+        ONE_POINT_TRACE,
+        "at 3^1 : 0\n",
+        "at 3^1 : 0\nat 3^2 : 0\n",
+        0,
+    ),
+    // Another value, a stage that is left out, another sign, no sign, neither value nor sign, no record.
+    (ONE_POINT_TRACE, "at : 0", "at : 1", 3),
+    (ONE_POINT_TRACE, "at 2^1 : 0\n", "", 5),
+    (ONE_POINT_TRACE, "sign -", "sign +", 8),
+    (ONE_POINT_TRACE, "sign -\n", "", 8),
+    (ONE_POINT_TRACE, "at 1^1 2^1 : -1\nsign -\n", "", 7),
     ("trace 1\n", "", "", 2),
     ("trace 2\n", "", "", 1),
 ];
@@ -39,7 +40,7 @@ fn fault_by(alloc: Global, p: &Pred, trace: &Trace) -> Result<u32, NoMemory>
     requires { IsSound (pred_of p.now) }
 {
     let case = case_of(alloc, p)?;
-    let mut rows = Rows::new(alloc, RECORD)?;
+    let mut rows = Rows::new(alloc, ONE_POINT.as_bytes())?;
     match judge(alloc, p, &case.poly, &case.stages, &mut rows, trace)? {
         Some(line) => Ok(line),
         None => Ok(0),

@@ -1,5 +1,5 @@
 //! The programs of sources: the operations, the ranges and the triples of their filters and blocks, and how many blocks an order has.
-use crate::sample::{ORIENT, SQUARES, compile_text, compiled};
+use crate::sample::{DEEP, FAR, ORIENT, SQUARES, WIDE, compile_text, compiled};
 use ln_base::NoMemory;
 use ln_code::{Block, FilterBlock, Op, Program, Triple};
 use ln_order::{Order, order_of};
@@ -8,18 +8,6 @@ use std::test::Fail;
 
 const SQUARE: &str =
     "site num { t: -1000 .. 1000; } predicate q(a: num) { sign (a.t + 5)*(a.t + 5) - 26; }";
-
-const WIDE: &str =
-    "site point { x: -1099511627776 .. 1099511627776; y: -1099511627776 .. 1099511627776; }
-predicate orient(p: point, q: point, r: point) { sign (p.x - r.x)*(q.y - r.y) - (p.y - r.y)*(q.x - r.x); }
-";
-
-const FAR: &str = "site num { t: -10 .. 10; } predicate far(a: num) { sign a.t - 4294967297; }";
-
-// The exponent of y would be 288.
-const DEEP: &str = "site num { t: -10 .. 10; }
-predicate nf(a: num) { let z = 0*170141183460469231731687303715884105727; let y = z*z*z; sign a.t + y; }
-";
 
 // Sources, whether it is the filter or the first block, and its operations.
 const OPERATIONS: &[(&str, bool, &str)] = &[

@@ -13,7 +13,28 @@ predicate orient(p: point, q: point, r: point) { sign (p.x - r.x)*(q.y - r.y) - 
 pub const SQUARES: &str =
     "site num { t: -10 .. 10; }\npredicate s(a: num, b: num) { sign a.t^2 - b.t^2; }\n";
 
-/// A listing of it, version 1, without the first line.
+/// The orientation of three points of a large plane.
+pub const WIDE: &str =
+    "site point { x: -1099511627776 .. 1099511627776; y: -1099511627776 .. 1099511627776; }
+predicate orient(p: point, q: point, r: point) { sign (p.x - r.x)*(q.y - r.y) - (p.y - r.y)*(q.x - r.x); }
+";
+
+/// A number less one that is far away.
+pub const FAR: &str = "site num { t: -10 .. 10; } predicate far(a: num) { sign a.t - 4294967297; }";
+
+/// A sum without a filter: its numbers would be divided by 2^288.
+pub const DEEP: &str = "site num { t: -10 .. 10; }
+predicate nf(a: num) { let z = 0*170141183460469231731687303715884105727; let y = z*z*z; sign a.t + y; }
+";
+
+/// A record of the orientation, of three points in one place, the second before the first.
+pub const ONE_POINT: &str = "2,5,5,1,5,5,3,5,5\n";
+
+/// Its trace.
+pub const ONE_POINT_TRACE: &str =
+    "trace 1\nrow 1\nat : 0\nat 3^1 : 0\nat 2^1 : 0\nat 1^1 : 0\nat 1^1 2^1 : -1\nsign -\n";
+
+/// A listing of the two squares, version 1, without the first line.
 pub const BLOCKS: &str = "predicate s
 filter
 input 0 0 10 0
