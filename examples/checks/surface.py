@@ -1,7 +1,8 @@
 """The public surface that is kept: the crates, and the calls and types by which programs reach them. A line of examples/checks/surface.txt is
 CRATE | ENTRY | SIGNATURE | BY: an entry is a function, `Type::method`, a struct, an enum or a trait; its signature is the one of the sources, on one line
 and without contracts, of a type with public fields or of an enum with those; BY is `test NAME`, a test of crates/ln_trial_surface that names it with its
-types, or `decision WORDS`, the first words of an entry of docs/DECISIONS.md, or both, parted by `; `; or `signature`, where that alone is compared.
+types, or one of any crate of tests that tries it on a worked value, or `decision WORDS`, the first words of an entry of docs/DECISIONS.md, or several of
+these, parted by `; `; or `signature`, where that alone is compared.
 Usage, at the top of the repository:
 surface.py compare          prints what differs, and at the end how much it looked at
 surface.py of CRATE ENTRY   the signature that the sources have"""
@@ -10,7 +11,7 @@ import sys
 from pathlib import Path
 
 LIST = Path("examples/checks/surface.txt")
-TESTS = "ln_trial_surface"
+TESTS = "ln_trial*"
 # crates that the surface has, beside those that DECISIONS explains
 CRATES = """ln_base ln_tree ln_lex ln_parse ln_bound ln_poly ln_order ln_stage ln_nest ln_code ln_filter ln_lower ln_compile ln_cert ln_verify ln_csyn
 ln_cemit ln_cmean ln_rows ln_watch ln_top lnc ln_interval ln_factor ln_graded ln_trace ln_edges""".split()
@@ -111,7 +112,7 @@ def compare():
         faults += [f"{user} depends on {name}, which is for ln_top alone" for user in users]
     decisions = " ".join(Path("docs/DECISIONS.md").read_text().split())
     tests = set()
-    for path in Path("crates", TESTS, "src").rglob("*.rt"):
+    for path in Path("crates").glob(f"{TESTS}/src/**/*.rt"):
         tests.update(re.findall(r"#\[test\]\s*(?:#\[[^\]]*\]\s*)*fn (\w+)", path.read_text()))
     there = {}
     lines = [line for line in LIST.read_text().splitlines() if line and not line.startswith("#")]

@@ -2,7 +2,7 @@
 # the public surface that is kept: crates, the longest chain of them, and each call and type with its signature and the test that uses it. The check finds
 # a call that has another name, one that is gone, an argument of another type, a test that isn't there, a chain of nine: each in a copy
 entries=$(grep -c '^ln_' examples/checks/surface.txt)
-shows=$(grep -o 'test [a-z_0-9]*$' examples/checks/surface.txt | sort -u | wc -l)
+shows=$(sed -n 's/^ln_.* | //p' examples/checks/surface.txt | grep -o 'test [a-z_0-9]*' | sort -u | wc -l)
 case_ 'the public surface that is kept' 0 "27 crates, $entries entries, $shows tests" '' 'python3 examples/checks/surface.py compare'
 copy=$scratch/surface; mkdir "$copy"
 tar --exclude=out -cf - crates.txt docs/DECISIONS.md examples/checks crates | tar -xf - -C "$copy"
@@ -22,6 +22,6 @@ differs 'a crate that is gone' 'the crate ln_nest is gone' crates.txt "sed -i '/
 differs 'a chain of nine' 'a chain of 9 crates, where 8 are the most' crates.txt "echo 'lnc_nine: lnc' >>crates.txt"
 differs 'a crate of a command under another one' 'ln_verify depends on ln_edges, which is for ln_top alone' crates.txt "sed -i 's/^ln_verify: /&ln_edges /' crates.txt"
 test=$(grep -o 'test [a-z_0-9]*$' examples/checks/surface.txt | head -1); test=${test#test }
-source=$(grep -rl "fn $test(" crates/ln_trial_surface/src)
+source=$(grep -rl "fn $test(" crates/ln_trial*/src)
 differs 'a test that is gone' "names the test $test, which isn't there" "$source" "sed -i 's/fn $test(/fn other_$test(/' $source"
 differs 'an entry that nothing shows' 'ln_poly: heft has neither a test nor a decision' examples/checks/surface.txt "sed -i 's/^\(ln_poly | heft | .* | \).*/\1nothing/' examples/checks/surface.txt"

@@ -9,8 +9,6 @@ mod graded;
 #[cfg(test)]
 mod interval;
 #[cfg(test)]
-mod nest;
-#[cfg(test)]
 mod orders;
 #[cfg(test)]
 mod poly;
