@@ -1,6 +1,6 @@
 /* lnc_plane.h: written by header.py, so change plane.ln and not this file.
    plane.ln has the SHA-256 582ead2d411993a970aabbcb310329108c9a663e073935424f64ca1f3f27ffa5,
-   and plane.c, which lnc_exact writes of it, the SHA-256 603dc71c50bd41e069be67685fa0f0912de261c470b003ffad9481246371ac7d.
+   and plane.c, which lnc_exact turning writes of it, the SHA-256 9d1cb8f0895fbf173ec539399637da54759ee38e56b45bbfa0d22ea70a12464f.
 
    Two files are enough, this one and plane.c. In one C file of your program, compiled by gcc or clang for a 64-bit target:
 
@@ -20,7 +20,11 @@
    ln_SITE_in_range(&p)         whether index and coordinates are in range; in C++ lnc::in_range(p). Test each point once, where it is made
 
    With `#define LNC_CHECKED` before the header is included, all these calls test what they are given. At the first value out of range, negative index or
-   index twice they call ln_on_refusal, a pointer that you may set, with the names of predicate and argument; else they print these and abort */
+   index twice they call ln_on_refusal, a pointer that you may set, with the names of predicate and argument; else they print these and abort
+
+   Of orient2, incircle, compare_x2, compare_y2, lexicographic2
+   plane.c has the sign in one order of the sites, la_NAME or ls_NAME, which is proved for rows whose indices rise. ln_NAME puts each row into this order
+   (lr_in_order below), by lines that are tested and that no proof reaches */
 #ifndef LNC_PLANE_H
 #define LNC_PLANE_H
 #include <stddef.h>
@@ -586,7 +590,54 @@ inline int compare_line2_plain(const point2 &p, const point2 &q, const point2 &r
 #pragma GCC diagnostic push
 #pragma GCC diagnostic ignored "-Wold-style-cast"
 #endif
+static inline __attribute__((always_inline)) int la_orient2(const int64_t *x, const int64_t *v);
+static inline __attribute__((always_inline)) int la_incircle(const int64_t *x, const int64_t *v);
+static inline __attribute__((always_inline)) int la_compare_x2(const int64_t *x, const int64_t *v);
+static inline __attribute__((always_inline)) int la_compare_y2(const int64_t *x, const int64_t *v);
+static inline __attribute__((always_inline)) int la_lexicographic2(const int64_t *x, const int64_t *v);
 #include "plane.c"
+#ifndef LNC_HAS_ORDER
+#define LNC_HAS_ORDER
+#if defined(__clang__) || __GNUC__ < 8
+#define LNC_UNROLLED
+#else
+#define LNC_UNROLLED _Pragma("GCC unroll 8")
+#endif
+/* Writes the indices as they rise to y, and of each site as many values alike to w. Returns whether an odd number of pairs of sites was the other way round.
+   Two of one index stay as they are. (Without branches, since nothing foretells an order. There are at most 5 sites) */
+static inline __attribute__((always_inline)) int lr_in_order(int sites, int many, const int64_t *x, const int64_t *v, int64_t *y, int64_t *w) {
+  int turned = 0, rank[] = {0, 1, 2, 3, 4};
+  LNC_UNROLLED
+  for (int j = 1; j < sites; j++) {
+    LNC_UNROLLED
+    for (int k = 0; k < j; k++) {
+      const int is_turned = x[k] > x[j];
+      rank[k] += is_turned;
+      rank[j] -= is_turned;
+      turned += is_turned;
+    }
+  }
+  LNC_UNROLLED
+  for (int j = 0; j < sites; j++) {
+    y[rank[j]] = x[j];
+    LNC_UNROLLED
+    for (int c = 0; c < many; c++) w[many * rank[j] + c] = v[many * j + c];
+  }
+  return turned % 2;
+}
+#undef LNC_UNROLLED
+#endif
+static __attribute__((noinline)) int lm_orient2(const int64_t *x, const int64_t *v) {
+  int64_t y[3], w[6];
+  const int odd = lr_in_order(3, 2, x, v, y, w);
+  if (lb0_orient2(w) != 0) __builtin_unreachable();
+  const int sign = la_orient2(y, w);
+  return odd ? -sign : sign;
+}
+int ln_orient2(const int64_t *x, const int64_t *v) {
+  const int sign = lb0_orient2(v);
+  return sign != 0 ? sign : lm_orient2(x, v);
+}
 int ln_orient2_plain(const int64_t *v) { return lb0_orient2(v); }
 void ln_orient2_rows(size_t n, const int64_t *x, const int64_t *v, int8_t *signs) {
   for (size_t i = 0; i < n; i++) signs[i] = (int8_t)ln_orient2(x + 3 * i, v + 6 * i);
@@ -594,7 +645,7 @@ void ln_orient2_rows(size_t n, const int64_t *x, const int64_t *v, int8_t *signs
 static __attribute__((noinline)) int lm_orient2_at(const ln_point2 *p, const ln_point2 *q, const ln_point2 *r) {
   const int64_t x[] = {p->index, q->index, r->index};
   const int64_t v[] = {p->x, p->y, q->x, q->y, r->x, r->y};
-  return ln_orient2(x, v);
+  return lm_orient2(x, v);
 }
 __attribute__((flatten)) int ln_orient2_plain_at(const ln_point2 *p, const ln_point2 *q, const ln_point2 *r) {
   const int64_t v[] = {p->x, p->y, q->x, q->y, r->x, r->y};
@@ -605,6 +656,17 @@ __attribute__((flatten)) int ln_orient2_at(const ln_point2 *p, const ln_point2 *
   const int sign = lb0_orient2(v);
   return sign != 0 ? sign : lm_orient2_at(p, q, r);
 }
+static __attribute__((noinline)) int lm_incircle(const int64_t *x, const int64_t *v) {
+  int64_t y[4], w[8];
+  const int odd = lr_in_order(4, 2, x, v, y, w);
+  if (lb0_incircle(w) != 0) __builtin_unreachable();
+  const int sign = la_incircle(y, w);
+  return odd ? -sign : sign;
+}
+int ln_incircle(const int64_t *x, const int64_t *v) {
+  const int sign = lb0_incircle(v);
+  return sign != 0 ? sign : lm_incircle(x, v);
+}
 int ln_incircle_plain(const int64_t *v) { return lb0_incircle(v); }
 void ln_incircle_rows(size_t n, const int64_t *x, const int64_t *v, int8_t *signs) {
   for (size_t i = 0; i < n; i++) signs[i] = (int8_t)ln_incircle(x + 4 * i, v + 8 * i);
@@ -612,7 +674,7 @@ void ln_incircle_rows(size_t n, const int64_t *x, const int64_t *v, int8_t *sign
 static __attribute__((noinline)) int lm_incircle_at(const ln_point2 *a, const ln_point2 *b, const ln_point2 *c, const ln_point2 *d) {
   const int64_t x[] = {a->index, b->index, c->index, d->index};
   const int64_t v[] = {a->x, a->y, b->x, b->y, c->x, c->y, d->x, d->y};
-  return ln_incircle(x, v);
+  return lm_incircle(x, v);
 }
 __attribute__((flatten)) int ln_incircle_plain_at(const ln_point2 *a, const ln_point2 *b, const ln_point2 *c, const ln_point2 *d) {
   const int64_t v[] = {a->x, a->y, b->x, b->y, c->x, c->y, d->x, d->y};
@@ -641,6 +703,17 @@ __attribute__((flatten)) int ln_diametral2_at(const ln_point2 *p, const ln_point
   const int sign = lb0_diametral2(v);
   return sign != 0 ? sign : lm_diametral2_at(p, q, r);
 }
+static __attribute__((noinline)) int lm_compare_x2(const int64_t *x, const int64_t *v) {
+  int64_t y[2], w[4];
+  const int odd = lr_in_order(2, 2, x, v, y, w);
+  if (lb0_compare_x2(w) != 0) __builtin_unreachable();
+  const int sign = la_compare_x2(y, w);
+  return odd ? -sign : sign;
+}
+int ln_compare_x2(const int64_t *x, const int64_t *v) {
+  const int sign = lb0_compare_x2(v);
+  return sign != 0 ? sign : lm_compare_x2(x, v);
+}
 int ln_compare_x2_plain(const int64_t *v) { return lb0_compare_x2(v); }
 void ln_compare_x2_rows(size_t n, const int64_t *x, const int64_t *v, int8_t *signs) {
   for (size_t i = 0; i < n; i++) signs[i] = (int8_t)ln_compare_x2(x + 2 * i, v + 4 * i);
@@ -648,7 +721,7 @@ void ln_compare_x2_rows(size_t n, const int64_t *x, const int64_t *v, int8_t *si
 static __attribute__((noinline)) int lm_compare_x2_at(const ln_point2 *p, const ln_point2 *q) {
   const int64_t x[] = {p->index, q->index};
   const int64_t v[] = {p->x, p->y, q->x, q->y};
-  return ln_compare_x2(x, v);
+  return lm_compare_x2(x, v);
 }
 __attribute__((flatten)) int ln_compare_x2_plain_at(const ln_point2 *p, const ln_point2 *q) {
   const int64_t v[] = {p->x, p->y, q->x, q->y};
@@ -659,6 +732,17 @@ __attribute__((flatten)) int ln_compare_x2_at(const ln_point2 *p, const ln_point
   const int sign = lb0_compare_x2(v);
   return sign != 0 ? sign : lm_compare_x2_at(p, q);
 }
+static __attribute__((noinline)) int lm_compare_y2(const int64_t *x, const int64_t *v) {
+  int64_t y[2], w[4];
+  const int odd = lr_in_order(2, 2, x, v, y, w);
+  if (lb0_compare_y2(w) != 0) __builtin_unreachable();
+  const int sign = la_compare_y2(y, w);
+  return odd ? -sign : sign;
+}
+int ln_compare_y2(const int64_t *x, const int64_t *v) {
+  const int sign = lb0_compare_y2(v);
+  return sign != 0 ? sign : lm_compare_y2(x, v);
+}
 int ln_compare_y2_plain(const int64_t *v) { return lb0_compare_y2(v); }
 void ln_compare_y2_rows(size_t n, const int64_t *x, const int64_t *v, int8_t *signs) {
   for (size_t i = 0; i < n; i++) signs[i] = (int8_t)ln_compare_y2(x + 2 * i, v + 4 * i);
@@ -666,7 +750,7 @@ void ln_compare_y2_rows(size_t n, const int64_t *x, const int64_t *v, int8_t *si
 static __attribute__((noinline)) int lm_compare_y2_at(const ln_point2 *p, const ln_point2 *q) {
   const int64_t x[] = {p->index, q->index};
   const int64_t v[] = {p->x, p->y, q->x, q->y};
-  return ln_compare_y2(x, v);
+  return lm_compare_y2(x, v);
 }
 __attribute__((flatten)) int ln_compare_y2_plain_at(const ln_point2 *p, const ln_point2 *q) {
   const int64_t v[] = {p->x, p->y, q->x, q->y};
@@ -677,6 +761,17 @@ __attribute__((flatten)) int ln_compare_y2_at(const ln_point2 *p, const ln_point
   const int sign = lb0_compare_y2(v);
   return sign != 0 ? sign : lm_compare_y2_at(p, q);
 }
+static __attribute__((noinline)) int lm_lexicographic2(const int64_t *x, const int64_t *v) {
+  int64_t y[2], w[4];
+  const int odd = lr_in_order(2, 2, x, v, y, w);
+  if (lb0_lexicographic2(w) != 0) __builtin_unreachable();
+  const int sign = la_lexicographic2(y, w);
+  return odd ? -sign : sign;
+}
+int ln_lexicographic2(const int64_t *x, const int64_t *v) {
+  const int sign = lb0_lexicographic2(v);
+  return sign != 0 ? sign : lm_lexicographic2(x, v);
+}
 int ln_lexicographic2_plain(const int64_t *v) { return lb0_lexicographic2(v); }
 void ln_lexicographic2_rows(size_t n, const int64_t *x, const int64_t *v, int8_t *signs) {
   for (size_t i = 0; i < n; i++) signs[i] = (int8_t)ln_lexicographic2(x + 2 * i, v + 4 * i);
@@ -684,7 +779,7 @@ void ln_lexicographic2_rows(size_t n, const int64_t *x, const int64_t *v, int8_t
 static __attribute__((noinline)) int lm_lexicographic2_at(const ln_point2 *p, const ln_point2 *q) {
   const int64_t x[] = {p->index, q->index};
   const int64_t v[] = {p->x, p->y, q->x, q->y};
-  return ln_lexicographic2(x, v);
+  return lm_lexicographic2(x, v);
 }
 __attribute__((flatten)) int ln_lexicographic2_plain_at(const ln_point2 *p, const ln_point2 *q) {
   const int64_t v[] = {p->x, p->y, q->x, q->y};

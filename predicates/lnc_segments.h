@@ -1,6 +1,6 @@
 /* lnc_segments.h: written by header.py, so change segments.ln and not this file.
    segments.ln has the SHA-256 c3e8b11aa2ddfb97016e6ea781bd5fd2bb049e392817fc5ff5570d0f3452bfdd,
-   and segments.c, which lnc_exact writes of it, the SHA-256 7ac649d43748e63af96a174152b588a1a591f456822089be8e25684232082eda.
+   and segments.c, which lnc_exact turning writes of it, the SHA-256 048be4c76e504eebdd290765e8880e900bfe28bbc57791bed3380afee52a1026.
 
    Two files are enough, this one and segments.c. In one C file of your program, compiled by gcc or clang for a 64-bit target:
 
@@ -20,7 +20,11 @@
    ln_SITE_in_range(&p)         whether index and coordinates are in range; in C++ lnc::in_range(p). Test each point once, where it is made
 
    With `#define LNC_CHECKED` before the header is included, all these calls test what they are given. At the first value out of range, negative index or
-   index twice they call ln_on_refusal, a pointer that you may set, with the names of predicate and argument; else they print these and abort */
+   index twice they call ln_on_refusal, a pointer that you may set, with the names of predicate and argument; else they print these and abort
+
+   Of turn2, crossings2
+   segments.c has the sign in one order of the sites, la_NAME or ls_NAME, which is proved for rows whose indices rise. ln_NAME puts each row into this order
+   (lr_in_order below), by lines that are tested and that no proof reaches */
 #ifndef LNC_SEGMENTS_H
 #define LNC_SEGMENTS_H
 #include <stddef.h>
@@ -324,7 +328,40 @@ inline int crossings2_plain(const segment2 &s, const segment2 &t, const segment2
 #pragma GCC diagnostic push
 #pragma GCC diagnostic ignored "-Wold-style-cast"
 #endif
+static inline __attribute__((always_inline)) int la_turn2(const int64_t *x, const int64_t *v);
+static inline __attribute__((always_inline)) int la_crossings2(const int64_t *x, const int64_t *v);
 #include "segments.c"
+#ifndef LNC_HAS_ORDER
+#define LNC_HAS_ORDER
+#if defined(__clang__) || __GNUC__ < 8
+#define LNC_UNROLLED
+#else
+#define LNC_UNROLLED _Pragma("GCC unroll 8")
+#endif
+/* Writes the indices as they rise to y, and of each site as many values alike to w. Returns whether an odd number of pairs of sites was the other way round.
+   Two of one index stay as they are. (Without branches, since nothing foretells an order. There are at most 5 sites) */
+static inline __attribute__((always_inline)) int lr_in_order(int sites, int many, const int64_t *x, const int64_t *v, int64_t *y, int64_t *w) {
+  int turned = 0, rank[] = {0, 1, 2, 3, 4};
+  LNC_UNROLLED
+  for (int j = 1; j < sites; j++) {
+    LNC_UNROLLED
+    for (int k = 0; k < j; k++) {
+      const int is_turned = x[k] > x[j];
+      rank[k] += is_turned;
+      rank[j] -= is_turned;
+      turned += is_turned;
+    }
+  }
+  LNC_UNROLLED
+  for (int j = 0; j < sites; j++) {
+    y[rank[j]] = x[j];
+    LNC_UNROLLED
+    for (int c = 0; c < many; c++) w[many * rank[j] + c] = v[many * j + c];
+  }
+  return turned % 2;
+}
+#undef LNC_UNROLLED
+#endif
 int ln_side_a2_plain(const int64_t *v) { return lb0_side_a2(v); }
 void ln_side_a2_rows(size_t n, const int64_t *x, const int64_t *v, int8_t *signs) {
   for (size_t i = 0; i < n; i++) signs[i] = (int8_t)ln_side_a2(x + 2 * i, v + 8 * i);
@@ -361,6 +398,17 @@ __attribute__((flatten)) int ln_side_b2_at(const ln_segment2 *s, const ln_segmen
   const int sign = lb0_side_b2(v);
   return sign != 0 ? sign : lm_side_b2_at(s, t);
 }
+static __attribute__((noinline)) int lm_turn2(const int64_t *x, const int64_t *v) {
+  int64_t y[2], w[8];
+  const int odd = lr_in_order(2, 4, x, v, y, w);
+  if (lb0_turn2(w) != 0) __builtin_unreachable();
+  const int sign = la_turn2(y, w);
+  return odd ? -sign : sign;
+}
+int ln_turn2(const int64_t *x, const int64_t *v) {
+  const int sign = lb0_turn2(v);
+  return sign != 0 ? sign : lm_turn2(x, v);
+}
 int ln_turn2_plain(const int64_t *v) { return lb0_turn2(v); }
 void ln_turn2_rows(size_t n, const int64_t *x, const int64_t *v, int8_t *signs) {
   for (size_t i = 0; i < n; i++) signs[i] = (int8_t)ln_turn2(x + 2 * i, v + 8 * i);
@@ -368,7 +416,7 @@ void ln_turn2_rows(size_t n, const int64_t *x, const int64_t *v, int8_t *signs) 
 static __attribute__((noinline)) int lm_turn2_at(const ln_segment2 *s, const ln_segment2 *t) {
   const int64_t x[] = {s->index, t->index};
   const int64_t v[] = {s->ax, s->ay, s->bx, s->by, t->ax, t->ay, t->bx, t->by};
-  return ln_turn2(x, v);
+  return lm_turn2(x, v);
 }
 __attribute__((flatten)) int ln_turn2_plain_at(const ln_segment2 *s, const ln_segment2 *t) {
   const int64_t v[] = {s->ax, s->ay, s->bx, s->by, t->ax, t->ay, t->bx, t->by};
@@ -379,6 +427,17 @@ __attribute__((flatten)) int ln_turn2_at(const ln_segment2 *s, const ln_segment2
   const int sign = lb0_turn2(v);
   return sign != 0 ? sign : lm_turn2_at(s, t);
 }
+static __attribute__((noinline)) int lm_crossings2(const int64_t *x, const int64_t *v) {
+  int64_t y[3], w[12];
+  const int odd = lr_in_order(3, 4, x, v, y, w);
+  if (lb0_crossings2(w) != 0) __builtin_unreachable();
+  const int sign = la_crossings2(y, w);
+  return odd ? -sign : sign;
+}
+int ln_crossings2(const int64_t *x, const int64_t *v) {
+  const int sign = lb0_crossings2(v);
+  return sign != 0 ? sign : lm_crossings2(x, v);
+}
 int ln_crossings2_plain(const int64_t *v) { return lb0_crossings2(v); }
 void ln_crossings2_rows(size_t n, const int64_t *x, const int64_t *v, int8_t *signs) {
   for (size_t i = 0; i < n; i++) signs[i] = (int8_t)ln_crossings2(x + 3 * i, v + 12 * i);
@@ -386,7 +445,7 @@ void ln_crossings2_rows(size_t n, const int64_t *x, const int64_t *v, int8_t *si
 static __attribute__((noinline)) int lm_crossings2_at(const ln_segment2 *s, const ln_segment2 *t, const ln_segment2 *u) {
   const int64_t x[] = {s->index, t->index, u->index};
   const int64_t v[] = {s->ax, s->ay, s->bx, s->by, t->ax, t->ay, t->bx, t->by, u->ax, u->ay, u->bx, u->by};
-  return ln_crossings2(x, v);
+  return lm_crossings2(x, v);
 }
 __attribute__((flatten)) int ln_crossings2_plain_at(const ln_segment2 *s, const ln_segment2 *t, const ln_segment2 *u) {
   const int64_t v[] = {s->ax, s->ay, s->bx, s->by, t->ax, t->ay, t->bx, t->by, u->ax, u->ay, u->bx, u->by};

@@ -1,6 +1,6 @@
 /* lnc_space.h: written by header.py, so change space.ln and not this file.
    space.ln has the SHA-256 558e60ad472af1594cb5c7cfc648225710e78a6dea2266206f75887b2140e4e9,
-   and space.c, which lnc_exact writes of it, the SHA-256 eb9dfaa7ef994c0252cd1b17140c477614890189cd6bd1059bac1e822865cb35.
+   and space.c, which lnc_exact turning writes of it, the SHA-256 c77d078c738f6b6fc1275bd463c8e39f88c5b2f39c4c534a920b3e6f382feb2f.
 
    Two files are enough, this one and space.c. In one C file of your program, compiled by gcc or clang for a 64-bit target:
 
@@ -20,7 +20,11 @@
    ln_SITE_in_range(&p)         whether index and coordinates are in range; in C++ lnc::in_range(p). Test each point once, where it is made
 
    With `#define LNC_CHECKED` before the header is included, all these calls test what they are given. At the first value out of range, negative index or
-   index twice they call ln_on_refusal, a pointer that you may set, with the names of predicate and argument; else they print these and abort */
+   index twice they call ln_on_refusal, a pointer that you may set, with the names of predicate and argument; else they print these and abort
+
+   Of orient3, insphere, compare_x3, compare_y3, compare_z3, lexicographic3, coplanar_xy, coplanar_yz, coplanar_zx
+   space.c has the sign in one order of the sites, la_NAME or ls_NAME, which is proved for rows whose indices rise. ln_NAME puts each row into this order
+   (lr_in_order below), by lines that are tested and that no proof reaches */
 #ifndef LNC_SPACE_H
 #define LNC_SPACE_H
 #include <stddef.h>
@@ -856,7 +860,58 @@ inline int coplanar_zx_plain(const point3 &p, const point3 &q, const point3 &r) 
 #pragma GCC diagnostic push
 #pragma GCC diagnostic ignored "-Wold-style-cast"
 #endif
+static inline __attribute__((always_inline)) int la_orient3(const int64_t *x, const int64_t *v);
+static inline __attribute__((always_inline)) int la_insphere(const int64_t *x, const int64_t *v);
+static inline __attribute__((always_inline)) int la_compare_x3(const int64_t *x, const int64_t *v);
+static inline __attribute__((always_inline)) int la_compare_y3(const int64_t *x, const int64_t *v);
+static inline __attribute__((always_inline)) int la_compare_z3(const int64_t *x, const int64_t *v);
+static inline __attribute__((always_inline)) int la_lexicographic3(const int64_t *x, const int64_t *v);
+static inline __attribute__((always_inline)) int la_coplanar_xy(const int64_t *x, const int64_t *v);
+static inline __attribute__((always_inline)) int la_coplanar_yz(const int64_t *x, const int64_t *v);
+static inline __attribute__((always_inline)) int la_coplanar_zx(const int64_t *x, const int64_t *v);
 #include "space.c"
+#ifndef LNC_HAS_ORDER
+#define LNC_HAS_ORDER
+#if defined(__clang__) || __GNUC__ < 8
+#define LNC_UNROLLED
+#else
+#define LNC_UNROLLED _Pragma("GCC unroll 8")
+#endif
+/* Writes the indices as they rise to y, and of each site as many values alike to w. Returns whether an odd number of pairs of sites was the other way round.
+   Two of one index stay as they are. (Without branches, since nothing foretells an order. There are at most 5 sites) */
+static inline __attribute__((always_inline)) int lr_in_order(int sites, int many, const int64_t *x, const int64_t *v, int64_t *y, int64_t *w) {
+  int turned = 0, rank[] = {0, 1, 2, 3, 4};
+  LNC_UNROLLED
+  for (int j = 1; j < sites; j++) {
+    LNC_UNROLLED
+    for (int k = 0; k < j; k++) {
+      const int is_turned = x[k] > x[j];
+      rank[k] += is_turned;
+      rank[j] -= is_turned;
+      turned += is_turned;
+    }
+  }
+  LNC_UNROLLED
+  for (int j = 0; j < sites; j++) {
+    y[rank[j]] = x[j];
+    LNC_UNROLLED
+    for (int c = 0; c < many; c++) w[many * rank[j] + c] = v[many * j + c];
+  }
+  return turned % 2;
+}
+#undef LNC_UNROLLED
+#endif
+static __attribute__((noinline)) int lm_orient3(const int64_t *x, const int64_t *v) {
+  int64_t y[4], w[12];
+  const int odd = lr_in_order(4, 3, x, v, y, w);
+  if (lb0_orient3(w) != 0) __builtin_unreachable();
+  const int sign = la_orient3(y, w);
+  return odd ? -sign : sign;
+}
+int ln_orient3(const int64_t *x, const int64_t *v) {
+  const int sign = lb0_orient3(v);
+  return sign != 0 ? sign : lm_orient3(x, v);
+}
 int ln_orient3_plain(const int64_t *v) { return lb0_orient3(v); }
 void ln_orient3_rows(size_t n, const int64_t *x, const int64_t *v, int8_t *signs) {
   for (size_t i = 0; i < n; i++) signs[i] = (int8_t)ln_orient3(x + 4 * i, v + 12 * i);
@@ -864,7 +919,7 @@ void ln_orient3_rows(size_t n, const int64_t *x, const int64_t *v, int8_t *signs
 static __attribute__((noinline)) int lm_orient3_at(const ln_point3 *a, const ln_point3 *b, const ln_point3 *c, const ln_point3 *d) {
   const int64_t x[] = {a->index, b->index, c->index, d->index};
   const int64_t v[] = {a->x, a->y, a->z, b->x, b->y, b->z, c->x, c->y, c->z, d->x, d->y, d->z};
-  return ln_orient3(x, v);
+  return lm_orient3(x, v);
 }
 __attribute__((flatten)) int ln_orient3_plain_at(const ln_point3 *a, const ln_point3 *b, const ln_point3 *c, const ln_point3 *d) {
   const int64_t v[] = {a->x, a->y, a->z, b->x, b->y, b->z, c->x, c->y, c->z, d->x, d->y, d->z};
@@ -875,6 +930,17 @@ __attribute__((flatten)) int ln_orient3_at(const ln_point3 *a, const ln_point3 *
   const int sign = lb0_orient3(v);
   return sign != 0 ? sign : lm_orient3_at(a, b, c, d);
 }
+static __attribute__((noinline)) int lm_insphere(const int64_t *x, const int64_t *v) {
+  int64_t y[5], w[15];
+  const int odd = lr_in_order(5, 3, x, v, y, w);
+  if (lb0_insphere(w) != 0) __builtin_unreachable();
+  const int sign = la_insphere(y, w);
+  return odd ? -sign : sign;
+}
+int ln_insphere(const int64_t *x, const int64_t *v) {
+  const int sign = lb0_insphere(v);
+  return sign != 0 ? sign : lm_insphere(x, v);
+}
 int ln_insphere_plain(const int64_t *v) { return lb0_insphere(v); }
 void ln_insphere_rows(size_t n, const int64_t *x, const int64_t *v, int8_t *signs) {
   for (size_t i = 0; i < n; i++) signs[i] = (int8_t)ln_insphere(x + 5 * i, v + 15 * i);
@@ -882,7 +948,7 @@ void ln_insphere_rows(size_t n, const int64_t *x, const int64_t *v, int8_t *sign
 static __attribute__((noinline)) int lm_insphere_at(const ln_point3 *a, const ln_point3 *b, const ln_point3 *c, const ln_point3 *d, const ln_point3 *e) {
   const int64_t x[] = {a->index, b->index, c->index, d->index, e->index};
   const int64_t v[] = {a->x, a->y, a->z, b->x, b->y, b->z, c->x, c->y, c->z, d->x, d->y, d->z, e->x, e->y, e->z};
-  return ln_insphere(x, v);
+  return lm_insphere(x, v);
 }
 __attribute__((flatten)) int ln_insphere_plain_at(const ln_point3 *a, const ln_point3 *b, const ln_point3 *c, const ln_point3 *d, const ln_point3 *e) {
   const int64_t v[] = {a->x, a->y, a->z, b->x, b->y, b->z, c->x, c->y, c->z, d->x, d->y, d->z, e->x, e->y, e->z};
@@ -911,6 +977,17 @@ __attribute__((flatten)) int ln_diametral3_at(const ln_point3 *p, const ln_point
   const int sign = lb0_diametral3(v);
   return sign != 0 ? sign : lm_diametral3_at(p, q, r);
 }
+static __attribute__((noinline)) int lm_compare_x3(const int64_t *x, const int64_t *v) {
+  int64_t y[2], w[6];
+  const int odd = lr_in_order(2, 3, x, v, y, w);
+  if (lb0_compare_x3(w) != 0) __builtin_unreachable();
+  const int sign = la_compare_x3(y, w);
+  return odd ? -sign : sign;
+}
+int ln_compare_x3(const int64_t *x, const int64_t *v) {
+  const int sign = lb0_compare_x3(v);
+  return sign != 0 ? sign : lm_compare_x3(x, v);
+}
 int ln_compare_x3_plain(const int64_t *v) { return lb0_compare_x3(v); }
 void ln_compare_x3_rows(size_t n, const int64_t *x, const int64_t *v, int8_t *signs) {
   for (size_t i = 0; i < n; i++) signs[i] = (int8_t)ln_compare_x3(x + 2 * i, v + 6 * i);
@@ -918,7 +995,7 @@ void ln_compare_x3_rows(size_t n, const int64_t *x, const int64_t *v, int8_t *si
 static __attribute__((noinline)) int lm_compare_x3_at(const ln_point3 *p, const ln_point3 *q) {
   const int64_t x[] = {p->index, q->index};
   const int64_t v[] = {p->x, p->y, p->z, q->x, q->y, q->z};
-  return ln_compare_x3(x, v);
+  return lm_compare_x3(x, v);
 }
 __attribute__((flatten)) int ln_compare_x3_plain_at(const ln_point3 *p, const ln_point3 *q) {
   const int64_t v[] = {p->x, p->y, p->z, q->x, q->y, q->z};
@@ -929,6 +1006,17 @@ __attribute__((flatten)) int ln_compare_x3_at(const ln_point3 *p, const ln_point
   const int sign = lb0_compare_x3(v);
   return sign != 0 ? sign : lm_compare_x3_at(p, q);
 }
+static __attribute__((noinline)) int lm_compare_y3(const int64_t *x, const int64_t *v) {
+  int64_t y[2], w[6];
+  const int odd = lr_in_order(2, 3, x, v, y, w);
+  if (lb0_compare_y3(w) != 0) __builtin_unreachable();
+  const int sign = la_compare_y3(y, w);
+  return odd ? -sign : sign;
+}
+int ln_compare_y3(const int64_t *x, const int64_t *v) {
+  const int sign = lb0_compare_y3(v);
+  return sign != 0 ? sign : lm_compare_y3(x, v);
+}
 int ln_compare_y3_plain(const int64_t *v) { return lb0_compare_y3(v); }
 void ln_compare_y3_rows(size_t n, const int64_t *x, const int64_t *v, int8_t *signs) {
   for (size_t i = 0; i < n; i++) signs[i] = (int8_t)ln_compare_y3(x + 2 * i, v + 6 * i);
@@ -936,7 +1024,7 @@ void ln_compare_y3_rows(size_t n, const int64_t *x, const int64_t *v, int8_t *si
 static __attribute__((noinline)) int lm_compare_y3_at(const ln_point3 *p, const ln_point3 *q) {
   const int64_t x[] = {p->index, q->index};
   const int64_t v[] = {p->x, p->y, p->z, q->x, q->y, q->z};
-  return ln_compare_y3(x, v);
+  return lm_compare_y3(x, v);
 }
 __attribute__((flatten)) int ln_compare_y3_plain_at(const ln_point3 *p, const ln_point3 *q) {
   const int64_t v[] = {p->x, p->y, p->z, q->x, q->y, q->z};
@@ -947,6 +1035,17 @@ __attribute__((flatten)) int ln_compare_y3_at(const ln_point3 *p, const ln_point
   const int sign = lb0_compare_y3(v);
   return sign != 0 ? sign : lm_compare_y3_at(p, q);
 }
+static __attribute__((noinline)) int lm_compare_z3(const int64_t *x, const int64_t *v) {
+  int64_t y[2], w[6];
+  const int odd = lr_in_order(2, 3, x, v, y, w);
+  if (lb0_compare_z3(w) != 0) __builtin_unreachable();
+  const int sign = la_compare_z3(y, w);
+  return odd ? -sign : sign;
+}
+int ln_compare_z3(const int64_t *x, const int64_t *v) {
+  const int sign = lb0_compare_z3(v);
+  return sign != 0 ? sign : lm_compare_z3(x, v);
+}
 int ln_compare_z3_plain(const int64_t *v) { return lb0_compare_z3(v); }
 void ln_compare_z3_rows(size_t n, const int64_t *x, const int64_t *v, int8_t *signs) {
   for (size_t i = 0; i < n; i++) signs[i] = (int8_t)ln_compare_z3(x + 2 * i, v + 6 * i);
@@ -954,7 +1053,7 @@ void ln_compare_z3_rows(size_t n, const int64_t *x, const int64_t *v, int8_t *si
 static __attribute__((noinline)) int lm_compare_z3_at(const ln_point3 *p, const ln_point3 *q) {
   const int64_t x[] = {p->index, q->index};
   const int64_t v[] = {p->x, p->y, p->z, q->x, q->y, q->z};
-  return ln_compare_z3(x, v);
+  return lm_compare_z3(x, v);
 }
 __attribute__((flatten)) int ln_compare_z3_plain_at(const ln_point3 *p, const ln_point3 *q) {
   const int64_t v[] = {p->x, p->y, p->z, q->x, q->y, q->z};
@@ -965,6 +1064,17 @@ __attribute__((flatten)) int ln_compare_z3_at(const ln_point3 *p, const ln_point
   const int sign = lb0_compare_z3(v);
   return sign != 0 ? sign : lm_compare_z3_at(p, q);
 }
+static __attribute__((noinline)) int lm_lexicographic3(const int64_t *x, const int64_t *v) {
+  int64_t y[2], w[6];
+  const int odd = lr_in_order(2, 3, x, v, y, w);
+  if (lb0_lexicographic3(w) != 0) __builtin_unreachable();
+  const int sign = la_lexicographic3(y, w);
+  return odd ? -sign : sign;
+}
+int ln_lexicographic3(const int64_t *x, const int64_t *v) {
+  const int sign = lb0_lexicographic3(v);
+  return sign != 0 ? sign : lm_lexicographic3(x, v);
+}
 int ln_lexicographic3_plain(const int64_t *v) { return lb0_lexicographic3(v); }
 void ln_lexicographic3_rows(size_t n, const int64_t *x, const int64_t *v, int8_t *signs) {
   for (size_t i = 0; i < n; i++) signs[i] = (int8_t)ln_lexicographic3(x + 2 * i, v + 6 * i);
@@ -972,7 +1082,7 @@ void ln_lexicographic3_rows(size_t n, const int64_t *x, const int64_t *v, int8_t
 static __attribute__((noinline)) int lm_lexicographic3_at(const ln_point3 *p, const ln_point3 *q) {
   const int64_t x[] = {p->index, q->index};
   const int64_t v[] = {p->x, p->y, p->z, q->x, q->y, q->z};
-  return ln_lexicographic3(x, v);
+  return lm_lexicographic3(x, v);
 }
 __attribute__((flatten)) int ln_lexicographic3_plain_at(const ln_point3 *p, const ln_point3 *q) {
   const int64_t v[] = {p->x, p->y, p->z, q->x, q->y, q->z};
@@ -1037,6 +1147,17 @@ __attribute__((flatten)) int ln_compare_plane3_at(const ln_point3 *p, const ln_p
   const int sign = lb0_compare_plane3(v);
   return sign != 0 ? sign : lm_compare_plane3_at(p, q, r, s, t);
 }
+static __attribute__((noinline)) int lm_coplanar_xy(const int64_t *x, const int64_t *v) {
+  int64_t y[3], w[9];
+  const int odd = lr_in_order(3, 3, x, v, y, w);
+  if (lb0_coplanar_xy(w) != 0) __builtin_unreachable();
+  const int sign = la_coplanar_xy(y, w);
+  return odd ? -sign : sign;
+}
+int ln_coplanar_xy(const int64_t *x, const int64_t *v) {
+  const int sign = lb0_coplanar_xy(v);
+  return sign != 0 ? sign : lm_coplanar_xy(x, v);
+}
 int ln_coplanar_xy_plain(const int64_t *v) { return lb0_coplanar_xy(v); }
 void ln_coplanar_xy_rows(size_t n, const int64_t *x, const int64_t *v, int8_t *signs) {
   for (size_t i = 0; i < n; i++) signs[i] = (int8_t)ln_coplanar_xy(x + 3 * i, v + 9 * i);
@@ -1044,7 +1165,7 @@ void ln_coplanar_xy_rows(size_t n, const int64_t *x, const int64_t *v, int8_t *s
 static __attribute__((noinline)) int lm_coplanar_xy_at(const ln_point3 *p, const ln_point3 *q, const ln_point3 *r) {
   const int64_t x[] = {p->index, q->index, r->index};
   const int64_t v[] = {p->x, p->y, p->z, q->x, q->y, q->z, r->x, r->y, r->z};
-  return ln_coplanar_xy(x, v);
+  return lm_coplanar_xy(x, v);
 }
 __attribute__((flatten)) int ln_coplanar_xy_plain_at(const ln_point3 *p, const ln_point3 *q, const ln_point3 *r) {
   const int64_t v[] = {p->x, p->y, p->z, q->x, q->y, q->z, r->x, r->y, r->z};
@@ -1055,6 +1176,17 @@ __attribute__((flatten)) int ln_coplanar_xy_at(const ln_point3 *p, const ln_poin
   const int sign = lb0_coplanar_xy(v);
   return sign != 0 ? sign : lm_coplanar_xy_at(p, q, r);
 }
+static __attribute__((noinline)) int lm_coplanar_yz(const int64_t *x, const int64_t *v) {
+  int64_t y[3], w[9];
+  const int odd = lr_in_order(3, 3, x, v, y, w);
+  if (lb0_coplanar_yz(w) != 0) __builtin_unreachable();
+  const int sign = la_coplanar_yz(y, w);
+  return odd ? -sign : sign;
+}
+int ln_coplanar_yz(const int64_t *x, const int64_t *v) {
+  const int sign = lb0_coplanar_yz(v);
+  return sign != 0 ? sign : lm_coplanar_yz(x, v);
+}
 int ln_coplanar_yz_plain(const int64_t *v) { return lb0_coplanar_yz(v); }
 void ln_coplanar_yz_rows(size_t n, const int64_t *x, const int64_t *v, int8_t *signs) {
   for (size_t i = 0; i < n; i++) signs[i] = (int8_t)ln_coplanar_yz(x + 3 * i, v + 9 * i);
@@ -1062,7 +1194,7 @@ void ln_coplanar_yz_rows(size_t n, const int64_t *x, const int64_t *v, int8_t *s
 static __attribute__((noinline)) int lm_coplanar_yz_at(const ln_point3 *p, const ln_point3 *q, const ln_point3 *r) {
   const int64_t x[] = {p->index, q->index, r->index};
   const int64_t v[] = {p->x, p->y, p->z, q->x, q->y, q->z, r->x, r->y, r->z};
-  return ln_coplanar_yz(x, v);
+  return lm_coplanar_yz(x, v);
 }
 __attribute__((flatten)) int ln_coplanar_yz_plain_at(const ln_point3 *p, const ln_point3 *q, const ln_point3 *r) {
   const int64_t v[] = {p->x, p->y, p->z, q->x, q->y, q->z, r->x, r->y, r->z};
@@ -1073,6 +1205,17 @@ __attribute__((flatten)) int ln_coplanar_yz_at(const ln_point3 *p, const ln_poin
   const int sign = lb0_coplanar_yz(v);
   return sign != 0 ? sign : lm_coplanar_yz_at(p, q, r);
 }
+static __attribute__((noinline)) int lm_coplanar_zx(const int64_t *x, const int64_t *v) {
+  int64_t y[3], w[9];
+  const int odd = lr_in_order(3, 3, x, v, y, w);
+  if (lb0_coplanar_zx(w) != 0) __builtin_unreachable();
+  const int sign = la_coplanar_zx(y, w);
+  return odd ? -sign : sign;
+}
+int ln_coplanar_zx(const int64_t *x, const int64_t *v) {
+  const int sign = lb0_coplanar_zx(v);
+  return sign != 0 ? sign : lm_coplanar_zx(x, v);
+}
 int ln_coplanar_zx_plain(const int64_t *v) { return lb0_coplanar_zx(v); }
 void ln_coplanar_zx_rows(size_t n, const int64_t *x, const int64_t *v, int8_t *signs) {
   for (size_t i = 0; i < n; i++) signs[i] = (int8_t)ln_coplanar_zx(x + 3 * i, v + 9 * i);
@@ -1080,7 +1223,7 @@ void ln_coplanar_zx_rows(size_t n, const int64_t *x, const int64_t *v, int8_t *s
 static __attribute__((noinline)) int lm_coplanar_zx_at(const ln_point3 *p, const ln_point3 *q, const ln_point3 *r) {
   const int64_t x[] = {p->index, q->index, r->index};
   const int64_t v[] = {p->x, p->y, p->z, q->x, q->y, q->z, r->x, r->y, r->z};
-  return ln_coplanar_zx(x, v);
+  return lm_coplanar_zx(x, v);
 }
 __attribute__((flatten)) int ln_coplanar_zx_plain_at(const ln_point3 *p, const ln_point3 *q, const ln_point3 *r) {
   const int64_t v[] = {p->x, p->y, p->z, q->x, q->y, q->z, r->x, r->y, r->z};

@@ -1,6 +1,6 @@
 /* lnc_weighted_plane.h: written by header.py, so change weighted_plane.ln and not this file.
    weighted_plane.ln has the SHA-256 28aa6d5da8cbde82ddb4fe949d99981dd692f29db5c22ba6c864f72456258e2f,
-   and weighted_plane.c, which lnc_exact writes of it, the SHA-256 fbf554854a7a6309d99f6978b47319983610ee19d462375f7238f2061a66331c.
+   and weighted_plane.c, which lnc_exact turning writes of it, the SHA-256 9ebc2310814b77682b4212b5ca15ec7d207175472ddcd972e70938b840931b60.
 
    Two files are enough, this one and weighted_plane.c. In one C file of your program, compiled by gcc or clang for a 64-bit target:
 
@@ -20,7 +20,11 @@
    ln_SITE_in_range(&p)         whether index and coordinates are in range; in C++ lnc::in_range(p). Test each point once, where it is made
 
    With `#define LNC_CHECKED` before the header is included, all these calls test what they are given. At the first value out of range, negative index or
-   index twice they call ln_on_refusal, a pointer that you may set, with the names of predicate and argument; else they print these and abort */
+   index twice they call ln_on_refusal, a pointer that you may set, with the names of predicate and argument; else they print these and abort
+
+   Of worient2, power2, wcompare_x2, wcompare_y2, wcompare_w2, wlexicographic2
+   weighted_plane.c has the sign in one order of the sites, la_NAME or ls_NAME, which is proved for rows whose indices rise. ln_NAME puts each row into this order
+   (lr_in_order below), by lines that are tested and that no proof reaches */
 #ifndef LNC_WEIGHTED_PLANE_H
 #define LNC_WEIGHTED_PLANE_H
 #include <stddef.h>
@@ -721,7 +725,55 @@ inline int wcompare_line2_plain(const weighted2 &p, const weighted2 &q, const we
 #pragma GCC diagnostic push
 #pragma GCC diagnostic ignored "-Wold-style-cast"
 #endif
+static inline __attribute__((always_inline)) int la_worient2(const int64_t *x, const int64_t *v);
+static inline __attribute__((always_inline)) int la_power2(const int64_t *x, const int64_t *v);
+static inline __attribute__((always_inline)) int la_wcompare_x2(const int64_t *x, const int64_t *v);
+static inline __attribute__((always_inline)) int la_wcompare_y2(const int64_t *x, const int64_t *v);
+static inline __attribute__((always_inline)) int la_wcompare_w2(const int64_t *x, const int64_t *v);
+static inline __attribute__((always_inline)) int la_wlexicographic2(const int64_t *x, const int64_t *v);
 #include "weighted_plane.c"
+#ifndef LNC_HAS_ORDER
+#define LNC_HAS_ORDER
+#if defined(__clang__) || __GNUC__ < 8
+#define LNC_UNROLLED
+#else
+#define LNC_UNROLLED _Pragma("GCC unroll 8")
+#endif
+/* Writes the indices as they rise to y, and of each site as many values alike to w. Returns whether an odd number of pairs of sites was the other way round.
+   Two of one index stay as they are. (Without branches, since nothing foretells an order. There are at most 5 sites) */
+static inline __attribute__((always_inline)) int lr_in_order(int sites, int many, const int64_t *x, const int64_t *v, int64_t *y, int64_t *w) {
+  int turned = 0, rank[] = {0, 1, 2, 3, 4};
+  LNC_UNROLLED
+  for (int j = 1; j < sites; j++) {
+    LNC_UNROLLED
+    for (int k = 0; k < j; k++) {
+      const int is_turned = x[k] > x[j];
+      rank[k] += is_turned;
+      rank[j] -= is_turned;
+      turned += is_turned;
+    }
+  }
+  LNC_UNROLLED
+  for (int j = 0; j < sites; j++) {
+    y[rank[j]] = x[j];
+    LNC_UNROLLED
+    for (int c = 0; c < many; c++) w[many * rank[j] + c] = v[many * j + c];
+  }
+  return turned % 2;
+}
+#undef LNC_UNROLLED
+#endif
+static __attribute__((noinline)) int lm_worient2(const int64_t *x, const int64_t *v) {
+  int64_t y[3], w[9];
+  const int odd = lr_in_order(3, 3, x, v, y, w);
+  if (lb0_worient2(w) != 0) __builtin_unreachable();
+  const int sign = la_worient2(y, w);
+  return odd ? -sign : sign;
+}
+int ln_worient2(const int64_t *x, const int64_t *v) {
+  const int sign = lb0_worient2(v);
+  return sign != 0 ? sign : lm_worient2(x, v);
+}
 int ln_worient2_plain(const int64_t *v) { return lb0_worient2(v); }
 void ln_worient2_rows(size_t n, const int64_t *x, const int64_t *v, int8_t *signs) {
   for (size_t i = 0; i < n; i++) signs[i] = (int8_t)ln_worient2(x + 3 * i, v + 9 * i);
@@ -729,7 +781,7 @@ void ln_worient2_rows(size_t n, const int64_t *x, const int64_t *v, int8_t *sign
 static __attribute__((noinline)) int lm_worient2_at(const ln_weighted2 *p, const ln_weighted2 *q, const ln_weighted2 *r) {
   const int64_t x[] = {p->index, q->index, r->index};
   const int64_t v[] = {p->x, p->y, p->w, q->x, q->y, q->w, r->x, r->y, r->w};
-  return ln_worient2(x, v);
+  return lm_worient2(x, v);
 }
 __attribute__((flatten)) int ln_worient2_plain_at(const ln_weighted2 *p, const ln_weighted2 *q, const ln_weighted2 *r) {
   const int64_t v[] = {p->x, p->y, p->w, q->x, q->y, q->w, r->x, r->y, r->w};
@@ -740,6 +792,17 @@ __attribute__((flatten)) int ln_worient2_at(const ln_weighted2 *p, const ln_weig
   const int sign = lb0_worient2(v);
   return sign != 0 ? sign : lm_worient2_at(p, q, r);
 }
+static __attribute__((noinline)) int lm_power2(const int64_t *x, const int64_t *v) {
+  int64_t y[4], w[12];
+  const int odd = lr_in_order(4, 3, x, v, y, w);
+  if (lb0_power2(w) != 0) __builtin_unreachable();
+  const int sign = la_power2(y, w);
+  return odd ? -sign : sign;
+}
+int ln_power2(const int64_t *x, const int64_t *v) {
+  const int sign = lb0_power2(v);
+  return sign != 0 ? sign : lm_power2(x, v);
+}
 int ln_power2_plain(const int64_t *v) { return lb0_power2(v); }
 void ln_power2_rows(size_t n, const int64_t *x, const int64_t *v, int8_t *signs) {
   for (size_t i = 0; i < n; i++) signs[i] = (int8_t)ln_power2(x + 4 * i, v + 12 * i);
@@ -747,7 +810,7 @@ void ln_power2_rows(size_t n, const int64_t *x, const int64_t *v, int8_t *signs)
 static __attribute__((noinline)) int lm_power2_at(const ln_weighted2 *a, const ln_weighted2 *b, const ln_weighted2 *c, const ln_weighted2 *d) {
   const int64_t x[] = {a->index, b->index, c->index, d->index};
   const int64_t v[] = {a->x, a->y, a->w, b->x, b->y, b->w, c->x, c->y, c->w, d->x, d->y, d->w};
-  return ln_power2(x, v);
+  return lm_power2(x, v);
 }
 __attribute__((flatten)) int ln_power2_plain_at(const ln_weighted2 *a, const ln_weighted2 *b, const ln_weighted2 *c, const ln_weighted2 *d) {
   const int64_t v[] = {a->x, a->y, a->w, b->x, b->y, b->w, c->x, c->y, c->w, d->x, d->y, d->w};
@@ -776,6 +839,17 @@ __attribute__((flatten)) int ln_wdiametral2_at(const ln_weighted2 *p, const ln_w
   const int sign = lb0_wdiametral2(v);
   return sign != 0 ? sign : lm_wdiametral2_at(p, q, r);
 }
+static __attribute__((noinline)) int lm_wcompare_x2(const int64_t *x, const int64_t *v) {
+  int64_t y[2], w[6];
+  const int odd = lr_in_order(2, 3, x, v, y, w);
+  if (lb0_wcompare_x2(w) != 0) __builtin_unreachable();
+  const int sign = la_wcompare_x2(y, w);
+  return odd ? -sign : sign;
+}
+int ln_wcompare_x2(const int64_t *x, const int64_t *v) {
+  const int sign = lb0_wcompare_x2(v);
+  return sign != 0 ? sign : lm_wcompare_x2(x, v);
+}
 int ln_wcompare_x2_plain(const int64_t *v) { return lb0_wcompare_x2(v); }
 void ln_wcompare_x2_rows(size_t n, const int64_t *x, const int64_t *v, int8_t *signs) {
   for (size_t i = 0; i < n; i++) signs[i] = (int8_t)ln_wcompare_x2(x + 2 * i, v + 6 * i);
@@ -783,7 +857,7 @@ void ln_wcompare_x2_rows(size_t n, const int64_t *x, const int64_t *v, int8_t *s
 static __attribute__((noinline)) int lm_wcompare_x2_at(const ln_weighted2 *p, const ln_weighted2 *q) {
   const int64_t x[] = {p->index, q->index};
   const int64_t v[] = {p->x, p->y, p->w, q->x, q->y, q->w};
-  return ln_wcompare_x2(x, v);
+  return lm_wcompare_x2(x, v);
 }
 __attribute__((flatten)) int ln_wcompare_x2_plain_at(const ln_weighted2 *p, const ln_weighted2 *q) {
   const int64_t v[] = {p->x, p->y, p->w, q->x, q->y, q->w};
@@ -794,6 +868,17 @@ __attribute__((flatten)) int ln_wcompare_x2_at(const ln_weighted2 *p, const ln_w
   const int sign = lb0_wcompare_x2(v);
   return sign != 0 ? sign : lm_wcompare_x2_at(p, q);
 }
+static __attribute__((noinline)) int lm_wcompare_y2(const int64_t *x, const int64_t *v) {
+  int64_t y[2], w[6];
+  const int odd = lr_in_order(2, 3, x, v, y, w);
+  if (lb0_wcompare_y2(w) != 0) __builtin_unreachable();
+  const int sign = la_wcompare_y2(y, w);
+  return odd ? -sign : sign;
+}
+int ln_wcompare_y2(const int64_t *x, const int64_t *v) {
+  const int sign = lb0_wcompare_y2(v);
+  return sign != 0 ? sign : lm_wcompare_y2(x, v);
+}
 int ln_wcompare_y2_plain(const int64_t *v) { return lb0_wcompare_y2(v); }
 void ln_wcompare_y2_rows(size_t n, const int64_t *x, const int64_t *v, int8_t *signs) {
   for (size_t i = 0; i < n; i++) signs[i] = (int8_t)ln_wcompare_y2(x + 2 * i, v + 6 * i);
@@ -801,7 +886,7 @@ void ln_wcompare_y2_rows(size_t n, const int64_t *x, const int64_t *v, int8_t *s
 static __attribute__((noinline)) int lm_wcompare_y2_at(const ln_weighted2 *p, const ln_weighted2 *q) {
   const int64_t x[] = {p->index, q->index};
   const int64_t v[] = {p->x, p->y, p->w, q->x, q->y, q->w};
-  return ln_wcompare_y2(x, v);
+  return lm_wcompare_y2(x, v);
 }
 __attribute__((flatten)) int ln_wcompare_y2_plain_at(const ln_weighted2 *p, const ln_weighted2 *q) {
   const int64_t v[] = {p->x, p->y, p->w, q->x, q->y, q->w};
@@ -812,6 +897,17 @@ __attribute__((flatten)) int ln_wcompare_y2_at(const ln_weighted2 *p, const ln_w
   const int sign = lb0_wcompare_y2(v);
   return sign != 0 ? sign : lm_wcompare_y2_at(p, q);
 }
+static __attribute__((noinline)) int lm_wcompare_w2(const int64_t *x, const int64_t *v) {
+  int64_t y[2], w[6];
+  const int odd = lr_in_order(2, 3, x, v, y, w);
+  if (lb0_wcompare_w2(w) != 0) __builtin_unreachable();
+  const int sign = la_wcompare_w2(y, w);
+  return odd ? -sign : sign;
+}
+int ln_wcompare_w2(const int64_t *x, const int64_t *v) {
+  const int sign = lb0_wcompare_w2(v);
+  return sign != 0 ? sign : lm_wcompare_w2(x, v);
+}
 int ln_wcompare_w2_plain(const int64_t *v) { return lb0_wcompare_w2(v); }
 void ln_wcompare_w2_rows(size_t n, const int64_t *x, const int64_t *v, int8_t *signs) {
   for (size_t i = 0; i < n; i++) signs[i] = (int8_t)ln_wcompare_w2(x + 2 * i, v + 6 * i);
@@ -819,7 +915,7 @@ void ln_wcompare_w2_rows(size_t n, const int64_t *x, const int64_t *v, int8_t *s
 static __attribute__((noinline)) int lm_wcompare_w2_at(const ln_weighted2 *p, const ln_weighted2 *q) {
   const int64_t x[] = {p->index, q->index};
   const int64_t v[] = {p->x, p->y, p->w, q->x, q->y, q->w};
-  return ln_wcompare_w2(x, v);
+  return lm_wcompare_w2(x, v);
 }
 __attribute__((flatten)) int ln_wcompare_w2_plain_at(const ln_weighted2 *p, const ln_weighted2 *q) {
   const int64_t v[] = {p->x, p->y, p->w, q->x, q->y, q->w};
@@ -830,6 +926,17 @@ __attribute__((flatten)) int ln_wcompare_w2_at(const ln_weighted2 *p, const ln_w
   const int sign = lb0_wcompare_w2(v);
   return sign != 0 ? sign : lm_wcompare_w2_at(p, q);
 }
+static __attribute__((noinline)) int lm_wlexicographic2(const int64_t *x, const int64_t *v) {
+  int64_t y[2], w[6];
+  const int odd = lr_in_order(2, 3, x, v, y, w);
+  if (lb0_wlexicographic2(w) != 0) __builtin_unreachable();
+  const int sign = la_wlexicographic2(y, w);
+  return odd ? -sign : sign;
+}
+int ln_wlexicographic2(const int64_t *x, const int64_t *v) {
+  const int sign = lb0_wlexicographic2(v);
+  return sign != 0 ? sign : lm_wlexicographic2(x, v);
+}
 int ln_wlexicographic2_plain(const int64_t *v) { return lb0_wlexicographic2(v); }
 void ln_wlexicographic2_rows(size_t n, const int64_t *x, const int64_t *v, int8_t *signs) {
   for (size_t i = 0; i < n; i++) signs[i] = (int8_t)ln_wlexicographic2(x + 2 * i, v + 6 * i);
@@ -837,7 +944,7 @@ void ln_wlexicographic2_rows(size_t n, const int64_t *x, const int64_t *v, int8_
 static __attribute__((noinline)) int lm_wlexicographic2_at(const ln_weighted2 *p, const ln_weighted2 *q) {
   const int64_t x[] = {p->index, q->index};
   const int64_t v[] = {p->x, p->y, p->w, q->x, q->y, q->w};
-  return ln_wlexicographic2(x, v);
+  return lm_wlexicographic2(x, v);
 }
 __attribute__((flatten)) int ln_wlexicographic2_plain_at(const ln_weighted2 *p, const ln_weighted2 *q) {
   const int64_t v[] = {p->x, p->y, p->w, q->x, q->y, q->w};

@@ -1,6 +1,6 @@
 /* lnc_weighted_space.h: written by header.py, so change weighted_space.ln and not this file.
    weighted_space.ln has the SHA-256 efa8a0a77af3ec1e7733efebd0d2df430d325b2ac27dca2b807ed2e513dbf45f,
-   and weighted_space.c, which lnc_exact writes of it, the SHA-256 0aa7d693f33b7080f9966badf47de29a5d59fbc801a1a85b81cecbc3f017e965.
+   and weighted_space.c, which lnc_exact turning writes of it, the SHA-256 ce5e31bac3a9ef1942b25d33119e67283736e99a04378f9306de2e4df1723bde.
 
    Two files are enough, this one and weighted_space.c. In one C file of your program, compiled by gcc or clang for a 64-bit target:
 
@@ -20,7 +20,12 @@
    ln_SITE_in_range(&p)         whether index and coordinates are in range; in C++ lnc::in_range(p). Test each point once, where it is made
 
    With `#define LNC_CHECKED` before the header is included, all these calls test what they are given. At the first value out of range, negative index or
-   index twice they call ln_on_refusal, a pointer that you may set, with the names of predicate and argument; else they print these and abort */
+   index twice they call ln_on_refusal, a pointer that you may set, with the names of predicate and argument; else they print these and abort
+
+   Of worient3, power3, wcompare_x3, wcompare_y3, wcompare_z3, wcompare_w3, wlexicographic3, wcoplanar_xy, wcoplanar_yz,
+   wcoplanar_zx
+   weighted_space.c has the sign in one order of the sites, la_NAME or ls_NAME, which is proved for rows whose indices rise. ln_NAME puts each row into this order
+   (lr_in_order below), by lines that are tested and that no proof reaches */
 #ifndef LNC_WEIGHTED_SPACE_H
 #define LNC_WEIGHTED_SPACE_H
 #include <stddef.h>
@@ -933,7 +938,59 @@ inline int wcoplanar_zx_plain(const weighted3 &p, const weighted3 &q, const weig
 #pragma GCC diagnostic push
 #pragma GCC diagnostic ignored "-Wold-style-cast"
 #endif
+static inline __attribute__((always_inline)) int la_worient3(const int64_t *x, const int64_t *v);
+static inline __attribute__((always_inline)) int la_power3(const int64_t *x, const int64_t *v);
+static inline __attribute__((always_inline)) int la_wcompare_x3(const int64_t *x, const int64_t *v);
+static inline __attribute__((always_inline)) int la_wcompare_y3(const int64_t *x, const int64_t *v);
+static inline __attribute__((always_inline)) int la_wcompare_z3(const int64_t *x, const int64_t *v);
+static inline __attribute__((always_inline)) int la_wcompare_w3(const int64_t *x, const int64_t *v);
+static inline __attribute__((always_inline)) int la_wlexicographic3(const int64_t *x, const int64_t *v);
+static inline __attribute__((always_inline)) int la_wcoplanar_xy(const int64_t *x, const int64_t *v);
+static inline __attribute__((always_inline)) int la_wcoplanar_yz(const int64_t *x, const int64_t *v);
+static inline __attribute__((always_inline)) int la_wcoplanar_zx(const int64_t *x, const int64_t *v);
 #include "weighted_space.c"
+#ifndef LNC_HAS_ORDER
+#define LNC_HAS_ORDER
+#if defined(__clang__) || __GNUC__ < 8
+#define LNC_UNROLLED
+#else
+#define LNC_UNROLLED _Pragma("GCC unroll 8")
+#endif
+/* Writes the indices as they rise to y, and of each site as many values alike to w. Returns whether an odd number of pairs of sites was the other way round.
+   Two of one index stay as they are. (Without branches, since nothing foretells an order. There are at most 5 sites) */
+static inline __attribute__((always_inline)) int lr_in_order(int sites, int many, const int64_t *x, const int64_t *v, int64_t *y, int64_t *w) {
+  int turned = 0, rank[] = {0, 1, 2, 3, 4};
+  LNC_UNROLLED
+  for (int j = 1; j < sites; j++) {
+    LNC_UNROLLED
+    for (int k = 0; k < j; k++) {
+      const int is_turned = x[k] > x[j];
+      rank[k] += is_turned;
+      rank[j] -= is_turned;
+      turned += is_turned;
+    }
+  }
+  LNC_UNROLLED
+  for (int j = 0; j < sites; j++) {
+    y[rank[j]] = x[j];
+    LNC_UNROLLED
+    for (int c = 0; c < many; c++) w[many * rank[j] + c] = v[many * j + c];
+  }
+  return turned % 2;
+}
+#undef LNC_UNROLLED
+#endif
+static __attribute__((noinline)) int lm_worient3(const int64_t *x, const int64_t *v) {
+  int64_t y[4], w[16];
+  const int odd = lr_in_order(4, 4, x, v, y, w);
+  if (lb0_worient3(w) != 0) __builtin_unreachable();
+  const int sign = la_worient3(y, w);
+  return odd ? -sign : sign;
+}
+int ln_worient3(const int64_t *x, const int64_t *v) {
+  const int sign = lb0_worient3(v);
+  return sign != 0 ? sign : lm_worient3(x, v);
+}
 int ln_worient3_plain(const int64_t *v) { return lb0_worient3(v); }
 void ln_worient3_rows(size_t n, const int64_t *x, const int64_t *v, int8_t *signs) {
   for (size_t i = 0; i < n; i++) signs[i] = (int8_t)ln_worient3(x + 4 * i, v + 16 * i);
@@ -941,7 +998,7 @@ void ln_worient3_rows(size_t n, const int64_t *x, const int64_t *v, int8_t *sign
 static __attribute__((noinline)) int lm_worient3_at(const ln_weighted3 *a, const ln_weighted3 *b, const ln_weighted3 *c, const ln_weighted3 *d) {
   const int64_t x[] = {a->index, b->index, c->index, d->index};
   const int64_t v[] = {a->x, a->y, a->z, a->w, b->x, b->y, b->z, b->w, c->x, c->y, c->z, c->w, d->x, d->y, d->z, d->w};
-  return ln_worient3(x, v);
+  return lm_worient3(x, v);
 }
 __attribute__((flatten)) int ln_worient3_plain_at(const ln_weighted3 *a, const ln_weighted3 *b, const ln_weighted3 *c, const ln_weighted3 *d) {
   const int64_t v[] = {a->x, a->y, a->z, a->w, b->x, b->y, b->z, b->w, c->x, c->y, c->z, c->w, d->x, d->y, d->z, d->w};
@@ -952,6 +1009,17 @@ __attribute__((flatten)) int ln_worient3_at(const ln_weighted3 *a, const ln_weig
   const int sign = lb0_worient3(v);
   return sign != 0 ? sign : lm_worient3_at(a, b, c, d);
 }
+static __attribute__((noinline)) int lm_power3(const int64_t *x, const int64_t *v) {
+  int64_t y[5], w[20];
+  const int odd = lr_in_order(5, 4, x, v, y, w);
+  if (lb0_power3(w) != 0) __builtin_unreachable();
+  const int sign = la_power3(y, w);
+  return odd ? -sign : sign;
+}
+int ln_power3(const int64_t *x, const int64_t *v) {
+  const int sign = lb0_power3(v);
+  return sign != 0 ? sign : lm_power3(x, v);
+}
 int ln_power3_plain(const int64_t *v) { return lb0_power3(v); }
 void ln_power3_rows(size_t n, const int64_t *x, const int64_t *v, int8_t *signs) {
   for (size_t i = 0; i < n; i++) signs[i] = (int8_t)ln_power3(x + 5 * i, v + 20 * i);
@@ -959,7 +1027,7 @@ void ln_power3_rows(size_t n, const int64_t *x, const int64_t *v, int8_t *signs)
 static __attribute__((noinline)) int lm_power3_at(const ln_weighted3 *a, const ln_weighted3 *b, const ln_weighted3 *c, const ln_weighted3 *d, const ln_weighted3 *e) {
   const int64_t x[] = {a->index, b->index, c->index, d->index, e->index};
   const int64_t v[] = {a->x, a->y, a->z, a->w, b->x, b->y, b->z, b->w, c->x, c->y, c->z, c->w, d->x, d->y, d->z, d->w, e->x, e->y, e->z, e->w};
-  return ln_power3(x, v);
+  return lm_power3(x, v);
 }
 __attribute__((flatten)) int ln_power3_plain_at(const ln_weighted3 *a, const ln_weighted3 *b, const ln_weighted3 *c, const ln_weighted3 *d, const ln_weighted3 *e) {
   const int64_t v[] = {a->x, a->y, a->z, a->w, b->x, b->y, b->z, b->w, c->x, c->y, c->z, c->w, d->x, d->y, d->z, d->w, e->x, e->y, e->z, e->w};
@@ -988,6 +1056,17 @@ __attribute__((flatten)) int ln_wdiametral3_at(const ln_weighted3 *p, const ln_w
   const int sign = lb0_wdiametral3(v);
   return sign != 0 ? sign : lm_wdiametral3_at(p, q, r);
 }
+static __attribute__((noinline)) int lm_wcompare_x3(const int64_t *x, const int64_t *v) {
+  int64_t y[2], w[8];
+  const int odd = lr_in_order(2, 4, x, v, y, w);
+  if (lb0_wcompare_x3(w) != 0) __builtin_unreachable();
+  const int sign = la_wcompare_x3(y, w);
+  return odd ? -sign : sign;
+}
+int ln_wcompare_x3(const int64_t *x, const int64_t *v) {
+  const int sign = lb0_wcompare_x3(v);
+  return sign != 0 ? sign : lm_wcompare_x3(x, v);
+}
 int ln_wcompare_x3_plain(const int64_t *v) { return lb0_wcompare_x3(v); }
 void ln_wcompare_x3_rows(size_t n, const int64_t *x, const int64_t *v, int8_t *signs) {
   for (size_t i = 0; i < n; i++) signs[i] = (int8_t)ln_wcompare_x3(x + 2 * i, v + 8 * i);
@@ -995,7 +1074,7 @@ void ln_wcompare_x3_rows(size_t n, const int64_t *x, const int64_t *v, int8_t *s
 static __attribute__((noinline)) int lm_wcompare_x3_at(const ln_weighted3 *p, const ln_weighted3 *q) {
   const int64_t x[] = {p->index, q->index};
   const int64_t v[] = {p->x, p->y, p->z, p->w, q->x, q->y, q->z, q->w};
-  return ln_wcompare_x3(x, v);
+  return lm_wcompare_x3(x, v);
 }
 __attribute__((flatten)) int ln_wcompare_x3_plain_at(const ln_weighted3 *p, const ln_weighted3 *q) {
   const int64_t v[] = {p->x, p->y, p->z, p->w, q->x, q->y, q->z, q->w};
@@ -1006,6 +1085,17 @@ __attribute__((flatten)) int ln_wcompare_x3_at(const ln_weighted3 *p, const ln_w
   const int sign = lb0_wcompare_x3(v);
   return sign != 0 ? sign : lm_wcompare_x3_at(p, q);
 }
+static __attribute__((noinline)) int lm_wcompare_y3(const int64_t *x, const int64_t *v) {
+  int64_t y[2], w[8];
+  const int odd = lr_in_order(2, 4, x, v, y, w);
+  if (lb0_wcompare_y3(w) != 0) __builtin_unreachable();
+  const int sign = la_wcompare_y3(y, w);
+  return odd ? -sign : sign;
+}
+int ln_wcompare_y3(const int64_t *x, const int64_t *v) {
+  const int sign = lb0_wcompare_y3(v);
+  return sign != 0 ? sign : lm_wcompare_y3(x, v);
+}
 int ln_wcompare_y3_plain(const int64_t *v) { return lb0_wcompare_y3(v); }
 void ln_wcompare_y3_rows(size_t n, const int64_t *x, const int64_t *v, int8_t *signs) {
   for (size_t i = 0; i < n; i++) signs[i] = (int8_t)ln_wcompare_y3(x + 2 * i, v + 8 * i);
@@ -1013,7 +1103,7 @@ void ln_wcompare_y3_rows(size_t n, const int64_t *x, const int64_t *v, int8_t *s
 static __attribute__((noinline)) int lm_wcompare_y3_at(const ln_weighted3 *p, const ln_weighted3 *q) {
   const int64_t x[] = {p->index, q->index};
   const int64_t v[] = {p->x, p->y, p->z, p->w, q->x, q->y, q->z, q->w};
-  return ln_wcompare_y3(x, v);
+  return lm_wcompare_y3(x, v);
 }
 __attribute__((flatten)) int ln_wcompare_y3_plain_at(const ln_weighted3 *p, const ln_weighted3 *q) {
   const int64_t v[] = {p->x, p->y, p->z, p->w, q->x, q->y, q->z, q->w};
@@ -1024,6 +1114,17 @@ __attribute__((flatten)) int ln_wcompare_y3_at(const ln_weighted3 *p, const ln_w
   const int sign = lb0_wcompare_y3(v);
   return sign != 0 ? sign : lm_wcompare_y3_at(p, q);
 }
+static __attribute__((noinline)) int lm_wcompare_z3(const int64_t *x, const int64_t *v) {
+  int64_t y[2], w[8];
+  const int odd = lr_in_order(2, 4, x, v, y, w);
+  if (lb0_wcompare_z3(w) != 0) __builtin_unreachable();
+  const int sign = la_wcompare_z3(y, w);
+  return odd ? -sign : sign;
+}
+int ln_wcompare_z3(const int64_t *x, const int64_t *v) {
+  const int sign = lb0_wcompare_z3(v);
+  return sign != 0 ? sign : lm_wcompare_z3(x, v);
+}
 int ln_wcompare_z3_plain(const int64_t *v) { return lb0_wcompare_z3(v); }
 void ln_wcompare_z3_rows(size_t n, const int64_t *x, const int64_t *v, int8_t *signs) {
   for (size_t i = 0; i < n; i++) signs[i] = (int8_t)ln_wcompare_z3(x + 2 * i, v + 8 * i);
@@ -1031,7 +1132,7 @@ void ln_wcompare_z3_rows(size_t n, const int64_t *x, const int64_t *v, int8_t *s
 static __attribute__((noinline)) int lm_wcompare_z3_at(const ln_weighted3 *p, const ln_weighted3 *q) {
   const int64_t x[] = {p->index, q->index};
   const int64_t v[] = {p->x, p->y, p->z, p->w, q->x, q->y, q->z, q->w};
-  return ln_wcompare_z3(x, v);
+  return lm_wcompare_z3(x, v);
 }
 __attribute__((flatten)) int ln_wcompare_z3_plain_at(const ln_weighted3 *p, const ln_weighted3 *q) {
   const int64_t v[] = {p->x, p->y, p->z, p->w, q->x, q->y, q->z, q->w};
@@ -1042,6 +1143,17 @@ __attribute__((flatten)) int ln_wcompare_z3_at(const ln_weighted3 *p, const ln_w
   const int sign = lb0_wcompare_z3(v);
   return sign != 0 ? sign : lm_wcompare_z3_at(p, q);
 }
+static __attribute__((noinline)) int lm_wcompare_w3(const int64_t *x, const int64_t *v) {
+  int64_t y[2], w[8];
+  const int odd = lr_in_order(2, 4, x, v, y, w);
+  if (lb0_wcompare_w3(w) != 0) __builtin_unreachable();
+  const int sign = la_wcompare_w3(y, w);
+  return odd ? -sign : sign;
+}
+int ln_wcompare_w3(const int64_t *x, const int64_t *v) {
+  const int sign = lb0_wcompare_w3(v);
+  return sign != 0 ? sign : lm_wcompare_w3(x, v);
+}
 int ln_wcompare_w3_plain(const int64_t *v) { return lb0_wcompare_w3(v); }
 void ln_wcompare_w3_rows(size_t n, const int64_t *x, const int64_t *v, int8_t *signs) {
   for (size_t i = 0; i < n; i++) signs[i] = (int8_t)ln_wcompare_w3(x + 2 * i, v + 8 * i);
@@ -1049,7 +1161,7 @@ void ln_wcompare_w3_rows(size_t n, const int64_t *x, const int64_t *v, int8_t *s
 static __attribute__((noinline)) int lm_wcompare_w3_at(const ln_weighted3 *p, const ln_weighted3 *q) {
   const int64_t x[] = {p->index, q->index};
   const int64_t v[] = {p->x, p->y, p->z, p->w, q->x, q->y, q->z, q->w};
-  return ln_wcompare_w3(x, v);
+  return lm_wcompare_w3(x, v);
 }
 __attribute__((flatten)) int ln_wcompare_w3_plain_at(const ln_weighted3 *p, const ln_weighted3 *q) {
   const int64_t v[] = {p->x, p->y, p->z, p->w, q->x, q->y, q->z, q->w};
@@ -1060,6 +1172,17 @@ __attribute__((flatten)) int ln_wcompare_w3_at(const ln_weighted3 *p, const ln_w
   const int sign = lb0_wcompare_w3(v);
   return sign != 0 ? sign : lm_wcompare_w3_at(p, q);
 }
+static __attribute__((noinline)) int lm_wlexicographic3(const int64_t *x, const int64_t *v) {
+  int64_t y[2], w[8];
+  const int odd = lr_in_order(2, 4, x, v, y, w);
+  if (lb0_wlexicographic3(w) != 0) __builtin_unreachable();
+  const int sign = la_wlexicographic3(y, w);
+  return odd ? -sign : sign;
+}
+int ln_wlexicographic3(const int64_t *x, const int64_t *v) {
+  const int sign = lb0_wlexicographic3(v);
+  return sign != 0 ? sign : lm_wlexicographic3(x, v);
+}
 int ln_wlexicographic3_plain(const int64_t *v) { return lb0_wlexicographic3(v); }
 void ln_wlexicographic3_rows(size_t n, const int64_t *x, const int64_t *v, int8_t *signs) {
   for (size_t i = 0; i < n; i++) signs[i] = (int8_t)ln_wlexicographic3(x + 2 * i, v + 8 * i);
@@ -1067,7 +1190,7 @@ void ln_wlexicographic3_rows(size_t n, const int64_t *x, const int64_t *v, int8_
 static __attribute__((noinline)) int lm_wlexicographic3_at(const ln_weighted3 *p, const ln_weighted3 *q) {
   const int64_t x[] = {p->index, q->index};
   const int64_t v[] = {p->x, p->y, p->z, p->w, q->x, q->y, q->z, q->w};
-  return ln_wlexicographic3(x, v);
+  return lm_wlexicographic3(x, v);
 }
 __attribute__((flatten)) int ln_wlexicographic3_plain_at(const ln_weighted3 *p, const ln_weighted3 *q) {
   const int64_t v[] = {p->x, p->y, p->z, p->w, q->x, q->y, q->z, q->w};
@@ -1132,6 +1255,17 @@ __attribute__((flatten)) int ln_wdot3_at(const ln_weighted3 *p, const ln_weighte
   const int sign = lb0_wdot3(v);
   return sign != 0 ? sign : lm_wdot3_at(p, q, r, s);
 }
+static __attribute__((noinline)) int lm_wcoplanar_xy(const int64_t *x, const int64_t *v) {
+  int64_t y[3], w[12];
+  const int odd = lr_in_order(3, 4, x, v, y, w);
+  if (lb0_wcoplanar_xy(w) != 0) __builtin_unreachable();
+  const int sign = la_wcoplanar_xy(y, w);
+  return odd ? -sign : sign;
+}
+int ln_wcoplanar_xy(const int64_t *x, const int64_t *v) {
+  const int sign = lb0_wcoplanar_xy(v);
+  return sign != 0 ? sign : lm_wcoplanar_xy(x, v);
+}
 int ln_wcoplanar_xy_plain(const int64_t *v) { return lb0_wcoplanar_xy(v); }
 void ln_wcoplanar_xy_rows(size_t n, const int64_t *x, const int64_t *v, int8_t *signs) {
   for (size_t i = 0; i < n; i++) signs[i] = (int8_t)ln_wcoplanar_xy(x + 3 * i, v + 12 * i);
@@ -1139,7 +1273,7 @@ void ln_wcoplanar_xy_rows(size_t n, const int64_t *x, const int64_t *v, int8_t *
 static __attribute__((noinline)) int lm_wcoplanar_xy_at(const ln_weighted3 *p, const ln_weighted3 *q, const ln_weighted3 *r) {
   const int64_t x[] = {p->index, q->index, r->index};
   const int64_t v[] = {p->x, p->y, p->z, p->w, q->x, q->y, q->z, q->w, r->x, r->y, r->z, r->w};
-  return ln_wcoplanar_xy(x, v);
+  return lm_wcoplanar_xy(x, v);
 }
 __attribute__((flatten)) int ln_wcoplanar_xy_plain_at(const ln_weighted3 *p, const ln_weighted3 *q, const ln_weighted3 *r) {
   const int64_t v[] = {p->x, p->y, p->z, p->w, q->x, q->y, q->z, q->w, r->x, r->y, r->z, r->w};
@@ -1150,6 +1284,17 @@ __attribute__((flatten)) int ln_wcoplanar_xy_at(const ln_weighted3 *p, const ln_
   const int sign = lb0_wcoplanar_xy(v);
   return sign != 0 ? sign : lm_wcoplanar_xy_at(p, q, r);
 }
+static __attribute__((noinline)) int lm_wcoplanar_yz(const int64_t *x, const int64_t *v) {
+  int64_t y[3], w[12];
+  const int odd = lr_in_order(3, 4, x, v, y, w);
+  if (lb0_wcoplanar_yz(w) != 0) __builtin_unreachable();
+  const int sign = la_wcoplanar_yz(y, w);
+  return odd ? -sign : sign;
+}
+int ln_wcoplanar_yz(const int64_t *x, const int64_t *v) {
+  const int sign = lb0_wcoplanar_yz(v);
+  return sign != 0 ? sign : lm_wcoplanar_yz(x, v);
+}
 int ln_wcoplanar_yz_plain(const int64_t *v) { return lb0_wcoplanar_yz(v); }
 void ln_wcoplanar_yz_rows(size_t n, const int64_t *x, const int64_t *v, int8_t *signs) {
   for (size_t i = 0; i < n; i++) signs[i] = (int8_t)ln_wcoplanar_yz(x + 3 * i, v + 12 * i);
@@ -1157,7 +1302,7 @@ void ln_wcoplanar_yz_rows(size_t n, const int64_t *x, const int64_t *v, int8_t *
 static __attribute__((noinline)) int lm_wcoplanar_yz_at(const ln_weighted3 *p, const ln_weighted3 *q, const ln_weighted3 *r) {
   const int64_t x[] = {p->index, q->index, r->index};
   const int64_t v[] = {p->x, p->y, p->z, p->w, q->x, q->y, q->z, q->w, r->x, r->y, r->z, r->w};
-  return ln_wcoplanar_yz(x, v);
+  return lm_wcoplanar_yz(x, v);
 }
 __attribute__((flatten)) int ln_wcoplanar_yz_plain_at(const ln_weighted3 *p, const ln_weighted3 *q, const ln_weighted3 *r) {
   const int64_t v[] = {p->x, p->y, p->z, p->w, q->x, q->y, q->z, q->w, r->x, r->y, r->z, r->w};
@@ -1168,6 +1313,17 @@ __attribute__((flatten)) int ln_wcoplanar_yz_at(const ln_weighted3 *p, const ln_
   const int sign = lb0_wcoplanar_yz(v);
   return sign != 0 ? sign : lm_wcoplanar_yz_at(p, q, r);
 }
+static __attribute__((noinline)) int lm_wcoplanar_zx(const int64_t *x, const int64_t *v) {
+  int64_t y[3], w[12];
+  const int odd = lr_in_order(3, 4, x, v, y, w);
+  if (lb0_wcoplanar_zx(w) != 0) __builtin_unreachable();
+  const int sign = la_wcoplanar_zx(y, w);
+  return odd ? -sign : sign;
+}
+int ln_wcoplanar_zx(const int64_t *x, const int64_t *v) {
+  const int sign = lb0_wcoplanar_zx(v);
+  return sign != 0 ? sign : lm_wcoplanar_zx(x, v);
+}
 int ln_wcoplanar_zx_plain(const int64_t *v) { return lb0_wcoplanar_zx(v); }
 void ln_wcoplanar_zx_rows(size_t n, const int64_t *x, const int64_t *v, int8_t *signs) {
   for (size_t i = 0; i < n; i++) signs[i] = (int8_t)ln_wcoplanar_zx(x + 3 * i, v + 12 * i);
@@ -1175,7 +1331,7 @@ void ln_wcoplanar_zx_rows(size_t n, const int64_t *x, const int64_t *v, int8_t *
 static __attribute__((noinline)) int lm_wcoplanar_zx_at(const ln_weighted3 *p, const ln_weighted3 *q, const ln_weighted3 *r) {
   const int64_t x[] = {p->index, q->index, r->index};
   const int64_t v[] = {p->x, p->y, p->z, p->w, q->x, q->y, q->z, q->w, r->x, r->y, r->z, r->w};
-  return ln_wcoplanar_zx(x, v);
+  return lm_wcoplanar_zx(x, v);
 }
 __attribute__((flatten)) int ln_wcoplanar_zx_plain_at(const ln_weighted3 *p, const ln_weighted3 *q, const ln_weighted3 *r) {
   const int64_t v[] = {p->x, p->y, p->z, p->w, q->x, q->y, q->z, q->w, r->x, r->y, r->z, r->w};

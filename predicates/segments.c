@@ -339,104 +339,9 @@ static int lb6_turn2(const int64_t *v) {
   return (((int)(((int64_t)n0) > ((int64_t)0))) - ((int)(((int64_t)n0) < ((int64_t)0))));
 }
 
-static int lb7_turn2(const int64_t *v) {
-  int64_t n0 = ((int64_t)v[1]);
-  int64_t n1 = ((int64_t)v[3]);
-  int64_t n2 = (-((int64_t)n1));
-  int64_t n3 = (((int64_t)n0) + ((int64_t)n2));
-  return (((int)(((int64_t)n3) > ((int64_t)0))) - ((int)(((int64_t)n3) < ((int64_t)0))));
-}
-
-static int lb8_turn2(const int64_t *v) {
-  int64_t n0 = ((int64_t)v[0]);
-  int64_t n1 = ((int64_t)v[2]);
-  int64_t n2 = (-((int64_t)n1));
-  int64_t n3 = (((int64_t)n0) + ((int64_t)n2));
-  return (((int)(((int64_t)n3) > ((int64_t)0))) - ((int)(((int64_t)n3) < ((int64_t)0))));
-}
-
-static int lb9_turn2(const int64_t *v) {
-  int64_t n0 = ((int64_t)v[1]);
-  int64_t n1 = (-((int64_t)n0));
-  int64_t n2 = ((int64_t)v[3]);
-  int64_t n3 = (((int64_t)n1) + ((int64_t)n2));
-  return (((int)(((int64_t)n3) > ((int64_t)0))) - ((int)(((int64_t)n3) < ((int64_t)0))));
-}
-
-static int lb10_turn2(const int64_t *v) {
-  if (((int)0)) {
-    return ((int)v[0]);
-  }
-  int64_t n0 = ((int64_t)(-((int64_t)1)));
-  return (((int)(((int64_t)n0) > ((int64_t)0))) - ((int)(((int64_t)n0) < ((int64_t)0))));
-}
-
-int ln_turn2(const int64_t *x, const int64_t *v) {
+int la_turn2(const int64_t *x, const int64_t *v) {
   {
     int answer = ((int)lb0_turn2(v));
-    if ((((int)answer) != ((int)0))) {
-      return ((int)answer);
-    }
-  }
-  if ((((int64_t)x[0]) < ((int64_t)x[1]))) {
-    {
-      int answer = ((int)lb1_turn2(v));
-      if ((((int)answer) != ((int)0))) {
-        return ((int)answer);
-      }
-    }
-    {
-      int answer = ((int)lb2_turn2(v));
-      if ((((int)answer) != ((int)0))) {
-        return ((int)answer);
-      }
-    }
-    {
-      int answer = ((int)lb3_turn2(v));
-      if ((((int)answer) != ((int)0))) {
-        return ((int)answer);
-      }
-    }
-    {
-      int answer = ((int)lb4_turn2(v));
-      if ((((int)answer) != ((int)0))) {
-        return ((int)answer);
-      }
-    }
-    {
-      int answer = ((int)lb5_turn2(v));
-      if ((((int)answer) != ((int)0))) {
-        return ((int)answer);
-      }
-    }
-    {
-      int answer = ((int)lb6_turn2(v));
-      if ((((int)answer) != ((int)0))) {
-        return ((int)answer);
-      }
-    }
-    return ((int)0);
-  }
-  {
-    int answer = ((int)lb5_turn2(v));
-    if ((((int)answer) != ((int)0))) {
-      return ((int)answer);
-    }
-  }
-  {
-    int answer = ((int)lb7_turn2(v));
-    if ((((int)answer) != ((int)0))) {
-      return ((int)answer);
-    }
-  }
-  {
-    int answer = ((int)lb8_turn2(v));
-    if ((((int)answer) != ((int)0))) {
-      return ((int)answer);
-    }
-  }
-  {
-    int answer = ((int)lb9_turn2(v));
     if ((((int)answer) != ((int)0))) {
       return ((int)answer);
     }
@@ -448,10 +353,37 @@ int ln_turn2(const int64_t *x, const int64_t *v) {
     }
   }
   {
-    int answer = ((int)lb10_turn2(v));
+    int answer = ((int)lb2_turn2(v));
     if ((((int)answer) != ((int)0))) {
       return ((int)answer);
     }
+  }
+  {
+    int answer = ((int)lb3_turn2(v));
+    if ((((int)answer) != ((int)0))) {
+      return ((int)answer);
+    }
+  }
+  {
+    int answer = ((int)lb4_turn2(v));
+    if ((((int)answer) != ((int)0))) {
+      return ((int)answer);
+    }
+  }
+  {
+    int answer = ((int)lb5_turn2(v));
+    if ((((int)answer) != ((int)0))) {
+      return ((int)answer);
+    }
+  }
+  {
+    int answer = ((int)lb6_turn2(v));
+    if ((((int)answer) != ((int)0))) {
+      return ((int)answer);
+    }
+  }
+  if ((((int64_t)x[0]) < ((int64_t)x[1]))) {
+    return ((int)0);
   }
   return ((int)0);
 }
@@ -1959,3170 +1891,9 @@ static int lb59_crossings2(const int64_t *v) {
   return (((int)(((int64_t)n0) > ((int64_t)0))) - ((int)(((int64_t)n0) < ((int64_t)0))));
 }
 
-static int lb60_crossings2(const int64_t *v) {
-  int64_t n0 = ((int64_t)v[0]);
-  int64_t n1 = ((int64_t)v[3]);
-  int64_t n2 = ((int64_t)v[5]);
-  int64_t n3 = (-((int64_t)n2));
-  int64_t n4 = ((int64_t)v[7]);
-  int64_t n5 = (((int64_t)n3) + ((int64_t)n4));
-  int64_t n6 = (((int64_t)n1) * ((int64_t)n5));
-  int64_t n7 = ((int64_t)v[5]);
-  int64_t n8 = ((int64_t)v[9]);
-  int64_t n9 = (((int64_t)n7) * ((int64_t)n8));
-  int64_t n10 = ((int64_t)v[7]);
-  int64_t n11 = ((int64_t)v[9]);
-  int64_t n12 = (-((int64_t)n11));
-  int64_t n13 = ((int64_t)n12);
-  int64_t n14 = ((int64_t)n13);
-  int64_t n15 = (((int64_t)n10) * ((int64_t)n14));
-  int64_t n16 = (((int64_t)n9) + ((int64_t)n15));
-  int64_t n17 = (((int64_t)n6) + ((int64_t)n16));
-  __int128 n18 = (((__int128)n0) * ((__int128)n17));
-  int64_t n19 = ((int64_t)v[1]);
-  int64_t n20 = ((int64_t)v[2]);
-  int64_t n21 = ((int64_t)v[5]);
-  int64_t n22 = ((int64_t)v[7]);
-  int64_t n23 = (-((int64_t)n22));
-  int64_t n24 = ((int64_t)n23);
-  int64_t n25 = ((int64_t)n24);
-  int64_t n26 = (((int64_t)n21) + ((int64_t)n25));
-  int64_t n27 = (((int64_t)n20) * ((int64_t)n26));
-  int64_t n28 = ((int64_t)v[4]);
-  int64_t n29 = ((int64_t)v[7]);
-  int64_t n30 = ((int64_t)n13);
-  int64_t n31 = (((int64_t)n29) + ((int64_t)n30));
-  int64_t n32 = (((int64_t)n28) * ((int64_t)n31));
-  int64_t n33 = ((int64_t)v[5]);
-  int64_t n34 = ((int64_t)v[6]);
-  int64_t n35 = (-((int64_t)n34));
-  int64_t n36 = (((int64_t)n33) * ((int64_t)n35));
-  int64_t n37 = ((int64_t)v[6]);
-  int64_t n38 = ((int64_t)v[9]);
-  int64_t n39 = (((int64_t)n37) * ((int64_t)n38));
-  int64_t n40 = (((int64_t)n36) + ((int64_t)n39));
-  int64_t n41 = (((int64_t)n32) + ((int64_t)n40));
-  int64_t n42 = (((int64_t)n27) + ((int64_t)n41));
-  __int128 n43 = (((__int128)n19) * ((__int128)n42));
-  int64_t n44 = ((int64_t)v[2]);
-  int64_t n45 = ((int64_t)v[5]);
-  int64_t n46 = ((int64_t)n13);
-  int64_t n47 = (((int64_t)n45) * ((int64_t)n46));
-  int64_t n48 = ((int64_t)v[7]);
-  int64_t n49 = ((int64_t)v[9]);
-  int64_t n50 = (((int64_t)n48) * ((int64_t)n49));
-  int64_t n51 = (((int64_t)n47) + ((int64_t)n50));
-  __int128 n52 = (((__int128)n44) * ((__int128)n51));
-  int64_t n53 = ((int64_t)v[3]);
-  int64_t n54 = ((int64_t)v[4]);
-  int64_t n55 = ((int64_t)n24);
-  int64_t n56 = ((int64_t)v[9]);
-  int64_t n57 = (((int64_t)n55) + ((int64_t)n56));
-  int64_t n58 = (((int64_t)n54) * ((int64_t)n57));
-  int64_t n59 = ((int64_t)v[5]);
-  int64_t n60 = ((int64_t)v[6]);
-  int64_t n61 = (((int64_t)n59) * ((int64_t)n60));
-  int64_t n62 = ((int64_t)v[6]);
-  int64_t n63 = ((int64_t)n13);
-  int64_t n64 = (((int64_t)n62) * ((int64_t)n63));
-  int64_t n65 = (((int64_t)n61) + ((int64_t)n64));
-  int64_t n66 = (((int64_t)n58) + ((int64_t)n65));
-  __int128 n67 = (((__int128)n53) * ((__int128)n66));
-  __int128 n68 = (((__int128)n52) + ((__int128)n67));
-  __int128 n69 = (((__int128)n43) + ((__int128)n68));
-  __int128 n70 = (((__int128)n18) + ((__int128)n69));
-  return (((int)(((__int128)n70) > ((__int128)0))) - ((int)(((__int128)n70) < ((__int128)0))));
-}
-
-static int lb61_crossings2(const int64_t *v) {
-  int64_t n0 = ((int64_t)v[0]);
-  int64_t n1 = ((int64_t)v[5]);
-  int64_t n2 = (-((int64_t)n1));
-  int64_t n3 = ((int64_t)v[7]);
-  int64_t n4 = (((int64_t)n2) + ((int64_t)n3));
-  int64_t n5 = (((int64_t)n0) * ((int64_t)n4));
-  int64_t n6 = ((int64_t)v[4]);
-  int64_t n7 = ((int64_t)v[7]);
-  int64_t n8 = (-((int64_t)n7));
-  int64_t n9 = ((int64_t)v[9]);
-  int64_t n10 = (((int64_t)n8) + ((int64_t)n9));
-  int64_t n11 = (((int64_t)n6) * ((int64_t)n10));
-  int64_t n12 = ((int64_t)v[5]);
-  int64_t n13 = ((int64_t)v[6]);
-  int64_t n14 = (((int64_t)n12) * ((int64_t)n13));
-  int64_t n15 = ((int64_t)v[6]);
-  int64_t n16 = ((int64_t)v[9]);
-  int64_t n17 = (-((int64_t)n16));
-  int64_t n18 = (((int64_t)n15) * ((int64_t)n17));
-  int64_t n19 = (((int64_t)n14) + ((int64_t)n18));
-  int64_t n20 = (((int64_t)n11) + ((int64_t)n19));
-  int64_t n21 = (((int64_t)n5) + ((int64_t)n20));
-  return (((int)(((int64_t)n21) > ((int64_t)0))) - ((int)(((int64_t)n21) < ((int64_t)0))));
-}
-
-static int lb62_crossings2(const int64_t *v) {
-  int64_t n0 = ((int64_t)v[1]);
-  int64_t n1 = ((int64_t)v[5]);
-  int64_t n2 = ((int64_t)v[7]);
-  int64_t n3 = (-((int64_t)n2));
-  int64_t n4 = (((int64_t)n1) + ((int64_t)n3));
-  int64_t n5 = (((int64_t)n0) * ((int64_t)n4));
-  int64_t n6 = ((int64_t)v[5]);
-  int64_t n7 = ((int64_t)v[9]);
-  int64_t n8 = (-((int64_t)n7));
-  int64_t n9 = (((int64_t)n6) * ((int64_t)n8));
-  int64_t n10 = ((int64_t)v[7]);
-  int64_t n11 = ((int64_t)v[9]);
-  int64_t n12 = (((int64_t)n10) * ((int64_t)n11));
-  int64_t n13 = (((int64_t)n9) + ((int64_t)n12));
-  int64_t n14 = (((int64_t)n5) + ((int64_t)n13));
-  return (((int)(((int64_t)n14) > ((int64_t)0))) - ((int)(((int64_t)n14) < ((int64_t)0))));
-}
-
-static int lb63_crossings2(const int64_t *v) {
-  int64_t n0 = ((int64_t)v[2]);
-  int64_t n1 = ((int64_t)v[5]);
-  int64_t n2 = ((int64_t)v[7]);
-  int64_t n3 = (-((int64_t)n2));
-  int64_t n4 = (((int64_t)n1) + ((int64_t)n3));
-  int64_t n5 = (((int64_t)n0) * ((int64_t)n4));
-  int64_t n6 = ((int64_t)v[4]);
-  int64_t n7 = ((int64_t)v[7]);
-  int64_t n8 = ((int64_t)v[9]);
-  int64_t n9 = (-((int64_t)n8));
-  int64_t n10 = (((int64_t)n7) + ((int64_t)n9));
-  int64_t n11 = (((int64_t)n6) * ((int64_t)n10));
-  int64_t n12 = ((int64_t)v[5]);
-  int64_t n13 = ((int64_t)v[6]);
-  int64_t n14 = (-((int64_t)n13));
-  int64_t n15 = (((int64_t)n12) * ((int64_t)n14));
-  int64_t n16 = ((int64_t)v[6]);
-  int64_t n17 = ((int64_t)v[9]);
-  int64_t n18 = (((int64_t)n16) * ((int64_t)n17));
-  int64_t n19 = (((int64_t)n15) + ((int64_t)n18));
-  int64_t n20 = (((int64_t)n11) + ((int64_t)n19));
-  int64_t n21 = (((int64_t)n5) + ((int64_t)n20));
-  return (((int)(((int64_t)n21) > ((int64_t)0))) - ((int)(((int64_t)n21) < ((int64_t)0))));
-}
-
-static int lb64_crossings2(const int64_t *v) {
-  int64_t n0 = ((int64_t)v[5]);
-  int64_t n1 = ((int64_t)v[7]);
-  int64_t n2 = (-((int64_t)n1));
-  int64_t n3 = (((int64_t)n0) + ((int64_t)n2));
-  return (((int)(((int64_t)n3) > ((int64_t)0))) - ((int)(((int64_t)n3) < ((int64_t)0))));
-}
-
-static int lb65_crossings2(const int64_t *v) {
-  int64_t n0 = ((int64_t)v[3]);
-  int64_t n1 = ((int64_t)v[5]);
-  int64_t n2 = (-((int64_t)n1));
-  int64_t n3 = ((int64_t)v[7]);
-  int64_t n4 = (((int64_t)n2) + ((int64_t)n3));
-  int64_t n5 = (((int64_t)n0) * ((int64_t)n4));
-  int64_t n6 = ((int64_t)v[5]);
-  int64_t n7 = ((int64_t)v[9]);
-  int64_t n8 = (((int64_t)n6) * ((int64_t)n7));
-  int64_t n9 = ((int64_t)v[7]);
-  int64_t n10 = ((int64_t)v[9]);
-  int64_t n11 = (-((int64_t)n10));
-  int64_t n12 = (((int64_t)n9) * ((int64_t)n11));
-  int64_t n13 = (((int64_t)n8) + ((int64_t)n12));
-  int64_t n14 = (((int64_t)n5) + ((int64_t)n13));
-  return (((int)(((int64_t)n14) > ((int64_t)0))) - ((int)(((int64_t)n14) < ((int64_t)0))));
-}
-
-static int lb66_crossings2(const int64_t *v) {
-  int64_t n0 = ((int64_t)v[5]);
-  int64_t n1 = (-((int64_t)n0));
-  int64_t n2 = ((int64_t)v[7]);
-  int64_t n3 = (((int64_t)n1) + ((int64_t)n2));
-  return (((int)(((int64_t)n3) > ((int64_t)0))) - ((int)(((int64_t)n3) < ((int64_t)0))));
-}
-
-static int lb67_crossings2(const int64_t *v) {
-  int64_t n0 = ((int64_t)v[0]);
-  int64_t n1 = ((int64_t)v[3]);
-  int64_t n2 = ((int64_t)v[4]);
-  int64_t n3 = (-((int64_t)n2));
-  int64_t n4 = ((int64_t)v[6]);
-  int64_t n5 = (((int64_t)n3) + ((int64_t)n4));
-  int64_t n6 = (((int64_t)n1) * ((int64_t)n5));
-  int64_t n7 = ((int64_t)v[4]);
-  int64_t n8 = ((int64_t)v[7]);
-  int64_t n9 = (((int64_t)n7) * ((int64_t)n8));
-  int64_t n10 = ((int64_t)v[5]);
-  int64_t n11 = ((int64_t)v[6]);
-  int64_t n12 = (-((int64_t)n11));
-  int64_t n13 = ((int64_t)n12);
-  int64_t n14 = ((int64_t)n13);
-  int64_t n15 = ((int64_t)v[10]);
-  int64_t n16 = (((int64_t)n14) + ((int64_t)n15));
-  int64_t n17 = (((int64_t)n10) * ((int64_t)n16));
-  int64_t n18 = ((int64_t)v[7]);
-  int64_t n19 = ((int64_t)v[10]);
-  int64_t n20 = (-((int64_t)n19));
-  int64_t n21 = ((int64_t)n20);
-  int64_t n22 = ((int64_t)n21);
-  int64_t n23 = (((int64_t)n18) * ((int64_t)n22));
-  int64_t n24 = (((int64_t)n17) + ((int64_t)n23));
-  int64_t n25 = (((int64_t)n9) + ((int64_t)n24));
-  int64_t n26 = (((int64_t)n6) + ((int64_t)n25));
-  __int128 n27 = (((__int128)n0) * ((__int128)n26));
-  int64_t n28 = ((int64_t)v[1]);
-  int64_t n29 = ((int64_t)v[2]);
-  int64_t n30 = ((int64_t)v[4]);
-  int64_t n31 = ((int64_t)n13);
-  int64_t n32 = (((int64_t)n30) + ((int64_t)n31));
-  int64_t n33 = (((int64_t)n29) * ((int64_t)n32));
-  int64_t n34 = ((int64_t)v[4]);
-  int64_t n35 = ((int64_t)n21);
-  int64_t n36 = (((int64_t)n34) * ((int64_t)n35));
-  int64_t n37 = ((int64_t)v[6]);
-  int64_t n38 = ((int64_t)v[10]);
-  int64_t n39 = (((int64_t)n37) * ((int64_t)n38));
-  int64_t n40 = (((int64_t)n36) + ((int64_t)n39));
-  int64_t n41 = (((int64_t)n33) + ((int64_t)n40));
-  __int128 n42 = (((__int128)n28) * ((__int128)n41));
-  int64_t n43 = ((int64_t)v[2]);
-  int64_t n44 = ((int64_t)v[4]);
-  int64_t n45 = ((int64_t)v[7]);
-  int64_t n46 = (-((int64_t)n45));
-  int64_t n47 = (((int64_t)n44) * ((int64_t)n46));
-  int64_t n48 = ((int64_t)v[5]);
-  int64_t n49 = ((int64_t)v[6]);
-  int64_t n50 = ((int64_t)n21);
-  int64_t n51 = (((int64_t)n49) + ((int64_t)n50));
-  int64_t n52 = (((int64_t)n48) * ((int64_t)n51));
-  int64_t n53 = ((int64_t)v[7]);
-  int64_t n54 = ((int64_t)v[10]);
-  int64_t n55 = (((int64_t)n53) * ((int64_t)n54));
-  int64_t n56 = (((int64_t)n52) + ((int64_t)n55));
-  int64_t n57 = (((int64_t)n47) + ((int64_t)n56));
-  __int128 n58 = (((__int128)n43) * ((__int128)n57));
-  int64_t n59 = ((int64_t)v[3]);
-  int64_t n60 = ((int64_t)v[4]);
-  int64_t n61 = ((int64_t)v[10]);
-  int64_t n62 = (((int64_t)n60) * ((int64_t)n61));
-  int64_t n63 = ((int64_t)v[6]);
-  int64_t n64 = ((int64_t)n21);
-  int64_t n65 = (((int64_t)n63) * ((int64_t)n64));
-  int64_t n66 = (((int64_t)n62) + ((int64_t)n65));
-  __int128 n67 = (((__int128)n59) * ((__int128)n66));
-  __int128 n68 = (((__int128)n58) + ((__int128)n67));
-  __int128 n69 = (((__int128)n42) + ((__int128)n68));
-  __int128 n70 = (((__int128)n27) + ((__int128)n69));
-  return (((int)(((__int128)n70) > ((__int128)0))) - ((int)(((__int128)n70) < ((__int128)0))));
-}
-
-static int lb68_crossings2(const int64_t *v) {
-  int64_t n0 = ((int64_t)v[0]);
-  int64_t n1 = ((int64_t)v[4]);
-  int64_t n2 = (-((int64_t)n1));
-  int64_t n3 = ((int64_t)v[6]);
-  int64_t n4 = (((int64_t)n2) + ((int64_t)n3));
-  int64_t n5 = (((int64_t)n0) * ((int64_t)n4));
-  int64_t n6 = ((int64_t)v[4]);
-  int64_t n7 = ((int64_t)v[10]);
-  int64_t n8 = (((int64_t)n6) * ((int64_t)n7));
-  int64_t n9 = ((int64_t)v[6]);
-  int64_t n10 = ((int64_t)v[10]);
-  int64_t n11 = (-((int64_t)n10));
-  int64_t n12 = (((int64_t)n9) * ((int64_t)n11));
-  int64_t n13 = (((int64_t)n8) + ((int64_t)n12));
-  int64_t n14 = (((int64_t)n5) + ((int64_t)n13));
-  return (((int)(((int64_t)n14) > ((int64_t)0))) - ((int)(((int64_t)n14) < ((int64_t)0))));
-}
-
-static int lb69_crossings2(const int64_t *v) {
-  int64_t n0 = ((int64_t)v[1]);
-  int64_t n1 = ((int64_t)v[4]);
-  int64_t n2 = ((int64_t)v[6]);
-  int64_t n3 = (-((int64_t)n2));
-  int64_t n4 = (((int64_t)n1) + ((int64_t)n3));
-  int64_t n5 = (((int64_t)n0) * ((int64_t)n4));
-  int64_t n6 = ((int64_t)v[4]);
-  int64_t n7 = ((int64_t)v[7]);
-  int64_t n8 = (-((int64_t)n7));
-  int64_t n9 = (((int64_t)n6) * ((int64_t)n8));
-  int64_t n10 = ((int64_t)v[5]);
-  int64_t n11 = ((int64_t)v[6]);
-  int64_t n12 = ((int64_t)v[10]);
-  int64_t n13 = (-((int64_t)n12));
-  int64_t n14 = (((int64_t)n11) + ((int64_t)n13));
-  int64_t n15 = (((int64_t)n10) * ((int64_t)n14));
-  int64_t n16 = ((int64_t)v[7]);
-  int64_t n17 = ((int64_t)v[10]);
-  int64_t n18 = (((int64_t)n16) * ((int64_t)n17));
-  int64_t n19 = (((int64_t)n15) + ((int64_t)n18));
-  int64_t n20 = (((int64_t)n9) + ((int64_t)n19));
-  int64_t n21 = (((int64_t)n5) + ((int64_t)n20));
-  return (((int)(((int64_t)n21) > ((int64_t)0))) - ((int)(((int64_t)n21) < ((int64_t)0))));
-}
-
-static int lb70_crossings2(const int64_t *v) {
-  int64_t n0 = ((int64_t)v[2]);
-  int64_t n1 = ((int64_t)v[4]);
-  int64_t n2 = ((int64_t)v[6]);
-  int64_t n3 = (-((int64_t)n2));
-  int64_t n4 = (((int64_t)n1) + ((int64_t)n3));
-  int64_t n5 = (((int64_t)n0) * ((int64_t)n4));
-  int64_t n6 = ((int64_t)v[4]);
-  int64_t n7 = ((int64_t)v[10]);
-  int64_t n8 = (-((int64_t)n7));
-  int64_t n9 = (((int64_t)n6) * ((int64_t)n8));
-  int64_t n10 = ((int64_t)v[6]);
-  int64_t n11 = ((int64_t)v[10]);
-  int64_t n12 = (((int64_t)n10) * ((int64_t)n11));
-  int64_t n13 = (((int64_t)n9) + ((int64_t)n12));
-  int64_t n14 = (((int64_t)n5) + ((int64_t)n13));
-  return (((int)(((int64_t)n14) > ((int64_t)0))) - ((int)(((int64_t)n14) < ((int64_t)0))));
-}
-
-static int lb71_crossings2(const int64_t *v) {
-  int64_t n0 = ((int64_t)v[4]);
-  int64_t n1 = ((int64_t)v[6]);
-  int64_t n2 = (-((int64_t)n1));
-  int64_t n3 = (((int64_t)n0) + ((int64_t)n2));
-  return (((int)(((int64_t)n3) > ((int64_t)0))) - ((int)(((int64_t)n3) < ((int64_t)0))));
-}
-
-static int lb72_crossings2(const int64_t *v) {
-  int64_t n0 = ((int64_t)v[3]);
-  int64_t n1 = ((int64_t)v[4]);
-  int64_t n2 = (-((int64_t)n1));
-  int64_t n3 = ((int64_t)v[6]);
-  int64_t n4 = (((int64_t)n2) + ((int64_t)n3));
-  int64_t n5 = (((int64_t)n0) * ((int64_t)n4));
-  int64_t n6 = ((int64_t)v[4]);
-  int64_t n7 = ((int64_t)v[7]);
-  int64_t n8 = (((int64_t)n6) * ((int64_t)n7));
-  int64_t n9 = ((int64_t)v[5]);
-  int64_t n10 = ((int64_t)v[6]);
-  int64_t n11 = (-((int64_t)n10));
-  int64_t n12 = ((int64_t)v[10]);
-  int64_t n13 = (((int64_t)n11) + ((int64_t)n12));
-  int64_t n14 = (((int64_t)n9) * ((int64_t)n13));
-  int64_t n15 = ((int64_t)v[7]);
-  int64_t n16 = ((int64_t)v[10]);
-  int64_t n17 = (-((int64_t)n16));
-  int64_t n18 = (((int64_t)n15) * ((int64_t)n17));
-  int64_t n19 = (((int64_t)n14) + ((int64_t)n18));
-  int64_t n20 = (((int64_t)n8) + ((int64_t)n19));
-  int64_t n21 = (((int64_t)n5) + ((int64_t)n20));
-  return (((int)(((int64_t)n21) > ((int64_t)0))) - ((int)(((int64_t)n21) < ((int64_t)0))));
-}
-
-static int lb73_crossings2(const int64_t *v) {
-  int64_t n0 = ((int64_t)v[4]);
-  int64_t n1 = (-((int64_t)n0));
-  int64_t n2 = ((int64_t)v[6]);
-  int64_t n3 = (((int64_t)n1) + ((int64_t)n2));
-  return (((int)(((int64_t)n3) > ((int64_t)0))) - ((int)(((int64_t)n3) < ((int64_t)0))));
-}
-
-static int lb74_crossings2(const int64_t *v) {
-  int64_t n0 = ((int64_t)v[0]);
-  int64_t n1 = ((int64_t)v[5]);
-  int64_t n2 = ((int64_t)v[7]);
-  int64_t n3 = (-((int64_t)n2));
-  int64_t n4 = (((int64_t)n1) + ((int64_t)n3));
-  int64_t n5 = (((int64_t)n0) * ((int64_t)n4));
-  int64_t n6 = ((int64_t)v[1]);
-  int64_t n7 = ((int64_t)v[4]);
-  int64_t n8 = (-((int64_t)n7));
-  int64_t n9 = ((int64_t)v[6]);
-  int64_t n10 = (((int64_t)n8) + ((int64_t)n9));
-  int64_t n11 = (((int64_t)n6) * ((int64_t)n10));
-  int64_t n12 = ((int64_t)v[2]);
-  int64_t n13 = ((int64_t)v[5]);
-  int64_t n14 = (-((int64_t)n13));
-  int64_t n15 = ((int64_t)v[7]);
-  int64_t n16 = (((int64_t)n14) + ((int64_t)n15));
-  int64_t n17 = (((int64_t)n12) * ((int64_t)n16));
-  int64_t n18 = ((int64_t)v[3]);
-  int64_t n19 = ((int64_t)v[4]);
-  int64_t n20 = ((int64_t)v[6]);
-  int64_t n21 = (-((int64_t)n20));
-  int64_t n22 = (((int64_t)n19) + ((int64_t)n21));
-  int64_t n23 = (((int64_t)n18) * ((int64_t)n22));
-  int64_t n24 = (((int64_t)n17) + ((int64_t)n23));
-  int64_t n25 = (((int64_t)n11) + ((int64_t)n24));
-  int64_t n26 = (((int64_t)n5) + ((int64_t)n25));
-  return (((int)(((int64_t)n26) > ((int64_t)0))) - ((int)(((int64_t)n26) < ((int64_t)0))));
-}
-
-static int lb75_crossings2(const int64_t *v) {
-  int64_t n0 = ((int64_t)v[4]);
-  int64_t n1 = ((int64_t)v[6]);
-  int64_t n2 = (-((int64_t)n1));
-  int64_t n3 = (((int64_t)n0) + ((int64_t)n2));
-  return (((int)(((int64_t)n3) > ((int64_t)0))) - ((int)(((int64_t)n3) < ((int64_t)0))));
-}
-
-static int lb76_crossings2(const int64_t *v) {
-  int64_t n0 = ((int64_t)v[5]);
-  int64_t n1 = (-((int64_t)n0));
-  int64_t n2 = ((int64_t)v[7]);
-  int64_t n3 = (((int64_t)n1) + ((int64_t)n2));
-  return (((int)(((int64_t)n3) > ((int64_t)0))) - ((int)(((int64_t)n3) < ((int64_t)0))));
-}
-
-static int lb77_crossings2(const int64_t *v) {
-  int64_t n0 = ((int64_t)v[4]);
-  int64_t n1 = (-((int64_t)n0));
-  int64_t n2 = ((int64_t)v[6]);
-  int64_t n3 = (((int64_t)n1) + ((int64_t)n2));
-  return (((int)(((int64_t)n3) > ((int64_t)0))) - ((int)(((int64_t)n3) < ((int64_t)0))));
-}
-
-static int lb78_crossings2(const int64_t *v) {
-  int64_t n0 = ((int64_t)v[5]);
-  int64_t n1 = ((int64_t)v[7]);
-  int64_t n2 = (-((int64_t)n1));
-  int64_t n3 = (((int64_t)n0) + ((int64_t)n2));
-  return (((int)(((int64_t)n3) > ((int64_t)0))) - ((int)(((int64_t)n3) < ((int64_t)0))));
-}
-
-static int lb79_crossings2(const int64_t *v) {
-  int64_t n0 = ((int64_t)v[0]);
-  int64_t n1 = ((int64_t)v[3]);
-  int64_t n2 = ((int64_t)v[5]);
-  int64_t n3 = ((int64_t)v[7]);
-  int64_t n4 = (-((int64_t)n3));
-  int64_t n5 = ((int64_t)n4);
-  int64_t n6 = ((int64_t)n5);
-  int64_t n7 = (((int64_t)n2) + ((int64_t)n6));
-  int64_t n8 = (((int64_t)n1) * ((int64_t)n7));
-  int64_t n9 = ((int64_t)v[5]);
-  int64_t n10 = ((int64_t)v[11]);
-  int64_t n11 = (-((int64_t)n10));
-  int64_t n12 = ((int64_t)n11);
-  int64_t n13 = ((int64_t)n12);
-  int64_t n14 = (((int64_t)n9) * ((int64_t)n13));
-  int64_t n15 = ((int64_t)v[7]);
-  int64_t n16 = ((int64_t)v[11]);
-  int64_t n17 = (((int64_t)n15) * ((int64_t)n16));
-  int64_t n18 = (((int64_t)n14) + ((int64_t)n17));
-  int64_t n19 = (((int64_t)n8) + ((int64_t)n18));
-  __int128 n20 = (((__int128)n0) * ((__int128)n19));
-  int64_t n21 = ((int64_t)v[1]);
-  int64_t n22 = ((int64_t)v[2]);
-  int64_t n23 = ((int64_t)v[5]);
-  int64_t n24 = (-((int64_t)n23));
-  int64_t n25 = ((int64_t)v[7]);
-  int64_t n26 = (((int64_t)n24) + ((int64_t)n25));
-  int64_t n27 = (((int64_t)n22) * ((int64_t)n26));
-  int64_t n28 = ((int64_t)v[4]);
-  int64_t n29 = ((int64_t)n5);
-  int64_t n30 = ((int64_t)v[11]);
-  int64_t n31 = (((int64_t)n29) + ((int64_t)n30));
-  int64_t n32 = (((int64_t)n28) * ((int64_t)n31));
-  int64_t n33 = ((int64_t)v[5]);
-  int64_t n34 = ((int64_t)v[6]);
-  int64_t n35 = (((int64_t)n33) * ((int64_t)n34));
-  int64_t n36 = ((int64_t)v[6]);
-  int64_t n37 = ((int64_t)n12);
-  int64_t n38 = (((int64_t)n36) * ((int64_t)n37));
-  int64_t n39 = (((int64_t)n35) + ((int64_t)n38));
-  int64_t n40 = (((int64_t)n32) + ((int64_t)n39));
-  int64_t n41 = (((int64_t)n27) + ((int64_t)n40));
-  __int128 n42 = (((__int128)n21) * ((__int128)n41));
-  int64_t n43 = ((int64_t)v[2]);
-  int64_t n44 = ((int64_t)v[5]);
-  int64_t n45 = ((int64_t)v[11]);
-  int64_t n46 = (((int64_t)n44) * ((int64_t)n45));
-  int64_t n47 = ((int64_t)v[7]);
-  int64_t n48 = ((int64_t)n12);
-  int64_t n49 = (((int64_t)n47) * ((int64_t)n48));
-  int64_t n50 = (((int64_t)n46) + ((int64_t)n49));
-  __int128 n51 = (((__int128)n43) * ((__int128)n50));
-  int64_t n52 = ((int64_t)v[3]);
-  int64_t n53 = ((int64_t)v[4]);
-  int64_t n54 = ((int64_t)v[7]);
-  int64_t n55 = ((int64_t)n12);
-  int64_t n56 = (((int64_t)n54) + ((int64_t)n55));
-  int64_t n57 = (((int64_t)n53) * ((int64_t)n56));
-  int64_t n58 = ((int64_t)v[5]);
-  int64_t n59 = ((int64_t)v[6]);
-  int64_t n60 = (-((int64_t)n59));
-  int64_t n61 = (((int64_t)n58) * ((int64_t)n60));
-  int64_t n62 = ((int64_t)v[6]);
-  int64_t n63 = ((int64_t)v[11]);
-  int64_t n64 = (((int64_t)n62) * ((int64_t)n63));
-  int64_t n65 = (((int64_t)n61) + ((int64_t)n64));
-  int64_t n66 = (((int64_t)n57) + ((int64_t)n65));
-  __int128 n67 = (((__int128)n52) * ((__int128)n66));
-  __int128 n68 = (((__int128)n51) + ((__int128)n67));
-  __int128 n69 = (((__int128)n42) + ((__int128)n68));
-  __int128 n70 = (((__int128)n20) + ((__int128)n69));
-  return (((int)(((__int128)n70) > ((__int128)0))) - ((int)(((__int128)n70) < ((__int128)0))));
-}
-
-static int lb80_crossings2(const int64_t *v) {
-  int64_t n0 = ((int64_t)v[0]);
-  int64_t n1 = ((int64_t)v[5]);
-  int64_t n2 = ((int64_t)v[7]);
-  int64_t n3 = (-((int64_t)n2));
-  int64_t n4 = (((int64_t)n1) + ((int64_t)n3));
-  int64_t n5 = (((int64_t)n0) * ((int64_t)n4));
-  int64_t n6 = ((int64_t)v[4]);
-  int64_t n7 = ((int64_t)v[7]);
-  int64_t n8 = ((int64_t)v[11]);
-  int64_t n9 = (-((int64_t)n8));
-  int64_t n10 = (((int64_t)n7) + ((int64_t)n9));
-  int64_t n11 = (((int64_t)n6) * ((int64_t)n10));
-  int64_t n12 = ((int64_t)v[5]);
-  int64_t n13 = ((int64_t)v[6]);
-  int64_t n14 = (-((int64_t)n13));
-  int64_t n15 = (((int64_t)n12) * ((int64_t)n14));
-  int64_t n16 = ((int64_t)v[6]);
-  int64_t n17 = ((int64_t)v[11]);
-  int64_t n18 = (((int64_t)n16) * ((int64_t)n17));
-  int64_t n19 = (((int64_t)n15) + ((int64_t)n18));
-  int64_t n20 = (((int64_t)n11) + ((int64_t)n19));
-  int64_t n21 = (((int64_t)n5) + ((int64_t)n20));
-  return (((int)(((int64_t)n21) > ((int64_t)0))) - ((int)(((int64_t)n21) < ((int64_t)0))));
-}
-
-static int lb81_crossings2(const int64_t *v) {
-  int64_t n0 = ((int64_t)v[1]);
-  int64_t n1 = ((int64_t)v[5]);
-  int64_t n2 = (-((int64_t)n1));
-  int64_t n3 = ((int64_t)v[7]);
-  int64_t n4 = (((int64_t)n2) + ((int64_t)n3));
-  int64_t n5 = (((int64_t)n0) * ((int64_t)n4));
-  int64_t n6 = ((int64_t)v[5]);
-  int64_t n7 = ((int64_t)v[11]);
-  int64_t n8 = (((int64_t)n6) * ((int64_t)n7));
-  int64_t n9 = ((int64_t)v[7]);
-  int64_t n10 = ((int64_t)v[11]);
-  int64_t n11 = (-((int64_t)n10));
-  int64_t n12 = (((int64_t)n9) * ((int64_t)n11));
-  int64_t n13 = (((int64_t)n8) + ((int64_t)n12));
-  int64_t n14 = (((int64_t)n5) + ((int64_t)n13));
-  return (((int)(((int64_t)n14) > ((int64_t)0))) - ((int)(((int64_t)n14) < ((int64_t)0))));
-}
-
-static int lb82_crossings2(const int64_t *v) {
-  int64_t n0 = ((int64_t)v[2]);
-  int64_t n1 = ((int64_t)v[5]);
-  int64_t n2 = (-((int64_t)n1));
-  int64_t n3 = ((int64_t)v[7]);
-  int64_t n4 = (((int64_t)n2) + ((int64_t)n3));
-  int64_t n5 = (((int64_t)n0) * ((int64_t)n4));
-  int64_t n6 = ((int64_t)v[4]);
-  int64_t n7 = ((int64_t)v[7]);
-  int64_t n8 = (-((int64_t)n7));
-  int64_t n9 = ((int64_t)v[11]);
-  int64_t n10 = (((int64_t)n8) + ((int64_t)n9));
-  int64_t n11 = (((int64_t)n6) * ((int64_t)n10));
-  int64_t n12 = ((int64_t)v[5]);
-  int64_t n13 = ((int64_t)v[6]);
-  int64_t n14 = (((int64_t)n12) * ((int64_t)n13));
-  int64_t n15 = ((int64_t)v[6]);
-  int64_t n16 = ((int64_t)v[11]);
-  int64_t n17 = (-((int64_t)n16));
-  int64_t n18 = (((int64_t)n15) * ((int64_t)n17));
-  int64_t n19 = (((int64_t)n14) + ((int64_t)n18));
-  int64_t n20 = (((int64_t)n11) + ((int64_t)n19));
-  int64_t n21 = (((int64_t)n5) + ((int64_t)n20));
-  return (((int)(((int64_t)n21) > ((int64_t)0))) - ((int)(((int64_t)n21) < ((int64_t)0))));
-}
-
-static int lb83_crossings2(const int64_t *v) {
-  int64_t n0 = ((int64_t)v[5]);
-  int64_t n1 = (-((int64_t)n0));
-  int64_t n2 = ((int64_t)v[7]);
-  int64_t n3 = (((int64_t)n1) + ((int64_t)n2));
-  return (((int)(((int64_t)n3) > ((int64_t)0))) - ((int)(((int64_t)n3) < ((int64_t)0))));
-}
-
-static int lb84_crossings2(const int64_t *v) {
-  int64_t n0 = ((int64_t)v[3]);
-  int64_t n1 = ((int64_t)v[5]);
-  int64_t n2 = ((int64_t)v[7]);
-  int64_t n3 = (-((int64_t)n2));
-  int64_t n4 = (((int64_t)n1) + ((int64_t)n3));
-  int64_t n5 = (((int64_t)n0) * ((int64_t)n4));
-  int64_t n6 = ((int64_t)v[5]);
-  int64_t n7 = ((int64_t)v[11]);
-  int64_t n8 = (-((int64_t)n7));
-  int64_t n9 = (((int64_t)n6) * ((int64_t)n8));
-  int64_t n10 = ((int64_t)v[7]);
-  int64_t n11 = ((int64_t)v[11]);
-  int64_t n12 = (((int64_t)n10) * ((int64_t)n11));
-  int64_t n13 = (((int64_t)n9) + ((int64_t)n12));
-  int64_t n14 = (((int64_t)n5) + ((int64_t)n13));
-  return (((int)(((int64_t)n14) > ((int64_t)0))) - ((int)(((int64_t)n14) < ((int64_t)0))));
-}
-
-static int lb85_crossings2(const int64_t *v) {
-  int64_t n0 = ((int64_t)v[5]);
-  int64_t n1 = ((int64_t)v[7]);
-  int64_t n2 = (-((int64_t)n1));
-  int64_t n3 = (((int64_t)n0) + ((int64_t)n2));
-  return (((int)(((int64_t)n3) > ((int64_t)0))) - ((int)(((int64_t)n3) < ((int64_t)0))));
-}
-
-static int lb86_crossings2(const int64_t *v) {
-  int64_t n0 = ((int64_t)v[0]);
-  int64_t n1 = ((int64_t)v[5]);
-  int64_t n2 = (-((int64_t)n1));
-  int64_t n3 = ((int64_t)v[7]);
-  int64_t n4 = (((int64_t)n2) + ((int64_t)n3));
-  int64_t n5 = (((int64_t)n0) * ((int64_t)n4));
-  int64_t n6 = ((int64_t)v[1]);
-  int64_t n7 = ((int64_t)v[4]);
-  int64_t n8 = ((int64_t)v[6]);
-  int64_t n9 = (-((int64_t)n8));
-  int64_t n10 = (((int64_t)n7) + ((int64_t)n9));
-  int64_t n11 = (((int64_t)n6) * ((int64_t)n10));
-  int64_t n12 = ((int64_t)v[2]);
-  int64_t n13 = ((int64_t)v[5]);
-  int64_t n14 = ((int64_t)v[7]);
-  int64_t n15 = (-((int64_t)n14));
-  int64_t n16 = (((int64_t)n13) + ((int64_t)n15));
-  int64_t n17 = (((int64_t)n12) * ((int64_t)n16));
-  int64_t n18 = ((int64_t)v[3]);
-  int64_t n19 = ((int64_t)v[4]);
-  int64_t n20 = (-((int64_t)n19));
-  int64_t n21 = ((int64_t)v[6]);
-  int64_t n22 = (((int64_t)n20) + ((int64_t)n21));
-  int64_t n23 = (((int64_t)n18) * ((int64_t)n22));
-  int64_t n24 = (((int64_t)n17) + ((int64_t)n23));
-  int64_t n25 = (((int64_t)n11) + ((int64_t)n24));
-  int64_t n26 = (((int64_t)n5) + ((int64_t)n25));
-  return (((int)(((int64_t)n26) > ((int64_t)0))) - ((int)(((int64_t)n26) < ((int64_t)0))));
-}
-
-static int lb87_crossings2(const int64_t *v) {
-  int64_t n0 = ((int64_t)v[4]);
-  int64_t n1 = (-((int64_t)n0));
-  int64_t n2 = ((int64_t)v[6]);
-  int64_t n3 = (((int64_t)n1) + ((int64_t)n2));
-  return (((int)(((int64_t)n3) > ((int64_t)0))) - ((int)(((int64_t)n3) < ((int64_t)0))));
-}
-
-static int lb88_crossings2(const int64_t *v) {
-  int64_t n0 = ((int64_t)v[5]);
-  int64_t n1 = ((int64_t)v[7]);
-  int64_t n2 = (-((int64_t)n1));
-  int64_t n3 = (((int64_t)n0) + ((int64_t)n2));
-  return (((int)(((int64_t)n3) > ((int64_t)0))) - ((int)(((int64_t)n3) < ((int64_t)0))));
-}
-
-static int lb89_crossings2(const int64_t *v) {
-  int64_t n0 = ((int64_t)v[4]);
-  int64_t n1 = ((int64_t)v[6]);
-  int64_t n2 = (-((int64_t)n1));
-  int64_t n3 = (((int64_t)n0) + ((int64_t)n2));
-  return (((int)(((int64_t)n3) > ((int64_t)0))) - ((int)(((int64_t)n3) < ((int64_t)0))));
-}
-
-static int lb90_crossings2(const int64_t *v) {
-  int64_t n0 = ((int64_t)v[5]);
-  int64_t n1 = (-((int64_t)n0));
-  int64_t n2 = ((int64_t)v[7]);
-  int64_t n3 = (((int64_t)n1) + ((int64_t)n2));
-  return (((int)(((int64_t)n3) > ((int64_t)0))) - ((int)(((int64_t)n3) < ((int64_t)0))));
-}
-
-static int lb91_crossings2(const int64_t *v) {
-  int64_t n0 = ((int64_t)v[0]);
-  int64_t n1 = ((int64_t)v[3]);
-  int64_t n2 = ((int64_t)v[9]);
-  int64_t n3 = (-((int64_t)n2));
-  int64_t n4 = (((int64_t)n1) + ((int64_t)n3));
-  int64_t n5 = (((int64_t)n0) * ((int64_t)n4));
-  int64_t n6 = ((int64_t)v[1]);
-  int64_t n7 = ((int64_t)v[2]);
-  int64_t n8 = (-((int64_t)n7));
-  int64_t n9 = ((int64_t)v[4]);
-  int64_t n10 = (((int64_t)n8) + ((int64_t)n9));
-  int64_t n11 = (((int64_t)n6) * ((int64_t)n10));
-  int64_t n12 = ((int64_t)v[2]);
-  int64_t n13 = ((int64_t)v[9]);
-  int64_t n14 = (((int64_t)n12) * ((int64_t)n13));
-  int64_t n15 = ((int64_t)v[3]);
-  int64_t n16 = ((int64_t)v[4]);
-  int64_t n17 = (-((int64_t)n16));
-  int64_t n18 = (((int64_t)n15) * ((int64_t)n17));
-  int64_t n19 = (((int64_t)n14) + ((int64_t)n18));
-  int64_t n20 = (((int64_t)n11) + ((int64_t)n19));
-  int64_t n21 = (((int64_t)n5) + ((int64_t)n20));
-  return (((int)(((int64_t)n21) > ((int64_t)0))) - ((int)(((int64_t)n21) < ((int64_t)0))));
-}
-
-static int lb92_crossings2(const int64_t *v) {
-  int64_t n0 = ((int64_t)v[0]);
-  int64_t n1 = ((int64_t)v[4]);
-  int64_t n2 = (-((int64_t)n1));
-  int64_t n3 = (((int64_t)n0) + ((int64_t)n2));
-  return (((int)(((int64_t)n3) > ((int64_t)0))) - ((int)(((int64_t)n3) < ((int64_t)0))));
-}
-
-static int lb93_crossings2(const int64_t *v) {
-  int64_t n0 = ((int64_t)v[1]);
-  int64_t n1 = (-((int64_t)n0));
-  int64_t n2 = ((int64_t)v[9]);
-  int64_t n3 = (((int64_t)n1) + ((int64_t)n2));
-  return (((int)(((int64_t)n3) > ((int64_t)0))) - ((int)(((int64_t)n3) < ((int64_t)0))));
-}
-
-static int lb94_crossings2(const int64_t *v) {
-  int64_t n0 = ((int64_t)v[2]);
-  int64_t n1 = (-((int64_t)n0));
-  int64_t n2 = ((int64_t)v[4]);
-  int64_t n3 = (((int64_t)n1) + ((int64_t)n2));
-  return (((int)(((int64_t)n3) > ((int64_t)0))) - ((int)(((int64_t)n3) < ((int64_t)0))));
-}
-
-static int lb95_crossings2(const int64_t *v) {
-  if (((int)0)) {
-    return ((int)v[0]);
-  }
-  int64_t n0 = ((int64_t)(-((int64_t)1)));
-  return (((int)(((int64_t)n0) > ((int64_t)0))) - ((int)(((int64_t)n0) < ((int64_t)0))));
-}
-
-static int lb96_crossings2(const int64_t *v) {
-  int64_t n0 = ((int64_t)v[0]);
-  int64_t n1 = ((int64_t)v[6]);
-  int64_t n2 = ((int64_t)v[8]);
-  int64_t n3 = (-((int64_t)n2));
-  int64_t n4 = (((int64_t)n1) + ((int64_t)n3));
-  int64_t n5 = (((int64_t)n0) * ((int64_t)n4));
-  int64_t n6 = ((int64_t)v[2]);
-  int64_t n7 = ((int64_t)v[6]);
-  int64_t n8 = (-((int64_t)n7));
-  int64_t n9 = ((int64_t)v[8]);
-  int64_t n10 = (((int64_t)n8) + ((int64_t)n9));
-  int64_t n11 = (((int64_t)n6) * ((int64_t)n10));
-  int64_t n12 = (((int64_t)n5) + ((int64_t)n11));
-  return (((int)(((int64_t)n12) > ((int64_t)0))) - ((int)(((int64_t)n12) < ((int64_t)0))));
-}
-
-static int lb97_crossings2(const int64_t *v) {
-  int64_t n0 = ((int64_t)v[0]);
-  int64_t n1 = ((int64_t)v[2]);
-  int64_t n2 = (-((int64_t)n1));
-  int64_t n3 = (((int64_t)n0) + ((int64_t)n2));
-  return (((int)(((int64_t)n3) > ((int64_t)0))) - ((int)(((int64_t)n3) < ((int64_t)0))));
-}
-
-static int lb98_crossings2(const int64_t *v) {
-  int64_t n0 = ((int64_t)v[0]);
-  int64_t n1 = ((int64_t)v[3]);
-  int64_t n2 = ((int64_t)v[7]);
-  int64_t n3 = (-((int64_t)n2));
-  int64_t n4 = (((int64_t)n1) + ((int64_t)n3));
-  int64_t n5 = (((int64_t)n0) * ((int64_t)n4));
-  int64_t n6 = ((int64_t)v[1]);
-  int64_t n7 = ((int64_t)v[2]);
-  int64_t n8 = (-((int64_t)n7));
-  int64_t n9 = ((int64_t)v[8]);
-  int64_t n10 = (((int64_t)n8) + ((int64_t)n9));
-  int64_t n11 = (((int64_t)n6) * ((int64_t)n10));
-  int64_t n12 = ((int64_t)v[2]);
-  int64_t n13 = ((int64_t)v[7]);
-  int64_t n14 = (((int64_t)n12) * ((int64_t)n13));
-  int64_t n15 = ((int64_t)v[3]);
-  int64_t n16 = ((int64_t)v[8]);
-  int64_t n17 = (-((int64_t)n16));
-  int64_t n18 = (((int64_t)n15) * ((int64_t)n17));
-  int64_t n19 = (((int64_t)n14) + ((int64_t)n18));
-  int64_t n20 = (((int64_t)n11) + ((int64_t)n19));
-  int64_t n21 = (((int64_t)n5) + ((int64_t)n20));
-  return (((int)(((int64_t)n21) > ((int64_t)0))) - ((int)(((int64_t)n21) < ((int64_t)0))));
-}
-
-static int lb99_crossings2(const int64_t *v) {
-  int64_t n0 = ((int64_t)v[0]);
-  int64_t n1 = (-((int64_t)n0));
-  int64_t n2 = ((int64_t)v[2]);
-  int64_t n3 = (((int64_t)n1) + ((int64_t)n2));
-  return (((int)(((int64_t)n3) > ((int64_t)0))) - ((int)(((int64_t)n3) < ((int64_t)0))));
-}
-
-static int lb100_crossings2(const int64_t *v) {
-  int64_t n0 = ((int64_t)v[0]);
-  int64_t n1 = ((int64_t)v[8]);
-  int64_t n2 = (-((int64_t)n1));
-  int64_t n3 = (((int64_t)n0) + ((int64_t)n2));
-  return (((int)(((int64_t)n3) > ((int64_t)0))) - ((int)(((int64_t)n3) < ((int64_t)0))));
-}
-
-static int lb101_crossings2(const int64_t *v) {
-  int64_t n0 = ((int64_t)v[6]);
-  int64_t n1 = (-((int64_t)n0));
-  int64_t n2 = ((int64_t)v[8]);
-  int64_t n3 = (((int64_t)n1) + ((int64_t)n2));
-  return (((int)(((int64_t)n3) > ((int64_t)0))) - ((int)(((int64_t)n3) < ((int64_t)0))));
-}
-
-static int lb102_crossings2(const int64_t *v) {
-  if (((int)0)) {
-    return ((int)v[0]);
-  }
-  int64_t n0 = ((int64_t)(-((int64_t)1)));
-  return (((int)(((int64_t)n0) > ((int64_t)0))) - ((int)(((int64_t)n0) < ((int64_t)0))));
-}
-
-static int lb103_crossings2(const int64_t *v) {
-  int64_t n0 = ((int64_t)v[1]);
-  int64_t n1 = ((int64_t)v[5]);
-  int64_t n2 = (-((int64_t)n1));
-  int64_t n3 = ((int64_t)v[9]);
-  int64_t n4 = (((int64_t)n2) + ((int64_t)n3));
-  int64_t n5 = (((int64_t)n0) * ((int64_t)n4));
-  int64_t n6 = ((int64_t)v[3]);
-  int64_t n7 = ((int64_t)v[5]);
-  int64_t n8 = ((int64_t)v[9]);
-  int64_t n9 = (-((int64_t)n8));
-  int64_t n10 = (((int64_t)n7) + ((int64_t)n9));
-  int64_t n11 = (((int64_t)n6) * ((int64_t)n10));
-  int64_t n12 = (((int64_t)n5) + ((int64_t)n11));
-  return (((int)(((int64_t)n12) > ((int64_t)0))) - ((int)(((int64_t)n12) < ((int64_t)0))));
-}
-
-static int lb104_crossings2(const int64_t *v) {
-  int64_t n0 = ((int64_t)v[0]);
-  int64_t n1 = ((int64_t)v[3]);
-  int64_t n2 = (-((int64_t)n1));
-  int64_t n3 = ((int64_t)v[9]);
-  int64_t n4 = (((int64_t)n2) + ((int64_t)n3));
-  int64_t n5 = (((int64_t)n0) * ((int64_t)n4));
-  int64_t n6 = ((int64_t)v[1]);
-  int64_t n7 = ((int64_t)v[2]);
-  int64_t n8 = ((int64_t)v[6]);
-  int64_t n9 = (-((int64_t)n8));
-  int64_t n10 = (((int64_t)n7) + ((int64_t)n9));
-  int64_t n11 = (((int64_t)n6) * ((int64_t)n10));
-  int64_t n12 = ((int64_t)v[2]);
-  int64_t n13 = ((int64_t)v[9]);
-  int64_t n14 = (-((int64_t)n13));
-  int64_t n15 = (((int64_t)n12) * ((int64_t)n14));
-  int64_t n16 = ((int64_t)v[3]);
-  int64_t n17 = ((int64_t)v[6]);
-  int64_t n18 = (((int64_t)n16) * ((int64_t)n17));
-  int64_t n19 = (((int64_t)n15) + ((int64_t)n18));
-  int64_t n20 = (((int64_t)n11) + ((int64_t)n19));
-  int64_t n21 = (((int64_t)n5) + ((int64_t)n20));
-  return (((int)(((int64_t)n21) > ((int64_t)0))) - ((int)(((int64_t)n21) < ((int64_t)0))));
-}
-
-static int lb105_crossings2(const int64_t *v) {
-  int64_t n0 = ((int64_t)v[1]);
-  int64_t n1 = (-((int64_t)n0));
-  int64_t n2 = ((int64_t)v[3]);
-  int64_t n3 = (((int64_t)n1) + ((int64_t)n2));
-  return (((int)(((int64_t)n3) > ((int64_t)0))) - ((int)(((int64_t)n3) < ((int64_t)0))));
-}
-
-static int lb106_crossings2(const int64_t *v) {
-  int64_t n0 = ((int64_t)v[1]);
-  int64_t n1 = ((int64_t)v[7]);
-  int64_t n2 = ((int64_t)v[9]);
-  int64_t n3 = (-((int64_t)n2));
-  int64_t n4 = (((int64_t)n1) + ((int64_t)n3));
-  int64_t n5 = (((int64_t)n0) * ((int64_t)n4));
-  int64_t n6 = ((int64_t)v[3]);
-  int64_t n7 = ((int64_t)v[7]);
-  int64_t n8 = (-((int64_t)n7));
-  int64_t n9 = ((int64_t)v[9]);
-  int64_t n10 = (((int64_t)n8) + ((int64_t)n9));
-  int64_t n11 = (((int64_t)n6) * ((int64_t)n10));
-  int64_t n12 = (((int64_t)n5) + ((int64_t)n11));
-  return (((int)(((int64_t)n12) > ((int64_t)0))) - ((int)(((int64_t)n12) < ((int64_t)0))));
-}
-
-static int lb107_crossings2(const int64_t *v) {
-  int64_t n0 = ((int64_t)v[1]);
-  int64_t n1 = ((int64_t)v[3]);
-  int64_t n2 = (-((int64_t)n1));
-  int64_t n3 = (((int64_t)n0) + ((int64_t)n2));
-  return (((int)(((int64_t)n3) > ((int64_t)0))) - ((int)(((int64_t)n3) < ((int64_t)0))));
-}
-
-static int lb108_crossings2(const int64_t *v) {
-  int64_t n0 = ((int64_t)v[0]);
-  int64_t n1 = ((int64_t)v[4]);
-  int64_t n2 = ((int64_t)v[10]);
-  int64_t n3 = (-((int64_t)n2));
-  int64_t n4 = (((int64_t)n1) + ((int64_t)n3));
-  int64_t n5 = (((int64_t)n0) * ((int64_t)n4));
-  int64_t n6 = ((int64_t)v[2]);
-  int64_t n7 = ((int64_t)v[4]);
-  int64_t n8 = (-((int64_t)n7));
-  int64_t n9 = ((int64_t)v[10]);
-  int64_t n10 = (((int64_t)n8) + ((int64_t)n9));
-  int64_t n11 = (((int64_t)n6) * ((int64_t)n10));
-  int64_t n12 = (((int64_t)n5) + ((int64_t)n11));
-  return (((int)(((int64_t)n12) > ((int64_t)0))) - ((int)(((int64_t)n12) < ((int64_t)0))));
-}
-
-static int lb109_crossings2(const int64_t *v) {
-  int64_t n0 = ((int64_t)v[0]);
-  int64_t n1 = ((int64_t)v[3]);
-  int64_t n2 = ((int64_t)v[5]);
-  int64_t n3 = (-((int64_t)n2));
-  int64_t n4 = (((int64_t)n1) + ((int64_t)n3));
-  int64_t n5 = (((int64_t)n0) * ((int64_t)n4));
-  int64_t n6 = ((int64_t)v[1]);
-  int64_t n7 = ((int64_t)v[2]);
-  int64_t n8 = (-((int64_t)n7));
-  int64_t n9 = ((int64_t)v[10]);
-  int64_t n10 = (((int64_t)n8) + ((int64_t)n9));
-  int64_t n11 = (((int64_t)n6) * ((int64_t)n10));
-  int64_t n12 = ((int64_t)v[2]);
-  int64_t n13 = ((int64_t)v[5]);
-  int64_t n14 = (((int64_t)n12) * ((int64_t)n13));
-  int64_t n15 = ((int64_t)v[3]);
-  int64_t n16 = ((int64_t)v[10]);
-  int64_t n17 = (-((int64_t)n16));
-  int64_t n18 = (((int64_t)n15) * ((int64_t)n17));
-  int64_t n19 = (((int64_t)n14) + ((int64_t)n18));
-  int64_t n20 = (((int64_t)n11) + ((int64_t)n19));
-  int64_t n21 = (((int64_t)n5) + ((int64_t)n20));
-  return (((int)(((int64_t)n21) > ((int64_t)0))) - ((int)(((int64_t)n21) < ((int64_t)0))));
-}
-
-static int lb110_crossings2(const int64_t *v) {
-  int64_t n0 = ((int64_t)v[0]);
-  int64_t n1 = ((int64_t)v[6]);
-  int64_t n2 = (-((int64_t)n1));
-  int64_t n3 = ((int64_t)v[10]);
-  int64_t n4 = (((int64_t)n2) + ((int64_t)n3));
-  int64_t n5 = (((int64_t)n0) * ((int64_t)n4));
-  int64_t n6 = ((int64_t)v[2]);
-  int64_t n7 = ((int64_t)v[6]);
-  int64_t n8 = ((int64_t)v[10]);
-  int64_t n9 = (-((int64_t)n8));
-  int64_t n10 = (((int64_t)n7) + ((int64_t)n9));
-  int64_t n11 = (((int64_t)n6) * ((int64_t)n10));
-  int64_t n12 = (((int64_t)n5) + ((int64_t)n11));
-  return (((int)(((int64_t)n12) > ((int64_t)0))) - ((int)(((int64_t)n12) < ((int64_t)0))));
-}
-
-static int lb111_crossings2(const int64_t *v) {
-  int64_t n0 = ((int64_t)v[0]);
-  int64_t n1 = (-((int64_t)n0));
-  int64_t n2 = ((int64_t)v[2]);
-  int64_t n3 = (((int64_t)n1) + ((int64_t)n2));
-  return (((int)(((int64_t)n3) > ((int64_t)0))) - ((int)(((int64_t)n3) < ((int64_t)0))));
-}
-
-static int lb112_crossings2(const int64_t *v) {
-  int64_t n0 = ((int64_t)v[0]);
-  int64_t n1 = ((int64_t)v[3]);
-  int64_t n2 = (-((int64_t)n1));
-  int64_t n3 = ((int64_t)v[7]);
-  int64_t n4 = (((int64_t)n2) + ((int64_t)n3));
-  int64_t n5 = (((int64_t)n0) * ((int64_t)n4));
-  int64_t n6 = ((int64_t)v[1]);
-  int64_t n7 = ((int64_t)v[2]);
-  int64_t n8 = ((int64_t)v[10]);
-  int64_t n9 = (-((int64_t)n8));
-  int64_t n10 = (((int64_t)n7) + ((int64_t)n9));
-  int64_t n11 = (((int64_t)n6) * ((int64_t)n10));
-  int64_t n12 = ((int64_t)v[2]);
-  int64_t n13 = ((int64_t)v[7]);
-  int64_t n14 = (-((int64_t)n13));
-  int64_t n15 = (((int64_t)n12) * ((int64_t)n14));
-  int64_t n16 = ((int64_t)v[3]);
-  int64_t n17 = ((int64_t)v[10]);
-  int64_t n18 = (((int64_t)n16) * ((int64_t)n17));
-  int64_t n19 = (((int64_t)n15) + ((int64_t)n18));
-  int64_t n20 = (((int64_t)n11) + ((int64_t)n19));
-  int64_t n21 = (((int64_t)n5) + ((int64_t)n20));
-  return (((int)(((int64_t)n21) > ((int64_t)0))) - ((int)(((int64_t)n21) < ((int64_t)0))));
-}
-
-static int lb113_crossings2(const int64_t *v) {
-  int64_t n0 = ((int64_t)v[0]);
-  int64_t n1 = ((int64_t)v[2]);
-  int64_t n2 = (-((int64_t)n1));
-  int64_t n3 = (((int64_t)n0) + ((int64_t)n2));
-  return (((int)(((int64_t)n3) > ((int64_t)0))) - ((int)(((int64_t)n3) < ((int64_t)0))));
-}
-
-static int lb114_crossings2(const int64_t *v) {
-  int64_t n0 = ((int64_t)v[0]);
-  int64_t n1 = (-((int64_t)n0));
-  int64_t n2 = ((int64_t)v[2]);
-  int64_t n3 = (((int64_t)n1) + ((int64_t)n2));
-  return (((int)(((int64_t)n3) > ((int64_t)0))) - ((int)(((int64_t)n3) < ((int64_t)0))));
-}
-
-static int lb115_crossings2(const int64_t *v) {
-  int64_t n0 = ((int64_t)v[1]);
-  int64_t n1 = ((int64_t)v[3]);
-  int64_t n2 = (-((int64_t)n1));
-  int64_t n3 = (((int64_t)n0) + ((int64_t)n2));
-  return (((int)(((int64_t)n3) > ((int64_t)0))) - ((int)(((int64_t)n3) < ((int64_t)0))));
-}
-
-static int lb116_crossings2(const int64_t *v) {
-  int64_t n0 = ((int64_t)v[0]);
-  int64_t n1 = ((int64_t)v[2]);
-  int64_t n2 = (-((int64_t)n1));
-  int64_t n3 = (((int64_t)n0) + ((int64_t)n2));
-  return (((int)(((int64_t)n3) > ((int64_t)0))) - ((int)(((int64_t)n3) < ((int64_t)0))));
-}
-
-static int lb117_crossings2(const int64_t *v) {
-  int64_t n0 = ((int64_t)v[1]);
-  int64_t n1 = (-((int64_t)n0));
-  int64_t n2 = ((int64_t)v[3]);
-  int64_t n3 = (((int64_t)n1) + ((int64_t)n2));
-  return (((int)(((int64_t)n3) > ((int64_t)0))) - ((int)(((int64_t)n3) < ((int64_t)0))));
-}
-
-static int lb118_crossings2(const int64_t *v) {
-  int64_t n0 = ((int64_t)v[0]);
-  int64_t n1 = ((int64_t)v[3]);
-  int64_t n2 = (-((int64_t)n1));
-  int64_t n3 = ((int64_t)v[11]);
-  int64_t n4 = (((int64_t)n2) + ((int64_t)n3));
-  int64_t n5 = (((int64_t)n0) * ((int64_t)n4));
-  int64_t n6 = ((int64_t)v[1]);
-  int64_t n7 = ((int64_t)v[2]);
-  int64_t n8 = ((int64_t)v[4]);
-  int64_t n9 = (-((int64_t)n8));
-  int64_t n10 = (((int64_t)n7) + ((int64_t)n9));
-  int64_t n11 = (((int64_t)n6) * ((int64_t)n10));
-  int64_t n12 = ((int64_t)v[2]);
-  int64_t n13 = ((int64_t)v[11]);
-  int64_t n14 = (-((int64_t)n13));
-  int64_t n15 = (((int64_t)n12) * ((int64_t)n14));
-  int64_t n16 = ((int64_t)v[3]);
-  int64_t n17 = ((int64_t)v[4]);
-  int64_t n18 = (((int64_t)n16) * ((int64_t)n17));
-  int64_t n19 = (((int64_t)n15) + ((int64_t)n18));
-  int64_t n20 = (((int64_t)n11) + ((int64_t)n19));
-  int64_t n21 = (((int64_t)n5) + ((int64_t)n20));
-  return (((int)(((int64_t)n21) > ((int64_t)0))) - ((int)(((int64_t)n21) < ((int64_t)0))));
-}
-
-static int lb119_crossings2(const int64_t *v) {
-  int64_t n0 = ((int64_t)v[1]);
-  int64_t n1 = ((int64_t)v[5]);
-  int64_t n2 = ((int64_t)v[11]);
-  int64_t n3 = (-((int64_t)n2));
-  int64_t n4 = (((int64_t)n1) + ((int64_t)n3));
-  int64_t n5 = (((int64_t)n0) * ((int64_t)n4));
-  int64_t n6 = ((int64_t)v[3]);
-  int64_t n7 = ((int64_t)v[5]);
-  int64_t n8 = (-((int64_t)n7));
-  int64_t n9 = ((int64_t)v[11]);
-  int64_t n10 = (((int64_t)n8) + ((int64_t)n9));
-  int64_t n11 = (((int64_t)n6) * ((int64_t)n10));
-  int64_t n12 = (((int64_t)n5) + ((int64_t)n11));
-  return (((int)(((int64_t)n12) > ((int64_t)0))) - ((int)(((int64_t)n12) < ((int64_t)0))));
-}
-
-static int lb120_crossings2(const int64_t *v) {
-  int64_t n0 = ((int64_t)v[0]);
-  int64_t n1 = ((int64_t)v[3]);
-  int64_t n2 = ((int64_t)v[11]);
-  int64_t n3 = (-((int64_t)n2));
-  int64_t n4 = (((int64_t)n1) + ((int64_t)n3));
-  int64_t n5 = (((int64_t)n0) * ((int64_t)n4));
-  int64_t n6 = ((int64_t)v[1]);
-  int64_t n7 = ((int64_t)v[2]);
-  int64_t n8 = (-((int64_t)n7));
-  int64_t n9 = ((int64_t)v[6]);
-  int64_t n10 = (((int64_t)n8) + ((int64_t)n9));
-  int64_t n11 = (((int64_t)n6) * ((int64_t)n10));
-  int64_t n12 = ((int64_t)v[2]);
-  int64_t n13 = ((int64_t)v[11]);
-  int64_t n14 = (((int64_t)n12) * ((int64_t)n13));
-  int64_t n15 = ((int64_t)v[3]);
-  int64_t n16 = ((int64_t)v[6]);
-  int64_t n17 = (-((int64_t)n16));
-  int64_t n18 = (((int64_t)n15) * ((int64_t)n17));
-  int64_t n19 = (((int64_t)n14) + ((int64_t)n18));
-  int64_t n20 = (((int64_t)n11) + ((int64_t)n19));
-  int64_t n21 = (((int64_t)n5) + ((int64_t)n20));
-  return (((int)(((int64_t)n21) > ((int64_t)0))) - ((int)(((int64_t)n21) < ((int64_t)0))));
-}
-
-static int lb121_crossings2(const int64_t *v) {
-  int64_t n0 = ((int64_t)v[1]);
-  int64_t n1 = ((int64_t)v[3]);
-  int64_t n2 = (-((int64_t)n1));
-  int64_t n3 = (((int64_t)n0) + ((int64_t)n2));
-  return (((int)(((int64_t)n3) > ((int64_t)0))) - ((int)(((int64_t)n3) < ((int64_t)0))));
-}
-
-static int lb122_crossings2(const int64_t *v) {
-  int64_t n0 = ((int64_t)v[1]);
-  int64_t n1 = ((int64_t)v[7]);
-  int64_t n2 = (-((int64_t)n1));
-  int64_t n3 = ((int64_t)v[11]);
-  int64_t n4 = (((int64_t)n2) + ((int64_t)n3));
-  int64_t n5 = (((int64_t)n0) * ((int64_t)n4));
-  int64_t n6 = ((int64_t)v[3]);
-  int64_t n7 = ((int64_t)v[7]);
-  int64_t n8 = ((int64_t)v[11]);
-  int64_t n9 = (-((int64_t)n8));
-  int64_t n10 = (((int64_t)n7) + ((int64_t)n9));
-  int64_t n11 = (((int64_t)n6) * ((int64_t)n10));
-  int64_t n12 = (((int64_t)n5) + ((int64_t)n11));
-  return (((int)(((int64_t)n12) > ((int64_t)0))) - ((int)(((int64_t)n12) < ((int64_t)0))));
-}
-
-static int lb123_crossings2(const int64_t *v) {
-  int64_t n0 = ((int64_t)v[1]);
-  int64_t n1 = (-((int64_t)n0));
-  int64_t n2 = ((int64_t)v[3]);
-  int64_t n3 = (((int64_t)n1) + ((int64_t)n2));
-  return (((int)(((int64_t)n3) > ((int64_t)0))) - ((int)(((int64_t)n3) < ((int64_t)0))));
-}
-
-static int lb124_crossings2(const int64_t *v) {
-  int64_t n0 = ((int64_t)v[0]);
-  int64_t n1 = ((int64_t)v[2]);
-  int64_t n2 = (-((int64_t)n1));
-  int64_t n3 = (((int64_t)n0) + ((int64_t)n2));
-  return (((int)(((int64_t)n3) > ((int64_t)0))) - ((int)(((int64_t)n3) < ((int64_t)0))));
-}
-
-static int lb125_crossings2(const int64_t *v) {
-  int64_t n0 = ((int64_t)v[1]);
-  int64_t n1 = (-((int64_t)n0));
-  int64_t n2 = ((int64_t)v[3]);
-  int64_t n3 = (((int64_t)n1) + ((int64_t)n2));
-  return (((int)(((int64_t)n3) > ((int64_t)0))) - ((int)(((int64_t)n3) < ((int64_t)0))));
-}
-
-static int lb126_crossings2(const int64_t *v) {
-  int64_t n0 = ((int64_t)v[0]);
-  int64_t n1 = (-((int64_t)n0));
-  int64_t n2 = ((int64_t)v[2]);
-  int64_t n3 = (((int64_t)n1) + ((int64_t)n2));
-  return (((int)(((int64_t)n3) > ((int64_t)0))) - ((int)(((int64_t)n3) < ((int64_t)0))));
-}
-
-static int lb127_crossings2(const int64_t *v) {
-  int64_t n0 = ((int64_t)v[1]);
-  int64_t n1 = ((int64_t)v[3]);
-  int64_t n2 = (-((int64_t)n1));
-  int64_t n3 = (((int64_t)n0) + ((int64_t)n2));
-  return (((int)(((int64_t)n3) > ((int64_t)0))) - ((int)(((int64_t)n3) < ((int64_t)0))));
-}
-
-static int lb128_crossings2(const int64_t *v) {
-  int64_t n0 = ((int64_t)v[5]);
-  int64_t n1 = ((int64_t)v[9]);
-  int64_t n2 = (-((int64_t)n1));
-  int64_t n3 = (((int64_t)n0) + ((int64_t)n2));
-  return (((int)(((int64_t)n3) > ((int64_t)0))) - ((int)(((int64_t)n3) < ((int64_t)0))));
-}
-
-static int lb129_crossings2(const int64_t *v) {
-  int64_t n0 = ((int64_t)v[0]);
-  int64_t n1 = (-((int64_t)n0));
-  int64_t n2 = ((int64_t)v[6]);
-  int64_t n3 = (((int64_t)n1) + ((int64_t)n2));
-  return (((int)(((int64_t)n3) > ((int64_t)0))) - ((int)(((int64_t)n3) < ((int64_t)0))));
-}
-
-static int lb130_crossings2(const int64_t *v) {
-  if (((int)0)) {
-    return ((int)v[0]);
-  }
-  int64_t n0 = ((int64_t)((int64_t)1));
-  return (((int)(((int64_t)n0) > ((int64_t)0))) - ((int)(((int64_t)n0) < ((int64_t)0))));
-}
-
-static int lb131_crossings2(const int64_t *v) {
-  int64_t n0 = ((int64_t)v[0]);
-  int64_t n1 = (-((int64_t)n0));
-  int64_t n2 = ((int64_t)v[4]);
-  int64_t n3 = (((int64_t)n1) + ((int64_t)n2));
-  return (((int)(((int64_t)n3) > ((int64_t)0))) - ((int)(((int64_t)n3) < ((int64_t)0))));
-}
-
-static int lb132_crossings2(const int64_t *v) {
-  int64_t n0 = ((int64_t)v[4]);
-  int64_t n1 = (-((int64_t)n0));
-  int64_t n2 = ((int64_t)v[10]);
-  int64_t n3 = (((int64_t)n1) + ((int64_t)n2));
-  return (((int)(((int64_t)n3) > ((int64_t)0))) - ((int)(((int64_t)n3) < ((int64_t)0))));
-}
-
-static int lb133_crossings2(const int64_t *v) {
-  if (((int)0)) {
-    return ((int)v[0]);
-  }
-  int64_t n0 = ((int64_t)((int64_t)1));
-  return (((int)(((int64_t)n0) > ((int64_t)0))) - ((int)(((int64_t)n0) < ((int64_t)0))));
-}
-
-static int lb134_crossings2(const int64_t *v) {
-  int64_t n0 = ((int64_t)v[0]);
-  int64_t n1 = ((int64_t)v[10]);
-  int64_t n2 = (-((int64_t)n1));
-  int64_t n3 = (((int64_t)n0) + ((int64_t)n2));
-  return (((int)(((int64_t)n3) > ((int64_t)0))) - ((int)(((int64_t)n3) < ((int64_t)0))));
-}
-
-static int lb135_crossings2(const int64_t *v) {
-  if (((int)0)) {
-    return ((int)v[0]);
-  }
-  int64_t n0 = ((int64_t)(-((int64_t)1)));
-  return (((int)(((int64_t)n0) > ((int64_t)0))) - ((int)(((int64_t)n0) < ((int64_t)0))));
-}
-
-int ln_crossings2(const int64_t *x, const int64_t *v) {
+int la_crossings2(const int64_t *x, const int64_t *v) {
   {
     int answer = ((int)lb0_crossings2(v));
-    if ((((int)answer) != ((int)0))) {
-      return ((int)answer);
-    }
-  }
-  if ((((int64_t)x[0]) < ((int64_t)x[1]))) {
-    if ((((int64_t)x[0]) < ((int64_t)x[2]))) {
-      {
-        int answer = ((int)lb1_crossings2(v));
-        if ((((int)answer) != ((int)0))) {
-          return ((int)answer);
-        }
-      }
-      {
-        int answer = ((int)lb2_crossings2(v));
-        if ((((int)answer) != ((int)0))) {
-          return ((int)answer);
-        }
-      }
-      {
-        int answer = ((int)lb3_crossings2(v));
-        if ((((int)answer) != ((int)0))) {
-          return ((int)answer);
-        }
-      }
-      {
-        int answer = ((int)lb4_crossings2(v));
-        if ((((int)answer) != ((int)0))) {
-          return ((int)answer);
-        }
-      }
-      {
-        int answer = ((int)lb5_crossings2(v));
-        if ((((int)answer) != ((int)0))) {
-          return ((int)answer);
-        }
-      }
-      {
-        int answer = ((int)lb6_crossings2(v));
-        if ((((int)answer) != ((int)0))) {
-          return ((int)answer);
-        }
-      }
-      if ((((int64_t)x[1]) < ((int64_t)x[2]))) {
-        {
-          int answer = ((int)lb7_crossings2(v));
-          if ((((int)answer) != ((int)0))) {
-            return ((int)answer);
-          }
-        }
-        {
-          int answer = ((int)lb8_crossings2(v));
-          if ((((int)answer) != ((int)0))) {
-            return ((int)answer);
-          }
-        }
-        {
-          int answer = ((int)lb9_crossings2(v));
-          if ((((int)answer) != ((int)0))) {
-            return ((int)answer);
-          }
-        }
-        {
-          int answer = ((int)lb10_crossings2(v));
-          if ((((int)answer) != ((int)0))) {
-            return ((int)answer);
-          }
-        }
-        {
-          int answer = ((int)lb11_crossings2(v));
-          if ((((int)answer) != ((int)0))) {
-            return ((int)answer);
-          }
-        }
-        {
-          int answer = ((int)lb12_crossings2(v));
-          if ((((int)answer) != ((int)0))) {
-            return ((int)answer);
-          }
-        }
-        {
-          int answer = ((int)lb13_crossings2(v));
-          if ((((int)answer) != ((int)0))) {
-            return ((int)answer);
-          }
-        }
-        {
-          int answer = ((int)lb14_crossings2(v));
-          if ((((int)answer) != ((int)0))) {
-            return ((int)answer);
-          }
-        }
-        {
-          int answer = ((int)lb15_crossings2(v));
-          if ((((int)answer) != ((int)0))) {
-            return ((int)answer);
-          }
-        }
-        {
-          int answer = ((int)lb16_crossings2(v));
-          if ((((int)answer) != ((int)0))) {
-            return ((int)answer);
-          }
-        }
-        {
-          int answer = ((int)lb17_crossings2(v));
-          if ((((int)answer) != ((int)0))) {
-            return ((int)answer);
-          }
-        }
-        {
-          int answer = ((int)lb18_crossings2(v));
-          if ((((int)answer) != ((int)0))) {
-            return ((int)answer);
-          }
-        }
-        {
-          int answer = ((int)lb19_crossings2(v));
-          if ((((int)answer) != ((int)0))) {
-            return ((int)answer);
-          }
-        }
-        {
-          int answer = ((int)lb20_crossings2(v));
-          if ((((int)answer) != ((int)0))) {
-            return ((int)answer);
-          }
-        }
-        {
-          int answer = ((int)lb21_crossings2(v));
-          if ((((int)answer) != ((int)0))) {
-            return ((int)answer);
-          }
-        }
-        {
-          int answer = ((int)lb22_crossings2(v));
-          if ((((int)answer) != ((int)0))) {
-            return ((int)answer);
-          }
-        }
-        {
-          int answer = ((int)lb23_crossings2(v));
-          if ((((int)answer) != ((int)0))) {
-            return ((int)answer);
-          }
-        }
-        {
-          int answer = ((int)lb24_crossings2(v));
-          if ((((int)answer) != ((int)0))) {
-            return ((int)answer);
-          }
-        }
-        {
-          int answer = ((int)lb25_crossings2(v));
-          if ((((int)answer) != ((int)0))) {
-            return ((int)answer);
-          }
-        }
-        {
-          int answer = ((int)lb26_crossings2(v));
-          if ((((int)answer) != ((int)0))) {
-            return ((int)answer);
-          }
-        }
-        {
-          int answer = ((int)lb27_crossings2(v));
-          if ((((int)answer) != ((int)0))) {
-            return ((int)answer);
-          }
-        }
-        {
-          int answer = ((int)lb28_crossings2(v));
-          if ((((int)answer) != ((int)0))) {
-            return ((int)answer);
-          }
-        }
-        {
-          int answer = ((int)lb29_crossings2(v));
-          if ((((int)answer) != ((int)0))) {
-            return ((int)answer);
-          }
-        }
-        {
-          int answer = ((int)lb30_crossings2(v));
-          if ((((int)answer) != ((int)0))) {
-            return ((int)answer);
-          }
-        }
-        {
-          int answer = ((int)lb31_crossings2(v));
-          if ((((int)answer) != ((int)0))) {
-            return ((int)answer);
-          }
-        }
-        {
-          int answer = ((int)lb32_crossings2(v));
-          if ((((int)answer) != ((int)0))) {
-            return ((int)answer);
-          }
-        }
-        {
-          int answer = ((int)lb33_crossings2(v));
-          if ((((int)answer) != ((int)0))) {
-            return ((int)answer);
-          }
-        }
-        {
-          int answer = ((int)lb34_crossings2(v));
-          if ((((int)answer) != ((int)0))) {
-            return ((int)answer);
-          }
-        }
-        {
-          int answer = ((int)lb35_crossings2(v));
-          if ((((int)answer) != ((int)0))) {
-            return ((int)answer);
-          }
-        }
-        {
-          int answer = ((int)lb36_crossings2(v));
-          if ((((int)answer) != ((int)0))) {
-            return ((int)answer);
-          }
-        }
-        {
-          int answer = ((int)lb37_crossings2(v));
-          if ((((int)answer) != ((int)0))) {
-            return ((int)answer);
-          }
-        }
-        {
-          int answer = ((int)lb38_crossings2(v));
-          if ((((int)answer) != ((int)0))) {
-            return ((int)answer);
-          }
-        }
-        {
-          int answer = ((int)lb39_crossings2(v));
-          if ((((int)answer) != ((int)0))) {
-            return ((int)answer);
-          }
-        }
-        {
-          int answer = ((int)lb40_crossings2(v));
-          if ((((int)answer) != ((int)0))) {
-            return ((int)answer);
-          }
-        }
-        {
-          int answer = ((int)lb41_crossings2(v));
-          if ((((int)answer) != ((int)0))) {
-            return ((int)answer);
-          }
-        }
-        {
-          int answer = ((int)lb42_crossings2(v));
-          if ((((int)answer) != ((int)0))) {
-            return ((int)answer);
-          }
-        }
-        {
-          int answer = ((int)lb43_crossings2(v));
-          if ((((int)answer) != ((int)0))) {
-            return ((int)answer);
-          }
-        }
-        {
-          int answer = ((int)lb44_crossings2(v));
-          if ((((int)answer) != ((int)0))) {
-            return ((int)answer);
-          }
-        }
-        {
-          int answer = ((int)lb45_crossings2(v));
-          if ((((int)answer) != ((int)0))) {
-            return ((int)answer);
-          }
-        }
-        {
-          int answer = ((int)lb46_crossings2(v));
-          if ((((int)answer) != ((int)0))) {
-            return ((int)answer);
-          }
-        }
-        {
-          int answer = ((int)lb47_crossings2(v));
-          if ((((int)answer) != ((int)0))) {
-            return ((int)answer);
-          }
-        }
-        {
-          int answer = ((int)lb48_crossings2(v));
-          if ((((int)answer) != ((int)0))) {
-            return ((int)answer);
-          }
-        }
-        {
-          int answer = ((int)lb49_crossings2(v));
-          if ((((int)answer) != ((int)0))) {
-            return ((int)answer);
-          }
-        }
-        {
-          int answer = ((int)lb50_crossings2(v));
-          if ((((int)answer) != ((int)0))) {
-            return ((int)answer);
-          }
-        }
-        {
-          int answer = ((int)lb51_crossings2(v));
-          if ((((int)answer) != ((int)0))) {
-            return ((int)answer);
-          }
-        }
-        {
-          int answer = ((int)lb52_crossings2(v));
-          if ((((int)answer) != ((int)0))) {
-            return ((int)answer);
-          }
-        }
-        {
-          int answer = ((int)lb53_crossings2(v));
-          if ((((int)answer) != ((int)0))) {
-            return ((int)answer);
-          }
-        }
-        {
-          int answer = ((int)lb54_crossings2(v));
-          if ((((int)answer) != ((int)0))) {
-            return ((int)answer);
-          }
-        }
-        {
-          int answer = ((int)lb55_crossings2(v));
-          if ((((int)answer) != ((int)0))) {
-            return ((int)answer);
-          }
-        }
-        {
-          int answer = ((int)lb56_crossings2(v));
-          if ((((int)answer) != ((int)0))) {
-            return ((int)answer);
-          }
-        }
-        {
-          int answer = ((int)lb57_crossings2(v));
-          if ((((int)answer) != ((int)0))) {
-            return ((int)answer);
-          }
-        }
-        {
-          int answer = ((int)lb58_crossings2(v));
-          if ((((int)answer) != ((int)0))) {
-            return ((int)answer);
-          }
-        }
-        {
-          int answer = ((int)lb59_crossings2(v));
-          if ((((int)answer) != ((int)0))) {
-            return ((int)answer);
-          }
-        }
-        return ((int)0);
-      }
-      {
-        int answer = ((int)lb45_crossings2(v));
-        if ((((int)answer) != ((int)0))) {
-          return ((int)answer);
-        }
-      }
-      {
-        int answer = ((int)lb46_crossings2(v));
-        if ((((int)answer) != ((int)0))) {
-          return ((int)answer);
-        }
-      }
-      {
-        int answer = ((int)lb47_crossings2(v));
-        if ((((int)answer) != ((int)0))) {
-          return ((int)answer);
-        }
-      }
-      {
-        int answer = ((int)lb48_crossings2(v));
-        if ((((int)answer) != ((int)0))) {
-          return ((int)answer);
-        }
-      }
-      {
-        int answer = ((int)lb49_crossings2(v));
-        if ((((int)answer) != ((int)0))) {
-          return ((int)answer);
-        }
-      }
-      {
-        int answer = ((int)lb50_crossings2(v));
-        if ((((int)answer) != ((int)0))) {
-          return ((int)answer);
-        }
-      }
-      {
-        int answer = ((int)lb51_crossings2(v));
-        if ((((int)answer) != ((int)0))) {
-          return ((int)answer);
-        }
-      }
-      {
-        int answer = ((int)lb60_crossings2(v));
-        if ((((int)answer) != ((int)0))) {
-          return ((int)answer);
-        }
-      }
-      {
-        int answer = ((int)lb61_crossings2(v));
-        if ((((int)answer) != ((int)0))) {
-          return ((int)answer);
-        }
-      }
-      {
-        int answer = ((int)lb62_crossings2(v));
-        if ((((int)answer) != ((int)0))) {
-          return ((int)answer);
-        }
-      }
-      {
-        int answer = ((int)lb63_crossings2(v));
-        if ((((int)answer) != ((int)0))) {
-          return ((int)answer);
-        }
-      }
-      {
-        int answer = ((int)lb64_crossings2(v));
-        if ((((int)answer) != ((int)0))) {
-          return ((int)answer);
-        }
-      }
-      {
-        int answer = ((int)lb65_crossings2(v));
-        if ((((int)answer) != ((int)0))) {
-          return ((int)answer);
-        }
-      }
-      {
-        int answer = ((int)lb66_crossings2(v));
-        if ((((int)answer) != ((int)0))) {
-          return ((int)answer);
-        }
-      }
-      {
-        int answer = ((int)lb67_crossings2(v));
-        if ((((int)answer) != ((int)0))) {
-          return ((int)answer);
-        }
-      }
-      {
-        int answer = ((int)lb68_crossings2(v));
-        if ((((int)answer) != ((int)0))) {
-          return ((int)answer);
-        }
-      }
-      {
-        int answer = ((int)lb69_crossings2(v));
-        if ((((int)answer) != ((int)0))) {
-          return ((int)answer);
-        }
-      }
-      {
-        int answer = ((int)lb70_crossings2(v));
-        if ((((int)answer) != ((int)0))) {
-          return ((int)answer);
-        }
-      }
-      {
-        int answer = ((int)lb71_crossings2(v));
-        if ((((int)answer) != ((int)0))) {
-          return ((int)answer);
-        }
-      }
-      {
-        int answer = ((int)lb72_crossings2(v));
-        if ((((int)answer) != ((int)0))) {
-          return ((int)answer);
-        }
-      }
-      {
-        int answer = ((int)lb73_crossings2(v));
-        if ((((int)answer) != ((int)0))) {
-          return ((int)answer);
-        }
-      }
-      {
-        int answer = ((int)lb74_crossings2(v));
-        if ((((int)answer) != ((int)0))) {
-          return ((int)answer);
-        }
-      }
-      {
-        int answer = ((int)lb75_crossings2(v));
-        if ((((int)answer) != ((int)0))) {
-          return ((int)answer);
-        }
-      }
-      {
-        int answer = ((int)lb76_crossings2(v));
-        if ((((int)answer) != ((int)0))) {
-          return ((int)answer);
-        }
-      }
-      {
-        int answer = ((int)lb77_crossings2(v));
-        if ((((int)answer) != ((int)0))) {
-          return ((int)answer);
-        }
-      }
-      {
-        int answer = ((int)lb78_crossings2(v));
-        if ((((int)answer) != ((int)0))) {
-          return ((int)answer);
-        }
-      }
-      {
-        int answer = ((int)lb79_crossings2(v));
-        if ((((int)answer) != ((int)0))) {
-          return ((int)answer);
-        }
-      }
-      {
-        int answer = ((int)lb80_crossings2(v));
-        if ((((int)answer) != ((int)0))) {
-          return ((int)answer);
-        }
-      }
-      {
-        int answer = ((int)lb81_crossings2(v));
-        if ((((int)answer) != ((int)0))) {
-          return ((int)answer);
-        }
-      }
-      {
-        int answer = ((int)lb82_crossings2(v));
-        if ((((int)answer) != ((int)0))) {
-          return ((int)answer);
-        }
-      }
-      {
-        int answer = ((int)lb83_crossings2(v));
-        if ((((int)answer) != ((int)0))) {
-          return ((int)answer);
-        }
-      }
-      {
-        int answer = ((int)lb84_crossings2(v));
-        if ((((int)answer) != ((int)0))) {
-          return ((int)answer);
-        }
-      }
-      {
-        int answer = ((int)lb85_crossings2(v));
-        if ((((int)answer) != ((int)0))) {
-          return ((int)answer);
-        }
-      }
-      {
-        int answer = ((int)lb86_crossings2(v));
-        if ((((int)answer) != ((int)0))) {
-          return ((int)answer);
-        }
-      }
-      {
-        int answer = ((int)lb87_crossings2(v));
-        if ((((int)answer) != ((int)0))) {
-          return ((int)answer);
-        }
-      }
-      {
-        int answer = ((int)lb88_crossings2(v));
-        if ((((int)answer) != ((int)0))) {
-          return ((int)answer);
-        }
-      }
-      {
-        int answer = ((int)lb89_crossings2(v));
-        if ((((int)answer) != ((int)0))) {
-          return ((int)answer);
-        }
-      }
-      {
-        int answer = ((int)lb90_crossings2(v));
-        if ((((int)answer) != ((int)0))) {
-          return ((int)answer);
-        }
-      }
-      {
-        int answer = ((int)lb7_crossings2(v));
-        if ((((int)answer) != ((int)0))) {
-          return ((int)answer);
-        }
-      }
-      {
-        int answer = ((int)lb8_crossings2(v));
-        if ((((int)answer) != ((int)0))) {
-          return ((int)answer);
-        }
-      }
-      {
-        int answer = ((int)lb9_crossings2(v));
-        if ((((int)answer) != ((int)0))) {
-          return ((int)answer);
-        }
-      }
-      {
-        int answer = ((int)lb10_crossings2(v));
-        if ((((int)answer) != ((int)0))) {
-          return ((int)answer);
-        }
-      }
-      {
-        int answer = ((int)lb11_crossings2(v));
-        if ((((int)answer) != ((int)0))) {
-          return ((int)answer);
-        }
-      }
-      {
-        int answer = ((int)lb12_crossings2(v));
-        if ((((int)answer) != ((int)0))) {
-          return ((int)answer);
-        }
-      }
-      {
-        int answer = ((int)lb13_crossings2(v));
-        if ((((int)answer) != ((int)0))) {
-          return ((int)answer);
-        }
-      }
-      {
-        int answer = ((int)lb52_crossings2(v));
-        if ((((int)answer) != ((int)0))) {
-          return ((int)answer);
-        }
-      }
-      {
-        int answer = ((int)lb53_crossings2(v));
-        if ((((int)answer) != ((int)0))) {
-          return ((int)answer);
-        }
-      }
-      {
-        int answer = ((int)lb54_crossings2(v));
-        if ((((int)answer) != ((int)0))) {
-          return ((int)answer);
-        }
-      }
-      {
-        int answer = ((int)lb91_crossings2(v));
-        if ((((int)answer) != ((int)0))) {
-          return ((int)answer);
-        }
-      }
-      {
-        int answer = ((int)lb92_crossings2(v));
-        if ((((int)answer) != ((int)0))) {
-          return ((int)answer);
-        }
-      }
-      {
-        int answer = ((int)lb93_crossings2(v));
-        if ((((int)answer) != ((int)0))) {
-          return ((int)answer);
-        }
-      }
-      {
-        int answer = ((int)lb94_crossings2(v));
-        if ((((int)answer) != ((int)0))) {
-          return ((int)answer);
-        }
-      }
-      {
-        int answer = ((int)lb95_crossings2(v));
-        if ((((int)answer) != ((int)0))) {
-          return ((int)answer);
-        }
-      }
-      return ((int)0);
-    }
-  }
-  if ((((int64_t)x[1]) < ((int64_t)x[2]))) {
-    {
-      int answer = ((int)lb7_crossings2(v));
-      if ((((int)answer) != ((int)0))) {
-        return ((int)answer);
-      }
-    }
-    {
-      int answer = ((int)lb14_crossings2(v));
-      if ((((int)answer) != ((int)0))) {
-        return ((int)answer);
-      }
-    }
-    {
-      int answer = ((int)lb21_crossings2(v));
-      if ((((int)answer) != ((int)0))) {
-        return ((int)answer);
-      }
-    }
-    {
-      int answer = ((int)lb28_crossings2(v));
-      if ((((int)answer) != ((int)0))) {
-        return ((int)answer);
-      }
-    }
-    {
-      int answer = ((int)lb33_crossings2(v));
-      if ((((int)answer) != ((int)0))) {
-        return ((int)answer);
-      }
-    }
-    {
-      int answer = ((int)lb40_crossings2(v));
-      if ((((int)answer) != ((int)0))) {
-        return ((int)answer);
-      }
-    }
-    if ((((int64_t)x[0]) < ((int64_t)x[2]))) {
-      {
-        int answer = ((int)lb1_crossings2(v));
-        if ((((int)answer) != ((int)0))) {
-          return ((int)answer);
-        }
-      }
-      {
-        int answer = ((int)lb8_crossings2(v));
-        if ((((int)answer) != ((int)0))) {
-          return ((int)answer);
-        }
-      }
-      {
-        int answer = ((int)lb15_crossings2(v));
-        if ((((int)answer) != ((int)0))) {
-          return ((int)answer);
-        }
-      }
-      {
-        int answer = ((int)lb22_crossings2(v));
-        if ((((int)answer) != ((int)0))) {
-          return ((int)answer);
-        }
-      }
-      {
-        int answer = ((int)lb29_crossings2(v));
-        if ((((int)answer) != ((int)0))) {
-          return ((int)answer);
-        }
-      }
-      {
-        int answer = ((int)lb34_crossings2(v));
-        if ((((int)answer) != ((int)0))) {
-          return ((int)answer);
-        }
-      }
-      {
-        int answer = ((int)lb41_crossings2(v));
-        if ((((int)answer) != ((int)0))) {
-          return ((int)answer);
-        }
-      }
-      {
-        int answer = ((int)lb2_crossings2(v));
-        if ((((int)answer) != ((int)0))) {
-          return ((int)answer);
-        }
-      }
-      {
-        int answer = ((int)lb9_crossings2(v));
-        if ((((int)answer) != ((int)0))) {
-          return ((int)answer);
-        }
-      }
-      {
-        int answer = ((int)lb16_crossings2(v));
-        if ((((int)answer) != ((int)0))) {
-          return ((int)answer);
-        }
-      }
-      {
-        int answer = ((int)lb23_crossings2(v));
-        if ((((int)answer) != ((int)0))) {
-          return ((int)answer);
-        }
-      }
-      {
-        int answer = ((int)lb30_crossings2(v));
-        if ((((int)answer) != ((int)0))) {
-          return ((int)answer);
-        }
-      }
-      {
-        int answer = ((int)lb35_crossings2(v));
-        if ((((int)answer) != ((int)0))) {
-          return ((int)answer);
-        }
-      }
-      {
-        int answer = ((int)lb42_crossings2(v));
-        if ((((int)answer) != ((int)0))) {
-          return ((int)answer);
-        }
-      }
-      {
-        int answer = ((int)lb3_crossings2(v));
-        if ((((int)answer) != ((int)0))) {
-          return ((int)answer);
-        }
-      }
-      {
-        int answer = ((int)lb10_crossings2(v));
-        if ((((int)answer) != ((int)0))) {
-          return ((int)answer);
-        }
-      }
-      {
-        int answer = ((int)lb17_crossings2(v));
-        if ((((int)answer) != ((int)0))) {
-          return ((int)answer);
-        }
-      }
-      {
-        int answer = ((int)lb24_crossings2(v));
-        if ((((int)answer) != ((int)0))) {
-          return ((int)answer);
-        }
-      }
-      {
-        int answer = ((int)lb31_crossings2(v));
-        if ((((int)answer) != ((int)0))) {
-          return ((int)answer);
-        }
-      }
-      {
-        int answer = ((int)lb36_crossings2(v));
-        if ((((int)answer) != ((int)0))) {
-          return ((int)answer);
-        }
-      }
-      {
-        int answer = ((int)lb43_crossings2(v));
-        if ((((int)answer) != ((int)0))) {
-          return ((int)answer);
-        }
-      }
-      {
-        int answer = ((int)lb4_crossings2(v));
-        if ((((int)answer) != ((int)0))) {
-          return ((int)answer);
-        }
-      }
-      {
-        int answer = ((int)lb11_crossings2(v));
-        if ((((int)answer) != ((int)0))) {
-          return ((int)answer);
-        }
-      }
-      {
-        int answer = ((int)lb18_crossings2(v));
-        if ((((int)answer) != ((int)0))) {
-          return ((int)answer);
-        }
-      }
-      {
-        int answer = ((int)lb25_crossings2(v));
-        if ((((int)answer) != ((int)0))) {
-          return ((int)answer);
-        }
-      }
-      {
-        int answer = ((int)lb37_crossings2(v));
-        if ((((int)answer) != ((int)0))) {
-          return ((int)answer);
-        }
-      }
-      {
-        int answer = ((int)lb5_crossings2(v));
-        if ((((int)answer) != ((int)0))) {
-          return ((int)answer);
-        }
-      }
-      {
-        int answer = ((int)lb12_crossings2(v));
-        if ((((int)answer) != ((int)0))) {
-          return ((int)answer);
-        }
-      }
-      {
-        int answer = ((int)lb19_crossings2(v));
-        if ((((int)answer) != ((int)0))) {
-          return ((int)answer);
-        }
-      }
-      {
-        int answer = ((int)lb26_crossings2(v));
-        if ((((int)answer) != ((int)0))) {
-          return ((int)answer);
-        }
-      }
-      {
-        int answer = ((int)lb32_crossings2(v));
-        if ((((int)answer) != ((int)0))) {
-          return ((int)answer);
-        }
-      }
-      {
-        int answer = ((int)lb38_crossings2(v));
-        if ((((int)answer) != ((int)0))) {
-          return ((int)answer);
-        }
-      }
-      {
-        int answer = ((int)lb44_crossings2(v));
-        if ((((int)answer) != ((int)0))) {
-          return ((int)answer);
-        }
-      }
-      {
-        int answer = ((int)lb6_crossings2(v));
-        if ((((int)answer) != ((int)0))) {
-          return ((int)answer);
-        }
-      }
-      {
-        int answer = ((int)lb13_crossings2(v));
-        if ((((int)answer) != ((int)0))) {
-          return ((int)answer);
-        }
-      }
-      {
-        int answer = ((int)lb20_crossings2(v));
-        if ((((int)answer) != ((int)0))) {
-          return ((int)answer);
-        }
-      }
-      {
-        int answer = ((int)lb27_crossings2(v));
-        if ((((int)answer) != ((int)0))) {
-          return ((int)answer);
-        }
-      }
-      {
-        int answer = ((int)lb39_crossings2(v));
-        if ((((int)answer) != ((int)0))) {
-          return ((int)answer);
-        }
-      }
-      {
-        int answer = ((int)lb45_crossings2(v));
-        if ((((int)answer) != ((int)0))) {
-          return ((int)answer);
-        }
-      }
-      {
-        int answer = ((int)lb52_crossings2(v));
-        if ((((int)answer) != ((int)0))) {
-          return ((int)answer);
-        }
-      }
-      {
-        int answer = ((int)lb55_crossings2(v));
-        if ((((int)answer) != ((int)0))) {
-          return ((int)answer);
-        }
-      }
-      {
-        int answer = ((int)lb96_crossings2(v));
-        if ((((int)answer) != ((int)0))) {
-          return ((int)answer);
-        }
-      }
-      {
-        int answer = ((int)lb97_crossings2(v));
-        if ((((int)answer) != ((int)0))) {
-          return ((int)answer);
-        }
-      }
-      {
-        int answer = ((int)lb98_crossings2(v));
-        if ((((int)answer) != ((int)0))) {
-          return ((int)answer);
-        }
-      }
-      {
-        int answer = ((int)lb99_crossings2(v));
-        if ((((int)answer) != ((int)0))) {
-          return ((int)answer);
-        }
-      }
-      {
-        int answer = ((int)lb46_crossings2(v));
-        if ((((int)answer) != ((int)0))) {
-          return ((int)answer);
-        }
-      }
-      {
-        int answer = ((int)lb56_crossings2(v));
-        if ((((int)answer) != ((int)0))) {
-          return ((int)answer);
-        }
-      }
-      {
-        int answer = ((int)lb100_crossings2(v));
-        if ((((int)answer) != ((int)0))) {
-          return ((int)answer);
-        }
-      }
-      {
-        int answer = ((int)lb47_crossings2(v));
-        if ((((int)answer) != ((int)0))) {
-          return ((int)answer);
-        }
-      }
-      {
-        int answer = ((int)lb53_crossings2(v));
-        if ((((int)answer) != ((int)0))) {
-          return ((int)answer);
-        }
-      }
-      {
-        int answer = ((int)lb57_crossings2(v));
-        if ((((int)answer) != ((int)0))) {
-          return ((int)answer);
-        }
-      }
-      {
-        int answer = ((int)lb101_crossings2(v));
-        if ((((int)answer) != ((int)0))) {
-          return ((int)answer);
-        }
-      }
-      {
-        int answer = ((int)lb102_crossings2(v));
-        if ((((int)answer) != ((int)0))) {
-          return ((int)answer);
-        }
-      }
-      return ((int)0);
-    }
-    {
-      int answer = ((int)lb45_crossings2(v));
-      if ((((int)answer) != ((int)0))) {
-        return ((int)answer);
-      }
-    }
-    {
-      int answer = ((int)lb52_crossings2(v));
-      if ((((int)answer) != ((int)0))) {
-        return ((int)answer);
-      }
-    }
-    {
-      int answer = ((int)lb55_crossings2(v));
-      if ((((int)answer) != ((int)0))) {
-        return ((int)answer);
-      }
-    }
-    {
-      int answer = ((int)lb96_crossings2(v));
-      if ((((int)answer) != ((int)0))) {
-        return ((int)answer);
-      }
-    }
-    {
-      int answer = ((int)lb97_crossings2(v));
-      if ((((int)answer) != ((int)0))) {
-        return ((int)answer);
-      }
-    }
-    {
-      int answer = ((int)lb98_crossings2(v));
-      if ((((int)answer) != ((int)0))) {
-        return ((int)answer);
-      }
-    }
-    {
-      int answer = ((int)lb99_crossings2(v));
-      if ((((int)answer) != ((int)0))) {
-        return ((int)answer);
-      }
-    }
-    {
-      int answer = ((int)lb60_crossings2(v));
-      if ((((int)answer) != ((int)0))) {
-        return ((int)answer);
-      }
-    }
-    {
-      int answer = ((int)lb91_crossings2(v));
-      if ((((int)answer) != ((int)0))) {
-        return ((int)answer);
-      }
-    }
-    {
-      int answer = ((int)lb103_crossings2(v));
-      if ((((int)answer) != ((int)0))) {
-        return ((int)answer);
-      }
-    }
-    {
-      int answer = ((int)lb104_crossings2(v));
-      if ((((int)answer) != ((int)0))) {
-        return ((int)answer);
-      }
-    }
-    {
-      int answer = ((int)lb105_crossings2(v));
-      if ((((int)answer) != ((int)0))) {
-        return ((int)answer);
-      }
-    }
-    {
-      int answer = ((int)lb106_crossings2(v));
-      if ((((int)answer) != ((int)0))) {
-        return ((int)answer);
-      }
-    }
-    {
-      int answer = ((int)lb107_crossings2(v));
-      if ((((int)answer) != ((int)0))) {
-        return ((int)answer);
-      }
-    }
-    {
-      int answer = ((int)lb67_crossings2(v));
-      if ((((int)answer) != ((int)0))) {
-        return ((int)answer);
-      }
-    }
-    {
-      int answer = ((int)lb108_crossings2(v));
-      if ((((int)answer) != ((int)0))) {
-        return ((int)answer);
-      }
-    }
-    {
-      int answer = ((int)lb109_crossings2(v));
-      if ((((int)answer) != ((int)0))) {
-        return ((int)answer);
-      }
-    }
-    {
-      int answer = ((int)lb110_crossings2(v));
-      if ((((int)answer) != ((int)0))) {
-        return ((int)answer);
-      }
-    }
-    {
-      int answer = ((int)lb111_crossings2(v));
-      if ((((int)answer) != ((int)0))) {
-        return ((int)answer);
-      }
-    }
-    {
-      int answer = ((int)lb112_crossings2(v));
-      if ((((int)answer) != ((int)0))) {
-        return ((int)answer);
-      }
-    }
-    {
-      int answer = ((int)lb113_crossings2(v));
-      if ((((int)answer) != ((int)0))) {
-        return ((int)answer);
-      }
-    }
-    {
-      int answer = ((int)lb74_crossings2(v));
-      if ((((int)answer) != ((int)0))) {
-        return ((int)answer);
-      }
-    }
-    {
-      int answer = ((int)lb114_crossings2(v));
-      if ((((int)answer) != ((int)0))) {
-        return ((int)answer);
-      }
-    }
-    {
-      int answer = ((int)lb115_crossings2(v));
-      if ((((int)answer) != ((int)0))) {
-        return ((int)answer);
-      }
-    }
-    {
-      int answer = ((int)lb116_crossings2(v));
-      if ((((int)answer) != ((int)0))) {
-        return ((int)answer);
-      }
-    }
-    {
-      int answer = ((int)lb117_crossings2(v));
-      if ((((int)answer) != ((int)0))) {
-        return ((int)answer);
-      }
-    }
-    {
-      int answer = ((int)lb79_crossings2(v));
-      if ((((int)answer) != ((int)0))) {
-        return ((int)answer);
-      }
-    }
-    {
-      int answer = ((int)lb118_crossings2(v));
-      if ((((int)answer) != ((int)0))) {
-        return ((int)answer);
-      }
-    }
-    {
-      int answer = ((int)lb119_crossings2(v));
-      if ((((int)answer) != ((int)0))) {
-        return ((int)answer);
-      }
-    }
-    {
-      int answer = ((int)lb120_crossings2(v));
-      if ((((int)answer) != ((int)0))) {
-        return ((int)answer);
-      }
-    }
-    {
-      int answer = ((int)lb121_crossings2(v));
-      if ((((int)answer) != ((int)0))) {
-        return ((int)answer);
-      }
-    }
-    {
-      int answer = ((int)lb122_crossings2(v));
-      if ((((int)answer) != ((int)0))) {
-        return ((int)answer);
-      }
-    }
-    {
-      int answer = ((int)lb123_crossings2(v));
-      if ((((int)answer) != ((int)0))) {
-        return ((int)answer);
-      }
-    }
-    {
-      int answer = ((int)lb86_crossings2(v));
-      if ((((int)answer) != ((int)0))) {
-        return ((int)answer);
-      }
-    }
-    {
-      int answer = ((int)lb124_crossings2(v));
-      if ((((int)answer) != ((int)0))) {
-        return ((int)answer);
-      }
-    }
-    {
-      int answer = ((int)lb125_crossings2(v));
-      if ((((int)answer) != ((int)0))) {
-        return ((int)answer);
-      }
-    }
-    {
-      int answer = ((int)lb126_crossings2(v));
-      if ((((int)answer) != ((int)0))) {
-        return ((int)answer);
-      }
-    }
-    {
-      int answer = ((int)lb127_crossings2(v));
-      if ((((int)answer) != ((int)0))) {
-        return ((int)answer);
-      }
-    }
-    {
-      int answer = ((int)lb1_crossings2(v));
-      if ((((int)answer) != ((int)0))) {
-        return ((int)answer);
-      }
-    }
-    {
-      int answer = ((int)lb8_crossings2(v));
-      if ((((int)answer) != ((int)0))) {
-        return ((int)answer);
-      }
-    }
-    {
-      int answer = ((int)lb15_crossings2(v));
-      if ((((int)answer) != ((int)0))) {
-        return ((int)answer);
-      }
-    }
-    {
-      int answer = ((int)lb22_crossings2(v));
-      if ((((int)answer) != ((int)0))) {
-        return ((int)answer);
-      }
-    }
-    {
-      int answer = ((int)lb29_crossings2(v));
-      if ((((int)answer) != ((int)0))) {
-        return ((int)answer);
-      }
-    }
-    {
-      int answer = ((int)lb34_crossings2(v));
-      if ((((int)answer) != ((int)0))) {
-        return ((int)answer);
-      }
-    }
-    {
-      int answer = ((int)lb41_crossings2(v));
-      if ((((int)answer) != ((int)0))) {
-        return ((int)answer);
-      }
-    }
-    {
-      int answer = ((int)lb46_crossings2(v));
-      if ((((int)answer) != ((int)0))) {
-        return ((int)answer);
-      }
-    }
-    {
-      int answer = ((int)lb56_crossings2(v));
-      if ((((int)answer) != ((int)0))) {
-        return ((int)answer);
-      }
-    }
-    {
-      int answer = ((int)lb100_crossings2(v));
-      if ((((int)answer) != ((int)0))) {
-        return ((int)answer);
-      }
-    }
-    {
-      int answer = ((int)lb61_crossings2(v));
-      if ((((int)answer) != ((int)0))) {
-        return ((int)answer);
-      }
-    }
-    {
-      int answer = ((int)lb92_crossings2(v));
-      if ((((int)answer) != ((int)0))) {
-        return ((int)answer);
-      }
-    }
-    {
-      int answer = ((int)lb128_crossings2(v));
-      if ((((int)answer) != ((int)0))) {
-        return ((int)answer);
-      }
-    }
-    {
-      int answer = ((int)lb129_crossings2(v));
-      if ((((int)answer) != ((int)0))) {
-        return ((int)answer);
-      }
-    }
-    {
-      int answer = ((int)lb130_crossings2(v));
-      if ((((int)answer) != ((int)0))) {
-        return ((int)answer);
-      }
-    }
-    return ((int)0);
-  }
-  {
-    int answer = ((int)lb45_crossings2(v));
-    if ((((int)answer) != ((int)0))) {
-      return ((int)answer);
-    }
-  }
-  {
-    int answer = ((int)lb60_crossings2(v));
-    if ((((int)answer) != ((int)0))) {
-      return ((int)answer);
-    }
-  }
-  {
-    int answer = ((int)lb67_crossings2(v));
-    if ((((int)answer) != ((int)0))) {
-      return ((int)answer);
-    }
-  }
-  {
-    int answer = ((int)lb74_crossings2(v));
-    if ((((int)answer) != ((int)0))) {
-      return ((int)answer);
-    }
-  }
-  {
-    int answer = ((int)lb79_crossings2(v));
-    if ((((int)answer) != ((int)0))) {
-      return ((int)answer);
-    }
-  }
-  {
-    int answer = ((int)lb86_crossings2(v));
-    if ((((int)answer) != ((int)0))) {
-      return ((int)answer);
-    }
-  }
-  if ((((int64_t)x[0]) < ((int64_t)x[1]))) {
-    {
-      int answer = ((int)lb1_crossings2(v));
-      if ((((int)answer) != ((int)0))) {
-        return ((int)answer);
-      }
-    }
-    {
-      int answer = ((int)lb46_crossings2(v));
-      if ((((int)answer) != ((int)0))) {
-        return ((int)answer);
-      }
-    }
-    {
-      int answer = ((int)lb61_crossings2(v));
-      if ((((int)answer) != ((int)0))) {
-        return ((int)answer);
-      }
-    }
-    {
-      int answer = ((int)lb68_crossings2(v));
-      if ((((int)answer) != ((int)0))) {
-        return ((int)answer);
-      }
-    }
-    {
-      int answer = ((int)lb75_crossings2(v));
-      if ((((int)answer) != ((int)0))) {
-        return ((int)answer);
-      }
-    }
-    {
-      int answer = ((int)lb80_crossings2(v));
-      if ((((int)answer) != ((int)0))) {
-        return ((int)answer);
-      }
-    }
-    {
-      int answer = ((int)lb87_crossings2(v));
-      if ((((int)answer) != ((int)0))) {
-        return ((int)answer);
-      }
-    }
-    {
-      int answer = ((int)lb2_crossings2(v));
-      if ((((int)answer) != ((int)0))) {
-        return ((int)answer);
-      }
-    }
-    {
-      int answer = ((int)lb47_crossings2(v));
-      if ((((int)answer) != ((int)0))) {
-        return ((int)answer);
-      }
-    }
-    {
-      int answer = ((int)lb62_crossings2(v));
-      if ((((int)answer) != ((int)0))) {
-        return ((int)answer);
-      }
-    }
-    {
-      int answer = ((int)lb69_crossings2(v));
-      if ((((int)answer) != ((int)0))) {
-        return ((int)answer);
-      }
-    }
-    {
-      int answer = ((int)lb76_crossings2(v));
-      if ((((int)answer) != ((int)0))) {
-        return ((int)answer);
-      }
-    }
-    {
-      int answer = ((int)lb81_crossings2(v));
-      if ((((int)answer) != ((int)0))) {
-        return ((int)answer);
-      }
-    }
-    {
-      int answer = ((int)lb88_crossings2(v));
-      if ((((int)answer) != ((int)0))) {
-        return ((int)answer);
-      }
-    }
-    {
-      int answer = ((int)lb3_crossings2(v));
-      if ((((int)answer) != ((int)0))) {
-        return ((int)answer);
-      }
-    }
-    {
-      int answer = ((int)lb48_crossings2(v));
-      if ((((int)answer) != ((int)0))) {
-        return ((int)answer);
-      }
-    }
-    {
-      int answer = ((int)lb63_crossings2(v));
-      if ((((int)answer) != ((int)0))) {
-        return ((int)answer);
-      }
-    }
-    {
-      int answer = ((int)lb70_crossings2(v));
-      if ((((int)answer) != ((int)0))) {
-        return ((int)answer);
-      }
-    }
-    {
-      int answer = ((int)lb77_crossings2(v));
-      if ((((int)answer) != ((int)0))) {
-        return ((int)answer);
-      }
-    }
-    {
-      int answer = ((int)lb82_crossings2(v));
-      if ((((int)answer) != ((int)0))) {
-        return ((int)answer);
-      }
-    }
-    {
-      int answer = ((int)lb89_crossings2(v));
-      if ((((int)answer) != ((int)0))) {
-        return ((int)answer);
-      }
-    }
-    {
-      int answer = ((int)lb4_crossings2(v));
-      if ((((int)answer) != ((int)0))) {
-        return ((int)answer);
-      }
-    }
-    {
-      int answer = ((int)lb49_crossings2(v));
-      if ((((int)answer) != ((int)0))) {
-        return ((int)answer);
-      }
-    }
-    {
-      int answer = ((int)lb64_crossings2(v));
-      if ((((int)answer) != ((int)0))) {
-        return ((int)answer);
-      }
-    }
-    {
-      int answer = ((int)lb71_crossings2(v));
-      if ((((int)answer) != ((int)0))) {
-        return ((int)answer);
-      }
-    }
-    {
-      int answer = ((int)lb83_crossings2(v));
-      if ((((int)answer) != ((int)0))) {
-        return ((int)answer);
-      }
-    }
-    {
-      int answer = ((int)lb5_crossings2(v));
-      if ((((int)answer) != ((int)0))) {
-        return ((int)answer);
-      }
-    }
-    {
-      int answer = ((int)lb50_crossings2(v));
-      if ((((int)answer) != ((int)0))) {
-        return ((int)answer);
-      }
-    }
-    {
-      int answer = ((int)lb65_crossings2(v));
-      if ((((int)answer) != ((int)0))) {
-        return ((int)answer);
-      }
-    }
-    {
-      int answer = ((int)lb72_crossings2(v));
-      if ((((int)answer) != ((int)0))) {
-        return ((int)answer);
-      }
-    }
-    {
-      int answer = ((int)lb78_crossings2(v));
-      if ((((int)answer) != ((int)0))) {
-        return ((int)answer);
-      }
-    }
-    {
-      int answer = ((int)lb84_crossings2(v));
-      if ((((int)answer) != ((int)0))) {
-        return ((int)answer);
-      }
-    }
-    {
-      int answer = ((int)lb90_crossings2(v));
-      if ((((int)answer) != ((int)0))) {
-        return ((int)answer);
-      }
-    }
-    {
-      int answer = ((int)lb6_crossings2(v));
-      if ((((int)answer) != ((int)0))) {
-        return ((int)answer);
-      }
-    }
-    {
-      int answer = ((int)lb51_crossings2(v));
-      if ((((int)answer) != ((int)0))) {
-        return ((int)answer);
-      }
-    }
-    {
-      int answer = ((int)lb66_crossings2(v));
-      if ((((int)answer) != ((int)0))) {
-        return ((int)answer);
-      }
-    }
-    {
-      int answer = ((int)lb73_crossings2(v));
-      if ((((int)answer) != ((int)0))) {
-        return ((int)answer);
-      }
-    }
-    {
-      int answer = ((int)lb85_crossings2(v));
-      if ((((int)answer) != ((int)0))) {
-        return ((int)answer);
-      }
-    }
-    {
-      int answer = ((int)lb7_crossings2(v));
-      if ((((int)answer) != ((int)0))) {
-        return ((int)answer);
-      }
-    }
-    {
-      int answer = ((int)lb52_crossings2(v));
-      if ((((int)answer) != ((int)0))) {
-        return ((int)answer);
-      }
-    }
-    {
-      int answer = ((int)lb91_crossings2(v));
-      if ((((int)answer) != ((int)0))) {
-        return ((int)answer);
-      }
-    }
-    {
-      int answer = ((int)lb108_crossings2(v));
-      if ((((int)answer) != ((int)0))) {
-        return ((int)answer);
-      }
-    }
-    {
-      int answer = ((int)lb114_crossings2(v));
-      if ((((int)answer) != ((int)0))) {
-        return ((int)answer);
-      }
-    }
-    {
-      int answer = ((int)lb118_crossings2(v));
-      if ((((int)answer) != ((int)0))) {
-        return ((int)answer);
-      }
-    }
-    {
-      int answer = ((int)lb124_crossings2(v));
-      if ((((int)answer) != ((int)0))) {
-        return ((int)answer);
-      }
-    }
-    {
-      int answer = ((int)lb8_crossings2(v));
-      if ((((int)answer) != ((int)0))) {
-        return ((int)answer);
-      }
-    }
-    {
-      int answer = ((int)lb92_crossings2(v));
-      if ((((int)answer) != ((int)0))) {
-        return ((int)answer);
-      }
-    }
-    {
-      int answer = ((int)lb131_crossings2(v));
-      if ((((int)answer) != ((int)0))) {
-        return ((int)answer);
-      }
-    }
-    {
-      int answer = ((int)lb9_crossings2(v));
-      if ((((int)answer) != ((int)0))) {
-        return ((int)answer);
-      }
-    }
-    {
-      int answer = ((int)lb53_crossings2(v));
-      if ((((int)answer) != ((int)0))) {
-        return ((int)answer);
-      }
-    }
-    {
-      int answer = ((int)lb93_crossings2(v));
-      if ((((int)answer) != ((int)0))) {
-        return ((int)answer);
-      }
-    }
-    {
-      int answer = ((int)lb132_crossings2(v));
-      if ((((int)answer) != ((int)0))) {
-        return ((int)answer);
-      }
-    }
-    {
-      int answer = ((int)lb133_crossings2(v));
-      if ((((int)answer) != ((int)0))) {
-        return ((int)answer);
-      }
-    }
-    return ((int)0);
-  }
-  {
-    int answer = ((int)lb7_crossings2(v));
-    if ((((int)answer) != ((int)0))) {
-      return ((int)answer);
-    }
-  }
-  {
-    int answer = ((int)lb52_crossings2(v));
-    if ((((int)answer) != ((int)0))) {
-      return ((int)answer);
-    }
-  }
-  {
-    int answer = ((int)lb91_crossings2(v));
-    if ((((int)answer) != ((int)0))) {
-      return ((int)answer);
-    }
-  }
-  {
-    int answer = ((int)lb108_crossings2(v));
-    if ((((int)answer) != ((int)0))) {
-      return ((int)answer);
-    }
-  }
-  {
-    int answer = ((int)lb114_crossings2(v));
-    if ((((int)answer) != ((int)0))) {
-      return ((int)answer);
-    }
-  }
-  {
-    int answer = ((int)lb118_crossings2(v));
-    if ((((int)answer) != ((int)0))) {
-      return ((int)answer);
-    }
-  }
-  {
-    int answer = ((int)lb124_crossings2(v));
-    if ((((int)answer) != ((int)0))) {
-      return ((int)answer);
-    }
-  }
-  {
-    int answer = ((int)lb14_crossings2(v));
-    if ((((int)answer) != ((int)0))) {
-      return ((int)answer);
-    }
-  }
-  {
-    int answer = ((int)lb55_crossings2(v));
-    if ((((int)answer) != ((int)0))) {
-      return ((int)answer);
-    }
-  }
-  {
-    int answer = ((int)lb103_crossings2(v));
-    if ((((int)answer) != ((int)0))) {
-      return ((int)answer);
-    }
-  }
-  {
-    int answer = ((int)lb109_crossings2(v));
-    if ((((int)answer) != ((int)0))) {
-      return ((int)answer);
-    }
-  }
-  {
-    int answer = ((int)lb115_crossings2(v));
-    if ((((int)answer) != ((int)0))) {
-      return ((int)answer);
-    }
-  }
-  {
-    int answer = ((int)lb119_crossings2(v));
-    if ((((int)answer) != ((int)0))) {
-      return ((int)answer);
-    }
-  }
-  {
-    int answer = ((int)lb125_crossings2(v));
-    if ((((int)answer) != ((int)0))) {
-      return ((int)answer);
-    }
-  }
-  {
-    int answer = ((int)lb21_crossings2(v));
-    if ((((int)answer) != ((int)0))) {
-      return ((int)answer);
-    }
-  }
-  {
-    int answer = ((int)lb96_crossings2(v));
-    if ((((int)answer) != ((int)0))) {
-      return ((int)answer);
-    }
-  }
-  {
-    int answer = ((int)lb104_crossings2(v));
-    if ((((int)answer) != ((int)0))) {
-      return ((int)answer);
-    }
-  }
-  {
-    int answer = ((int)lb110_crossings2(v));
-    if ((((int)answer) != ((int)0))) {
-      return ((int)answer);
-    }
-  }
-  {
-    int answer = ((int)lb116_crossings2(v));
-    if ((((int)answer) != ((int)0))) {
-      return ((int)answer);
-    }
-  }
-  {
-    int answer = ((int)lb120_crossings2(v));
-    if ((((int)answer) != ((int)0))) {
-      return ((int)answer);
-    }
-  }
-  {
-    int answer = ((int)lb126_crossings2(v));
-    if ((((int)answer) != ((int)0))) {
-      return ((int)answer);
-    }
-  }
-  {
-    int answer = ((int)lb28_crossings2(v));
-    if ((((int)answer) != ((int)0))) {
-      return ((int)answer);
-    }
-  }
-  {
-    int answer = ((int)lb97_crossings2(v));
-    if ((((int)answer) != ((int)0))) {
-      return ((int)answer);
-    }
-  }
-  {
-    int answer = ((int)lb105_crossings2(v));
-    if ((((int)answer) != ((int)0))) {
-      return ((int)answer);
-    }
-  }
-  {
-    int answer = ((int)lb111_crossings2(v));
-    if ((((int)answer) != ((int)0))) {
-      return ((int)answer);
-    }
-  }
-  {
-    int answer = ((int)lb121_crossings2(v));
-    if ((((int)answer) != ((int)0))) {
-      return ((int)answer);
-    }
-  }
-  {
-    int answer = ((int)lb33_crossings2(v));
-    if ((((int)answer) != ((int)0))) {
-      return ((int)answer);
-    }
-  }
-  {
-    int answer = ((int)lb98_crossings2(v));
-    if ((((int)answer) != ((int)0))) {
-      return ((int)answer);
-    }
-  }
-  {
-    int answer = ((int)lb106_crossings2(v));
-    if ((((int)answer) != ((int)0))) {
-      return ((int)answer);
-    }
-  }
-  {
-    int answer = ((int)lb112_crossings2(v));
-    if ((((int)answer) != ((int)0))) {
-      return ((int)answer);
-    }
-  }
-  {
-    int answer = ((int)lb117_crossings2(v));
-    if ((((int)answer) != ((int)0))) {
-      return ((int)answer);
-    }
-  }
-  {
-    int answer = ((int)lb122_crossings2(v));
-    if ((((int)answer) != ((int)0))) {
-      return ((int)answer);
-    }
-  }
-  {
-    int answer = ((int)lb127_crossings2(v));
-    if ((((int)answer) != ((int)0))) {
-      return ((int)answer);
-    }
-  }
-  {
-    int answer = ((int)lb40_crossings2(v));
-    if ((((int)answer) != ((int)0))) {
-      return ((int)answer);
-    }
-  }
-  {
-    int answer = ((int)lb99_crossings2(v));
-    if ((((int)answer) != ((int)0))) {
-      return ((int)answer);
-    }
-  }
-  {
-    int answer = ((int)lb107_crossings2(v));
-    if ((((int)answer) != ((int)0))) {
-      return ((int)answer);
-    }
-  }
-  {
-    int answer = ((int)lb113_crossings2(v));
-    if ((((int)answer) != ((int)0))) {
-      return ((int)answer);
-    }
-  }
-  {
-    int answer = ((int)lb123_crossings2(v));
     if ((((int)answer) != ((int)0))) {
       return ((int)answer);
     }
@@ -5134,37 +1905,37 @@ int ln_crossings2(const int64_t *x, const int64_t *v) {
     }
   }
   {
-    int answer = ((int)lb46_crossings2(v));
+    int answer = ((int)lb2_crossings2(v));
     if ((((int)answer) != ((int)0))) {
       return ((int)answer);
     }
   }
   {
-    int answer = ((int)lb61_crossings2(v));
+    int answer = ((int)lb3_crossings2(v));
     if ((((int)answer) != ((int)0))) {
       return ((int)answer);
     }
   }
   {
-    int answer = ((int)lb68_crossings2(v));
+    int answer = ((int)lb4_crossings2(v));
     if ((((int)answer) != ((int)0))) {
       return ((int)answer);
     }
   }
   {
-    int answer = ((int)lb75_crossings2(v));
+    int answer = ((int)lb5_crossings2(v));
     if ((((int)answer) != ((int)0))) {
       return ((int)answer);
     }
   }
   {
-    int answer = ((int)lb80_crossings2(v));
+    int answer = ((int)lb6_crossings2(v));
     if ((((int)answer) != ((int)0))) {
       return ((int)answer);
     }
   }
   {
-    int answer = ((int)lb87_crossings2(v));
+    int answer = ((int)lb7_crossings2(v));
     if ((((int)answer) != ((int)0))) {
       return ((int)answer);
     }
@@ -5176,13 +1947,37 @@ int ln_crossings2(const int64_t *x, const int64_t *v) {
     }
   }
   {
-    int answer = ((int)lb92_crossings2(v));
+    int answer = ((int)lb9_crossings2(v));
     if ((((int)answer) != ((int)0))) {
       return ((int)answer);
     }
   }
   {
-    int answer = ((int)lb131_crossings2(v));
+    int answer = ((int)lb10_crossings2(v));
+    if ((((int)answer) != ((int)0))) {
+      return ((int)answer);
+    }
+  }
+  {
+    int answer = ((int)lb11_crossings2(v));
+    if ((((int)answer) != ((int)0))) {
+      return ((int)answer);
+    }
+  }
+  {
+    int answer = ((int)lb12_crossings2(v));
+    if ((((int)answer) != ((int)0))) {
+      return ((int)answer);
+    }
+  }
+  {
+    int answer = ((int)lb13_crossings2(v));
+    if ((((int)answer) != ((int)0))) {
+      return ((int)answer);
+    }
+  }
+  {
+    int answer = ((int)lb14_crossings2(v));
     if ((((int)answer) != ((int)0))) {
       return ((int)answer);
     }
@@ -5194,28 +1989,285 @@ int ln_crossings2(const int64_t *x, const int64_t *v) {
     }
   }
   {
+    int answer = ((int)lb16_crossings2(v));
+    if ((((int)answer) != ((int)0))) {
+      return ((int)answer);
+    }
+  }
+  {
+    int answer = ((int)lb17_crossings2(v));
+    if ((((int)answer) != ((int)0))) {
+      return ((int)answer);
+    }
+  }
+  {
+    int answer = ((int)lb18_crossings2(v));
+    if ((((int)answer) != ((int)0))) {
+      return ((int)answer);
+    }
+  }
+  {
+    int answer = ((int)lb19_crossings2(v));
+    if ((((int)answer) != ((int)0))) {
+      return ((int)answer);
+    }
+  }
+  {
+    int answer = ((int)lb20_crossings2(v));
+    if ((((int)answer) != ((int)0))) {
+      return ((int)answer);
+    }
+  }
+  {
+    int answer = ((int)lb21_crossings2(v));
+    if ((((int)answer) != ((int)0))) {
+      return ((int)answer);
+    }
+  }
+  {
+    int answer = ((int)lb22_crossings2(v));
+    if ((((int)answer) != ((int)0))) {
+      return ((int)answer);
+    }
+  }
+  {
+    int answer = ((int)lb23_crossings2(v));
+    if ((((int)answer) != ((int)0))) {
+      return ((int)answer);
+    }
+  }
+  {
+    int answer = ((int)lb24_crossings2(v));
+    if ((((int)answer) != ((int)0))) {
+      return ((int)answer);
+    }
+  }
+  {
+    int answer = ((int)lb25_crossings2(v));
+    if ((((int)answer) != ((int)0))) {
+      return ((int)answer);
+    }
+  }
+  {
+    int answer = ((int)lb26_crossings2(v));
+    if ((((int)answer) != ((int)0))) {
+      return ((int)answer);
+    }
+  }
+  {
+    int answer = ((int)lb27_crossings2(v));
+    if ((((int)answer) != ((int)0))) {
+      return ((int)answer);
+    }
+  }
+  {
+    int answer = ((int)lb28_crossings2(v));
+    if ((((int)answer) != ((int)0))) {
+      return ((int)answer);
+    }
+  }
+  {
+    int answer = ((int)lb29_crossings2(v));
+    if ((((int)answer) != ((int)0))) {
+      return ((int)answer);
+    }
+  }
+  {
+    int answer = ((int)lb30_crossings2(v));
+    if ((((int)answer) != ((int)0))) {
+      return ((int)answer);
+    }
+  }
+  {
+    int answer = ((int)lb31_crossings2(v));
+    if ((((int)answer) != ((int)0))) {
+      return ((int)answer);
+    }
+  }
+  {
+    int answer = ((int)lb32_crossings2(v));
+    if ((((int)answer) != ((int)0))) {
+      return ((int)answer);
+    }
+  }
+  {
+    int answer = ((int)lb33_crossings2(v));
+    if ((((int)answer) != ((int)0))) {
+      return ((int)answer);
+    }
+  }
+  {
+    int answer = ((int)lb34_crossings2(v));
+    if ((((int)answer) != ((int)0))) {
+      return ((int)answer);
+    }
+  }
+  {
+    int answer = ((int)lb35_crossings2(v));
+    if ((((int)answer) != ((int)0))) {
+      return ((int)answer);
+    }
+  }
+  {
+    int answer = ((int)lb36_crossings2(v));
+    if ((((int)answer) != ((int)0))) {
+      return ((int)answer);
+    }
+  }
+  {
+    int answer = ((int)lb37_crossings2(v));
+    if ((((int)answer) != ((int)0))) {
+      return ((int)answer);
+    }
+  }
+  {
+    int answer = ((int)lb38_crossings2(v));
+    if ((((int)answer) != ((int)0))) {
+      return ((int)answer);
+    }
+  }
+  {
+    int answer = ((int)lb39_crossings2(v));
+    if ((((int)answer) != ((int)0))) {
+      return ((int)answer);
+    }
+  }
+  {
+    int answer = ((int)lb40_crossings2(v));
+    if ((((int)answer) != ((int)0))) {
+      return ((int)answer);
+    }
+  }
+  {
+    int answer = ((int)lb41_crossings2(v));
+    if ((((int)answer) != ((int)0))) {
+      return ((int)answer);
+    }
+  }
+  {
+    int answer = ((int)lb42_crossings2(v));
+    if ((((int)answer) != ((int)0))) {
+      return ((int)answer);
+    }
+  }
+  {
+    int answer = ((int)lb43_crossings2(v));
+    if ((((int)answer) != ((int)0))) {
+      return ((int)answer);
+    }
+  }
+  {
+    int answer = ((int)lb44_crossings2(v));
+    if ((((int)answer) != ((int)0))) {
+      return ((int)answer);
+    }
+  }
+  {
+    int answer = ((int)lb45_crossings2(v));
+    if ((((int)answer) != ((int)0))) {
+      return ((int)answer);
+    }
+  }
+  {
+    int answer = ((int)lb46_crossings2(v));
+    if ((((int)answer) != ((int)0))) {
+      return ((int)answer);
+    }
+  }
+  {
+    int answer = ((int)lb47_crossings2(v));
+    if ((((int)answer) != ((int)0))) {
+      return ((int)answer);
+    }
+  }
+  {
+    int answer = ((int)lb48_crossings2(v));
+    if ((((int)answer) != ((int)0))) {
+      return ((int)answer);
+    }
+  }
+  {
+    int answer = ((int)lb49_crossings2(v));
+    if ((((int)answer) != ((int)0))) {
+      return ((int)answer);
+    }
+  }
+  {
+    int answer = ((int)lb50_crossings2(v));
+    if ((((int)answer) != ((int)0))) {
+      return ((int)answer);
+    }
+  }
+  {
+    int answer = ((int)lb51_crossings2(v));
+    if ((((int)answer) != ((int)0))) {
+      return ((int)answer);
+    }
+  }
+  {
+    int answer = ((int)lb52_crossings2(v));
+    if ((((int)answer) != ((int)0))) {
+      return ((int)answer);
+    }
+  }
+  {
+    int answer = ((int)lb53_crossings2(v));
+    if ((((int)answer) != ((int)0))) {
+      return ((int)answer);
+    }
+  }
+  {
+    int answer = ((int)lb54_crossings2(v));
+    if ((((int)answer) != ((int)0))) {
+      return ((int)answer);
+    }
+  }
+  {
+    int answer = ((int)lb55_crossings2(v));
+    if ((((int)answer) != ((int)0))) {
+      return ((int)answer);
+    }
+  }
+  {
     int answer = ((int)lb56_crossings2(v));
     if ((((int)answer) != ((int)0))) {
       return ((int)answer);
     }
   }
   {
-    int answer = ((int)lb128_crossings2(v));
+    int answer = ((int)lb57_crossings2(v));
     if ((((int)answer) != ((int)0))) {
       return ((int)answer);
     }
   }
   {
-    int answer = ((int)lb134_crossings2(v));
+    int answer = ((int)lb58_crossings2(v));
     if ((((int)answer) != ((int)0))) {
       return ((int)answer);
     }
   }
   {
-    int answer = ((int)lb135_crossings2(v));
+    int answer = ((int)lb59_crossings2(v));
     if ((((int)answer) != ((int)0))) {
       return ((int)answer);
     }
+  }
+  if ((((int64_t)x[0]) < ((int64_t)x[1]))) {
+    if ((((int64_t)x[0]) < ((int64_t)x[2]))) {
+      if ((((int64_t)x[1]) < ((int64_t)x[2]))) {
+        return ((int)0);
+      }
+      return ((int)0);
+    }
+  }
+  if ((((int64_t)x[1]) < ((int64_t)x[2]))) {
+    if ((((int64_t)x[0]) < ((int64_t)x[2]))) {
+      return ((int)0);
+    }
+    return ((int)0);
+  }
+  if ((((int64_t)x[0]) < ((int64_t)x[1]))) {
+    return ((int)0);
   }
   return ((int)0);
 }

@@ -1,11 +1,11 @@
 # shellcheck shell=bash disable=SC2154  # examples/check, which reads this file, gives the names that stand for nothing here
 # predicates/: what is kept is what the programs write, the installed library from a folder elsewhere, its signs, and triangulations over it. The C
-# without a filter is made by lnc_exact: the program in LNC_EXACT, or that of the checkout
+# is made by lnc_exact: the program in LNC_EXACT, or that of the checkout
 exact=$(readlink -f "${LNC_EXACT:-$(bin/lnc_exact --path)}")
 families='plane space weighted_plane weighted_space segments'
 for family in $families; do
   text=predicates/$family.ln
-  case_ "the kept C of $family" 0 'equal' '' "$exact $text | cmp - predicates/$family.c && echo equal"
+  case_ "the kept C of $family" 0 'equal' '' "$exact turning $text | cmp - predicates/$family.c && echo equal"
   case_ "the header of $family" 0 'equal' '' "LNC=$lnc python3 predicates/header.py $text predicates/$family.c | cmp - predicates/lnc_$family.h && echo equal"
   case_ "no larger power of 2 for $family" 1 '' 'error bound' \
     "bits=30; case $family in *space) bits=24 ;; esac; LNC=$lnc python3 predicates/header.py --grid \$bits $text >$scratch/next.ln; $lnc check $scratch/next.ln 2>$scratch/said; s=\$?
@@ -14,7 +14,7 @@ done
 for family in plane weighted_plane segments; do
   case_ "the listing of $family" 0 'equal' '' "$lnc list predicates/$family.ln | cmp - predicates/$family.list && echo equal"
 done
-case_ 'at most 10 MB are kept' 0 'yes' '' "[ \$(cat predicates/*.{c,h,list} | wc -c) -le 10000000 ] && echo yes"
+case_ 'at most 2.5 MB are kept' 0 'yes' '' "[ \$(cat predicates/*.{c,h,list} | wc -c) -le 2500000 ] && echo yes"
 case_ 'a second set for grids of 2^20, beside the first' 0 '1 1' '' "make -s -C predicates grid20 FAMILIES=plane O=$scratch/grid LNC=$lnc LNC_EXACT=$exact &&
     printf '#define LNC_PLANE_IMPLEMENTATION\n#include \"lnc_plane.h\"\n#define LNC_PLANE_20_IMPLEMENTATION\n#include \"lnc_plane_20.h\"\n#include <stdio.h>\n
     int main(void) { int64_t x[] = {1, 2, 3}, v[] = {0, 0, 1, 1, 2, 2}; printf(\"%%d %%d\\\\n\", ln_orient2(x, v), ln_orient2_20(x, v)); }\n' >$scratch/both.c &&
@@ -23,8 +23,11 @@ shown predicates/README.md
 
 # C of one order: its header puts each row into this order, and nothing else can call it
 mkdir "$scratch/one"; cp examples/checks/exchanges.{ln,c} "$scratch/one"
+case_ 'the kept C of one order' 0 'equal' '' "$exact turning examples/checks/exchanges.ln | cmp - examples/checks/exchanges.c && echo equal"
 case_ 'a header for it' 0 '' '' "LNC=$lnc python3 predicates/header.py $scratch/one/exchanges.{ln,c} >$scratch/one/lnc_exchanges.h"
 case_ 'rows in every order of their indices' 0 '7200 rows, 0 wrong' '' "python3 examples/checks/predicates.py orders $lnc $scratch/one exchanges"
+# shellcheck disable=SC2086  # $families is words
+case_ 'and so of the families' 0 '77760 rows, 0 wrong' '' "python3 examples/checks/predicates.py orders $lnc predicates $families"
 case_ 'it has no function of its own to link' 0 'ln_alone ln_behind ln_large ln_left ln_near' '' "cd $scratch/one && gcc -std=gnu99 -DLNC_EXCHANGES_IMPLEMENTATION -x c -c lnc_exchanges.h -o one.o &&
   nm -g --defined-only one.o | cut -d' ' -f3 | grep -v '_\(at\|plain\|rows\)\$' | sort | paste -sd' '"
 case_ 'a header that was written before the C takes none of one order' 0 'la_left' '' "cd $scratch/one && mv exchanges.c of_one && LNC=$lnc python3 $PWD/predicates/header.py exchanges.ln >lnc_exchanges.h && mv of_one exchanges.c &&
@@ -42,7 +45,8 @@ done
 
 # the library, installed and used from a folder elsewhere
 prefix=$scratch/installed
-case_ 'make install' 0 '' '' "make -s -C predicates install CC=gcc CFLAGS='-O0 -Wall -Wextra -Werror' O=$scratch/build PREFIX=$prefix"
+case_ 'make install' 0 '' '' "make -s -C predicates install CC=gcc CFLAGS='-O2 -Wall -Wextra -Werror' O=$scratch/build PREFIX=$prefix"
+case_ 'nothing in it is right on some rows alone' 0 '' '' "nm -gD --defined-only $prefix/lib/liblnc_predicates.so | cut -d' ' -f3 | grep -v '^ln_'; nm -g --defined-only $prefix/lib/liblnc_predicates.a | sed -n 's/.* T //p' | grep -v '^ln_' || true"
 cp -R predicates/users "$scratch/users"
 sed -i "s|LNC_PREDICATES\"|$PWD/predicates/rust\"|" "$scratch/users/Cargo.toml"
 flags="-I$prefix/include -L$prefix/lib -Wl,-rpath,$prefix/lib -llnc_predicates"
@@ -59,6 +63,9 @@ case_ 'pkg-config finds it' 0 "-I$prefix/include -L$prefix/lib -llnc_predicates"
 for family in $families; do
   case_ "20,000 rows of $family" 0 '20000 rows, 0 wrong' '' "python3 examples/checks/predicates.py signs $lnc $prefix $family 20000"
 done
+case_ 'the same calls in C that is proved whole' 0 $'equal\n2000 rows, 0 wrong' '' "make -s -C predicates proved FAMILIES=plane O=$scratch/whole LNC=$lnc LNC_EXACT=$exact &&
+  $exact predicates/plane.ln | cmp - $scratch/whole/proved/plane.c && echo equal && make -s -C predicates install FAMILIES=plane FROM=$scratch/whole/proved PREFIX=$scratch/proved &&
+  python3 examples/checks/predicates.py signs $lnc $scratch/proved plane 2000"
 case_ 'what + means' 0 '57 signs, 0 wrong, not in the table: compare_x3 compare_y3 wcompare_w3 wcompare_x2 wcompare_x3 wcompare_y2 wcompare_y3 wcompare_z3 wdiametral2 wdiametral3 wlexicographic2 wlexicographic3' '' "python3 examples/checks/predicates.py meanings $prefix"
 case_ 'the Rust crate has the sources'\'' predicates' 0 '5' '' "python3 examples/checks/predicates.py rust | grep -c ': the same'"
 
