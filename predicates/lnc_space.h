@@ -1,6 +1,6 @@
 /* lnc_space.h: written by header.py, so change space.ln and not this file.
-   space.ln has the SHA-256 558e60ad472af1594cb5c7cfc648225710e78a6dea2266206f75887b2140e4e9,
-   and space.c, which lnc_exact turning writes of it, the SHA-256 c77d078c738f6b6fc1275bd463c8e39f88c5b2f39c4c534a920b3e6f382feb2f.
+   space.ln has the SHA-256 69b465ea7df8e8c1015ad582420a3a00418d25b909ecf85695e10ffca0f6d506,
+   and space.c, which lnc_exact turning writes of it, the SHA-256 696862e7452f4523469e3374e7ae3bea73beb39e7b3ecf9ea05ef5ada4fb4bc8.
 
    Two files are enough, this one and space.c. In one C file of your program, compiled by gcc or clang for a 64-bit target:
 
@@ -156,16 +156,6 @@ int ln_dot3_plain(const int64_t *v);
 void ln_dot3_rows(size_t n, const int64_t *x, const int64_t *v, int8_t *signs);
 int ln_dot3_at(const ln_point3 *p, const ln_point3 *q, const ln_point3 *r, const ln_point3 *s);
 int ln_dot3_plain_at(const ln_point3 *p, const ln_point3 *q, const ln_point3 *r, const ln_point3 *s);
-
-/* + where s is farther than t from the plane of p, q, r on the side from which these turn counterclockwise: the
-   sign of CGAL's compare_signed_distance_to_plane. */
-/* x: p, q, r, s, t
-   v: p.x, p.y, p.z, q.x, q.y, q.z, r.x, r.y, r.z, s.x, s.y, s.z, t.x, t.y, t.z */
-int ln_compare_plane3(const int64_t *x, const int64_t *v);
-int ln_compare_plane3_plain(const int64_t *v);
-void ln_compare_plane3_rows(size_t n, const int64_t *x, const int64_t *v, int8_t *signs);
-int ln_compare_plane3_at(const ln_point3 *p, const ln_point3 *q, const ln_point3 *r, const ln_point3 *s, const ln_point3 *t);
-int ln_compare_plane3_plain_at(const ln_point3 *p, const ln_point3 *q, const ln_point3 *r, const ln_point3 *s, const ln_point3 *t);
 
 /* + where p, q, r turn left seen along an axis, in the coordinates that are named: the orientation of a triangle
    in space, never 0, as CGAL's coplanar_orientation is asked of points in one plane. */
@@ -524,57 +514,6 @@ static inline int lc_dot3_plain_at(const ln_point3 *p, const ln_point3 *q, const
   const int64_t v[] = {p->x, p->y, p->z, q->x, q->y, q->z, r->x, r->y, r->z, s->x, s->y, s->z};
   return lv_dot3(v, SIZE_MAX) ? ln_dot3_plain_at(p, q, r, s) : 0;
 }
-static inline int lv_compare_plane3(const int64_t *v, size_t row) {
-  return lr_is(LN_POINT3_X_MIN <= v[0] && v[0] <= LN_POINT3_X_MAX, "compare_plane3", "p.x", "is out of range", row) &&
-    lr_is(LN_POINT3_Y_MIN <= v[1] && v[1] <= LN_POINT3_Y_MAX, "compare_plane3", "p.y", "is out of range", row) &&
-    lr_is(LN_POINT3_Z_MIN <= v[2] && v[2] <= LN_POINT3_Z_MAX, "compare_plane3", "p.z", "is out of range", row) &&
-    lr_is(LN_POINT3_X_MIN <= v[3] && v[3] <= LN_POINT3_X_MAX, "compare_plane3", "q.x", "is out of range", row) &&
-    lr_is(LN_POINT3_Y_MIN <= v[4] && v[4] <= LN_POINT3_Y_MAX, "compare_plane3", "q.y", "is out of range", row) &&
-    lr_is(LN_POINT3_Z_MIN <= v[5] && v[5] <= LN_POINT3_Z_MAX, "compare_plane3", "q.z", "is out of range", row) &&
-    lr_is(LN_POINT3_X_MIN <= v[6] && v[6] <= LN_POINT3_X_MAX, "compare_plane3", "r.x", "is out of range", row) &&
-    lr_is(LN_POINT3_Y_MIN <= v[7] && v[7] <= LN_POINT3_Y_MAX, "compare_plane3", "r.y", "is out of range", row) &&
-    lr_is(LN_POINT3_Z_MIN <= v[8] && v[8] <= LN_POINT3_Z_MAX, "compare_plane3", "r.z", "is out of range", row) &&
-    lr_is(LN_POINT3_X_MIN <= v[9] && v[9] <= LN_POINT3_X_MAX, "compare_plane3", "s.x", "is out of range", row) &&
-    lr_is(LN_POINT3_Y_MIN <= v[10] && v[10] <= LN_POINT3_Y_MAX, "compare_plane3", "s.y", "is out of range", row) &&
-    lr_is(LN_POINT3_Z_MIN <= v[11] && v[11] <= LN_POINT3_Z_MAX, "compare_plane3", "s.z", "is out of range", row) &&
-    lr_is(LN_POINT3_X_MIN <= v[12] && v[12] <= LN_POINT3_X_MAX, "compare_plane3", "t.x", "is out of range", row) &&
-    lr_is(LN_POINT3_Y_MIN <= v[13] && v[13] <= LN_POINT3_Y_MAX, "compare_plane3", "t.y", "is out of range", row) &&
-    lr_is(LN_POINT3_Z_MIN <= v[14] && v[14] <= LN_POINT3_Z_MAX, "compare_plane3", "t.z", "is out of range", row);
-}
-static inline int li_compare_plane3(const int64_t *x, size_t row) {
-  return lr_is(0 <= x[0], "compare_plane3", "p", "has a negative index", row) &&
-    lr_is(0 <= x[1], "compare_plane3", "q", "has a negative index", row) &&
-    lr_is(0 <= x[2], "compare_plane3", "r", "has a negative index", row) &&
-    lr_is(0 <= x[3], "compare_plane3", "s", "has a negative index", row) &&
-    lr_is(0 <= x[4], "compare_plane3", "t", "has a negative index", row) &&
-    lr_is(x[0] != x[1], "compare_plane3", "q", "has the index of p too", row) &&
-    lr_is(x[0] != x[2], "compare_plane3", "r", "has the index of p too", row) &&
-    lr_is(x[1] != x[2], "compare_plane3", "r", "has the index of q too", row) &&
-    lr_is(x[0] != x[3], "compare_plane3", "s", "has the index of p too", row) &&
-    lr_is(x[1] != x[3], "compare_plane3", "s", "has the index of q too", row) &&
-    lr_is(x[2] != x[3], "compare_plane3", "s", "has the index of r too", row) &&
-    lr_is(x[0] != x[4], "compare_plane3", "t", "has the index of p too", row) &&
-    lr_is(x[1] != x[4], "compare_plane3", "t", "has the index of q too", row) &&
-    lr_is(x[2] != x[4], "compare_plane3", "t", "has the index of r too", row) &&
-    lr_is(x[3] != x[4], "compare_plane3", "t", "has the index of s too", row);
-}
-static inline int lc_compare_plane3(const int64_t *x, const int64_t *v) { return lv_compare_plane3(v, SIZE_MAX) && li_compare_plane3(x, SIZE_MAX) ? ln_compare_plane3(x, v) : 0; }
-static inline int lc_compare_plane3_plain(const int64_t *v) { return lv_compare_plane3(v, SIZE_MAX) ? ln_compare_plane3_plain(v) : 0; }
-static inline void lc_compare_plane3_rows(size_t n, const int64_t *x, const int64_t *v, int8_t *signs) {
-  for (size_t i = 0; i < n; i++) {
-    signs[i] = 0;
-    if (lv_compare_plane3(v + 15 * i, i) && li_compare_plane3(x + 5 * i, i)) ln_compare_plane3_rows(1, x + 5 * i, v + 15 * i, signs + i);
-  }
-}
-static inline int lc_compare_plane3_at(const ln_point3 *p, const ln_point3 *q, const ln_point3 *r, const ln_point3 *s, const ln_point3 *t) {
-  const int64_t x[] = {p->index, q->index, r->index, s->index, t->index};
-  const int64_t v[] = {p->x, p->y, p->z, q->x, q->y, q->z, r->x, r->y, r->z, s->x, s->y, s->z, t->x, t->y, t->z};
-  return lv_compare_plane3(v, SIZE_MAX) && li_compare_plane3(x, SIZE_MAX) ? ln_compare_plane3_at(p, q, r, s, t) : 0;
-}
-static inline int lc_compare_plane3_plain_at(const ln_point3 *p, const ln_point3 *q, const ln_point3 *r, const ln_point3 *s, const ln_point3 *t) {
-  const int64_t v[] = {p->x, p->y, p->z, q->x, q->y, q->z, r->x, r->y, r->z, s->x, s->y, s->z, t->x, t->y, t->z};
-  return lv_compare_plane3(v, SIZE_MAX) ? ln_compare_plane3_plain_at(p, q, r, s, t) : 0;
-}
 static inline int lv_coplanar_xy(const int64_t *v, size_t row) {
   return lr_is(LN_POINT3_X_MIN <= v[0] && v[0] <= LN_POINT3_X_MAX, "coplanar_xy", "p.x", "is out of range", row) &&
     lr_is(LN_POINT3_Y_MIN <= v[1] && v[1] <= LN_POINT3_Y_MAX, "coplanar_xy", "p.y", "is out of range", row) &&
@@ -754,12 +693,6 @@ inline int dot3(const point3 &p, const point3 &q, const point3 &r, const point3 
 inline int dot3_plain(const point3 &p, const point3 &q, const point3 &r, const point3 &s) {
   return LNC_CALL(dot3_plain_at)(&p, &q, &r, &s);
 }
-inline int compare_plane3(const point3 &p, const point3 &q, const point3 &r, const point3 &s, const point3 &t) {
-  return LNC_CALL(compare_plane3_at)(&p, &q, &r, &s, &t);
-}
-inline int compare_plane3_plain(const point3 &p, const point3 &q, const point3 &r, const point3 &s, const point3 &t) {
-  return LNC_CALL(compare_plane3_plain_at)(&p, &q, &r, &s, &t);
-}
 inline int coplanar_xy(const point3 &p, const point3 &q, const point3 &r) {
   return LNC_CALL(coplanar_xy_at)(&p, &q, &r);
 }
@@ -833,11 +766,6 @@ inline int coplanar_zx_plain(const point3 &p, const point3 &q, const point3 &r) 
 #undef ln_dot3_rows
 #undef ln_dot3_at
 #undef ln_dot3_plain_at
-#undef ln_compare_plane3
-#undef ln_compare_plane3_plain
-#undef ln_compare_plane3_rows
-#undef ln_compare_plane3_at
-#undef ln_compare_plane3_plain_at
 #undef ln_coplanar_xy
 #undef ln_coplanar_xy_plain
 #undef ln_coplanar_xy_rows
@@ -1129,24 +1057,6 @@ __attribute__((flatten)) int ln_dot3_at(const ln_point3 *p, const ln_point3 *q, 
   const int sign = lb0_dot3(v);
   return sign != 0 ? sign : lm_dot3_at(p, q, r, s);
 }
-int ln_compare_plane3_plain(const int64_t *v) { return lb0_compare_plane3(v); }
-void ln_compare_plane3_rows(size_t n, const int64_t *x, const int64_t *v, int8_t *signs) {
-  for (size_t i = 0; i < n; i++) signs[i] = (int8_t)ln_compare_plane3(x + 5 * i, v + 15 * i);
-}
-static __attribute__((noinline)) int lm_compare_plane3_at(const ln_point3 *p, const ln_point3 *q, const ln_point3 *r, const ln_point3 *s, const ln_point3 *t) {
-  const int64_t x[] = {p->index, q->index, r->index, s->index, t->index};
-  const int64_t v[] = {p->x, p->y, p->z, q->x, q->y, q->z, r->x, r->y, r->z, s->x, s->y, s->z, t->x, t->y, t->z};
-  return ln_compare_plane3(x, v);
-}
-__attribute__((flatten)) int ln_compare_plane3_plain_at(const ln_point3 *p, const ln_point3 *q, const ln_point3 *r, const ln_point3 *s, const ln_point3 *t) {
-  const int64_t v[] = {p->x, p->y, p->z, q->x, q->y, q->z, r->x, r->y, r->z, s->x, s->y, s->z, t->x, t->y, t->z};
-  return lb0_compare_plane3(v);
-}
-__attribute__((flatten)) int ln_compare_plane3_at(const ln_point3 *p, const ln_point3 *q, const ln_point3 *r, const ln_point3 *s, const ln_point3 *t) {
-  const int64_t v[] = {p->x, p->y, p->z, q->x, q->y, q->z, r->x, r->y, r->z, s->x, s->y, s->z, t->x, t->y, t->z};
-  const int sign = lb0_compare_plane3(v);
-  return sign != 0 ? sign : lm_compare_plane3_at(p, q, r, s, t);
-}
 static __attribute__((noinline)) int lm_coplanar_xy(const int64_t *x, const int64_t *v) {
   int64_t y[3], w[9];
   const int odd = lr_in_order(3, 3, x, v, y, w);
@@ -1285,11 +1195,6 @@ __attribute__((flatten)) int ln_coplanar_zx_at(const ln_point3 *p, const ln_poin
 #define ln_dot3_rows lc_dot3_rows
 #define ln_dot3_at lc_dot3_at
 #define ln_dot3_plain_at lc_dot3_plain_at
-#define ln_compare_plane3 lc_compare_plane3
-#define ln_compare_plane3_plain lc_compare_plane3_plain
-#define ln_compare_plane3_rows lc_compare_plane3_rows
-#define ln_compare_plane3_at lc_compare_plane3_at
-#define ln_compare_plane3_plain_at lc_compare_plane3_plain_at
 #define ln_coplanar_xy lc_coplanar_xy
 #define ln_coplanar_xy_plain lc_coplanar_xy_plain
 #define ln_coplanar_xy_rows lc_coplanar_xy_rows

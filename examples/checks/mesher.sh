@@ -58,16 +58,15 @@ done
 case_ 'each has at most 60 lines' 0 'yes' '' "for file in predicates/users/triangles.*; do [ \$(wc -l <\$file) -le 60 ] || echo \$file; done; echo yes"
 case_ 'two points have none, and NaN is refused' 1 '' 'point 1 isn'\''t finite' "cd $scratch/programs && echo 1 2 3 4 | ./triangles_c; echo 1 2 nan 1 5 5 | ./triangles_c"
 
-# a source of its own beside the families, over the moved points of plane
-if [ -x "${LNC_EXACT:-$(bin/lnc_exact --path)}" ]; then
-  own=$scratch/own; mkdir -p "$own/include" "$own/lib" "$own/share/lnc_predicates"; cp predicates/lnc_predicates.py "$own/share/lnc_predicates"
-  case_ 'the side of a bisector' 0 $'2000 rows, 0 wrong\n6 signs, 0 wrong' '' "make -s -C predicates bisectors O=$own/include LNC=$lnc LNC_EXACT=$(readlink -f "${LNC_EXACT:-$(bin/lnc_exact --path)}") &&
-    gcc -std=gnu99 -Wall -Wextra -Werror -O0 -fPIC -shared -DLNC_BISECTORS_IMPLEMENTATION -x c $own/include/lnc_bisectors.h -o $own/lib/liblnc_predicates.so.1 &&
-    python3 examples/checks/predicates.py signs $lnc $own bisectors 2000 && python3 examples/checks/predicates.py meanings $own bisectors | sed 's/, not in.*//'"
-else
-  skipped=$((skipped + 1)); echo 'mesher.sh: skipped: bisectors, since lnc_exact is not built'
-fi
-case_ 'no larger power of 2 for them' 1 '' 'error bound' "LNC=$lnc python3 predicates/header.py --grid 30 predicates/bisectors.ln | $lnc check /dev/stdin 2>&1 | cut -d' ' -f1,2 >&2; exit 1"
+# sources of their own beside the families, over the moved points of plane and of space
+for family in bisectors:29 planes:40; do
+  bits=${family#*:} family=${family%:*} own=$scratch/own_${family%:*}
+  mkdir -p "$own/include" "$own/lib" "$own/share/lnc_predicates"; cp predicates/lnc_predicates.py "$own/share/lnc_predicates"; case $family in bisectors) count=6 ;; *) count=3 ;; esac
+  case_ "$family, beside the families" 0 "2000 rows, 0 wrong"$'\n'"$count signs, 0 wrong" '' "make -s -C predicates $family O=$own/include LNC=$lnc LNC_EXACT=$(readlink -f "${LNC_EXACT:-$(bin/lnc_exact --path)}") &&
+    gcc -std=gnu99 -Wall -Wextra -Werror -O0 -fPIC -shared -DLNC_$(tr a-z A-Z <<<"$family")_IMPLEMENTATION -x c $own/include/lnc_$family.h -o $own/lib/liblnc_predicates.so.1 &&
+    python3 examples/checks/predicates.py signs $lnc $own $family 2000 && python3 examples/checks/predicates.py meanings $own $family | sed 's/, not in.*//'"
+  case_ "no larger power of 2 for $family" 1 '' 'error bound' "LNC=$lnc python3 predicates/header.py --grid $((bits + 1)) predicates/$family.ln | $lnc check /dev/stdin 2>&1 | cut -d' ' -f1,2 >&2; exit 1"
+done
 
 # bin/largest with weights, which are scaled by the square
 weighted='site p { x: -1 .. 1; w: 0 .. 1; } predicate f(p: p, q: p) { sign (p.x - q.x)^2 - p.w + q.w; }'

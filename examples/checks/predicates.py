@@ -6,7 +6,7 @@ predicates.py signs LNC PREFIX FAMILY COUNT    COUNT rows for the family's predi
 predicates.py orders LNC FOLDER NAME..         of NAME.ln, NAME.c and lnc_NAME.h in FOLDER, for each NAME: rows in every order of their indices, three in four
                                                degenerate, of the predicates whose C is of one order: the header's calls, by gcc and by clang with
                                                sanitizers, have the signs that the program LNC prints, and call the C where indices rise
-predicates.py meanings PREFIX [bisectors]      what + means: signs of a table by hand
+predicates.py meanings PREFIX [FAMILY]         what + means: signs of a table by hand, of the ready-made families or of one beside them
 predicates.py rust                             the Rust crate has the predicates, arguments and ranges of the sources"""
 import ctypes
 import itertools
@@ -80,9 +80,6 @@ MEANINGS = [
     ("compare_line2", "0,0 9,0 4,3 7,2", 1),
     ("compare_line2", "0,0 9,0 4,-3 7,2", -1),
     ("wcompare_line2", "0,0,1 9,0,2 4,3,3 7,3,4", 0),
-    # above the xy plane, in which p, q, r turn counterclockwise, and then clockwise
-    ("compare_plane3", "0,0,0 1,0,0 0,1,0 5,5,3 9,9,2", 1),
-    ("compare_plane3", "0,0,0 0,1,0 1,0,0 5,5,3 9,9,2", -1),
     # a triangle in the plane z = x
     ("coplanar_xy", "0,0,0 1,0,1 0,1,0", 1),
     ("coplanar_yz", "0,0,0 1,0,1 0,1,0", -1),
@@ -100,6 +97,13 @@ BISECTORS = [
     ("bisector_side2", "0,0 4,0 0,1 0,1 10,1", -1),
     ("bisector_dot2", "0,0 4,0 0,1 10,1", 1),
     ("bisector_dot2", "0,0 4,0 10,1 0,1", -1),
+]
+
+# above the xy plane, in which p, q, r turn counterclockwise, and then clockwise; as far above it
+PLANES = [
+    ("compare_plane3", "0,0,0 1,0,0 0,1,0 5,5,3 9,9,2", 1),
+    ("compare_plane3", "0,0,0 0,1,0 1,0,0 5,5,3 9,9,2", -1),
+    ("compare_plane3", "0,0,0 1,0,0 0,1,0 5,5,3 9,9,3", 0),
 ]
 
 
@@ -322,7 +326,7 @@ def orders(lnc, folder, *stems):
 
 
 def meanings(prefix, family=None):
-    calls, wrong, table = library(prefix), 0, BISECTORS if family else MEANINGS
+    calls, wrong, table = library(prefix), 0, {"bisectors": BISECTORS, "planes": PLANES}.get(family, MEANINGS)
     for name, sites, sign in table:
         got = getattr(calls, name).plain(*((k, *map(int, site.split(","))) for k, site in enumerate(sites.split())))
         if got != sign:

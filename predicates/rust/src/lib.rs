@@ -79,7 +79,7 @@ family! {
 family! {
     "space" space: Point3 3 [(-(1 << 23), 1 << 23); 3];
     orient3(a b c d) insphere(a b c d e) diametral3(p q r) compare_x3(p q) compare_y3(p q) compare_z3(p q) lexicographic3(p q)
-    compare_distance3(p q r) dot3(p q r s) compare_plane3(p q r s t) coplanar_xy(p q r) coplanar_yz(p q r) coplanar_zx(p q r)
+    compare_distance3(p q r) dot3(p q r s) coplanar_xy(p q r) coplanar_yz(p q r) coplanar_zx(p q r)
 }
 family! {
     "weighted_plane" weighted_plane: Weighted2 3 [(-(1 << 29), 1 << 29), (-(1 << 29), 1 << 29), (0, 1 << 58)];
