@@ -1,4 +1,5 @@
 pub mod Engines
+pub mod Building
 pub mod Exponents
 pub mod Filters
 pub mod Following

@@ -1,22 +1,19 @@
 -- Proves that the program of one order is a program, and that it decides rows whose indices rise.
-use Rattle.std.proofs.Common.{◌≡◌, ◌≢◌, ℕ, zero, suc, ◌+◌, ◌-◌, ◌<◌, ◌≤◌, ◌^◌, max, refl, sym, ◌∙◌, ap, subst, arith, List, [], ◌∷◌, ◌++◌, length, map, take}
-use Rattle.std.proofs.Common.{get_or, append-nil, append_assoc, Option, Some, None, Ok, Err, ℤ, Bool, true, false, if◌then◌else◌}
+use Rattle.std.proofs.Common.{◌≡◌, ◌≢◌, ℕ, zero, suc, ◌+◌, ◌-◌, ◌<◌, ◌≤◌, refl, sym, ◌∙◌, ap, subst, arith, List, [], ◌∷◌, ◌++◌, length, map, take}
+use Rattle.std.proofs.Common.{get_or, append-nil, append_assoc, Option, Some, None, Ok, Err, ℤ, true, false, if◌then◌else◌}
 use Rattle.std.specs.Prelude.{All, AllPairs, IfOk, Result, slice_get}
 use Rattle.std.specs.List.{range_with_len}
 use Rattle.std.proofs.lemmas.List.Elements.{All-take}
 use Rattle.std.proofs.lemmas.List.FromFn.{get_or-range_with_len, length-range_with_len}
 use Rattle.std.proofs.lemmas.List.{length-map}
-use Rattle.ln_tree.specs.Row as tree
 use Rattle.ln_algebra.specs.Vector.{same_vector}
-use Rattle.ln_order.specs.Order.{ArePlaces, IsOrder}
 use Rattle.ln_order.specs.Orders.{IsOrderOf}
 use Rattle.ln_order.specs.Prefixes.{beside, joined, prefixes_of}
-use Rattle.ln_code.specs.declared.verdict.Verdict.{Verdict}
 use Rattle.ln_code.specs.Engine.{next}
 use Rattle.ln_code.specs.Kept.{AreOfSites, FollowsRules, IsList, IsProgram}
-use Rattle.ln_code.specs.Lists.{IsListOf, list_from, list_of, segment_of}
+use Rattle.ln_code.specs.Lists.{list_from, list_of, segment_of}
 use Rattle.ln_code.specs.Part.{Code, Part, block_value, ops_in_blocks, wide_in, without_filter}
-use Rattle.ln_code.specs.Verdict.{IsVerdict, along, settled, through}
+use Rattle.ln_code.specs.Verdict.{along, settled}
 use Rattle.ln_code.proofs.Verdicts.Prefixed.{list_ends, list_goes}
 use Rattle.ln_code.specs.OneOrder.{DecidesRising, OneOrderDecides, OneOrderIsProgram, at_once, in_one_order, list_in_turn, past_all}
 

@@ -12,6 +12,7 @@ pub mod Kept
 pub mod Carried
 pub mod MachineLaw
 pub mod Pushes
+pub mod StackCode
 pub mod NodeList
 pub mod Nodes
 pub mod NodePushes

@@ -1,5 +1,5 @@
 -- What a block pushes, in terms of nodes: polynomials of these expressions, each computed in the width of its own.
-use Rattle.std.specs.Prelude.{◌≡◌, ℕ, List, [], ◌∷◌}
+use Rattle.std.specs.Prelude.{◌≡◌, ℕ, List, []}
 use Rattle.ln_algebra.specs.Tree.{Tree}
 use Rattle.ln_algebra.specs.Coefficient.{normal_coefficient}
 use Rattle.ln_tree.specs.declared.shape.VarInfo.{VarInfo}
@@ -9,7 +9,7 @@ use Rattle.ln_code.specs.declared.op.Op.TheVariants.{Push, Input as InputOp, Get
 use Rattle.ln_code.specs.Numbers.{no_locals}
 use Rattle.ln_code.specs.Rules.{Known, rules}
 use Rattle.ln_code.specs.Part.{Code, lines_of}
-use Rattle.ln_code.specs.Pushes.{Pushed, pushes}
+use Rattle.ln_code.specs.Pushes.{AllPushed, Pushed, pushes}
 
 -- a sum, difference, product or negation is done in this width
 abbrev pub HasWidth : Op → Width → Type 0
@@ -33,8 +33,7 @@ pub record PushesNode (is_node : Tree → Width → Type 0) (p : Pushed Known) :
 
 -- so does each of these
 abbrev pub PushNodes : (Tree → Width → Type 0) → List (Pushed Known) → Type 0
-PushNodes is_node [] = Unit {0}
-PushNodes is_node (p ∷ ps) = PushesNode is_node p × PushNodes is_node ps
+PushNodes is_node ps = AllPushed (PushesNode is_node) ps
 
 -- what a block pushes, by the rules
 abbrev pub pushed_by : List VarInfo → Code → List (Pushed Known)

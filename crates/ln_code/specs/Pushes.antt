@@ -24,3 +24,8 @@ after op (Some t) f = newest op (stores op) t.stack ++ f t
 abbrev pub pushes : {B V L : Type 0} → Engine B V L → List (Line B) → State V L → List (Pushed V)
 pushes e [] s = []
 pushes e (x ∷ xs) s = after x.op (step e x.op x.bound s.locals s.stack) (λ t. pushes e xs t)
+
+-- each of these has the property
+abbrev pub AllPushed : {V : Type 0} → (Pushed V → Type 0) → List (Pushed V) → Type 0
+AllPushed P [] = Unit {0}
+AllPushed P (p ∷ ps) = P p × AllPushed P ps

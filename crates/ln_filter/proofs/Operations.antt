@@ -1,10 +1,11 @@
--- The operations of a filter, as they are written and as they run.
+-- The operations of a filter.
 pub mod Two
-pub mod Setting
-pub mod Lands
-pub mod Leaves
+pub mod Style
 pub mod Lets
-pub mod Operands
+pub mod Meaning
+pub mod Nodes
+pub mod Leaves
 pub mod Costs
+pub mod Operands
 pub mod Writes
 pub mod Sealed

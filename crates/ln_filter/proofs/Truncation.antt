@@ -2,4 +2,3 @@
 pub mod Bits
 pub mod Steady
 pub mod Approximating
-pub mod Powers

@@ -8,20 +8,17 @@ use Rattle.ln_bound.specs.declared.fitted.Width.TheVariants.{W64}
 use Rattle.ln_bound.specs.Value.{sizes}
 use Rattle.ln_code.specs.declared.op.Op.{Op}
 use Rattle.ln_code.specs.declared.op.Op.TheVariants.{Push, Input as InputOp, Get, Set, Add as AddOp}
-use Rattle.ln_code.specs.declared.op.Op.TheVariants.{Sub as SubOp, Mul as MulOp, Neg as NegOp, Cut}
+use Rattle.ln_code.specs.declared.op.Op.TheVariants.{Sub as SubOp, Mul as MulOp, Neg as NegOp}
 use Rattle.ln_code.specs.declared.op.Triple.{Triple}
 use Rattle.ln_code.specs.Engine.{Line}
 use Rattle.ln_code.specs.Kept.{no_triple}
+use Rattle.ln_code.specs.StackCode as code
+pub use Rattle.ln_code.specs.StackCode.{line}
 use Rattle.ln_filter.specs.Triples.{cut, excess, whole, leaf, sum_of, product_of, powered, triple, let_triples}
-
--- an operation with the triple that it carries
-abbrev pub line : Op → Triple → Line Triple
-line o a = record { op = o; bound = a }
 
 -- the division by 2^n of what has the triple a; none by 1
 abbrev pub cut_lines : ℕ → Triple → List (Line Triple)
-cut_lines zero a = []
-cut_lines (suc n) a = line (Cut (suc n)) (cut (suc n) a) ∷ []
+cut_lines n a = code.division cut n a
 
 -- an operation that pushes what has the triple a, and the division that leaves 31 binary digits
 abbrev pub trim_lines : Op → Triple → List (Line Triple)

@@ -1,5 +1,5 @@
 -- What a filter pushes: polynomials of nodes of the tree and of its lets.
-use Rattle.std.specs.Prelude.{◌≡◌, ℕ, List, [], ◌∷◌}
+use Rattle.std.specs.Prelude.{◌≡◌, ℕ, List, []}
 use Rattle.ln_algebra.specs.Tree.{Tree}
 use Rattle.ln_algebra.specs.Coefficient.{normal_coefficient}
 use Rattle.ln_tree.specs.declared.shape.VarInfo.{VarInfo}
@@ -7,7 +7,7 @@ use Rattle.ln_bound.specs.declared.fitted.Width.{Width}
 use Rattle.ln_code.specs.Numbers.{no_locals}
 use Rattle.ln_code.specs.FilterRules.{FilterKnown, filter_rules}
 use Rattle.ln_code.specs.Part.{FilterCode, lines_of}
-use Rattle.ln_code.specs.Pushes.{Pushed, pushes}
+use Rattle.ln_code.specs.Pushes.{AllPushed, Pushed, pushes}
 
 -- what is pushed stands for one of these nodes: it has the node's polynomial. A filter is 64 bits wide throughout, whatever width
 -- the node has
@@ -19,8 +19,7 @@ pub record PushesNode (is_node : Tree → Width → Type 0) (p : Pushed FilterKn
 
 -- so does each of these
 abbrev pub PushNodes : (Tree → Width → Type 0) → List (Pushed FilterKnown) → Type 0
-PushNodes is_node [] = Unit {0}
-PushNodes is_node (p ∷ ps) = PushesNode is_node p × PushNodes is_node ps
+PushNodes is_node ps = AllPushed (PushesNode is_node) ps
 
 -- what a filter pushes, by the rules
 abbrev pub pushed_by : List VarInfo → FilterCode → List (Pushed FilterKnown)

@@ -4,4 +4,3 @@ pub mod Bounding
 pub mod Roots
 pub mod Numbering
 pub mod Operands
-pub mod Sharing

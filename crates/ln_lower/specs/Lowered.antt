@@ -7,10 +7,7 @@ use Rattle.ln_code.specs.declared.op.Op.{Op}
 use Rattle.ln_code.specs.declared.op.Op.TheVariants.{Get, Set, Mul}
 use Rattle.ln_code.specs.Engine.{Line}
 pub use Rattle.ln_code.specs.Kept.{nothing}
-
--- an operation with the range that it carries
-abbrev pub line : Op → Range → Line Range
-line o p = record { op = o; bound = p }
+pub use Rattle.ln_code.specs.StackCode.{line}
 
 -- n more factors, from the power m on; local 64 has the base, with the range p
 abbrev pub factors : Range → Width → ℕ → ℕ → List (Line Range)

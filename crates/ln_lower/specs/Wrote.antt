@@ -1,5 +1,5 @@
 -- What a draft has more.
-use Rattle.std.specs.Prelude.{◌≡◌, ◌⊎◌, ℕ, ◌+◌, List, [], ◌∷◌, ◌++◌, length, map}
+use Rattle.std.specs.Prelude.{◌≡◌, ◌⊎◌, ℕ, ◌+◌, Bool, List, [], ◌∷◌, ◌++◌, length, map}
 use Rattle.ln_interval.specs.Range.{Range}
 use Rattle.ln_interval.specs.View.{range}
 use Rattle.ln_bound.specs.Typed.{Typed}
@@ -7,8 +7,10 @@ use Rattle.ln_code.specs.Engine.{Line}
 use Rattle.ln_lower.specs.declared.distinct.Key.{Key}
 use Rattle.ln_lower.specs.declared.draft.Draft.{Draft}
 use Rattle.ln_code.specs.declared.op.Op.TheVariants.{Set}
+use Rattle.ln_code.specs.StackCode.{AreCode, IsCode, keeping}
+use Rattle.ln_lower.specs.Distinct.{AreNumbersOf}
 use Rattle.ln_lower.specs.Lowered.{line, nothing, ops_in, pairs_in}
-use Rattle.ln_lower.specs.Written.{Written, LetsWritten, keeping}
+use Rattle.ln_lower.specs.StackCode.{block_style}
 
 -- the second draft has these operations more than the first, and these subtrees are kept besides
 pub record Wrote (before after : Draft) (lines : List (Line Range)) (more : List ℕ) : Type 0 where
@@ -18,15 +20,25 @@ pub record Wrote (before after : Draft) (lines : List (Line Range)) (more : List
 
 -- number k, whose range is p, is kept from here on, or nothing is written
 abbrev pub MayKeep : Draft → Draft → ℕ → Range → Type 0
-MayKeep before after k p = Wrote before after [] [] ⊎ Wrote before after (keeping (65 + length before.kept) p) (k ∷ [])
+MayKeep before after k p = Wrote before after [] [] ⊎ Wrote before after (keeping nothing (65 + length before.kept) p) (k ∷ [])
+
+-- the operations are code of a tree where these trees are kept; those that are kept after it have these numbers
+pub record Coded (ks : List Key) (kept : List Typed) (t : Typed) (lines : List (Line Range)) (more : List ℕ) (b : Bool) : Type 0 where
+  pub new : List Typed
+  pub are : AreNumbersOf ks more new
+  pub code : IsCode block_style kept t lines new b
+
+-- and so, whichever trees have the numbers that are kept
+abbrev pub IsCoded : List Key → List ℕ → Typed → List (Line Range) → List ℕ → Bool → Type 0
+IsCoded ks numbers t lines more b = (kept : List Typed) → AreNumbersOf ks numbers kept → Coded ks kept t lines more b
 
 -- the second draft has the operations of a tree more
 pub record Puts (ks : List Key) (before after : Draft) (t : Typed) : Type 0 where
   pub lines : List (Line Range)
   pub more : List ℕ
-  pub spare : ℕ
+  pub computed : Bool
   pub wrote : Wrote before after lines more
-  pub written : Written ks before.kept t lines more spare
+  pub coded : IsCoded ks before.kept t lines more computed
 
 -- the second draft has the operations of a let more, into the local of its number
 pub record PutsLet (ks : List Key) (before after : Draft) (t : Typed) (j : ℕ) : Type 0 where
@@ -39,7 +51,9 @@ pub record PutsLets (ks : List Key) (after : Draft) (ts : List Typed) : Type 0 w
   pub lines : List (Line Range)
   pub ops : after.ops ≡ ops_in lines
   pub pairs : map range after.pairs ≡ pairs_in lines
-  pub written : LetsWritten ks ts lines after.kept
+  pub kept : List Typed
+  pub are : AreNumbersOf ks after.kept kept
+  pub code : AreCode (λ done. block_style) ts lines kept
 
 -- the second draft has an operation more, and its value may be kept as that of number k, whose range is p
 pub record PutsLast (before after : Draft) (x : Line Range) (k : ℕ) (p : Range) : Type 0 where

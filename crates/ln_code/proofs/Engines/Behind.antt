@@ -1,4 +1,4 @@
--- Runs of one part of the operations after the other, what they push, and powers of bounds.
+-- Runs of one part of the operations after the other, and what they push.
 use Rattle.std.proofs.Common.{◌≡◌, ℕ, ◌+◌, ◌*◌, ◌^◌, ◌≤◌, ◌<◌, List, [], ◌∷◌, ◌++◌, refl, zero, suc, ap, arith, ◌∙◌, sym, append_assoc}
 use Rattle.std.specs.Prelude.{Option, Some, None}
 use Rattle.std.proofs.lemmas.Nat.{mul-le}
@@ -23,11 +23,6 @@ pub then_run : {B V L : Type 0} (e : Engine B V L) (a b : List (Line B)) (s t : 
     → run e b t ≡ o → run e (a ++ b) s ≡ o
 then_run e a b s t o h k = rw (run_append e a b s, h) k
 
--- one operation, and what follows it
-pub step_run : {B V L : Type 0} (e : Engine B V L) (x : Line B) (xs : List (Line B)) (s t : State V L) (o : Option (State V L))
-    → step e x.op x.bound s.locals s.stack ≡ Some t → run e xs t ≡ o → run e (x ∷ xs) s ≡ o
-step_run e x xs s t o h k = rw h k
-
 -- ---- what is pushed
 
 after_more : {V L : Type 0} (op : Op) (o : Option (State V L)) (g : State V L → Option (State V L)) (f h : State V L → List (Pushed V))
@@ -47,26 +42,3 @@ pushes_append e (x ∷ xs) b s t q = after_more x.op (step e x.op x.bound s.loca
 pub pushes_front : {B V L : Type 0} (e : Engine B V L) (x : Line B) (xs : List (Line B)) (s t : State V L)
     → step e x.op x.bound s.locals s.stack ≡ Some t → pushes e (x ∷ xs) s ≡ newest x.op (stores x.op) t.stack ++ pushes e xs t
 pushes_front e x xs s t q = rw q refl
-
--- ---- powers
-
-one_more : (a x : ℕ) → 0 < a → x ≤ x * a
-one_more zero x h = absurd (omega arith)
-one_more (suc a) x h = let m : x * 1 ≤ x * suc a = mul-le x 1 x (suc a) (omega arith) (omega arith) in omega arith
-
-zero_power : (m : ℕ) → 0 ^ suc m ≡ 0
-zero_power m = rw pow-suc (omega arith)
-
--- a power isn't above a higher one
-pub power_grows : (a m n : ℕ) → a ^ suc m ≤ a ^ (n + suc m)
-power_grows a m zero = rw add_zero (omega arith)
-  where
-    add_zero : zero + suc m ≡ suc m
-    add_zero = omega arith
-power_grows zero m (suc n) = rw zero_power (omega arith)
-power_grows (suc a) m (suc n) =
-    let ih : suc a ^ suc m ≤ suc a ^ (n + suc m) = power_grows (suc a) m n in
-    let e : suc n + suc m ≡ suc (n + suc m) = omega arith in
-    let o : suc a ^ (n + suc m) ≤ suc a ^ (n + suc m) * suc a = one_more (suc a) (suc a ^ (n + suc m)) (omega arith) in
-    let q : suc a ^ suc (n + suc m) ≡ suc a ^ (n + suc m) * suc a = pow-suc (suc a) (n + suc m) in
-    rw (e, q) (omega arith)

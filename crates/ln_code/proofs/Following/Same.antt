@@ -56,11 +56,7 @@ same_self e = record { series = refl; values = λ x. refl }
 pub same_is : (e f : Tree) → e ≡ f → Same e f
 same_is e f q = record { series = ap normal_coefficient q; values = λ x. ap (λ (t : Tree). value x [] t) q }
 
--- the relation is symmetric
-pub same_turned : (e f : Tree) → Same e f → Same f e
-same_turned e f s = record { series = sym s.series; values = λ x. sym (s.values x) }
-
--- and transitive
+-- the relation is transitive
 pub same_then : (e f g : Tree) → Same e f → Same f g → Same e g
 same_then e f g s t = record { series = s.series ∙ t.series; values = λ x. s.values x ∙ t.values x }
 

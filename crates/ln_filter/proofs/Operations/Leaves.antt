@@ -1,8 +1,10 @@
 -- Without any test, the operations of a tree leave its truncated number.
-use Rattle.std.proofs.Common.{◌≡◌, ℕ, ℤ, ◌+◌, ◌-◌, ◌<◌, true, List, [], ◌∷◌, ◌++◌, length, refl, zero, suc, ap, arith, pos, neg_ℤ}
-use Rattle.std.proofs.Common.{unsigned_abs, ◌*ℤ◌, ◌∙◌, sym, subst}
+use Rattle.std.proofs.Common.{◌≡◌, ℕ, ℤ, ◌+◌, ◌<◌, ◌≤◌, true, List, [], ◌∷◌, ◌++◌, length, map, refl, zero, suc, ap, arith, pos, neg_ℤ}
+use Rattle.std.proofs.Common.{unsigned_abs, ◌*ℤ◌, ◌∙◌, sym, subst, length-append}
 use Rattle.std.specs.Prelude.{Option, Some, slice_get, slice_index_or, ◌==◌, if◌then◌else◌, Bool, false}
-use Rattle.std.proofs.lemmas.Bool.Decides.{nat_tests}
+use Rattle.std.proofs.lemmas.List.{map-append}
+use Rattle.ln_algebra.specs.Tree.{Tree}
+use Rattle.ln_algebra.specs.Tree as tree
 use Rattle.ln_tree.specs.declared.shape.VarInfo.{VarInfo}
 use Rattle.ln_tree.specs.Row.{AreWithin}
 use Rattle.ln_bound.specs.declared.fitted.Width.{Width}
@@ -10,25 +12,29 @@ use Rattle.ln_bound.specs.declared.fitted.Width.TheVariants.{W64, W128}
 use Rattle.ln_bound.specs.declared.fitted.Two.{Two}
 use Rattle.ln_bound.specs.declared.fitted.Two.TheVariants.{Plus, Minus, Times}
 use Rattle.ln_bound.specs.Value.{sizes, values}
-use Rattle.ln_bound.specs.Typed.{Typed, TNum, TInput, TLet, TNeg, TTwo, TPow, untyped}
+use Rattle.ln_bound.specs.Typed.{Typed, TNum, TInput, TLet, TTwo, TPow, need, pair, untyped, width}
 use Rattle.ln_bound.specs.Sound.{SoundNodes}
+use Rattle.ln_bound.proofs.Trees.LetLists.{index_new, index_old, untyped_length}
 use Rattle.ln_interval.specs.Range.{Range}
 use Rattle.ln_code.specs.declared.op.Op.{Op}
-use Rattle.ln_code.specs.declared.op.Op.TheVariants.{Push, Input, Get, Set, Mul, Neg}
+use Rattle.ln_code.specs.declared.op.Op.TheVariants.{Cut, Get, Input, Mul, Neg, Push}
 use Rattle.ln_code.specs.declared.op.Triple.{Triple}
-use Rattle.ln_code.specs.Engine.{Engine, State, Line, next, run, step, op_of}
+use Rattle.ln_code.specs.Engine.{Engine, next, op_of}
 use Rattle.ln_code.specs.Numbers.{result_of, cut_by, with_local}
+use Rattle.ln_code.specs.StackCode.{raised_to}
 use Rattle.ln_code.specs.Exact.{Held, held, held_at, exact_filter}
-use Rattle.ln_code.specs.Kept.{no_triple}
 use Rattle.ln_code.proofs.Engines.Follow.{Reaches, Follows, when_some}
 use Rattle.ln_code.proofs.Following.Known.{next_some}
 use Rattle.ln_code.proofs.Filters.Cutting.{cut_none}
-use Rattle.ln_filter.specs.Triples.{both, excess, whole, leaf, product_of, powered, triple}
-use Rattle.ln_filter.specs.Truncated.{leaf_number, product_number, power_number, number}
-use Rattle.ln_filter.specs.Lines.{line, cut_lines, left_lines, right_lines, trim_lines, factor_lines, factors, power_of, filter_lines}
-use Rattle.ln_code.proofs.Engines.Behind.{then_run, step_run}
-use Rattle.ln_filter.proofs.Operations.Two.{raw_of, right_form}
-use Rattle.ln_filter.proofs.Operations.Lands.{let_there}
+use Rattle.ln_code.proofs.Building.Names.{NamesBelow, sound_names}
+use Rattle.ln_code.proofs.Building.Runs.{Cuts, Is, Meaning, Trims}
+use Rattle.ln_code.proofs.Building.Lands.{Beside, Facts, IsNamed}
+use Rattle.ln_filter.specs.Triples.{excess, leaf, let_triples, triple, whole}
+use Rattle.ln_filter.specs.Truncated.{leaf_number, let_numbers, number}
+use Rattle.ln_filter.proofs.Operations.Lets.{triple_stays, triples_length}
+use Rattle.ln_filter.proofs.Operations.Nodes.{let_there}
+use Rattle.ln_filter.proofs.Operations.Style.{align, filter_style, raw_in, triple_in, triples_of, triples_snoc}
+use Rattle.ln_filter.proofs.Operations.Two.{raw_of}
 
 -- the machine on truncated numbers that tests nothing
 abbrev pub loose : List ℤ → Engine Triple ℤ (ℕ → Option ℤ)
@@ -89,183 +95,126 @@ loose_follows zs = record {
 
 -- ---- what the operations leave
 
--- the number in each local
-abbrev pub NumberLocals : Type 0
-NumberLocals = ℕ → Option ℤ
+-- a row with these values, over these variables
+pub record OnRow : Type 0 where
+  pub vars : List VarInfo
+  pub values : List ℤ
 
--- the stack and the locals of numbers
-abbrev pub Numbers : Type 0
-Numbers = State ℤ NumberLocals
+-- the truncated numbers of lets
+abbrev pub numbers_of : OnRow → List Typed → List ℤ
+numbers_of r lets = let_numbers r.vars (values r.values) [] [] (map untyped lets)
 
--- one more number on the stack
-abbrev pub topped : ℤ → Numbers → Numbers
-topped z s = record { stack = z ∷ s.stack; locals = s.locals }
+-- the truncated number of a tree after these lets
+abbrev pub number_in : OnRow → List Typed → Typed → ℤ
+number_in r lets t = number r.vars (values r.values) (triples_of r.vars lets) (numbers_of r lets) (untyped t)
 
--- operations with the triple of what they leave, and the number that they are to leave
-pub record Numbered : Type 0 where
-  pub lines : List (Line Triple)
-  pub triple : Triple
-  pub number : ℤ
+-- a tree with sound nodes, on a row in range
+pub record IsGood (r : OnRow) (lets : List Typed) (t : Typed) : Type 0 where
+  pub within : AreWithin r.vars r.values
+  pub nodes : SoundNodes r.vars lets t
+  pub deep : need t ≤ 2048
 
--- the operations leave their number on top of the stack, and keep the first 64 locals
-pub record Leaves (zs : List ℤ) (s : Numbers) (o : Numbered) : Type 0 where
-  pub locals : NumberLocals
-  pub ends : run (loose zs) o.lines s ≡ Some (record { stack = o.number ∷ s.stack; locals = locals })
-  pub keeps : (j : ℕ) → j < 64 → locals j ≡ s.locals j
-
--- an operand as the operation wants it: that of a sum or a difference is cut to one power of 2 with the other
-abbrev pub aligned_number : Two → Triple → Triple → ℤ → ℤ
-aligned_number Plus a b y = cut_by (b.k - a.k) y
-aligned_number Minus a b y = cut_by (b.k - a.k) y
-aligned_number Times a b y = y
-
--- where the right operand starts, whose triple is b
-abbrev pub number_beside : {zs : List ℤ} {s : Numbers} {o : Numbered} → Two → Leaves zs s o → Triple → Numbers
-number_beside {s = s} {o = o} k x b = record { stack = aligned_number k o.triple b o.number ∷ s.stack; locals = x.locals }
-
--- a sum, a difference or a product of two operands
-abbrev pub two_numbered : Two → Numbered → Numbered → Numbered
-two_numbered k a b = record {
-  lines = a.lines ++ (left_lines k a.triple b.triple ++ (b.lines ++ right_lines k a.triple b.triple));
-  triple = both k a.triple b.triple;
-  number = cut_by (excess (raw_of k a.triple b.triple).h)
-      (result_of k (aligned_number k a.triple b.triple a.number) (aligned_number k b.triple a.triple b.number));
+-- what code means on a row: its number stands for a tree
+abbrev pub meaning : OnRow → Meaning Triple ℤ
+meaning r = record {
+  engine = loose r.values;
+  depth = 2048;
+  style = filter_style r.vars;
+  good = IsGood r;
+  stands = λ lets t z. z ≡ number_in r lets t;
+  may = λ p. Unit {0};
 }
 
--- an operand to the power of n + 1
-abbrev pub power_numbered : Numbered → ℕ → Numbered
-power_numbered a n = record {
-  lines = a.lines ++ power_of a.triple n;
-  triple = powered a.triple (suc n);
-  number = power_number a.triple a.number (suc n);
-}
+-- what an operation has
+has : (r : OnRow) (op : Op) (z : ℤ) (P : ℤ → Type 0) (o : Option ℤ) → o ≡ Some z → P z → Is (meaning r) op o P
+has r op z P o e h = record { value = z; there = e; may = tt; stands = h }
 
-cut_leaves : (zs : List ℤ) (n : ℕ) (a : Triple) (z : ℤ) (s : Numbers) → run (loose zs) (cut_lines n a) (topped z s) ≡ Some (topped (cut_by n z) s)
-cut_leaves zs zero a z s = ap (λ (y : ℤ). Some (topped y s)) (sym (cut_none z))
-cut_leaves zs (suc n) a z s = refl
+-- and after its division
+cut_has : (r : OnRow) (lets : List Typed) (n : ℕ) (b : Triple) (z : ℤ) (P : ℤ → Type 0) → P (cut_by n z) → Cuts (meaning r) (filter_style r.vars lets) n b P z
+cut_has r lets zero b z P h = subst P (cut_none z) h
+cut_has r lets (suc n) b z P h = has r (Cut (suc n)) (cut_by (suc n) z) P _ refl h
 
-trim_leaves : (zs : List ℤ) (o : Op) (a : Triple) (z : ℤ) (s t : Numbers) → step (loose zs) o a s.locals s.stack ≡ Some (topped z t)
-    → run (loose zs) (trim_lines o a) s ≡ Some (topped (cut_by (excess a.h) z) t)
-trim_leaves zs o a z s t e = step_run (loose zs) (line o a) (cut_lines (excess a.h) a) s (topped z t) _ e (cut_leaves zs (excess a.h) a z t)
+push_has : (r : OnRow) (lets : List Typed) (t : Typed) (c : ℤ) → number_in r lets t ≡ leaf_number (unsigned_abs c) c
+    → triple_in r.vars lets t ≡ leaf (unsigned_abs c) → Is (meaning r) (Push c) ((loose r.values).push c (triple_in r.vars lets t))
+    (λ z. z ≡ number_in r lets t)
+push_has r lets t c n e =
+    let z : 0 + excess (unsigned_abs c) ≡ excess (unsigned_abs c) = omega arith in
+    has r (Push c) (cut_by (triple_in r.vars lets t).k c) _ _ refl (ap (λ (a : Triple). cut_by a.k c) e ∙ ap (λ (k : ℕ). cut_by k c) z ∙ sym n)
 
-align_leaves : (zs : List ℤ) (k : Two) (a b : Triple) (y : ℤ) (s : Numbers)
-    → run (loose zs) (left_lines k a b) (topped y s) ≡ Some (topped (aligned_number k a b y) s)
-align_leaves zs Plus a b y s = cut_leaves zs (b.k - a.k) a y s
-align_leaves zs Minus a b y s = cut_leaves zs (b.k - a.k) a y s
-align_leaves zs Times a b y s = refl
+two_number : (r : OnRow) (lets : List Typed) (o : Two) (t u : Typed) (p : Range) (w : Width)
+    → cut_by (excess (raw_of o (triple_in r.vars lets t) (triple_in r.vars lets u)).h)
+    (result_of o (cut_by (align o (triple_in r.vars lets t) (triple_in r.vars lets u)) (number_in r lets t))
+    (cut_by (align o (triple_in r.vars lets u) (triple_in r.vars lets t)) (number_in r lets u))) ≡ number_in r lets (TTwo o t u p w)
+two_number r lets Plus t u p w = refl
+two_number r lets Minus t u p w = refl
+two_number r lets Times t u p w = rw (cut_none (number_in r lets t), cut_none (number_in r lets u)) refl
 
-two_leave : (zs : List ℤ) (k : Two) (c : Triple) (y z : ℤ) (s : Numbers)
-    → step (loose zs) (op_of k W64) c s.locals (z ∷ (y ∷ s.stack)) ≡ Some (topped (result_of k y z) s)
-two_leave zs Plus c y z s = refl
-two_leave zs Minus c y z s = refl
-two_leave zs Times c y z s = refl
+two_has : (r : OnRow) (lets : List Typed) (o : Two) (t u : Typed) (p : Range) (w : Width) (x : ℤ) → x ≡ number_in r lets t
+    → Cuts (meaning r) (filter_style r.vars lets) (align o (triple_in r.vars lets t) (triple_in r.vars lets u)) (triple_in r.vars lets t)
+    (Beside (meaning r) lets o t u p w) x
+two_has r lets o t u p w x e =
+    let a : Triple = triple_in r.vars lets t in
+    let b : Triple = triple_in r.vars lets u in
+    cut_has r lets (align o a b) a x (Beside (meaning r) lets o t u p w) (λ y f. cut_has r lets (align o b a) b y _
+    (has r (op_of o W64) (result_of o (cut_by (align o a b) x) (cut_by (align o b a) y)) _ _ refl
+    (cut_has r lets (excess (raw_of o a b).h) (raw_of o a b) (result_of o (cut_by (align o a b) x) (cut_by (align o b a) y)) _
+    (rw (e, f) (two_number r lets o t u p w)))))
 
-input_leaves : (zs : List ℤ) (v : ℕ) (a : Triple) (z : ℤ) (s : Numbers) → slice_get zs v ≡ Some z
-    → step (loose zs) (Input v) a s.locals s.stack ≡ Some (topped z s)
-input_leaves zs v a z s e = rw e refl
+-- ---- one let more
 
-get_leaves : (zs : List ℤ) (j : ℕ) (a : Triple) (z : ℤ) (s : Numbers) → s.locals j ≡ Some z → step (loose zs) (Get j) a s.locals s.stack ≡ Some (topped z s)
-get_leaves zs j a z s e = rw e refl
+numbers_more : (r : OnRow) (done : List Triple) (hs : List ℤ) (ts : List Tree) (t : Tree)
+    → let_numbers r.vars (values r.values) done hs (ts ++ (t ∷ [])) ≡ let_numbers r.vars (values r.values) done hs ts
+    ++ (number r.vars (values r.values) (let_triples r.vars done ts) (let_numbers r.vars (values r.values) done hs ts) t ∷ [])
+numbers_more r done hs [] t = refl
+numbers_more r done hs (u ∷ us) t =
+    numbers_more r (done ++ (triple r.vars done u ∷ [])) (hs ++ (number r.vars (values r.values) done hs u ∷ [])) us t
 
-leaf_at : (m n : ℕ) (c : ℤ) → m ≡ n → cut_by m c ≡ cut_by n c
-leaf_at m n c e = ap (λ (k : ℕ). cut_by k c) e
+numbers_snoc : (r : OnRow) (ts : List Typed) (t : Typed) → numbers_of r (ts ++ (t ∷ [])) ≡ numbers_of r ts ++ (number_in r ts t ∷ [])
+numbers_snoc r ts t =
+    ap (λ (es : List Tree). let_numbers r.vars (values r.values) [] [] es) (map-append untyped ts (t ∷ [])) ∙ numbers_more r [] [] (map untyped ts) (untyped t)
 
-push_leaves : (zs : List ℤ) (m : ℕ) (c : ℤ) (s : Numbers) → step (loose zs) (Push c) (leaf m) s.locals s.stack ≡ Some (topped (leaf_number m c) s)
-push_leaves zs m c s =
-    let e : 0 + excess m ≡ excess m = omega arith in
-    ap (λ (z : ℤ). Some (topped z s)) (leaf_at (0 + excess m) (excess m) c e)
+numbers_count : (r : OnRow) (done : List Triple) (hs : List ℤ) (ts : List Tree)
+    → length (let_numbers r.vars (values r.values) done hs ts) ≡ length hs + length ts
+numbers_count r done hs [] = omega arith
+numbers_count r done hs (t ∷ ts) =
+    let ih = numbers_count r (done ++ (triple r.vars done t ∷ [])) (hs ++ (number r.vars (values r.values) done hs t ∷ [])) ts in
+    let n = length-append hs (number r.vars (values r.values) done hs t ∷ []) in
+    omega (arith, ih, n)
 
--- operations that push one number and leave the locals
-one_leaves : (zs : List ℤ) (s : Numbers) (o : Numbered) → run (loose zs) o.lines s ≡ Some (topped o.number s) → Leaves zs s o
-one_leaves zs s o e = record { locals = s.locals; ends = e; keeps = λ j i. refl }
+numbers_length : (r : OnRow) (lets : List Typed) → length (numbers_of r lets) ≡ length lets
+numbers_length r lets = let a = numbers_count r [] [] (map untyped lets) in let b = untyped_length lets in omega (arith, a, b)
 
--- the sum, the difference or the product of two operands
-two_leaves : (zs : List ℤ) (k : Two) (s : Numbers) (a b : Numbered) (x : Leaves zs s a) → Leaves zs (number_beside k x b.triple) b
-    → Leaves zs s (two_numbered k a b)
-two_leaves zs k s a b x t =
-    let r = loose zs in
-    let y : ℤ = aligned_number k a.triple b.triple a.number in
-    let z : ℤ = aligned_number k b.triple a.triple b.number in
-    let c : Triple = raw_of k a.triple b.triple in
-    let first : Numbers = record { stack = s.stack; locals = x.locals } in
-    let second : Numbers = record { stack = y ∷ s.stack; locals = t.locals } in
-    let last : Numbers = record { stack = s.stack; locals = t.locals } in
-    let three = trim_leaves zs (op_of k W64) c (result_of k y z) (topped z second) last (two_leave zs k c y z last) in
-    let two = then_run r (left_lines k b.triple a.triple) (trim_lines (op_of k W64) c) (topped b.number second) (topped z second) _
-    (align_leaves zs k b.triple a.triple b.number second) three in
-    let right : run (loose zs) (right_lines k a.triple b.triple) (topped b.number second) ≡ Some (topped (two_numbered k a b).number last) =
-    rw (right_form k a.triple b.triple) two in
-    let one = then_run r (left_lines k a.triple b.triple) _ (topped a.number first) (topped y first) _
-    (align_leaves zs k a.triple b.triple a.number first) (then_run r b.lines _ _ (topped b.number second) _ t.ends right) in
-    record {
-      locals = t.locals;
-      ends = then_run r a.lines _ s (topped a.number first) _ x.ends one;
-      keeps = λ j i. t.keeps j i ∙ x.keeps j i;
-    }
+number_stays : (r : OnRow) (ts : List Triple) (a : Triple) (hs : List ℤ) (z : ℤ) (e : Tree) → NamesBelow (length ts) e → length hs ≡ length ts
+    → number r.vars (values r.values) (ts ++ (a ∷ [])) (hs ++ (z ∷ [])) e ≡ number r.vars (values r.values) ts hs e
+number_stays r ts a hs z (tree.Num c) h l = refl
+number_stays r ts a hs z (tree.Input v) h l = refl
+number_stays r ts a hs z (tree.Name j) h l = index_old hs z (pos 0) j (omega (arith, h, l))
+number_stays r ts a hs z (tree.Neg e) h l = ap neg_ℤ (number_stays r ts a hs z e h l)
+number_stays r ts a hs z (tree.Add e f) h l =
+    rw (triple_stays r.vars ts a e h.0, triple_stays r.vars ts a f h.1, number_stays r ts a hs z e h.0 l, number_stays r ts a hs z f h.1 l) refl
+number_stays r ts a hs z (tree.Sub e f) h l =
+    rw (triple_stays r.vars ts a e h.0, triple_stays r.vars ts a f h.1, number_stays r ts a hs z e h.0 l, number_stays r ts a hs z f h.1 l) refl
+number_stays r ts a hs z (tree.Mul e f) h l =
+    rw (triple_stays r.vars ts a e h.0, triple_stays r.vars ts a f h.1, number_stays r ts a hs z e h.0 l, number_stays r ts a hs z f h.1 l) refl
+number_stays r ts a hs z (tree.Pow e n) h l = rw (triple_stays r.vars ts a e h, number_stays r ts a hs z e h l) refl
 
--- ---- powers
+number_front : (r : OnRow) (lets : List Typed) (t u : Typed) → NamesBelow (length lets) (untyped u) → number_in r (lets ++ (t ∷ [])) u ≡ number_in r lets u
+number_front r lets t u h =
+    let n = triples_length r.vars lets in
+    let m = numbers_length r lets in
+    let f : NamesBelow (length (triples_of r.vars lets)) (untyped u) = subst (λ n. NamesBelow n (untyped u)) (sym n) h in
+    let l : length (numbers_of r lets) ≡ length (triples_of r.vars lets) = omega (arith, n, m) in
+    let a : triples_of r.vars (lets ++ (t ∷ [])) ≡ triples_of r.vars lets ++ (triple_in r.vars lets t ∷ []) = triples_snoc r.vars lets t in
+    let b : numbers_of r (lets ++ (t ∷ [])) ≡ numbers_of r lets ++ (number_in r lets t ∷ []) = numbers_snoc r lets t in
+    rw (a, b) (number_stays r (triples_of r.vars lets) (triple_in r.vars lets t) (numbers_of r lets) (number_in r lets t) (untyped u) f l)
 
-factor_leaves : (zs : List ℤ) (p a : Triple) (y z : ℤ) (s : Numbers) → s.locals 64 ≡ Some z
-    → run (loose zs) (factor_lines p a) (topped y s) ≡ Some (topped (product_number p a y z) s)
-factor_leaves zs p a y z s e =
-    step_run (loose zs) (line (Get 64) a) (trim_lines (Mul W64) (product_of p a)) (topped y s) (topped z (topped y s)) _
-    (get_leaves zs 64 a z (topped y s) e) (trim_leaves zs (Mul W64) (product_of p a) (y *ℤ z) (topped z (topped y s)) s refl)
+number_last : (r : OnRow) (lets : List Typed) (t : Typed) (p : Range) (w : Width) → number_in r (lets ++ (t ∷ [])) (TLet (length lets) p w) ≡ number_in r lets t
+number_last r lets t p w =
+    ap (λ hs. slice_index_or hs (length lets) (pos 0)) (numbers_snoc r lets t)
+    ∙ (ap (λ i. slice_index_or (numbers_of r lets ++ (number_in r lets t ∷ [])) i (pos 0)) (sym (numbers_length r lets))
+    ∙ index_new (numbers_of r lets) (number_in r lets t) (pos 0))
 
-factors_leave : (zs : List ℤ) (a : Triple) (z : ℤ) (s : Numbers) (n : ℕ) → s.locals 64 ≡ Some z
-    → run (loose zs) (factors a n) (topped z s) ≡ Some (topped (power_number a z (suc n)) s)
-factors_leave zs a z s zero e = refl
-factors_leave zs a z s (suc n) e = then_run (loose zs) (factors a n) (factor_lines (powered a (suc n)) a) _ _ _ (factors_leave zs a z s n e)
-    (factor_leaves zs (powered a (suc n)) a (power_number a z (suc n)) z s e)
-
-at_other_number : (l : NumberLocals) (z : ℤ) (j : ℕ) → j < 64 → with_local l 64 z j ≡ l j
-at_other_number l z j h =
-    let e : (j == 64) ≡ false = grind (arith, nat_tests) in
-    rw e refl
-
--- a base to the power of n + 1
-power_leaves : (zs : List ℤ) (s : Numbers) (a : Numbered) (n : ℕ) → Leaves zs s a → Leaves zs s (power_numbered a n)
-power_leaves zs s a zero x = record {
-  locals = x.locals;
-  ends = then_run (loose zs) a.lines [] _ _ _ x.ends refl;
-  keeps = x.keeps;
-}
-power_leaves zs s a (suc n) x =
-    let t : Numbers = record { stack = s.stack; locals = x.locals } in
-    let u : Numbers = record { stack = s.stack; locals = with_local x.locals 64 a.number } in
-    let all = step_run (loose zs) (line (Get 64) a.triple) (factors a.triple (suc n)) u (topped a.number u) _
-    (get_leaves zs 64 a.triple a.number u refl) (factors_leave zs a.triple a.number u (suc n) refl) in
-    record {
-      locals = with_local x.locals 64 a.number;
-      ends = then_run (loose zs) a.lines (power_of a.triple (suc n)) _ _ _ x.ends (step_run (loose zs) (line (Set 64) no_triple)
-          (line (Get 64) a.triple ∷ factors a.triple (suc n)) (topped a.number t) u _ refl all);
-      keeps = λ j i. at_other_number x.locals a.number j i ∙ x.keeps j i;
-    }
-
--- ---- trees
-
--- lets on a row: as they are typed, their triples and their truncated numbers
-pub record NumberLets : Type 0 where
-  pub typed : List Typed
-  pub triples : List Triple
-  pub numbers : List ℤ
-
--- each let is in the local of its number, one of the first 64
-pub record LetsThere (c : NumberLets) (l : NumberLocals) : Type 0 where
-  pub each : (j : ℕ) (u : Typed) → slice_get c.typed j ≡ Some u → l j ≡ Some (slice_index_or c.numbers j (pos 0))
-  pub few : (j : ℕ) (u : Typed) → slice_get c.typed j ≡ Some u → j < 64
-  pub as_many : length c.numbers ≡ length c.typed
-
--- the lets stay in their locals where the first 64 locals stay
-pub there_kept : (c : NumberLets) (l m : NumberLocals) → LetsThere c l → ((j : ℕ) → j < 64 → m j ≡ l j) → LetsThere c m
-there_kept c l m h k = record { each = λ j u e. k j (h.few j u e) ∙ h.each j u e; few = h.few; as_many = h.as_many }
-
--- a tree after these lets, with its truncated number on a row
-abbrev pub numbered_of : List VarInfo → List ℤ → NumberLets → Typed → Numbered
-numbered_of vars zs c t = record {
-  lines = filter_lines vars c.triples (untyped t);
-  triple = triple vars c.triples (untyped t);
-  number = number vars (values zs) c.triples c.numbers (untyped t);
-}
+-- ---- all nodes
 
 value_there : (vars : List VarInfo) (zs : List ℤ) (v : ℕ) → AreWithin vars zs → v < length vars → slice_get zs v ≡ Some (values zs v)
 value_there [] zs v r h = absurd (omega arith)
@@ -273,35 +222,45 @@ value_there (i ∷ is) [] v r h = absurd r
 value_there (i ∷ is) (z ∷ zs) zero r h = refl
 value_there (i ∷ is) (z ∷ zs) (suc v) r h = value_there is zs v r.2 (omega arith)
 
-two_form : (vars : List VarInfo) (zs : List ℤ) (c : NumberLets) (k : Two) (u t : Typed) (p : Range) (w : Width)
-    → two_numbered k (numbered_of vars zs c u) (numbered_of vars zs c t) ≡ numbered_of vars zs c (TTwo k u t p w)
-two_form vars zs c Plus u t p w = refl
-two_form vars zs c Minus u t p w = refl
-two_form vars zs c Times u t p w = refl
+-- a let, from its local
+name_has : (r : OnRow) (lets : List Typed) (j : ℕ) (p : Range) (w : Width) → IsGood r lets (TLet j p w) → IsNamed (meaning r) lets j p w
+name_has r lets j p w g =
+    let n = g.nodes in
+    let u = let_there (slice_get lets j) p w n.0 in
+    record { named = u.0; there = u.1; leads = λ x h. has r (Get j) x _ _ refl h }
 
--- the operations of a sound tree leave its truncated number
-pub leaves : (vars : List VarInfo) (zs : List ℤ) (c : NumberLets) (t : Typed) (s : Numbers) → AreWithin vars zs → SoundNodes vars c.typed t
-    → LetsThere c s.locals → Leaves zs s (numbered_of vars zs c t)
-leaves vars zs c (TNum z p w) s r q k = one_leaves zs s (numbered_of vars zs c (TNum z p w))
-    (step_run (loose zs) (line (Push z) (leaf (unsigned_abs z))) [] s _ _ (push_leaves zs (unsigned_abs z) z s) refl)
-leaves vars zs c (TInput v p w) s r q k = one_leaves zs s (numbered_of vars zs c (TInput v p w))
-    (trim_leaves zs (Input v) (whole (sizes vars v)) (values zs v) s s
-    (input_leaves zs v (whole (sizes vars v)) (values zs v) s (value_there vars zs v r q.0)))
-leaves vars zs c (TLet j p w) s r q k =
-    let o = numbered_of vars zs c (TLet j p w) in
-    let g = let_there (slice_get c.typed j) p w q.0 in
-    one_leaves zs s o (step_run (loose zs) (line (Get j) o.triple) [] s _ _ (get_leaves zs j o.triple o.number s (k.each j g.0 g.1)) refl)
-leaves vars zs c (TNeg t p w) s r q k =
-    let x = leaves vars zs c t s r q.0 k in
-    record {
-      locals = x.locals;
-      ends = then_run (loose zs) (filter_lines vars c.triples (untyped t)) (line (Neg W64) (triple vars c.triples (untyped t)) ∷ []) _ _ _ x.ends refl;
-      keeps = x.keeps;
-    }
-leaves vars zs c (TTwo o u t p w) s r q k =
-    let x = leaves vars zs c u s r q.0 k in
-    let y = leaves vars zs c t (number_beside o x (numbered_of vars zs c t).triple) r q.1 (there_kept c s.locals x.locals k x.keeps) in
-    subst (Leaves zs s) (two_form vars zs c o u t p w) (two_leaves zs o s (numbered_of vars zs c u) (numbered_of vars zs c t) x y)
-leaves vars zs c (TPow t zero p w) s r q k = one_leaves zs s (numbered_of vars zs c (TPow t zero p w))
-    (step_run (loose zs) (line (Push (pos 1)) (leaf 1)) [] s _ _ (push_leaves zs 1 (pos 1) s) refl)
-leaves vars zs c (TPow t (suc n) p w) s r q k = power_leaves zs s (numbered_of vars zs c t) n (leaves vars zs c t s r q.0 k)
+-- a variable
+input_has : (r : OnRow) (lets : List Typed) (v : ℕ) (p : Range) (w : Width) → IsGood r lets (TInput v p w)
+    → Trims (meaning r) (filter_style r.vars lets) (Input v) (whole (sizes r.vars v)) (λ z. z ≡ number_in r lets (TInput v p w)) (slice_get r.values v)
+input_has r lets v p w g =
+    let n = g.nodes in
+    has r (Input v) (values r.values v) _ _ (value_there r.vars r.values v g.within n.0)
+    (cut_has r lets (excess (whole (sizes r.vars v)).h) (whole (sizes r.vars v)) (values r.values v) _ refl)
+
+-- each node of a tree with sound nodes
+pub facts : (r : OnRow) → Facts (meaning r)
+facts r = record {
+  machine = record { room = λ n h. refl; got = λ l j. refl; put = λ l j v. refl };
+  at_number = λ lets c p w g. push_has r lets (TNum c p w) c refl refl;
+  at_variable = λ lets i p w g. input_has r lets i p w g;
+  at_zeroth = λ lets t p w g. push_has r lets (TPow t zero p w) (pos 1) refl refl;
+  at_again = λ lets t j x g h. has r (Get j) x _ _ refl h;
+  at_name = λ lets j p w g. name_has r lets j p w g;
+  at_opposite = λ lets t p w x g h. has r (Neg W64) (neg_ℤ x) _ _ refl (ap neg_ℤ h);
+  at_two = λ lets o t u p w x g h. two_has r lets o t u p w x h;
+  at_first = λ lets t n p w x g h. h;
+  at_factor = λ lets t n i p w x z g k h b. has r (Mul W64) (z *ℤ x) _ _ refl
+      (cut_has r lets (excess (raw_in r.vars lets (raised_to t (suc (suc i)) w)).h) (raw_in r.vars lets (raised_to t (suc (suc i)) w)) (z *ℤ x) _
+      (rw (h, b) refl));
+  at_power = λ lets t n p w x g h. h;
+  operand = λ lets t p w g. let n = g.nodes in record { within = g.within; nodes = n.0; deep = g.deep };
+  left = λ lets o t u p w g. let n = g.nodes in let d = g.deep in record { within = g.within; nodes = n.0; deep = omega (arith, d) };
+  right = λ lets o t u p w g. let n = g.nodes in let d = g.deep in record { within = g.within; nodes = n.1; deep = omega (arith, d) };
+  base = λ lets t n p w g. let m = g.nodes in let d = g.deep in record { within = g.within; nodes = m.0; deep = omega (arith, d) };
+  deep = λ lets t g. g.deep;
+  let_stands = λ lets t. record {
+    old = λ u v n x. x ∙ sym (number_front r lets t u n);
+    new = λ v x. x ∙ sym (number_last r lets t (pair t) (width t));
+  };
+  names = λ lets t g. sound_names r.vars lets t g.nodes;
+}

@@ -1,6 +1,6 @@
 -- What the filter of a predicate is.
 use Rattle.std.proofs.Common.{◌≡◌, ℕ, ℤ, ◌≤◌, ◌<◌, ◌^◌, true, List, [], ◌∷◌, length, map, refl, suc, ap, arith, ◌∙◌, sym, inl, inr}
-use Rattle.std.proofs.Common.{length-append}
+use Rattle.std.proofs.Common.{append_assoc, append-nil, ◌*◌, ◌++◌, subst}
 use Rattle.std.specs.Prelude.{Option, Some, None, IsSome, IfSome, ◌↔◌}
 use Rattle.std.proofs.lemmas.List.{length-map}
 use Rattle.ln_algebra.specs.Coefficient.{Series, normal_coefficient}
@@ -9,37 +9,41 @@ use Rattle.ln_tree.specs.declared.shape.VarInfo.{VarInfo}
 use Rattle.ln_tree.specs.Row.{AreWithin}
 use Rattle.ln_bound.specs.declared.fitted.Width.TheVariants.{W64}
 use Rattle.ln_bound.specs.Widths.{limit}
-use Rattle.ln_bound.specs.Typed.{Typed, need, untyped}
+use Rattle.ln_bound.specs.Typed.{Typed, cost, untyped}
+use Rattle.ln_bound.specs.declared.fitted.Width.{Width}
 use Rattle.ln_bound.specs.Sound.{Sound, AreSound, is_sound, are_sound}
 use Rattle.ln_bound.specs.View.{typed}
 use Rattle.ln_bound.specs.declared.fitted.Fitted.{Fitted}
 use Rattle.ln_bound.proofs.Soundness.SoundLaws.{is_sound_says, are_sound_say}
 use Rattle.ln_code.specs.declared.op.Triple.{Triple}
-use Rattle.ln_code.specs.Engine.{Line, answer}
+use Rattle.ln_code.specs.Engine.{Line, answer, run}
 use Rattle.ln_code.specs.Numbers.{no_locals}
 use Rattle.ln_code.specs.Exact.{Held, exact_filter}
-use Rattle.ln_code.specs.FilterRules.{FilterKnown}
-use Rattle.ln_code.specs.Nodes.{IsNodeOf}
+use Rattle.ln_code.specs.FilterRules.{FilterKnown, filter_rules}
+use Rattle.ln_code.specs.Nodes.{IsLetNode, IsNodeOf}
 use Rattle.ln_code.specs.Part.{FilterCode, lines_of, filter_known_of, filter_value}
-use Rattle.ln_code.specs.Kept.{FollowsFilterRules, IsFilter, StoresHave, no_triple}
+use Rattle.ln_code.specs.Kept.{FollowsFilterRules, IsFilter, no_triple}
 use Rattle.ln_code.proofs.Engines.Runs.{answer_follows, same_lines, reached_some}
 use Rattle.ln_code.proofs.Following.Means.{filters_mean}
 use Rattle.ln_filter.specs.declared.draft.Draft.{Draft}
 use Rattle.ln_filter.specs.Triples.{let_triples}
 use Rattle.ln_filter.specs.Truncated.{root_triple, root_number}
-use Rattle.ln_filter.specs.Steady.{HasFilter}
+use Rattle.ln_filter.specs.Steady.{AreLetsSteady, HasFilter}
 use Rattle.ln_filter.specs.Tried.{AreNarrow, AllNarrow}
-use Rattle.ln_filter.specs.Lines.{all_lines, filter_lines, let_lines}
+use Rattle.ln_filter.specs.Lines.{all_lines, filter_lines}
 use Rattle.ln_filter.specs.Wrote.{LetsPut, SteadyPut, Wrote, ops_in, triples_in}
 use Rattle.ln_filter.specs.Planned.{IsPlanned, IsPlan}
 use Rattle.ln_code.proofs.Following.Same.{Same}
-use Rattle.ln_code.proofs.Engines.Behind.{then_run}
-use Rattle.ln_filter.proofs.Truncation.Steady.{has_filter, lets_tried_steady}
-use Rattle.ln_filter.proofs.Operations.Setting.{Setting, Locals, Runs, top, Lets, no_lets, with_lets}
-use Rattle.ln_filter.proofs.Operations.Lands.{then_runs, lands}
-use Rattle.ln_filter.proofs.Operations.Leaves.{Same as SameNumber, SameLocals, NumberLets, loose, loose_follows, leaves}
-use Rattle.ln_filter.proofs.Operations.Lets.{lets_land, no_lets_known, with_numbers, lets_leave, no_numbers, none_there}
-use Rattle.ln_filter.proofs.Operations.Costs.{tree_cost, lets_cost, stores_append, tree_stores, lets_store}
+use Rattle.ln_filter.proofs.Truncation.Steady.{AreSmall, has_filter, lets_tried_steady, small_snoc, triple_small}
+use Rattle.ln_code.proofs.Building.Names.{closed, closed_snoc}
+use Rattle.ln_code.proofs.Building.Lands.{AreGood, CodeLands, code_lands}
+use Rattle.ln_code.proofs.Building.Sizes.{code_stores, code_weight}
+use Rattle.ln_filter.proofs.Operations.Style.{filter_code, filter_style, triple_in as triple_after, triples_of, triples_snoc}
+use Rattle.ln_filter.proofs.Operations.Meaning.{IsGood, Setting, meaning}
+use Rattle.ln_filter.proofs.Operations.Nodes.{facts}
+use Rattle.ln_filter.proofs.Operations.Leaves as leaves
+use Rattle.ln_filter.proofs.Operations.Leaves.{OnRow, Same as SameNumber, SameLocals, loose, loose_follows}
+use Rattle.ln_filter.proofs.Operations.Costs.{all_weigh, filter_weighs}
 use Rattle.ln_filter.proofs.Operations.Writes.{wrote_then}
 
 lines_back : (lines : List (Line Triple)) → lines_of (ops_in lines) (triples_in lines) ≡ lines
@@ -104,56 +108,60 @@ number_in p zs = root_number p.vars zs (map untyped p.lets) (untyped p.root)
 abbrev setting_of : Predicate → ℕ → Setting
 setting_of p depth = record { vars = p.vars; depth = depth; is_node = IsNodeOf p.lets p.root }
 
+-- lets may be written, each after those before it, and all have small triples
+record LetsGood (r : Setting) (done ts : List Typed) : Type 0 where
+  good : AreGood (meaning r) done ts
+  small : AreSmall (triples_of r.vars (done ++ ts))
+
+lets_good : (r : Setting) (done ts : List Typed) → AreSound r.vars done ts → AreLetsSteady r.vars (triples_of r.vars done) (map untyped ts)
+    → AllNarrow r.vars (map untyped ts) → AreSmall (triples_of r.vars done) → ((e : Tree) (v : Width) → IsLetNode (closed done) ts e v → r.is_node e v)
+    → LetsGood r done ts
+lets_good r done [] s a n k f = record { good = tt; small = subst (λ ls. AreSmall (triples_of r.vars ls)) (sym (append-nil done)) k }
+lets_good r done (t ∷ us) s a n k f =
+    let e = sym (triples_snoc r.vars done t) in
+    let small = small_snoc (triples_of r.vars done) (triple_after r.vars done t) k (triple_small r.vars (triples_of r.vars done) (untyped t) k a.0) in
+    let x = lets_good r (done ++ (t ∷ [])) us s.1 (subst (λ ls. AreLetsSteady r.vars ls (map untyped us)) e a.1) n.1 (subst AreSmall e small)
+    (λ e v h. f e v (inr (subst (λ es. IsLetNode es us e v) (closed_snoc done t) h))) in
+    record {
+      good = (record { sound = s.0; steady = a.0; narrow = n.0; small = k; nodes = λ e v h. f e v (inl h) }, x.good);
+      small = subst (λ ls. AreSmall (triples_of r.vars ls)) (append_assoc done (t ∷ []) us) x.small;
+    }
+
 -- by the rules, its operations leave one value, with the triple and the polynomial of its sign expression
 record RootLands (p : Predicate) (depth : ℕ) : Type 0 where
-  top : FilterKnown
-  locals : Locals
-  runs : Runs (setting_of p depth) (lines_in p) (record { stack = []; locals = no_locals }) (record { stack = top ∷ []; locals = locals })
-  triple_is : top.triple ≡ triple_in p
-  same : Same top.tree (inlined (inlined_after [] (map untyped p.lets)) (untyped p.root))
-  error : top.triple.e ≤ limit W64
+  code : CodeLands (meaning (setting_of p depth)) p.lets p.root (lines_in p)
+  error : (triple_in p).e ≤ limit W64
 
 root_lands : (p : Predicate) (depth : ℕ) → 2048 ≤ depth → Filtered p → RootLands p depth
 root_lands p depth d f =
     let r : Setting = setting_of p depth in
-    let c : Lets = with_lets r no_lets p.lets in
-    let few : length p.lets ≤ 64 = f.sound.few in
-    let deep : need p.root ≤ 2048 = f.sound.root.deep in
-    let x = lets_land r 0 no_lets p.lets no_locals refl (omega (arith, few)) d (record {
-      sound = f.sound.lets;
-      steady = f.has.lets_steady;
-      narrow = f.narrow_lets;
-      nodes = λ e v h. inl h;
-    }) (no_lets_known no_locals) in
-    let y = lands r c p.root (record { stack = []; locals = x.locals }) (record {
-      sound = f.sound.root.nodes;
-      room = f.sound.root.sizes;
-      steady = f.has.root_steady;
-      narrow = f.narrow_root;
-      nodes = λ e v h. inr h;
-    }) x.known (omega (arith, deep, d)) in
-    let i : (triple_in p).e < 2 ^ 31 = y.allowed.small.error in
+    let sound = f.sound in
+    let has = f.has in
+    let x = lets_good r [] p.lets sound.lets has.lets_steady f.narrow_lets tt (λ e v h. inl h) in
+    let g : IsGood (setting_of p depth) p.lets p.root =
+    record { sound = sound.root; steady = has.root_steady; narrow = f.narrow_root; small = x.small; nodes = λ e v h. inr h } in
+    let i : (triple_in p).e < 2 ^ 31 = (triple_small p.vars (triples_of p.vars p.lets) (untyped p.root) x.small has.root_steady).error in
     record {
-      top = top y;
-      locals = y.locals;
-      runs = then_runs r (let_lines p.vars 0 [] (map untyped p.lets)) (filter_lines p.vars c.triples (untyped p.root))
-          (record { stack = []; locals = no_locals }) (record { stack = []; locals = x.locals })
-          (record { stack = top y ∷ []; locals = y.locals }) x.runs y.runs;
-      triple_is = refl;
-      same = y.same;
+      code = code_lands (meaning r) (facts r d) p.lets p.root (lines_in p) (filter_code p.vars p.lets p.root) sound.few x.good g;
       error = omega (arith, i);
     }
+
+numbers_good : (r : OnRow) (done ts : List Typed) → AreWithin r.vars r.values → AreSound r.vars done ts → AreGood (leaves.meaning r) done ts
+numbers_good r done [] h s = tt
+numbers_good r done (t ∷ us) h s =
+    let x = s.0 in
+    (record { within = h; nodes = x.nodes; deep = x.deep }, numbers_good r (done ++ (t ∷ [])) us h s.1)
 
 -- without any test, its operations leave its truncated number
 root_leaves : (p : Predicate) (zs : List ℤ) → AreWithin p.vars zs → SoundPredicate p → answer (loose zs) no_locals (lines_in p) ≡ Some (number_in p zs)
 root_leaves p zs h s =
-    let ls : List Tree = map untyped p.lets in
-    let c : NumberLets = with_numbers p.vars zs no_numbers p.lets in
-    let few : length p.lets ≤ 64 = s.few in
-    let x = lets_leave p.vars zs 0 no_numbers p.lets no_locals refl (omega (arith, few)) h s.lets (none_there no_locals) in
-    let y = leaves p.vars zs c p.root (record { stack = []; locals = x.locals }) h s.root.nodes x.there in
-    let e = then_run (loose zs) (let_lines p.vars 0 [] ls) (filter_lines p.vars c.triples (untyped p.root)) _ _ _ x.ends y.ends in
-    rw e refl
+    let r : OnRow = record { vars = p.vars; values = zs } in
+    let root = s.root in
+    let x = code_lands (leaves.meaning r) (leaves.facts r) p.lets p.root (lines_in p) (filter_code p.vars p.lets p.root) s.few
+    (numbers_good r [] p.lets h s.lets) (record { within = h; nodes = root.nodes; deep = root.deep }) in
+    let e : run (loose zs) (lines_in p) (record { stack = []; locals = no_locals }) ≡ Some (record { stack = x.value ∷ []; locals = x.locals }) = x.runs.ends in
+    let v : x.value ≡ number_in p zs = x.stands in
+    rw (e, v) refl
 
 held_is : (y : Held) (h : ℤ) (e : ℕ) → y.number ≡ h → y.error ≡ e → y ≡ record { number = h; error = e }
 held_is y h e p q = rw (← p, ← q) refl
@@ -171,13 +179,13 @@ number_is zs lines y h p q =
 same_top : (vars : List VarInfo) (code : FilterCode) (top m : FilterKnown) → filter_known_of vars code ≡ Some top → filter_known_of vars code ≡ Some m → m ≡ top
 same_top vars code top m p q = let e : Some m ≡ Some top = sym q ∙ p in cc
 
-value_is : (p : Predicate) (zs : List ℤ) (code : FilterCode) → AreWithin p.vars zs → SoundPredicate p → FollowsFilterRules p.vars code →
-    (x : RootLands p code.depth) → lines_of code.ops code.triples ≡ lines_in p → filter_known_of p.vars code ≡ Some x.top →
-    filter_value zs code ≡ Some (record { number = number_in p zs; error = (triple_in p).e })
-value_is p zs code h s g x e k =
+value_is : (p : Predicate) (zs : List ℤ) (code : FilterCode) (top : FilterKnown) → AreWithin p.vars zs → SoundPredicate p → FollowsFilterRules p.vars code
+    → top.triple ≡ triple_in p → lines_of code.ops code.triples ≡ lines_in p → filter_known_of p.vars code ≡ Some top
+    → filter_value zs code ≡ Some (record { number = number_in p zs; error = (triple_in p).e })
+value_is p zs code top h s g x e k =
     let m = filters_mean p.vars zs code h g in
-    let t : m.what ≡ x.top = same_top p.vars code x.top m.what k m.known in
-    let err : m.left.error ≡ (triple_in p).e = m.error ∙ ap (λ (y : FilterKnown). y.triple.e) t ∙ ap (λ (z : Triple). z.e) x.triple_is in
+    let t : m.what ≡ top = same_top p.vars code top m.what k m.known in
+    let err : m.left.error ≡ (triple_in p).e = m.error ∙ ap (λ (y : FilterKnown). y.triple.e) t ∙ ap (λ (z : Triple). z.e) x in
     let a : answer (exact_filter zs) no_locals (lines_in p) ≡ Some m.left = rw e at m.answer in
     let num : m.left.number ≡ number_in p zs = number_is zs (lines_in p) m.left (number_in p zs) a (root_leaves p zs h s) in
     m.answer ∙ ap Some (held_is m.left (number_in p zs) (triple_in p).e num err)
@@ -191,30 +199,35 @@ filter_is : (p : Predicate) (code : FilterCode) → Filtered p → code.depth �
     → code.triples ≡ triples_in (lines_in p) → Sealed p code
 filter_is p code f d o b =
     let all : List (Line Triple) = lines_in p in
-    let ls : List Tree = map untyped p.lets in
-    let ts : List Triple = let_triples p.vars [] ls in
     let x = root_lands p code.depth (let h : 2048 ≤ code.depth = omega arith in h) f in
+    let top = x.code in
+    let stands = top.stands in
+    let t : top.value.triple ≡ triple_in p = ap (λ (y : FilterKnown). y.triple) stands.is in
+    let same = stands.same in
     let e : lines_of code.ops code.triples ≡ all = rw (o, b) (lines_back all) in
-    let k : filter_known_of p.vars code ≡ Some x.top = rw (e, x.runs.ends) refl in
-    let g : FollowsFilterRules p.vars code = record { bounded = rw (o, b) (same_length all); what = x.top; known = k; narrow = x.error } in
+    let ends : run (filter_rules p.vars code.depth) (lines_in p) (record { stack = []; locals = no_locals })
+    ≡ Some (record { stack = top.value ∷ []; locals = top.locals }) = top.runs.ends in
+    let k : filter_known_of p.vars code ≡ Some top.value = rw (e, ends) refl in
+    let n : top.value.triple.e ≤ limit W64 = rw t x.error in
+    let g : FollowsFilterRules p.vars code = record { bounded = rw (o, b) (same_length all); what = top.value; known = k; narrow = n } in
     let l : length code.ops ≡ length all = rw o (ops_length all) in
-    let lc = lets_cost p.vars 0 [] p.lets in
-    let tc = tree_cost p.vars ts p.root in
+    let c = code_weight (filter_style p.vars) 1 (λ t. 6 * cost t) (filter_weighs p.vars) p.lets p.root all (filter_code p.vars p.lets p.root) in
+    let w = all_weigh p.lets in
     let few : length p.lets ≤ 64 = f.sound.few in
-    let parts = length-append (let_lines p.vars 0 [] ls) (filter_lines p.vars ts (untyped p.root)) in
-    let st : StoresHave no_triple all =
-    stores_append (let_lines p.vars 0 [] ls) (filter_lines p.vars ts (untyped p.root)) (lets_store p.vars 0 [] p.lets) (tree_stores p.vars ts p.root) in
+    let st = code_stores (filter_style p.vars) no_triple (λ lets. refl) p.lets p.root all (filter_code p.vars p.lets p.root) in
+    let poly : Same top.value.tree (inlined (inlined_after [] (map untyped p.lets)) (untyped p.root)) =
+    subst (λ (y : FilterKnown). Same y.tree (inlined (inlined_after [] (map untyped p.lets)) (untyped p.root))) (sym stands.is) same in
     record {
       filter = record { shallow = let h : code.depth ≤ 2048 = omega arith in h; stores_have = rw e st; vars = p.vars; rules = g };
       planned = record {
         has = f.has;
         rules = g;
-        triple = λ m h. ap (λ (y : FilterKnown). y.triple) (same_top p.vars code x.top m k h) ∙ x.triple_is;
-        whole = λ m h i. ap (λ (y : FilterKnown). normal_coefficient y.tree i) (same_top p.vars code x.top m k h) ∙ ap (λ (z : Series). z i) x.same.series;
+        triple = λ m h. ap (λ (y : FilterKnown). y.triple) (same_top p.vars code top.value m k h) ∙ t;
+        whole = λ m h i. ap (λ (y : FilterKnown). normal_coefficient y.tree i) (same_top p.vars code top.value m k h) ∙ ap (λ (z : Series). z i) poly.series;
         lines = e;
-        nodes = rw e x.runs.nodes;
-        value = λ zs h. value_is p zs code h f.sound g x e k;
-        small = omega (arith, l, lc, tc, parts, few);
+        nodes = rw e top.runs.each;
+        value = λ zs h. value_is p zs code top.value h f.sound g t e k;
+        small = omega (arith, l, c, w, few);
       };
     }
 

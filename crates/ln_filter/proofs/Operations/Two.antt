@@ -28,12 +28,6 @@ both_form Plus a b = refl
 both_form Minus a b = refl
 both_form Times a b = refl
 
--- the right operand is cut as the left one is, and then the operation and its cut follow
-pub right_form : (k : Two) (a b : Triple) → right_lines k a b ≡ left_lines k b a ++ trim_lines (op_of k W64) (raw_of k a b)
-right_form Plus a b = refl
-right_form Minus a b = refl
-right_form Times a b = refl
-
 -- the operations: those of the left operand, what follows it, those of the right operand and what follows that
 pub two_lines : (vars : List VarInfo) (lets : List Triple) (k : Two) (x y : Tree) →
     filter_lines vars lets (two_of k x y) ≡ filter_lines vars lets x
@@ -49,12 +43,6 @@ two_triple vars lets Plus x y = refl
 two_triple vars lets Minus x y = refl
 two_triple vars lets Times x y = refl
 
--- none of the three operations stores
-pub two_pushes : (k : Two) → stores (op_of k W64) ≡ false
-two_pushes Plus = refl
-two_pushes Minus = refl
-two_pushes Times = refl
-
 -- ---- its operands
 
 -- the operands of an operation on two with steady nodes are steady, and so is its own triple
@@ -69,12 +57,6 @@ pub steady_operands : (vars : List VarInfo) (lets : List Triple) (k : Two) (x y 
 steady_operands vars lets Plus x y h = record { left = h.0; right = h.1; whole = h.2 }
 steady_operands vars lets Minus x y h = record { left = h.0; right = h.1; whole = h.2 }
 steady_operands vars lets Times x y h = record { left = h.0; right = h.1; whole = h.2 }
-
--- where its nodes fit 128 bits, so do those of both operands
-pub room_operands : (ss : List ℕ) (k : Two) (x y : Tree) → HasRoom one ss (two_of k x y) → HasRoom one ss x × HasRoom one ss y
-room_operands ss Plus x y h = (h.0, h.1)
-room_operands ss Minus x y h = (h.0, h.1)
-room_operands ss Times x y h = (h.0, h.1)
 
 -- where its variables are narrow, so are those of both operands
 pub narrow_operands : (vars : List VarInfo) (k : Two) (x y : Tree) → AreNarrow vars (two_of k x y) → AreNarrow vars x × AreNarrow vars y

@@ -1,15 +1,16 @@
 -- What the lowered block is.
-use Rattle.std.proofs.Common.{◌≡◌, ℕ, ℤ, ◌+◌, ◌*◌, ◌≤◌, ◌<◌, List, [], ◌∷◌, ◌++◌, length, map, refl, zero, suc, ap, arith, ◌∙◌, sym, subst}
-use Rattle.std.proofs.Common.{get_or, length-append}
+use Rattle.std.proofs.Common.{◌≡◌, inl, inr, ℕ, ℤ, ◌+◌, ◌*◌, ◌≤◌, ◌<◌, List, [], ◌∷◌, ◌++◌, length, map, refl, zero, suc, ap, arith, ◌∙◌, sym, subst}
+use Rattle.std.proofs.Common.{get_or}
 use Rattle.std.specs.Prelude.{Option, Some, All, IfOk, Result, pos, slice_index_or}
 use Rattle.std.proofs.lemmas.Result.{IfOk-weaker}
 use Rattle.std.proofs.lemmas.Option.{slice_get-get_or}
 use Rattle.ln_algebra.specs.Coefficient.{Series}
-use Rattle.ln_algebra.specs.Tree.{Num}
+use Rattle.ln_algebra.specs.Tree.{Num, Tree}
 use Rattle.ln_tree.specs.declared.shape.VarInfo.{VarInfo}
 use Rattle.ln_tree.specs.Exps.{Pairs}
 use Rattle.ln_tree.specs.Row.{AreWithin}
 use Rattle.ln_bound.specs.declared.fitted.Fitted.{Fitted}
+use Rattle.ln_bound.specs.declared.fitted.Width.{Width}
 use Rattle.ln_bound.specs.declared.fitted.Width.TheVariants.{W64}
 use Rattle.ln_bound.specs.Value.{value, values}
 use Rattle.ln_bound.specs.Light.{let_values}
@@ -20,26 +21,30 @@ use Rattle.ln_interval.specs.Range.{Range, Covers, power}
 use Rattle.ln_interval.specs.View.{range}
 use Rattle.ln_interval.proofs.Magnitudes.{covers_magnitude, power_ordered}
 use Rattle.ln_bound.proofs.Trees.Whole.{whole_value}
-use Rattle.ln_code.specs.Engine.{Line}
-use Rattle.ln_code.specs.Rules.{Known}
+use Rattle.ln_code.specs.Engine.{Line, run}
+use Rattle.ln_code.specs.Rules.{Known, rules}
 use Rattle.ln_code.specs.Part.{Code, lines_of, known_of, block_value}
+use Rattle.ln_code.specs.Numbers.{no_locals}
 use Rattle.ln_code.specs.Kept.{FollowsRules, IsBlock}
 use Rattle.ln_code.proofs.Following.Means.{blocks_mean}
 use Rattle.ln_lower.specs.declared.draft.Draft.{Draft}
-use Rattle.ln_code.specs.Nodes.{IsNodeOf}
+use Rattle.ln_code.specs.Nodes.{IsLetNode, IsNodeOf}
 use Rattle.ln_lower.specs.Nodes.{PushNodes, pushed_by, HasPolynomial, KeepsLets}
 use Rattle.ln_lower.specs.declared.distinct.Key.{Key}
 use Rattle.ln_lower.specs.Lowered.{nothing, ops_in, pairs_in, PowersFit}
-use Rattle.ln_lower.specs.StackCode.{IsCodeOf}
+use Rattle.ln_lower.specs.StackCode.{IsCodeOf, block_style}
 use Rattle.ln_lower.specs.Wrote.{Drafted}
 use Rattle.ln_code.proofs.Following.Same.{Same}
-use Rattle.ln_lower.proofs.Operations.Coding.{block_coded}
-use Rattle.ln_lower.proofs.Operations.Costs.{tree_cost, lets_cost, stores_append, tree_stores, lets_store}
-use Rattle.ln_lower.proofs.Operations.Landing.{Locals, ValueFor, IsKnown, closed, tree_in, wanted}
-use Rattle.ln_lower.proofs.Operations.Keeping.{LetsKnown}
-use Rattle.ln_lower.proofs.Operations.Lets.{SoundBlock, block_lands}
+use Rattle.ln_code.proofs.Building.Names.{closed, closed_snoc, tree_in}
+use Rattle.ln_code.proofs.Building.Runs.{Holds, Locals}
+use Rattle.ln_code.proofs.Building.Present.{Present}
+use Rattle.ln_code.proofs.Building.Lands.{AreGood, code_lands}
+use Rattle.ln_code.proofs.Building.Sizes.{code_stores, code_weight}
+use Rattle.ln_lower.proofs.Operations.Meaning.{Setting, StandsFor, meaning, wanted}
+use Rattle.ln_lower.proofs.Operations.Nodes.{facts}
+use Rattle.ln_lower.proofs.Operations.Costs.{all_weigh, block_weighs}
 use Rattle.ln_lower.proofs.Subtrees.Bounding.{limit_most}
-use Rattle.ln_lower.proofs.Operations.Writes.{BlockWritten, ops_append, pairs_append}
+use Rattle.ln_lower.proofs.Operations.Writes.{ops_append, pairs_append}
 
 lines_back : (lines : List (Line Range)) → lines_of (ops_in lines) (pairs_in lines) ≡ lines
 lines_back [] = refl
@@ -85,57 +90,76 @@ all_fit vars done (u ∷ us) s = all_cons (λ u. PowersFit (typed u)) u us (root
 
 -- ---- the block
 
--- a let is in its local
-has_polynomial : (o : Option Known) (want : Known) → IsKnown o want → HasPolynomial o want.tree
-has_polynomial o want k = rw k.there (λ m. ap (λ (f : Series). f m) k.what.same.series)
+-- at most 64 sound lets, and a tree that is sound over them
+pub record SoundBlock (vars : List VarInfo) (lets : List Typed) (t : Typed) : Type 0 where
+  pub few : length lets ≤ 64
+  pub lets_sound : AreSound vars [] lets
+  pub root : Sound vars lets t
 
-lets_are_kept : (lets : List Typed) (l : Locals) → LetsKnown lets l → (j : ℕ) → j < length lets
+-- sound lets may be written
+lets_good : (at : Setting) (done ts : List Typed) → AreSound at.vars done ts → ((e : Tree) (v : Width) → IsLetNode (closed done) ts e v → at.is_node e v)
+    → AreGood (meaning at) done ts
+lets_good at done [] s f = tt
+lets_good at done (t ∷ ts) s f = (
+  record { sound = s.0; nodes = λ e v h. f e v (inl h) },
+  lets_good at (done ++ (t ∷ [])) ts s.1 (λ e v h. f e v (inr (subst (λ es. IsLetNode es ts e v) (closed_snoc done t) h))),
+)
+
+-- a let is in its local
+has_polynomial : (lets : List Typed) (u : Typed) (at : Setting) (o : Option Known) → Holds (meaning at) lets u o → HasPolynomial o (tree_in lets u)
+has_polynomial lets u at o h = let k = h.stands in rw h.there (λ m. ap (λ (f : Series). f m) k.same.series)
+
+lets_are_kept : (at : Setting) (lets kept : List Typed) (l : Locals Known) → Present (meaning at) lets kept l → (j : ℕ) → j < length lets
     → HasPolynomial (l j) (slice_index_or (closed lets) j (Num (pos 0)))
-lets_are_kept lets l k j h =
+lets_are_kept at lets kept l k j h =
     let d : Typed = TNum (pos 0) nothing W64 in
     let u : Typed = get_or lets j d in
-    has_polynomial (l j) (wanted lets (TLet j (pair u) (width u))) (k.each j u (slice_get-get_or lets j d h))
+    has_polynomial lets (TLet j (pair u) (width u)) at (l j) (k.lets_there j u (slice_get-get_or lets j d h))
 
 -- what is known of a lowered block: the rules that it follows, its value, what it pushes, its locals, and its operations
 pub record IsLowered (vars : List VarInfo) (code : Code) (t : Typed) (lets : List Typed) : Type 0 where
   pub block : IsBlock code
   pub rules : FollowsRules vars code
-  pub top : ValueFor (wanted lets t)
-  pub known : known_of vars code ≡ Some top.value
+  pub value : Known
+  pub top : StandsFor (wanted lets t) value
+  pub known : known_of vars code ≡ Some value
   pub each : PushNodes (IsNodeOf lets t) (pushed_by vars code)
   pub locals : KeepsLets vars code lets
   pub lines : IsCodeOf lets t (lines_of code.ops code.pairs)
   pub few : length code.ops ≤ 4 * (cost t + costs lets) + 64
 
--- the operations written for sound lets and a sound tree after them are a lowered block
-lowered_is : (vars : List VarInfo) (code : Code) (ks : List Key) (t : Typed) (lets : List Typed) (w : BlockWritten ks lets t)
-    → SoundBlock vars lets t → code.depth ≡ 2048 → code.ops ≡ ops_in (w.first ++ w.last) → code.pairs ≡ pairs_in (w.first ++ w.last)
-    → IsLowered vars code t lets
-lowered_is vars code ks t lets w s d o b =
+-- code of sound lets and of a sound tree after them is a lowered block
+lowered_is : (vars : List VarInfo) (code : Code) (t : Typed) (lets : List Typed) (all : List (Line Range)) → IsCodeOf lets t all
+    → SoundBlock vars lets t → code.depth ≡ 2048 → code.ops ≡ ops_in all → code.pairs ≡ pairs_in all → IsLowered vars code t lets
+lowered_is vars code t lets all w s d o b =
     let deep : 2048 ≤ code.depth = omega (arith, d) in
-    let x = block_lands (record { vars = vars; depth = code.depth; keys = ks }) lets t w deep s in
-    let e : lines_of code.ops code.pairs ≡ w.first ++ w.last = rw (o, b) (lines_back (w.first ++ w.last)) in
-    let f : known_of vars code ≡ Some x.top.value = rw (e, x.ends) refl in
-    let g : FollowsRules vars code = record { bounded = rw (o, b) (same_length (w.first ++ w.last)); answers = rw f refl } in
-    let n : length code.ops ≡ length (w.first ++ w.last) = rw o (ops_length (w.first ++ w.last)) in
-    let la = length-append w.first w.last in
-    let tc = tree_cost ks w.root_lines in
-    let lc = lets_cost ks w.lets_lines in
+    let at : Setting = record { vars = vars; depth = code.depth; is_node = IsNodeOf lets t } in
+    let x = code_lands (meaning at) (facts at deep) lets t all w s.few (lets_good at [] lets s.lets_sound (λ e v h. inl h))
+    (record { sound = s.root; nodes = λ e v h. inr h }) in
+    let e : lines_of code.ops code.pairs ≡ all = rw (o, b) (lines_back all) in
+    let ends : run (rules vars code.depth) all (record { stack = []; locals = no_locals }) ≡ Some (record { stack = x.value ∷ []; locals = x.locals }) =
+    x.runs.ends in
+    let f : known_of vars code ≡ Some x.value = rw (e, ends) refl in
+    let g : FollowsRules vars code = record { bounded = rw (o, b) (same_length all); answers = rw f refl } in
+    let n : length code.ops ≡ length all = rw o (ops_length all) in
+    let c = code_weight (λ done. block_style) 0 (λ t. 3 * cost t) (λ done. block_weighs) lets t all w in
+    let a = all_weigh lets in
     let few = s.few in
     record {
       block = record {
         shallow = let i : code.depth ≤ 2048 = omega (arith, d) in i;
-        stores_have = rw e (stores_append w.first w.last (lets_store ks w.lets_lines) (tree_stores ks w.root_lines));
+        stores_have = rw e (code_stores (λ done. block_style) nothing (λ done. refl) lets t all w);
         vars = vars;
         rules = g;
       };
       rules = g;
-      top = x.top;
+      value = x.value;
+      top = x.stands;
       known = f;
-      each = rw e x.each;
-      locals = rw (e, x.ends) (lets_are_kept lets x.locals x.rest);
-      lines = block_coded ks lets t (lines_of code.ops code.pairs) w e;
-      few = omega (arith, n, la, tc, lc, few);
+      each = rw e x.runs.each;
+      locals = rw (e, ends) (lets_are_kept at lets x.kept x.locals x.present);
+      lines = rw e w;
+      few = omega (arith, n, c, a, few);
     }
 
 -- the block that is sealed from what was written, with the derivative's exponents
@@ -148,18 +172,20 @@ pub sealed : (vars : List VarInfo) (a : Pairs) (ks : List Key) (t : Typed) (lets
 sealed vars a ks t lets d s x =
     let v = x.lets in
     let w = x.root in
-    let written : BlockWritten ks lets t = record {
+    let c = w.coded v.kept v.are in
+    let code : IsCodeOf lets t (v.lines ++ w.lines) = record {
       first = v.lines;
       last = w.lines;
-      kept = x.mid.kept;
-      new = w.more;
-      spare = w.spare;
-      lets_lines = v.written;
-      root_lines = w.written;
+      kept = v.kept;
+      new = c.new;
+      computed = w.computed;
+      lets_code = v.code;
+      root_code = c.code;
+      all = refl;
     } in
     let i : d.ops ≡ ops_in (v.lines ++ w.lines) = w.wrote.ops ∙ ap (λ l. l ++ ops_in w.lines) v.ops ∙ sym (ops_append v.lines w.lines) in
     let j : map range d.pairs ≡ pairs_in (v.lines ++ w.lines) = w.wrote.pairs ∙ ap (λ l. l ++ pairs_in w.lines) v.pairs ∙ sym (pairs_append v.lines w.lines) in
-    lowered_is vars (sealed_from a d) ks t lets written s refl i j
+    lowered_is vars (sealed_from a d) t lets (v.lines ++ w.lines) code s refl i j
 
 -- what is known of each lowered block is known of the one that is sealed
 pub if_sealed : {E : Type 0} (vars : List VarInfo) (a : Pairs) (t : Typed) (lets : List Typed) (d : Draft) (r : Result Code E) (P : Code → Type 0)
@@ -169,8 +195,8 @@ if_sealed vars a t lets d r P s x h f = IfOk-weaker r (λ b. b ≡ sealed_from a
     (λ b e. subst P (sym e) (f (sealed_from a d) (sealed vars a x.0 t lets d s x.1))) h
 
 top_is : (vars : List VarInfo) (code : Code) (t : Typed) (lets : List Typed) (x : IsLowered vars code t lets) (k : Known)
-    → known_of vars code ≡ Some k → x.top.value ≡ k
-top_is vars code t lets x k h = let e : Some x.top.value ≡ Some k = sym x.known ∙ h in cc
+    → known_of vars code ≡ Some k → x.value ≡ k
+top_is vars code t lets x k h = let e : Some x.value ≡ Some k = sym x.known ∙ h in cc
 
 -- the range that the rules find for the value of a lowered block is within the range of the tree
 pub lowered_range : (vars : List VarInfo) (code : Code) (t : Typed) (lets : List Typed) → IsLowered vars code t lets → (k : Known)

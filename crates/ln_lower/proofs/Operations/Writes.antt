@@ -1,6 +1,6 @@
 -- Drafts, one piece after the other.
-use Rattle.std.proofs.Common.{◌≡◌, ◌≢◌, inl, inr, ℕ, ◌+◌, ◌≤◌, ◌<◌, ◌-◌, List, [], ◌∷◌, ◌++◌, length, map, take, get_or, refl, zero, suc}
-use Rattle.std.proofs.Common.{ap, ap₂, arith, ◌∙◌, sym, subst, append_assoc, append-nil}
+use Rattle.std.proofs.Common.{◌≡◌, ◌≢◌, inl, inr, ℕ, true, false, ◌+◌, ◌≤◌, ◌<◌, ◌-◌, List, [], ◌∷◌, ◌++◌, length, map, take, get_or, refl, zero, suc}
+use Rattle.std.proofs.Common.{ap, arith, ◌∙◌, sym, subst, append_assoc, append-nil}
 use Rattle.std.specs.Prelude.{OnOk, Result, Ok, Err, Some, slice_get, pos}
 use Rattle.std.proofs.lemmas.List.{take_more, map-append, length-map, length-take-le}
 use Rattle.ln_interval.specs.Range.{Range, magnitude, most, power, product}
@@ -15,10 +15,13 @@ use Rattle.ln_code.specs.declared.op.Op.TheVariants.{Push, Get, Set, Mul, Neg}
 use Rattle.ln_code.specs.Engine.{Line, op_of}
 use Rattle.ln_lower.specs.declared.draft.Draft.{Draft}
 use Rattle.ln_lower.specs.declared.distinct.Key.{Key}
-use Rattle.ln_lower.specs.Distinct.{IsNumberOf}
+use Rattle.ln_code.specs.StackCode as code
+use Rattle.ln_code.specs.StackCode.{IsCode, again, keep, keeping, more, none, opposite, raised, two, zeroth}
+use Rattle.ln_lower.specs.Distinct.{AreNumbersOf, IsNumberOf}
 use Rattle.ln_lower.specs.Lowered.{line, nothing, factors, power_of, ops_in, pairs_in}
-use Rattle.ln_lower.specs.Written.{Written, LetsWritten, keeping, again, opposite, two, zeroth, raised, keep, none, more}
-use Rattle.ln_lower.specs.Wrote.{Wrote, MayKeep, Puts, PutsLet, PutsLets}
+use Rattle.ln_lower.specs.StackCode.{block_style}
+use Rattle.ln_lower.specs.Wrote.{Coded, IsCoded, MayKeep, Puts, PutsLet, PutsLets, Wrote}
+use Rattle.ln_lower.proofs.Subtrees.Numbering.{all_append, all_last, all_length, kept_at}
 use Rattle.ln_lower.proofs.Subtrees.Roots.{HasRoot}
 
 -- the operations of two lists of lines, one after the other, are those of the first and those of the second
@@ -51,6 +54,15 @@ wrote_more {a = a} {c = c} {l = l} {m = m} {p = p} v w = subst (λ q. Wrote a c 
 -- the same, where the second piece is empty
 wrote_same : {a b c : Draft} {l : List (Line Range)} {p : List ℕ} → Wrote a b l p → Wrote b c [] [] → Wrote a c l p
 wrote_same {a = a} {c = c} {l = l} {p = p} v w = subst (λ n. Wrote a c n p) (append-nil l) (wrote_more v w)
+
+-- the factors and the power in the words of stack code
+factors_same : (t : Typed) (w : Width) (m n : ℕ) → code.factors block_style t w m n ≡ factors (pair t) w m n
+factors_same t w m zero = refl
+factors_same t w m (suc n) = ap (λ l. line (Get 64) (pair t) ∷ (line (Mul w) (power (pair t) (suc m)) ∷ l)) (factors_same t w (suc m) n)
+
+power_same : (t : Typed) (w : Width) (n : ℕ) → code.power_of block_style t w n ≡ power_of (pair t) w n
+power_same t w zero = refl
+power_same t w (suc n) = ap (λ l. line (Set 64) nothing ∷ (line (Get 64) (pair t) ∷ l)) (factors_same t w 1 (suc n))
 
 -- n + 1 more factors are n more, and then one
 pub factors_snoc : (p : Range) (w : Width) (m n : ℕ)
@@ -101,8 +113,15 @@ ok_then (Err e) P Q h f = h
 -- ---- the operations of a node
 
 -- a leaf
-pub puts_leaf : (ks : List Key) (a b : Draft) (t u : Typed) (x : Line Range) → u ≡ t → Wrote a b (x ∷ []) [] → Written ks a.kept t (x ∷ []) [] 2 → Puts ks a b u
-puts_leaf ks a b t u x e w h = rw e (record { lines = x ∷ []; more = []; spare = 2; wrote = w; written = h })
+pub puts_leaf : (ks : List Key) (a b : Draft) (t u : Typed) (x : Line Range) → u ≡ t → Wrote a b (x ∷ []) []
+    → ((kept : List Typed) → IsCode block_style kept t (x ∷ []) [] true) → Puts ks a b u
+puts_leaf ks a b t u x e w h = rw e (record {
+  lines = x ∷ [];
+  more = [];
+  computed = true;
+  wrote = w;
+  coded = λ kept are. record { new = []; are = tt; code = h kept };
+})
 
 -- a tree that is kept, in the local of its place among those that are
 pub puts_again : (ks : List Key) (a b : Draft) (t : Typed) (j k : ℕ) (p : Range) → (i : ℕ) × (slice_get a.kept i ≡ Some k) × (j ≡ 65 + i)
@@ -110,42 +129,40 @@ pub puts_again : (ks : List Key) (a b : Draft) (t : Typed) (j k : ℕ) (p : Rang
 puts_again ks a b t j k p i g s w =
     let v : Wrote a b (line (Get (65 + i.0)) (pair t) ∷ []) [] =
     subst (λ q. Wrote a b (line (Get (65 + i.0)) q ∷ []) []) g (subst (λ n. Wrote a b (line (Get n) p ∷ []) []) i.2 w) in
-    record { lines = line (Get (65 + i.0)) (pair t) ∷ []; more = []; spare = 0; wrote = v; written = again i.0 k i.1 s }
+    record {
+      lines = line (Get (65 + i.0)) (pair t) ∷ [];
+      more = [];
+      computed = false;
+      wrote = v;
+      coded = λ kept are. record { new = []; are = tt; code = again i.0 (kept_at ks a.kept kept i.0 k t are i.1 s) };
+    }
 
 -- what is known of the operations of a tree before it is kept
 pub record Done (ks : List Key) (a b : Draft) (t : Typed) : Type 0 where
   pub lines : List (Line Range)
   pub more : List ℕ
   pub wrote : Wrote a b lines more
-  pub written : Written ks a.kept t lines more 2
-
-kept_place : (a b : Draft) (m : List ℕ) → b.kept ≡ a.kept ++ m → length b.kept ≡ length (a.kept ++ m)
-kept_place a b m e = ap length_of e
-  where
-    length_of : List ℕ → ℕ
-    length_of l = length l
+  pub coded : IsCoded ks a.kept t lines more true
 
 -- and then it is kept, or not
 pub puts_kept : (ks : List Key) (a b c : Draft) (t : Typed) (k : ℕ) (p : Range) → p ≡ pair t → IsNumberOf ks k t → Done ks a b t → MayKeep b c k p
     → Puts ks a c t
-puts_kept ks a b c t k p e s x (inl h) = record {
-  lines = x.lines;
-  more = x.more;
-  spare = 2;
-  wrote = wrote_same x.wrote h;
-  written = x.written;
+puts_kept ks a b c t k p e s x (inl h) =
+    record { lines = x.lines; more = x.more; computed = true; wrote = wrote_same x.wrote h; coded = x.coded }
+puts_kept ks a b c t k p e s x (inr h) = record {
+  lines = x.lines ++ keeping nothing (65 + length b.kept) p;
+  more = x.more ++ (k ∷ []);
+  computed = false;
+  wrote = wrote_then x.wrote h;
+  coded = coded;
 }
-puts_kept ks a b c t k p e s x (inr h) =
-    let n : 65 + length b.kept ≡ 65 + length (a.kept ++ x.more) = ap (λ m. 65 + m) (kept_place a b x.more x.wrote.kept) in
-    let f : keeping (65 + length b.kept) p ≡ keeping (65 + length (a.kept ++ x.more)) (pair t) = ap₂ keeping n e in
-    let g : Wrote b c (keeping (65 + length (a.kept ++ x.more)) (pair t)) (k ∷ []) = subst (λ l. Wrote b c l (k ∷ [])) f h in
-    record {
-      lines = x.lines ++ keeping (65 + length (a.kept ++ x.more)) (pair t);
-      more = x.more ++ (k ∷ []);
-      spare = 0;
-      wrote = wrote_then x.wrote g;
-      written = keep k s x.written;
-    }
+  where
+    coded : (kept : List Typed) → AreNumbersOf ks a.kept kept → Coded ks kept t (x.lines ++ keeping nothing (65 + length b.kept) p) (x.more ++ (k ∷ [])) false
+    coded kept are =
+        let y = x.coded kept are in
+        let n : length (kept ++ y.new) ≡ length b.kept = sym (all_length ks b.kept (kept ++ y.new)
+        (rw x.wrote.kept (all_append ks a.kept x.more kept y.new are y.are))) in
+        rw (e, ← n) (record { new = y.new ++ (t ∷ []); are = all_last ks x.more y.new k t y.are s; code = keep y.code })
 
 -- at a negation: the operations of its operand and the negation are those of the tree, not kept yet
 pub done_neg : (ks : List Key) (a b c : Draft) (t u : Typed) (r : HasRoot (TNeg t) u) → Puts ks a b t
@@ -154,28 +171,43 @@ done_neg ks a b c t u r x h = subst (λ v. Done ks a c v) (sym r.is) (record {
   lines = x.lines ++ (line (Neg r.width) r.range ∷ []);
   more = x.more;
   wrote = wrote_more x.wrote h;
-  written = opposite r.range r.width x.written;
+  coded = λ kept are. let y = x.coded kept are in record { new = y.new; are = y.are; code = opposite r.range r.width y.code };
 })
 
 -- at a sum, difference or product: the operations of both operands and its own are those of the tree, not kept yet
 pub done_two : (ks : List Key) (a b c d : Draft) (t u v : Typed) (r : HasRoot (TTwo (operation v) t u) v) → Puts ks a b t → Puts ks b c u
     → Wrote c d (line (op_of (operation v) r.width) r.range ∷ []) [] → Done ks a d v
 done_two ks a b c d t u v r x y h =
-    let right : Written ks (a.kept ++ x.more) u y.lines y.more y.spare = subst (λ l. Written ks l u y.lines y.more y.spare) x.wrote.kept y.written in
     subst (λ t. Done ks a d t) (sym r.is) (record {
       lines = x.lines ++ (y.lines ++ (line (op_of (operation v) r.width) r.range ∷ []));
       more = x.more ++ y.more;
       wrote = wrote_then x.wrote (wrote_more y.wrote h);
-      written = two (operation v) r.range r.width x.written right;
+      coded = coded;
     })
+  where
+    coded : IsCoded ks a.kept (TTwo (operation v) t u r.range r.width) (x.lines ++ (y.lines ++ (line (op_of (operation v) r.width) r.range ∷ [])))
+        (x.more ++ y.more) true
+    coded kept are =
+        let p = x.coded kept are in
+        let both : AreNumbersOf ks b.kept (kept ++ p.new) = rw x.wrote.kept (all_append ks a.kept x.more kept p.new are p.are) in
+        let q = y.coded (kept ++ p.new) both in
+        record {
+          new = p.new ++ q.new;
+          are = all_append ks x.more y.more p.new q.new p.are q.are;
+          code = two (operation v) r.range r.width p.code q.code;
+        }
 
 -- at a power with exponent 0: pushing 1 is the operations of the tree, not kept yet
 pub done_zeroth : (ks : List Key) (a b : Draft) (t u : Typed) (n : ℕ) (r : HasRoot (TPow t n) u) → n ≡ 0
     → Wrote a b (line (Push (pos 1)) r.range ∷ []) [] → Done ks a b u
 done_zeroth ks a b t u n r z h =
     let e : TPow t 0 r.range r.width ≡ u = ap (λ m. TPow t m r.range r.width) (sym z) ∙ sym r.is in
-    subst (λ v. Done ks a b v) e
-    (record { lines = line (Push (pos 1)) r.range ∷ []; more = []; wrote = h; written = zeroth t r.range r.width })
+    subst (λ v. Done ks a b v) e (record {
+      lines = line (Push (pos 1)) r.range ∷ [];
+      more = [];
+      wrote = h;
+      coded = λ kept are. record { new = []; are = tt; code = zeroth t r.range r.width };
+    })
 
 -- at a power with a larger exponent: the operations of its base and those of the power are those of the tree, not kept yet
 pub done_power : (ks : List Key) (a b c : Draft) (t u : Typed) (n : ℕ) (r : HasRoot (TPow t n) u) → n ≢ 0 → Puts ks a b t
@@ -188,7 +220,12 @@ done_power ks a b c t u (suc n) r z x h =
       lines = x.lines ++ power_of (pair t) r.width n;
       more = x.more;
       wrote = wrote_more x.wrote v;
-      written = raised n r.range r.width x.written;
+      coded = λ kept are. let y = x.coded kept are in record {
+        new = y.new;
+        are = y.are;
+        code = subst (λ l. IsCode block_style kept (TPow t (suc n) r.range r.width) (x.lines ++ l) y.new true) (power_same t r.width n)
+            (raised n r.range r.width y.code);
+      };
     })
 
 -- ---- lets
@@ -196,7 +233,7 @@ done_power ks a b c t u (suc n) r z x h =
 -- the beginning of the loop in `put_lets`: an empty draft has the operations of no lets
 pub no_lets_put : (ks : List Key) (a : Draft) → a.ops ≡ [] → a.pairs ≡ [] → a.kept ≡ [] → PutsLets ks a []
 no_lets_put ks a o p k =
-    record { lines = []; ops = o; pairs = ap (λ (l : List Pair). map range l) p; written = subst (λ l. LetsWritten ks [] [] l) (sym k) none }
+    record { lines = []; ops = o; pairs = ap (λ (l : List Pair). map range l) p; kept = []; are = rw k tt; code = none }
 
 -- one let more, into the local of its number
 pub next_let : (ks : List Key) (a b : Draft) (ts us : List Typed) (t : Typed) (j : ℕ) → j ≡ length ts → us ≡ ts ++ (t ∷ [])
@@ -207,12 +244,14 @@ next_let ks a b ts us t j e f x p =
     let v : Wrote p.mid b (line (Set (length ts)) nothing ∷ []) [] = subst (λ n. Wrote p.mid b (line (Set n) nothing ∷ []) []) e p.stores in
     let w = wrote_more y.wrote v in
     let all : List (Line Range) = x.lines ++ (y.lines ++ (line (Set (length ts)) nothing ∷ [])) in
-    let l : LetsWritten ks (ts ++ (t ∷ [])) all (a.kept ++ y.more) = more x.written y.written in
+    let c = y.coded x.kept x.are in
     subst (λ ts. PutsLets ks b ts) (sym f) (record {
       lines = all;
       ops = w.ops ∙ ap (λ k. k ++ ops_in (y.lines ++ set)) x.ops ∙ sym (ops_append x.lines (y.lines ++ set));
       pairs = w.pairs ∙ ap (λ k. k ++ pairs_in (y.lines ++ set)) x.pairs ∙ sym (pairs_append x.lines (y.lines ++ set));
-      written = subst (λ k. LetsWritten ks (ts ++ (t ∷ [])) all k) (sym w.kept) l;
+      kept = x.kept ++ c.new;
+      are = rw w.kept (all_append ks a.kept y.more x.kept c.new x.are c.are);
+      code = more x.code c.code;
     })
 
 -- the operations of a tree and a store into local j are those of let j
@@ -231,15 +270,3 @@ more_typed lets j u h e =
 -- the first j lets as trees are j
 pub typed_length : (lets : List Fitted) (j : ℕ) → j < length lets → j ≡ length (map typed (take j lets))
 typed_length lets j h = let i : j ≤ length lets = omega arith in sym (simp (length-map, length-take-le j lets i) (omega arith))
-
--- ---- a block
-
--- the operations of lets and of a tree after them
-pub record BlockWritten (ks : List Key) (lets : List Typed) (t : Typed) : Type 0 where
-  pub first : List (Line Range)
-  pub last : List (Line Range)
-  pub kept : List ℕ
-  pub new : List ℕ
-  pub spare : ℕ
-  pub lets_lines : LetsWritten ks lets first kept
-  pub root_lines : Written ks kept t last new spare

@@ -205,6 +205,31 @@ stand_length ks [] (v ∷ vs) a = absurd a
 stand_length ks (m ∷ ms) [] a = absurd a
 stand_length ks (m ∷ ms) (v ∷ vs) a = ap suc (stand_length ks ms vs a.1)
 
+-- numbers of trees in two lists, one after the other
+pub all_append : (ks : List Key) (ms ns : List ℕ) (ts us : List Typed) → AreNumbersOf ks ms ts → AreNumbersOf ks ns us → AreNumbersOf ks (ms ++ ns) (ts ++ us)
+all_append ks [] ns [] us a b = b
+all_append ks [] ns (t ∷ ts) us a b = absurd a
+all_append ks (m ∷ ms) ns [] us a b = absurd a
+all_append ks (m ∷ ms) ns (t ∷ ts) us a b = (a.0, all_append ks ms ns ts us a.1 b)
+
+-- there are as many numbers as trees
+pub all_length : (ks : List Key) (ns : List ℕ) (ts : List Typed) → AreNumbersOf ks ns ts → length ns ≡ length ts
+all_length ks [] [] a = refl
+all_length ks [] (t ∷ ts) a = absurd a
+all_length ks (n ∷ ns) [] a = absurd a
+all_length ks (n ∷ ns) (t ∷ ts) a = ap suc (all_length ks ns ts a.1)
+
+-- the tree with a number that is kept is at the number's place
+pub kept_at : (ks : List Key) (ns : List ℕ) (ts : List Typed) (i k : ℕ) (t : Typed) → AreNumbersOf ks ns ts → slice_get ns i ≡ Some k
+    → IsNumberOf ks k t → slice_get ts i ≡ Some t
+kept_at ks [] ts i k t a e s = cc
+kept_at ks (n ∷ ns) [] i k t a e s = absurd a
+kept_at ks (n ∷ ns) (u ∷ us) zero k t a e s =
+    let f : n ≡ k = cc in
+    let h : IsNumberOf ks n t = rw f s in
+    ap Some (unique ks u t n a.0 h)
+kept_at ks (n ∷ ns) (u ∷ us) (suc i) k t a e s = kept_at ks ns us i k t a.1 e s
+
 -- ---- operands
 
 -- the left operand that is noted for the number of an operation on two is the number of its left operand

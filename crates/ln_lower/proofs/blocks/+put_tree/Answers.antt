@@ -11,7 +11,7 @@ use Rattle.ln_lower.specs.Lowered.{line}
 use Rattle.ln_lower.proofs.Subtrees.Operands.{are_operands}
 use Rattle.std.specs.Prelude.{OnOk}
 use Rattle.ln_lower.specs.Wrote.{Wrote}
-use Rattle.ln_lower.specs.Written.{number, variable, name}
+use Rattle.ln_code.specs.StackCode.{number, variable, name}
 use Rattle.ln_lower.proofs.Operations.Writes.{ok_then, puts_leaf, puts_again, puts_kept, done_neg, done_two, done_zeroth, done_power}
 use Rattle.ln_lower.proofs.blocks.+put_tree.Goals as goal
 
@@ -38,7 +38,7 @@ returns-in-Num t c =
     let h : OnOk c.push-in-Num.result (Wrote c.args.draft.now c.push-in-Num.new.self (line (Push c.in-Num.c) (range c.args.t.now.pair) ∷ []) []) =
     search rules in
     ok_then c.push-in-Num.result _ _ h
-    (λ q. puts_leaf c.args.distinct.now.keys _ _ (TNum c.in-Num.c p w) (typed c.args.t.now) (line (Push c.in-Num.c) p) e q (number c.in-Num.c p w))
+    (λ q. puts_leaf c.args.distinct.now.keys _ _ (TNum c.in-Num.c p w) (typed c.args.t.now) (line (Push c.in-Num.c) p) e q (λ kept. number c.in-Num.c p w))
 
 pub returns-in-Input : goal.returns-in-Input
 returns-in-Input t c =
@@ -46,7 +46,8 @@ returns-in-Input t c =
     let w : Width = c.args.t.now.width in
     let e : typed c.args.t.now ≡ TInput c.in-Input.v (range c.args.t.now.pair) c.args.t.now.width = rw c.in-Input.is refl in
     ok_then c.push-in-Input.result _ _ c.push-in-Input.ensures
-    (λ q. puts_leaf c.args.distinct.now.keys _ _ (TInput c.in-Input.v p w) (typed c.args.t.now) (line (Input c.in-Input.v) p) e q (variable c.in-Input.v p w))
+    (λ q. puts_leaf c.args.distinct.now.keys _ _ (TInput c.in-Input.v p w) (typed c.args.t.now) (line (Input c.in-Input.v) p) e q
+    (λ kept. variable c.in-Input.v p w))
 
 pub returns-in-Let : goal.returns-in-Let
 returns-in-Let t c =
@@ -54,7 +55,7 @@ returns-in-Let t c =
     let w : Width = c.args.t.now.width in
     let e : typed c.args.t.now ≡ TLet c.in-Let.j (range c.args.t.now.pair) c.args.t.now.width = rw c.in-Let.is refl in
     ok_then c.push-in-Let.result _ _ c.push-in-Let.ensures
-    (λ q. puts_leaf c.args.distinct.now.keys _ _ (TLet c.in-Let.j p w) (typed c.args.t.now) (line (Get c.in-Let.j) p) e q (name c.in-Let.j p w))
+    (λ q. puts_leaf c.args.distinct.now.keys _ _ (TLet c.in-Let.j p w) (typed c.args.t.now) (line (Get c.in-Let.j) p) e q (λ kept. name c.in-Let.j p w))
 
 pub returns-in_ok-put_tree-in-Neg : goal.returns-in_ok-put_tree-in-Neg
 returns-in_ok-put_tree-in-Neg t c =

@@ -1,4 +1,3 @@
-use Rattle.std.proofs.Common.{◌≡◌}
 use Rattle.ln_code.proofs.OneOrder.{one_order_joins}
 use Rattle.ln_code.proofs.program.Program.reduced.Goals as goal
 

@@ -1,6 +1,6 @@
--- Names of lets in trees, and lets as closed expressions, with one let more.
-use Rattle.std.proofs.Common.{◌≡◌, inl, inr, ℕ, ◌+◌, ◌<◌, List, [], ◌∷◌, ◌++◌, length, map, refl, ap, ap₂, arith, ◌∙◌, sym, subst, suc, pos, ◌*◌, ◌^◌}
-use Rattle.std.proofs.Common.{length-append, append_assoc, append-nil}
+-- Names of lets in trees, and what trees are after their lets, with one let more.
+use Rattle.std.proofs.Common.{◌≡◌, ℕ, ◌+◌, ◌*◌, ◌^◌, ◌<◌, List, [], ◌∷◌, ◌++◌, length, map, refl, ap, ap₂, arith, ◌∙◌, sym, subst, suc, pos}
+use Rattle.std.proofs.Common.{length-append}
 use Rattle.std.specs.Prelude.{Option, Some, None, slice_get, slice_index_or}
 use Rattle.std.proofs.lemmas.Option.{slice_get_within}
 use Rattle.std.proofs.lemmas.List.{map-append}
@@ -11,12 +11,22 @@ use Rattle.ln_interval.specs.Range.{Range}
 use Rattle.ln_bound.specs.declared.fitted.Width.{Width}
 use Rattle.ln_bound.specs.declared.fitted.Two.{Two}
 use Rattle.ln_bound.specs.declared.fitted.Two.TheVariants.{Plus, Minus, Times}
-use Rattle.ln_bound.specs.Sound.{Sound, AreSound, CoversLet, SoundNodes, running}
-use Rattle.ln_bound.specs.Typed.{Typed, TNum, TInput, TLet, TNeg, TTwo, TPow, two_of, pair, width, untyped}
+use Rattle.ln_bound.specs.Sound.{CoversLet, SoundNodes, running}
+use Rattle.ln_bound.specs.Typed.{Typed, TNum, TInput, TLet, TNeg, TTwo, TPow, two_of, untyped}
 use Rattle.ln_bound.specs.Value.{weight_over}
 use Rattle.ln_bound.proofs.Trees.LetLists.{index_new, index_old, running_length, running_more, untyped_length}
-use Rattle.ln_code.specs.Nodes.{IsNode, IsLetNode}
-use Rattle.ln_lower.proofs.Operations.Landing.{rooted, closed, size_in, tree_in, wanted}
+
+-- the lets as closed expressions
+abbrev pub closed : List Typed → List Tree
+closed lets = inlined_after [] (map untyped lets)
+
+-- the running size of a tree over its lets
+abbrev pub size_in : List Typed → Typed → ℕ
+size_in lets t = weight_over one (running lets) (untyped t)
+
+-- the expression of a tree with its lets in place of their names
+abbrev pub tree_in : List Typed → Typed → Tree
+tree_in lets t = inlined (closed lets) (untyped t)
 
 -- ---- names
 
@@ -60,18 +70,7 @@ sound_names vars lets (TNeg t p w) s = sound_names vars lets t s.0
 sound_names vars lets (TTwo k u t p w) s = names_two (length lets) k (untyped u) (untyped t) (sound_names vars lets u s.0) (sound_names vars lets t s.1)
 sound_names vars lets (TPow t n p w) s = sound_names vars lets t s.0
 
--- ---- the definitions on lists, at the end of a list
-
--- lets that are sound are sound without the last, and the last is sound over them
-pub sound_snoc : (vars : List VarInfo) (done ts : List Typed) (t : Typed) → AreSound vars done (ts ++ (t ∷ []))
-    → AreSound vars done ts × Sound vars (done ++ ts) t
-sound_snoc vars done [] t s =
-    let e : done ++ [] ≡ done = append-nil done in
-    (tt, subst (λ ls. Sound vars ls t) (sym e) s.0)
-sound_snoc vars done (u ∷ us) t s =
-    let r = sound_snoc vars (done ++ (u ∷ [])) us t s.1 in
-    let e : (done ++ (u ∷ [])) ++ us ≡ done ++ (u ∷ us) = append_assoc done (u ∷ []) us in
-    ((s.0, r.0), subst (λ ls. Sound vars ls t) e r.1)
+-- ---- with one let more
 
 inlined_snoc : (done ts : List Tree) (t : Tree) → inlined_after done (ts ++ (t ∷ [])) ≡ inlined_after done ts ++ (inlined (inlined_after done ts) t ∷ [])
 inlined_snoc done [] t = refl
@@ -84,26 +83,13 @@ inlined_length done (u ∷ us) =
     let n = length-append done (inlined done u ∷ []) in
     omega (arith, ih, n)
 
--- a node of a let is one still with a let more
-pub let_front : (done : List Tree) (ts : List Typed) (t : Typed) (e : Tree) (v : Width) → IsLetNode done ts e v → IsLetNode done (ts ++ (t ∷ [])) e v
-let_front done [] t e v h = absurd h
-let_front done (u ∷ us) t e v (inl h) = inl h
-let_front done (u ∷ us) t e v (inr h) = inr (let_front (done ++ (inlined done (untyped u) ∷ [])) us t e v h)
-
--- a node of the last let is one of a let
-pub let_last : (done : List Tree) (ts : List Typed) (t : Typed) (e : Tree) (v : Width) → IsNode (inlined_after done (map untyped ts)) t e v
-    → IsLetNode done (ts ++ (t ∷ [])) e v
-let_last done [] t e v h = inl h
-let_last done (u ∷ us) t e v h = inr (let_last (done ++ (inlined done (untyped u) ∷ [])) us t e v h)
-
-closed_snoc : (ts : List Typed) (t : Typed) → closed (ts ++ (t ∷ [])) ≡ closed ts ++ (tree_in ts t ∷ [])
+-- the closed expressions of lets with one more
+pub closed_snoc : (ts : List Typed) (t : Typed) → closed (ts ++ (t ∷ [])) ≡ closed ts ++ (tree_in ts t ∷ [])
 closed_snoc ts t = ap (λ (es : List Tree). inlined_after [] es) (map-append untyped ts (t ∷ [])) ∙ inlined_snoc [] (map untyped ts) (untyped t)
 
 -- there are as many closed expressions as lets
 closed_length : (ts : List Typed) → length (closed ts) ≡ length ts
 closed_length ts = let e = inlined_length [] (map untyped ts) in let f = untyped_length ts in omega (arith, e, f)
-
--- ---- what is wanted, with a let more
 
 inlined_front : (ts : List Tree) (c e : Tree) → NamesBelow (length ts) e → inlined (ts ++ (c ∷ [])) e ≡ inlined ts e
 inlined_front ts c (Num z) h = refl
@@ -125,28 +111,30 @@ weight_front m ss s (Sub e f) h = ap₂ ◌+◌ (weight_front m ss s e h.0) (wei
 weight_front m ss s (Mul e f) h = ap₂ ◌*◌ (weight_front m ss s e h.0) (weight_front m ss s f h.1)
 weight_front m ss s (Pow e n) h = ap (λ d. d ^ n) (weight_front m ss s e h)
 
--- what is wanted of a tree stays with a let more, where all its names are of lets before it
-pub wanted_front : (lets : List Typed) (t u : Typed) → NamesBelow (length lets) (untyped u) → wanted (lets ++ (t ∷ [])) u ≡ wanted lets u
-wanted_front lets t u h =
+-- the expression of a tree stays with a let more, where all its names are of lets before it
+pub tree_front : (lets : List Typed) (t u : Typed) → NamesBelow (length lets) (untyped u) → tree_in (lets ++ (t ∷ [])) u ≡ tree_in lets u
+tree_front lets t u h =
     let a : length lets ≡ length (closed lets) = sym (closed_length lets) in
-    let b : length lets ≡ length (running lets) = sym (running_length lets) in
     let f : NamesBelow (length (closed lets)) (untyped u) = subst (λ n. NamesBelow n (untyped u)) a h in
-    let g : NamesBelow (length (running lets)) (untyped u) = subst (λ n. NamesBelow n (untyped u)) b h in
-    let e : tree_in (lets ++ (t ∷ [])) u ≡ tree_in lets u =
-    ap (λ es. inlined es (untyped u)) (closed_snoc lets t) ∙ inlined_front (closed lets) (tree_in lets t) (untyped u) f in
-    let s : size_in (lets ++ (t ∷ [])) u ≡ size_in lets u =
-    ap (λ ss. weight_over one ss (untyped u)) (running_more lets t) ∙ weight_front one (running lets) (size_in lets t) (untyped u) g in
-    ap₂ (rooted u) e s
+    ap (λ es. inlined es (untyped u)) (closed_snoc lets t) ∙ inlined_front (closed lets) (tree_in lets t) (untyped u) f
 
--- what is wanted of the name of the last let is what is wanted of that let
-pub wanted_last : (lets : List Typed) (t : Typed) → wanted (lets ++ (t ∷ [])) (TLet (length lets) (pair t) (width t)) ≡ wanted lets t
-wanted_last lets t =
-    let e : tree_in (lets ++ (t ∷ [])) (TLet (length lets) (pair t) (width t)) ≡ tree_in lets t =
+-- and so does its size
+pub size_front : (lets : List Typed) (t u : Typed) → NamesBelow (length lets) (untyped u) → size_in (lets ++ (t ∷ [])) u ≡ size_in lets u
+size_front lets t u h =
+    let b : length lets ≡ length (running lets) = sym (running_length lets) in
+    let g : NamesBelow (length (running lets)) (untyped u) = subst (λ n. NamesBelow n (untyped u)) b h in
+    ap (λ ss. weight_over one ss (untyped u)) (running_more lets t) ∙ weight_front one (running lets) (size_in lets t) (untyped u) g
+
+-- the expression of the name of the last let is that of the let
+pub tree_last : (lets : List Typed) (t : Typed) (p : Range) (w : Width) → tree_in (lets ++ (t ∷ [])) (TLet (length lets) p w) ≡ tree_in lets t
+tree_last lets t p w =
     ap (λ es. slice_index_or es (length lets) (Num (pos 0))) (closed_snoc lets t)
     ∙ (ap (λ i. slice_index_or (closed lets ++ (tree_in lets t ∷ [])) i (Num (pos 0))) (sym (closed_length lets))
-    ∙ index_new (closed lets) (tree_in lets t) (Num (pos 0))) in
-    let s : size_in (lets ++ (t ∷ [])) (TLet (length lets) (pair t) (width t)) ≡ size_in lets t =
+    ∙ index_new (closed lets) (tree_in lets t) (Num (pos 0)))
+
+-- and so is its size
+pub size_last : (lets : List Typed) (t : Typed) (p : Range) (w : Width) → size_in (lets ++ (t ∷ [])) (TLet (length lets) p w) ≡ size_in lets t
+size_last lets t p w =
     ap (λ ss. slice_index_or ss (length lets) 0) (running_more lets t)
     ∙ (ap (λ i. slice_index_or (running lets ++ (size_in lets t ∷ [])) i 0) (sym (running_length lets))
-    ∙ index_new (running lets) (size_in lets t) 0) in
-    ap₂ (rooted t) e s
+    ∙ index_new (running lets) (size_in lets t) 0)
