@@ -1,4 +1,5 @@
 pub mod Engines
+pub mod Lines
 pub mod Building
 pub mod Exponents
 pub mod Filters

@@ -8,6 +8,7 @@
 
 pub(crate) mod arithmetic;
 pub mod block;
+pub mod builder;
 pub mod exps;
 pub mod filter_block;
 pub mod halving;
@@ -23,6 +24,7 @@ pub mod verdict;
 
 pub use arithmetic::cut;
 pub use block::Block;
+pub use builder::{Builder, Built};
 pub use exps::{are_below, are_of_sites, exps_of};
 pub use filter_block::FilterBlock;
 pub use halving::{error_after, shifted};

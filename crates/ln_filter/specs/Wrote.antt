@@ -1,28 +1,19 @@
 -- What a draft has more.
-use Rattle.std.specs.Prelude.{◌≡◌, All, IfSome, List, [], ◌∷◌, ◌++◌, Option}
+use Rattle.std.specs.Prelude.{◌≡◌, All, IfSome, List, [], ◌++◌, Option}
 use Rattle.ln_algebra.specs.Tree.{Tree}
 use Rattle.ln_tree.specs.declared.shape.VarInfo.{VarInfo}
-use Rattle.ln_code.specs.declared.op.Op.{Op}
 use Rattle.ln_code.specs.declared.op.Triple.{Triple}
 use Rattle.ln_code.specs.Engine.{Line}
-use Rattle.ln_filter.specs.declared.draft.Draft.{Draft}
 use Rattle.ln_filter.specs.Lines.{filter_lines, let_lines}
 use Rattle.ln_filter.specs.Tried.{AllNarrow, AreNarrow, IsSmall, lets_tried, tried}
 
--- the operations of lines, without their triples
-abbrev pub ops_in : List (Line Triple) → List Op
-ops_in [] = []
-ops_in (x ∷ xs) = x.op ∷ ops_in xs
-
--- the triples of lines, without their operations
-abbrev pub triples_in : List (Line Triple) → List Triple
-triples_in [] = []
-triples_in (x ∷ xs) = x.bound ∷ triples_in xs
+-- what was written so far: operations with their triples
+abbrev pub Draft : Type 0
+Draft = List (Line Triple)
 
 -- the second draft has these operations more than the first
-pub record Wrote (before after : Draft) (lines : List (Line Triple)) : Type 0 where
-  pub ops : after.ops ≡ before.ops ++ ops_in lines
-  pub triples : after.triples ≡ before.triples ++ triples_in lines
+abbrev pub Wrote : Draft → Draft → List (Line Triple) → Type 0
+Wrote before after lines = after ≡ before ++ lines
 
 -- the second draft has these operations more, and a, which is small, is the triple that is wanted
 pub record Gives (before after : Draft) (lines : List (Line Triple)) (want a : Triple) : Type 0 where

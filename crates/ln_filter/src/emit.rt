@@ -17,10 +17,9 @@ ghost use Rattle.ln_filter.specs.Lines.{left_lines, right_lines};
 ghost use Rattle.ln_filter.specs.Wrote.{Gives, LetsPut, SteadyPut, Wrote};
 
 use crate::arithmetic::{Raw, cut, excess, leaf, let_triple, product, size_at, sum, tried, whole};
-use crate::draft::Draft;
 use ln_base::{NoMemory, Seq};
 use ln_bound::{FitOp, Fitted, Two, Width};
-use ln_code::{Op, Triple};
+use ln_code::{Builder, Op, Triple};
 use ln_tree::VarInfo;
 use std::alloc::Global;
 
@@ -32,7 +31,7 @@ fn no_triple() -> Triple
 }
 
 // The division by 2^n of what has the triple a.
-fn put_cut(draft: &mut Draft, n: u32, a: Triple) -> Result<Triple, NoMemory>
+fn put_cut(draft: &mut Builder<Triple>, n: u32, a: Triple) -> Result<Triple, NoMemory>
     requires { a.k + n ≤ 255 }
     ensures { IfOk result (λ c. (c ≡ cut n a) × Wrote draft.old draft.new (cut_lines n a)) }
 {
@@ -45,7 +44,7 @@ fn put_cut(draft: &mut Draft, n: u32, a: Triple) -> Result<Triple, NoMemory>
 }
 
 // An operation and the division that leaves 31 binary digits.
-fn put_trimmed(draft: &mut Draft, op: Op, r: Raw) -> Result<Triple, NoMemory>
+fn put_trimmed(draft: &mut Builder<Triple>, op: Op, r: Raw) -> Result<Triple, NoMemory>
     requires narrow { r.h < 2 ^ 64 }
     requires steady { IsSteady (trimmed (of_raw r)) }
     ensures { IfOk result (Gives draft.old draft.new (trim_lines op (of_raw r)) (trimmed (of_raw r))) }
@@ -60,7 +59,7 @@ fn put_trimmed(draft: &mut Draft, op: Op, r: Raw) -> Result<Triple, NoMemory>
 }
 
 // An operation that leaves what has a small triple.
-fn put_op(draft: &mut Draft, op: Op, a: Triple) -> Result<Triple, NoMemory>
+fn put_op(draft: &mut Builder<Triple>, op: Op, a: Triple) -> Result<Triple, NoMemory>
     requires { IsSmall a }
     ensures { IfOk result (Gives draft.old draft.new (line op a ∷ []) a) }
 {
@@ -69,14 +68,14 @@ fn put_op(draft: &mut Draft, op: Op, a: Triple) -> Result<Triple, NoMemory>
 }
 
 // A number.
-fn put_number(draft: &mut Draft, c: i128) -> Result<Triple, NoMemory>
+fn put_number(draft: &mut Builder<Triple>, c: i128) -> Result<Triple, NoMemory>
     ensures { IfOk result (Gives draft.old draft.new (line (Push c) (leaf (unsigned_abs c)) ∷ []) (leaf (unsigned_abs c))) }
 {
     put_op(draft, Op::Push(c), leaf(c.unsigned_abs()))
 }
 
 // A variable.
-fn put_input(draft: &mut Draft, vars: &[VarInfo], v: u8) -> Result<Triple, NoMemory>
+fn put_input(draft: &mut Builder<Triple>, vars: &[VarInfo], v: u8) -> Result<Triple, NoMemory>
     requires ranges { list_all has_range vars.now ≡ true }
     requires steady { IsSteady (leaf (sizes vars.now v)) }
     ensures { IfOk result (Gives draft.old draft.new (trim_lines (Input v) (whole (sizes vars.now v))) (leaf (sizes vars.now v))) }
@@ -85,7 +84,7 @@ fn put_input(draft: &mut Draft, vars: &[VarInfo], v: u8) -> Result<Triple, NoMem
 }
 
 // A let, from its local.
-fn put_name(draft: &mut Draft, lets: &[Triple], j: u8) -> Result<Triple, NoMemory>
+fn put_name(draft: &mut Builder<Triple>, lets: &[Triple], j: u8) -> Result<Triple, NoMemory>
     requires { All IsSmall lets.now }
     ensures { IfOk result (Gives draft.old draft.new (line (Get j) (slice_index_or lets.now j no_triple) ∷ [])
         (slice_index_or lets.now j no_triple)) }
@@ -95,7 +94,7 @@ fn put_name(draft: &mut Draft, lets: &[Triple], j: u8) -> Result<Triple, NoMemor
 
 // What follows the left operand, whose triple is a; the right one is y. A sum or a difference wants both at the same power of 2.
 fn put_left(
-    draft: &mut Draft,
+    draft: &mut Builder<Triple>,
     vars: &[VarInfo],
     lets: &[Triple],
     kind: Two,
@@ -119,7 +118,7 @@ fn put_left(
 }
 
 // What follows the right operand of a sum or a difference.
-fn put_sum(draft: &mut Draft, op: Op, a: Triple, b: Triple) -> Result<Triple, NoMemory>
+fn put_sum(draft: &mut Builder<Triple>, op: Op, a: Triple, b: Triple) -> Result<Triple, NoMemory>
     requires left { IsSmall a }
     requires right { IsSmall b }
     requires steady { IsSteady (added a b) }
@@ -130,7 +129,7 @@ fn put_sum(draft: &mut Draft, op: Op, a: Triple, b: Triple) -> Result<Triple, No
 }
 
 // What follows the operands of a product.
-fn put_product(draft: &mut Draft, a: Triple, b: Triple) -> Result<Triple, NoMemory>
+fn put_product(draft: &mut Builder<Triple>, a: Triple, b: Triple) -> Result<Triple, NoMemory>
     requires left { IsSmall a }
     requires right { IsSmall b }
     requires steady { IsSteady (multiplied a b) }
@@ -140,7 +139,12 @@ fn put_product(draft: &mut Draft, a: Triple, b: Triple) -> Result<Triple, NoMemo
 }
 
 // What follows the right operand.
-fn put_right(draft: &mut Draft, kind: Two, a: Triple, b: Triple) -> Result<Triple, NoMemory>
+fn put_right(
+    draft: &mut Builder<Triple>,
+    kind: Two,
+    a: Triple,
+    b: Triple,
+) -> Result<Triple, NoMemory>
     requires left { IsSmall a }
     requires right { IsSmall b }
     requires steady { IsSteady (both kind a b) }
@@ -154,7 +158,7 @@ fn put_right(draft: &mut Draft, kind: Two, a: Triple, b: Triple) -> Result<Tripl
 }
 
 // One more factor, the base, which is in local 64.
-fn put_factor(draft: &mut Draft, p: Triple, a: Triple) -> Result<Triple, NoMemory>
+fn put_factor(draft: &mut Builder<Triple>, p: Triple, a: Triple) -> Result<Triple, NoMemory>
     requires left { IsSmall p }
     requires right { IsSmall a }
     requires steady { IsSteady (multiplied p a) }
@@ -165,7 +169,7 @@ fn put_factor(draft: &mut Draft, p: Triple, a: Triple) -> Result<Triple, NoMemor
 }
 
 // From the base on the stack to its power n + 1; the base is in local 64 too.
-fn put_factors(draft: &mut Draft, a: Triple, n: u8) -> Result<Triple, NoMemory>
+fn put_factors(draft: &mut Builder<Triple>, a: Triple, n: u8) -> Result<Triple, NoMemory>
     requires base { IsSmall a }
     requires steady { ArePowersSteady a (n + 1) }
     ensures { IfOk result (Gives draft.old draft.new (factors a n) (powered a (n + 1))) }
@@ -179,7 +183,7 @@ fn put_factors(draft: &mut Draft, a: Triple, n: u8) -> Result<Triple, NoMemory>
 }
 
 // From the base on the stack to its power n + 1.
-fn put_power(draft: &mut Draft, a: Triple, n: u8) -> Result<Triple, NoMemory>
+fn put_power(draft: &mut Builder<Triple>, a: Triple, n: u8) -> Result<Triple, NoMemory>
     requires base { IsSmall a }
     requires steady { ArePowersSteady a (n + 1) }
     ensures { IfOk result (Gives draft.old draft.new (power_of a n) (powered a (n + 1))) }
@@ -208,7 +212,7 @@ fn known(vars: &[VarInfo], lets: &[Triple], t: &Fitted) -> Triple
 
 // The operations of a tree whose nodes are steady.
 fn put_tree(
-    draft: &mut Draft,
+    draft: &mut Builder<Triple>,
     vars: &[VarInfo],
     lets: &[Triple],
     t: &Fitted,
@@ -246,7 +250,7 @@ fn put_tree(
 
 /// The operations of a tree after lets of these triples, and its triple; none where one of its nodes isn't steady.
 pub(crate) fn put_steady(
-    draft: &mut Draft,
+    draft: &mut Builder<Triple>,
     vars: &[VarInfo],
     lets: &[Triple],
     t: &Fitted,
@@ -267,7 +271,7 @@ pub(crate) fn put_steady(
 /// The operations of the lets, each into the local of its number, and their triples; none where a node isn't steady.
 pub(crate) fn put_lets(
     alloc: Global,
-    draft: &mut Draft,
+    draft: &mut Builder<Triple>,
     vars: &[VarInfo],
     lets: &[Fitted],
 ) -> Result<Option<Seq<Triple>>, NoMemory>

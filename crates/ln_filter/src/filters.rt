@@ -14,11 +14,10 @@ ghost use Rattle.ln_filter.specs.Planned.{IsPlan};
 ghost use Rattle.ln_filter.specs.Steady.{HasFilter};
 ghost use Rattle.ln_filter.specs.Truncated.{root_number, root_triple};
 
-use crate::draft::Draft;
 use crate::emit::{put_lets, put_steady};
-use ln_base::{NoMemory, Seq};
+use ln_base::NoMemory;
 use ln_bound::FittedPred;
-use ln_code::FilterBlock;
+use ln_code::{Builder, FilterBlock};
 use std::alloc::Global;
 
 // The filter, or none, with all that is known of it.
@@ -26,15 +25,15 @@ fn written(alloc: Global, p: &FittedPred) -> Result<Option<FilterBlock>, NoMemor
     ensures { IfOk result (λ o. IsPlan p.now.shape.vars (map typed p.now.lets) (typed p.now.root) o) }
 {
     let vars = p.shape.vars.as_slice();
-    let mut draft = Draft {
-        ops: Seq::new(alloc),
-        triples: Seq::new(alloc),
-    };
+    let mut draft = Builder::new(alloc);
     match put_lets(alloc, &mut draft, vars, p.lets.as_slice())? {
         None => Ok(None),
         Some(lets) => match put_steady(&mut draft, vars, lets.as_slice(), &p.root)? {
             None => Ok(None),
-            Some(_) => Ok(Some(FilterBlock::seal(draft.ops, draft.triples, 2048))),
+            Some(_) => {
+                let code = draft.built();
+                Ok(Some(FilterBlock::seal(code.ops, code.bounds, 2048)))
+            }
         },
     }
 }

@@ -6,7 +6,6 @@
 #![tactic(auto)]
 
 pub(crate) mod arithmetic;
-pub(crate) mod draft;
 pub(crate) mod emit;
 pub mod filters;
 pub mod laws;

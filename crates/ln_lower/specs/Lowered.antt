@@ -1,9 +1,10 @@
 -- The operations that are written for a node.
 use Rattle.std.specs.Prelude.{ℕ, zero, suc, ◌≤◌, List, [], ◌∷◌}
 use Rattle.ln_interval.specs.Range.{Range, magnitude, most, power}
+use Rattle.ln_interval.specs.View.{range}
+use Rattle.ln_interval.specs.declared.pair.Pair.{Pair}
 use Rattle.ln_bound.specs.declared.fitted.Width.{Width}
 use Rattle.ln_bound.specs.Typed.{Typed, TNum, TInput, TLet, TNeg, TTwo, TPow, pair}
-use Rattle.ln_code.specs.declared.op.Op.{Op}
 use Rattle.ln_code.specs.declared.op.Op.TheVariants.{Get, Set, Mul}
 use Rattle.ln_code.specs.Engine.{Line}
 pub use Rattle.ln_code.specs.Kept.{nothing}
@@ -19,15 +20,9 @@ abbrev pub power_of : Range → Width → ℕ → List (Line Range)
 power_of p w zero = []
 power_of p w (suc n) = line (Set 64) nothing ∷ (line (Get 64) p ∷ factors p w 1 (suc n))
 
--- the operations of lines, without their ranges
-abbrev pub ops_in : List (Line Range) → List Op
-ops_in [] = []
-ops_in (x ∷ xs) = x.op ∷ ops_in xs
-
--- the ranges of lines, without their operations
-abbrev pub pairs_in : List (Line Range) → List Range
-pairs_in [] = []
-pairs_in (x ∷ xs) = x.bound ∷ pairs_in xs
+-- an operation with the range of its pair
+abbrev pub ranged : Line Pair → Line Range
+ranged x = line x.op (range x.bound)
 
 -- the range of each power is within 2^127 - 1
 abbrev pub PowersFit : Typed → Type 0

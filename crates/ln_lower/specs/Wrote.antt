@@ -1,7 +1,6 @@
 -- What a draft has more.
 use Rattle.std.specs.Prelude.{◌≡◌, ◌⊎◌, ℕ, ◌+◌, Bool, List, [], ◌∷◌, ◌++◌, length, map}
 use Rattle.ln_interval.specs.Range.{Range}
-use Rattle.ln_interval.specs.View.{range}
 use Rattle.ln_bound.specs.Typed.{Typed}
 use Rattle.ln_code.specs.Engine.{Line}
 use Rattle.ln_lower.specs.declared.distinct.Key.{Key}
@@ -9,13 +8,12 @@ use Rattle.ln_lower.specs.declared.draft.Draft.{Draft}
 use Rattle.ln_code.specs.declared.op.Op.TheVariants.{Set}
 use Rattle.ln_code.specs.StackCode.{AreCode, IsCode, keeping}
 use Rattle.ln_lower.specs.Distinct.{AreNumbersOf}
-use Rattle.ln_lower.specs.Lowered.{line, nothing, ops_in, pairs_in}
+use Rattle.ln_lower.specs.Lowered.{line, nothing, ranged}
 use Rattle.ln_lower.specs.StackCode.{block_style}
 
 -- the second draft has these operations more than the first, and these subtrees are kept besides
 pub record Wrote (before after : Draft) (lines : List (Line Range)) (more : List ℕ) : Type 0 where
-  pub ops : after.ops ≡ before.ops ++ ops_in lines
-  pub pairs : map range after.pairs ≡ map range before.pairs ++ pairs_in lines
+  pub code : map ranged after.code ≡ map ranged before.code ++ lines
   pub kept : after.kept ≡ before.kept ++ more
 
 -- number k, whose range is p, is kept from here on, or nothing is written
@@ -49,8 +47,7 @@ pub record PutsLet (ks : List Key) (before after : Draft) (t : Typed) (j : ℕ) 
 -- the draft has the operations of these lets and nothing else
 pub record PutsLets (ks : List Key) (after : Draft) (ts : List Typed) : Type 0 where
   pub lines : List (Line Range)
-  pub ops : after.ops ≡ ops_in lines
-  pub pairs : map range after.pairs ≡ pairs_in lines
+  pub is : map ranged after.code ≡ lines
   pub kept : List Typed
   pub are : AreNumbersOf ks after.kept kept
   pub code : AreCode (λ done. block_style) ts lines kept

@@ -25,7 +25,7 @@ use crate::distinct::{Distinct, number};
 use crate::draft::{Draft, nothing};
 use ln_base::{NoMemory, Seq};
 use ln_bound::{FitOp, Fitted, Two, Width};
-use ln_code::{Block, Op};
+use ln_code::{Block, Builder, Built, Op};
 use ln_interval::Pair;
 use ln_tree::{Exps, Shape};
 use std::alloc::Global;
@@ -191,8 +191,7 @@ fn put_lets(
     requires few { length lets.now ≤ 64 }
     requires powers { All (λ u. PowersFit (typed u)) lets.now }
     requires stand { AreNumbersOf distinct.now.keys numbers.now (map typed lets.now) }
-    requires ops { draft.now.ops ≡ [] }
-    requires pairs { draft.now.pairs ≡ [] }
+    requires code { draft.now.code ≡ [] }
     requires kept { draft.now.kept ≡ [] }
     ensures { OnOk result (PutsLets distinct.now.keys draft.new (map typed lets.now)) }
 {
@@ -216,8 +215,7 @@ fn put_all(
     requires stand { AreNumbersOf distinct.now.keys numbers.now (map typed lets.now) }
     requires root { PowersFit (typed t.now) }
     requires stands { IsNumberOf distinct.now.keys k (typed t.now) }
-    requires ops { draft.now.ops ≡ [] }
-    requires pairs { draft.now.pairs ≡ [] }
+    requires code { draft.now.code ≡ [] }
     requires kept { draft.now.kept ≡ [] }
     ensures { OnOk result (Drafted distinct.now.keys (map typed lets.now) (typed t.now) draft.new) }
 {
@@ -242,8 +240,7 @@ fn drafted(
     let k = number(distinct, t)?;
     distinct.place(k);
     let mut draft = Draft {
-        ops: Seq::new(alloc),
-        pairs: Seq::new(alloc),
+        code: Builder::new(alloc),
         kept: Seq::new(alloc),
     };
     put_all(&mut draft, distinct, lets, numbers, t, k)?;
@@ -277,13 +274,13 @@ fn written(alloc: Global, lets: &[Fitted], t: &Fitted) -> Result<Draft, NoMemory
     numbered(alloc, &mut distinct, lets, t)
 }
 
-// The block of what was drafted, which computes the derivative of these exponents.
-fn finished(alloc: Global, a: &Exps, draft: Draft) -> Result<Block, NoMemory>
-    requires { IsBlock (record { exps = a.now; ops = draft.ops; pairs = map range draft.pairs; depth = 2048 }) }
-    ensures { IfOk result (λ b. b ≡ record { exps = a.now; ops = draft.ops; pairs = map range draft.pairs; depth = 2048 }) }
+// The block of these operations, which computes the derivative of these exponents.
+fn finished(alloc: Global, a: &Exps, code: Built<Pair>) -> Result<Block, NoMemory>
+    requires { IsBlock (record { exps = a.now; ops = code.ops; pairs = map range code.bounds; depth = 2048 }) }
+    ensures { IfOk result (λ b. b ≡ record { exps = a.now; ops = code.ops; pairs = map range code.bounds; depth = 2048 }) }
 {
     let exps = a.copy(alloc)?;
-    Ok(Block::seal(exps, draft.ops, draft.pairs, 2048))
+    Ok(Block::seal(exps, code.ops, code.bounds, 2048))
 }
 
 /// The block of a tree with its lets, which computes the derivative of these exponents. The exponents are of coordinates of
@@ -321,5 +318,6 @@ pub fn lower(
     ensures small { IfOk result (λ b. length b.ops ≤ 4 * (cost (typed t.now) + costs (map typed lets.now)) + 64) }
 {
     let draft = written(alloc, lets.as_slice(), t)?;
-    finished(alloc, a, draft)
+    let code = draft.built();
+    finished(alloc, a, code)
 }

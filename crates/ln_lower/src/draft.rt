@@ -1,18 +1,18 @@
 //! Operations as they are written.
-ghost use Rattle.std.specs.Prelude.{◌≡◌, ◌+◌, ◌<◌, ◌∷◌, [], IfSome, OnOk, ℕ, slice_get, Some};
+ghost use Rattle.std.specs.Prelude.{◌≡◌, ◌+◌, ◌<◌, ◌∷◌, [], IfSome, OnOk, ℕ, length, slice_get, Some};
 ghost use Rattle.ln_interval.specs.View.{range};
+ghost use Rattle.ln_code.specs.Part.{lines_of};
 ghost use Rattle.ln_lower.specs.Lowered.{line, nothing};
 ghost use Rattle.ln_lower.specs.Wrote.{MayKeep, Wrote};
 
 use ln_base::{NoMemory, Seq};
-use ln_code::Op;
+use ln_code::{Builder, Built, Op};
 use ln_interval::Pair;
 
 /// Operations with their pairs, and the numbers of the subtrees that are kept, from local 65 on.
 #[derive(Drop)]
 pub(crate) struct Draft {
-    pub(crate) ops: Seq<Op>,
-    pub(crate) pairs: Seq<Pair>,
+    pub(crate) code: Builder<Pair>,
     pub(crate) kept: Seq<usize>,
 }
 
@@ -28,8 +28,16 @@ impl Draft {
     pub(crate) fn push(&mut self, op: Op, pair: Pair) -> Result<(), NoMemory>
         ensures { OnOk result (Wrote self.old self.new (line op (range pair) ∷ []) []) }
     {
-        self.ops.push(op)?;
-        self.pairs.push(pair)
+        self.code.push(op, pair)
+    }
+
+    // The operations, and the pair of each.
+    pub(crate) fn built(self) -> Built<Pair>
+        ensures lines { lines_of result.ops result.bounds ≡ self.code }
+        ensures bounded { length result.ops ≡ length result.bounds }
+    {
+        let Draft { code, kept: _kept } = self;
+        code.built()
     }
 
     // The local in which a subtree is kept.

@@ -1,7 +1,7 @@
 -- How many operations a filter has.
 use Rattle.std.proofs.Common.{◌≡◌, ℕ, ◌*◌, ◌≤◌, List, [], ◌∷◌, length, refl, zero, suc, arith}
 use Rattle.ln_tree.specs.declared.shape.VarInfo.{VarInfo}
-use Rattle.ln_bound.specs.Typed.{Typed, TNum, TInput, TLet, TNeg, TTwo, TPow, cost, costs}
+use Rattle.ln_bound.specs.Typed.{Typed, cost, costs}
 use Rattle.ln_code.specs.declared.op.Triple.{Triple}
 use Rattle.ln_code.specs.StackCode.{division}
 use Rattle.ln_code.proofs.Building.Sizes.{Weighs, cost_positive, per, weights}

@@ -7,7 +7,6 @@ use Rattle.std.proofs.lemmas.Bool.{le-leb, eq-eqb}
 use Rattle.std.proofs.lemmas.Nat.{mul-le}
 use Rattle.std.proofs.Math.Nat.{pow-suc, pow-zero, div-one, div-le_self}
 use Rattle.ln_algebra.specs.Coefficient.{Series}
-use Rattle.ln_algebra.specs.Sizes.{one}
 use Rattle.ln_algebra.specs.Tree as tree
 use Rattle.ln_algebra.specs.Tree.{Tree}
 use Rattle.ln_tree.specs.declared.shape.VarInfo.{VarInfo}
@@ -16,10 +15,9 @@ use Rattle.ln_bound.specs.declared.fitted.Width.{Width}
 use Rattle.ln_bound.specs.declared.fitted.Width.TheVariants.{W64, W128}
 use Rattle.ln_bound.specs.declared.fitted.Two.{Two}
 use Rattle.ln_bound.specs.declared.fitted.Two.TheVariants.{Plus, Minus, Times}
-use Rattle.ln_bound.specs.Room.{HasRoom}
 use Rattle.ln_bound.specs.Sound.{CoversLet, running}
 use Rattle.ln_bound.specs.Typed.{Typed, TNum, TInput, TLet, TNeg, TTwo, TPow, bound_of, pair, two_of, untyped, width}
-use Rattle.ln_bound.specs.Value.{sizes, size_of, weight_over}
+use Rattle.ln_bound.specs.Value.{sizes, size_of}
 use Rattle.ln_bound.specs.Widths.{limit}
 use Rattle.ln_bound.proofs.Measures.Fitting as fitting
 use Rattle.ln_code.specs.declared.op.Op.{Op}

@@ -1,5 +1,5 @@
 -- What the filter of a predicate is.
-use Rattle.std.proofs.Common.{◌≡◌, ℕ, ℤ, ◌≤◌, ◌<◌, ◌^◌, true, List, [], ◌∷◌, length, map, refl, suc, ap, arith, ◌∙◌, sym, inl, inr}
+use Rattle.std.proofs.Common.{◌≡◌, ℕ, ℤ, ◌≤◌, ◌<◌, ◌^◌, true, List, [], ◌∷◌, length, map, refl, ap, arith, ◌∙◌, sym, inl, inr}
 use Rattle.std.proofs.Common.{append_assoc, append-nil, ◌*◌, ◌++◌, subst}
 use Rattle.std.specs.Prelude.{Option, Some, None, IsSome, IfSome, ◌↔◌}
 use Rattle.std.proofs.lemmas.List.{length-map}
@@ -24,14 +24,14 @@ use Rattle.ln_code.specs.Nodes.{IsLetNode, IsNodeOf}
 use Rattle.ln_code.specs.Part.{FilterCode, lines_of, filter_known_of, filter_value}
 use Rattle.ln_code.specs.Kept.{FollowsFilterRules, IsFilter, no_triple}
 use Rattle.ln_code.proofs.Engines.Runs.{answer_follows, same_lines, reached_some}
+use Rattle.ln_code.proofs.Lines.{lines_length}
 use Rattle.ln_code.proofs.Following.Means.{filters_mean}
-use Rattle.ln_filter.specs.declared.draft.Draft.{Draft}
 use Rattle.ln_filter.specs.Triples.{let_triples}
 use Rattle.ln_filter.specs.Truncated.{root_triple, root_number}
 use Rattle.ln_filter.specs.Steady.{AreLetsSteady, HasFilter}
 use Rattle.ln_filter.specs.Tried.{AreNarrow, AllNarrow}
 use Rattle.ln_filter.specs.Lines.{all_lines, filter_lines}
-use Rattle.ln_filter.specs.Wrote.{LetsPut, SteadyPut, Wrote, ops_in, triples_in}
+use Rattle.ln_filter.specs.Wrote.{Draft, LetsPut, SteadyPut, Wrote}
 use Rattle.ln_filter.specs.Planned.{IsPlanned, IsPlan}
 use Rattle.ln_code.proofs.Following.Same.{Same}
 use Rattle.ln_filter.proofs.Truncation.Steady.{AreSmall, has_filter, lets_tried_steady, small_snoc, triple_small}
@@ -45,18 +45,6 @@ use Rattle.ln_filter.proofs.Operations.Leaves as leaves
 use Rattle.ln_filter.proofs.Operations.Leaves.{OnRow, Same as SameNumber, SameLocals, loose, loose_follows}
 use Rattle.ln_filter.proofs.Operations.Costs.{all_weigh, filter_weighs}
 use Rattle.ln_filter.proofs.Operations.Writes.{wrote_then}
-
-lines_back : (lines : List (Line Triple)) → lines_of (ops_in lines) (triples_in lines) ≡ lines
-lines_back [] = refl
-lines_back (x ∷ xs) = ap (λ t. x ∷ t) (lines_back xs)
-
-same_length : (lines : List (Line Triple)) → length (ops_in lines) ≡ length (triples_in lines)
-same_length [] = refl
-same_length (x ∷ xs) = ap suc (same_length xs)
-
-ops_length : (lines : List (Line Triple)) → length (ops_in lines) ≡ length lines
-ops_length [] = refl
-ops_length (x ∷ xs) = ap suc (ops_length xs)
 
 -- ---- the predicate
 
@@ -195,22 +183,21 @@ pub record Sealed (p : Predicate) (code : FilterCode) : Type 0 where
   pub filter : IsFilter code
   pub planned : IsPlanned p.vars p.lets p.root code
 
-filter_is : (p : Predicate) (code : FilterCode) → Filtered p → code.depth ≡ 2048 → code.ops ≡ ops_in (lines_in p)
-    → code.triples ≡ triples_in (lines_in p) → Sealed p code
-filter_is p code f d o b =
+filter_is : (p : Predicate) (code : FilterCode) → Filtered p → code.depth ≡ 2048 → lines_of code.ops code.triples ≡ lines_in p
+    → length code.ops ≡ length code.triples → Sealed p code
+filter_is p code f d e b =
     let all : List (Line Triple) = lines_in p in
     let x = root_lands p code.depth (let h : 2048 ≤ code.depth = omega arith in h) f in
     let top = x.code in
     let stands = top.stands in
     let t : top.value.triple ≡ triple_in p = ap (λ (y : FilterKnown). y.triple) stands.is in
     let same = stands.same in
-    let e : lines_of code.ops code.triples ≡ all = rw (o, b) (lines_back all) in
     let ends : run (filter_rules p.vars code.depth) (lines_in p) (record { stack = []; locals = no_locals })
     ≡ Some (record { stack = top.value ∷ []; locals = top.locals }) = top.runs.ends in
     let k : filter_known_of p.vars code ≡ Some top.value = rw (e, ends) refl in
     let n : top.value.triple.e ≤ limit W64 = rw t x.error in
-    let g : FollowsFilterRules p.vars code = record { bounded = rw (o, b) (same_length all); what = top.value; known = k; narrow = n } in
-    let l : length code.ops ≡ length all = rw o (ops_length all) in
+    let g : FollowsFilterRules p.vars code = record { bounded = b; what = top.value; known = k; narrow = n } in
+    let l : length code.ops ≡ length all = lines_length code.ops code.triples b ∙ ap (λ (l : List (Line Triple)). length l) e in
     let c = code_weight (filter_style p.vars) 1 (λ t. 6 * cost t) (filter_weighs p.vars) p.lets p.root all (filter_code p.vars p.lets p.root) in
     let w = all_weigh p.lets in
     let few : length p.lets ≤ 64 = f.sound.few in
@@ -231,28 +218,21 @@ filter_is p code f d o b =
       };
     }
 
--- a draft in which nothing was written
-abbrev pub blank : Draft
-blank = record { ops = []; triples = [] }
-
--- a draft as a filter
-abbrev pub code_of : Draft → FilterCode
-code_of d = record { ops = d.ops; triples = d.triples; depth = 2048 }
-
--- where the lets and then the sign expression were written into a blank draft, it has the filter of the predicate
-pub sealed : (p : Predicate) (b c : Draft) (ts : List Triple) (t : Triple) → SoundPredicate p → LetsPut p.vars blank b (map untyped p.lets) (Some ts)
-    → SteadyPut p.vars ts b c (untyped p.root) (Some t) → Sealed p (code_of c)
-sealed p b c ts t s l r =
+-- where the lets and then the sign expression were written and nothing before them, what was written is the filter of the predicate
+pub sealed : (p : Predicate) (b c : Draft) (ts : List Triple) (t : Triple) (code : FilterCode) → SoundPredicate p
+    → LetsPut p.vars [] b (map untyped p.lets) (Some ts) → SteadyPut p.vars ts b c (untyped p.root) (Some t) → code.depth ≡ 2048
+    → lines_of code.ops code.triples ≡ c → length code.ops ≡ length code.triples → Sealed p code
+sealed p b c ts t code s l r d e k =
     let ls : List Tree = map untyped p.lets in
     let z : let_triples p.vars [] ls ≡ ts = (lets_tried_steady p.vars [] ls ts (sym l.tried)).is in
     let w : Wrote b c (filter_lines p.vars (let_triples p.vars [] ls) (untyped p.root)) = rw z r.wrote in
-    let x : Wrote blank c (lines_in p) = wrote_then blank b c _ _ _ refl l.wrote w in
-    filter_is p (code_of c) (record {
+    let x : Wrote [] c (lines_in p) = wrote_then [] b c _ _ _ refl l.wrote w in
+    filter_is p code (record {
       sound = s;
       has = has_filter p.vars ls (untyped p.root) ts t l.tried r.tried;
       narrow_lets = l.narrow;
       narrow_root = r.narrow;
-    }) refl x.ops x.triples
+    }) d (e ∙ x) k
 
 -- ---- the clauses of the public call
 

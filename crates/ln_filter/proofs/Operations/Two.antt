@@ -1,17 +1,12 @@
 -- Sums, differences and products, by their operation.
-use Rattle.std.proofs.Common.{◌≡◌, ℕ, false, List, ◌++◌, refl}
-use Rattle.ln_algebra.specs.Sizes.{one}
+use Rattle.std.proofs.Common.{◌≡◌, List, ◌++◌, refl}
 use Rattle.ln_algebra.specs.Tree.{Tree}
 use Rattle.ln_tree.specs.declared.shape.VarInfo.{VarInfo}
 use Rattle.ln_bound.specs.declared.fitted.Two.{Two}
 use Rattle.ln_bound.specs.declared.fitted.Two.TheVariants.{Plus, Minus, Times}
-use Rattle.ln_bound.specs.declared.fitted.Width.TheVariants.{W64}
-use Rattle.ln_bound.specs.Room.{HasRoom}
 use Rattle.ln_bound.specs.Typed.{two_of}
 use Rattle.ln_code.specs.declared.op.Triple.{Triple}
-use Rattle.ln_code.specs.Kept.{stores}
-use Rattle.ln_code.specs.Engine.{op_of}
-use Rattle.ln_filter.specs.Lines.{filter_lines, left_lines, right_lines, trim_lines}
+use Rattle.ln_filter.specs.Lines.{filter_lines, left_lines, right_lines}
 use Rattle.ln_filter.specs.Steady.{IsSteady, AreSteady}
 use Rattle.ln_filter.specs.Tried.{AreNarrow}
 use Rattle.ln_filter.specs.Triples.{both, product_of, sum_of, triple, trimmed}

@@ -16,34 +16,21 @@ use Rattle.ln_code.specs.declared.op.Op.TheVariants.{Push, Get, Set, Neg as NegO
 use Rattle.ln_code.specs.declared.op.Triple.{Triple}
 use Rattle.ln_code.specs.Engine.{Line}
 use Rattle.ln_code.specs.Kept.{no_triple}
-use Rattle.ln_filter.specs.declared.draft.Draft.{Draft}
 use Rattle.ln_filter.specs.Triples.{added, both, cut, excess, leaf, sum_of, trimmed, triple, multiplied, powered}
 use Rattle.ln_filter.specs.Steady.{IsSteady, ArePowersSteady, AreSteady}
 use Rattle.ln_filter.specs.Tried.{IsSmall, tried, lets_tried, AllNarrow}
 use Rattle.ln_filter.specs.Lines.{line, cut_lines, trim_lines, left_lines, right_lines, factor_lines, factors, power_of, powers, filter_lines, let_lines}
-use Rattle.ln_filter.specs.Wrote.{Gives, LetsPut, SteadyPut, Wrote, ops_in, triples_in}
+use Rattle.ln_filter.specs.Wrote.{Draft, Gives, LetsPut, SteadyPut, Wrote}
 use Rattle.ln_filter.proofs.Operations.Two.{two_lines, two_triple}
 use Rattle.ln_filter.proofs.Truncation.Steady.{steady_tried, tried_steady, trimmed_small, all_snoc}
 
-ops_append : (a b : List (Line Triple)) → ops_in (a ++ b) ≡ ops_in a ++ ops_in b
-ops_append [] b = refl
-ops_append (x ∷ xs) b = ap (λ t. x.op ∷ t) (ops_append xs b)
-
-triples_append : (a b : List (Line Triple)) → triples_in (a ++ b) ≡ triples_in a ++ triples_in b
-triples_append [] b = refl
-triples_append (x ∷ xs) b = ap (λ t. x.bound ∷ t) (triples_append xs b)
-
 -- operations appended in two steps are appended in one
 pub wrote_then : (a b c : Draft) (l m n : List (Line Triple)) → n ≡ l ++ m → Wrote a b l → Wrote b c m → Wrote a c n
-wrote_then a b c l m n e p q = record {
-  ops = q.ops ∙ ap (λ t. t ++ ops_in m) p.ops ∙ append_assoc a.ops (ops_in l) (ops_in m) ∙ ap (λ t. a.ops ++ t) (sym (ops_append l m) ∙ ap ops_in (sym e));
-  triples = q.triples ∙ ap (λ t. t ++ triples_in m) p.triples ∙ append_assoc a.triples (triples_in l) (triples_in m)
-      ∙ ap (λ t. a.triples ++ t) (sym (triples_append l m) ∙ ap triples_in (sym e));
-}
+wrote_then a b c l m n e p q = q ∙ ap (λ t. t ++ m) p ∙ append_assoc a l m ∙ ap (λ t. a ++ t) (sym e)
 
 -- a draft has no operation more than itself
 pub nothing_written : (a : Draft) → Wrote a a []
-nothing_written a = record { ops = sym (append-nil a.ops); triples = sym (append-nil a.triples) }
+nothing_written a = sym (append-nil a)
 
 -- a power other than the 0th has the operations of the base, and then those from there to the power
 pub powers_more : (base : List (Line Triple)) (a : Triple) (n : ℕ) → n ≢ 0 → powers base a n ≡ base ++ power_of a (n - 1)

@@ -1,6 +1,6 @@
 -- How many operations a block has.
-use Rattle.std.proofs.Common.{◌≡◌, ℕ, ◌*◌, ◌≤◌, List, [], ◌∷◌, refl, zero, suc, arith}
-use Rattle.ln_bound.specs.Typed.{Typed, TNum, TInput, TLet, TNeg, TTwo, TPow, cost, costs}
+use Rattle.std.proofs.Common.{◌≡◌, ℕ, ◌*◌, List, [], ◌∷◌, refl, zero, suc, arith}
+use Rattle.ln_bound.specs.Typed.{Typed, cost, costs}
 use Rattle.ln_code.proofs.Building.Sizes.{Weighs, cost_positive, per, weights}
 use Rattle.ln_lower.specs.StackCode.{block_style}
 

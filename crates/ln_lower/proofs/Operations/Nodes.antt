@@ -3,21 +3,18 @@ use Rattle.std.proofs.Common.{◌≡◌, inl, inr, ℕ, ℤ, ◌≤◌, ◌<◌,
 use Rattle.std.specs.Prelude.{Option, Some, None, slice_get}
 use Rattle.std.proofs.lemmas.Bool.{le-leb}
 use Rattle.std.proofs.Math.Nat.{pow-suc, pow-zero}
-use Rattle.ln_algebra.specs.Sizes.{one}
 use Rattle.ln_algebra.specs.Tree as tree
 use Rattle.ln_algebra.specs.Tree.{Tree, inlined}
 use Rattle.ln_tree.specs.declared.shape.VarInfo.{VarInfo}
-use Rattle.ln_interval.specs.Range.{Range, Covers, magnitude, most, opposite, point, power}
+use Rattle.ln_interval.specs.Range.{Range, Covers, magnitude, opposite, point, power}
 use Rattle.ln_interval.proofs.Magnitudes.{power_ordered}
 use Rattle.ln_interval.proofs.Monotone.{covers_self, covers_then, lower_power, opposite_covers}
 use Rattle.ln_bound.specs.declared.fitted.Width.{Width}
 use Rattle.ln_bound.specs.declared.fitted.Two.{Two}
 use Rattle.ln_bound.specs.declared.fitted.Two.TheVariants.{Plus, Minus, Times}
 use Rattle.ln_bound.specs.Ranges.{ranges}
-use Rattle.ln_bound.specs.Room.{HasRoom}
-use Rattle.ln_bound.specs.Sound.{CoversLet, IsIn, Sound, SoundNodes, running}
+use Rattle.ln_bound.specs.Sound.{CoversLet, IsIn, SoundNodes, running}
 use Rattle.ln_bound.specs.Typed.{Typed, TNum, TInput, TLet, TNeg, TTwo, TPow, pair, range_of, width, untyped, bound_of, two_of}
-use Rattle.ln_bound.specs.Value.{weight_over}
 use Rattle.ln_bound.specs.Widths.{least, limit, no_wider, wider}
 use Rattle.ln_bound.proofs.Measures.Fitting as fitting
 use Rattle.ln_code.specs.declared.op.Op.TheVariants.{Get, Input, Neg, Push}

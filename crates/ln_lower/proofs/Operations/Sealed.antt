@@ -2,6 +2,7 @@
 use Rattle.std.proofs.Common.{◌≡◌, inl, inr, ℕ, ℤ, ◌+◌, ◌*◌, ◌≤◌, ◌<◌, List, [], ◌∷◌, ◌++◌, length, map, refl, zero, suc, ap, arith, ◌∙◌, sym, subst}
 use Rattle.std.proofs.Common.{get_or}
 use Rattle.std.specs.Prelude.{Option, Some, All, IfOk, Result, pos, slice_index_or}
+use Rattle.std.proofs.lemmas.List.{length-map}
 use Rattle.std.proofs.lemmas.Result.{IfOk-weaker}
 use Rattle.std.proofs.lemmas.Option.{slice_get-get_or}
 use Rattle.ln_algebra.specs.Coefficient.{Series}
@@ -19,6 +20,7 @@ use Rattle.ln_bound.specs.Sound.{Sound, SoundNodes, AreSound}
 use Rattle.ln_bound.specs.View.{typed}
 use Rattle.ln_interval.specs.Range.{Range, Covers, power}
 use Rattle.ln_interval.specs.View.{range}
+use Rattle.ln_interval.specs.declared.pair.Pair.{Pair}
 use Rattle.ln_interval.proofs.Magnitudes.{covers_magnitude, power_ordered}
 use Rattle.ln_bound.proofs.Trees.Whole.{whole_value}
 use Rattle.ln_code.specs.Engine.{Line, run}
@@ -27,11 +29,15 @@ use Rattle.ln_code.specs.Part.{Code, lines_of, known_of, block_value}
 use Rattle.ln_code.specs.Numbers.{no_locals}
 use Rattle.ln_code.specs.Kept.{FollowsRules, IsBlock}
 use Rattle.ln_code.proofs.Following.Means.{blocks_mean}
+use Rattle.ln_code.proofs.Lines.{lines_length}
+use Rattle.ln_code.specs.StackCode.{line}
+use Rattle.ln_code.specs.declared.op.Op.{Op}
+use Rattle.ln_code.specs.declared.builder.Built.{Built}
 use Rattle.ln_lower.specs.declared.draft.Draft.{Draft}
 use Rattle.ln_code.specs.Nodes.{IsLetNode, IsNodeOf}
 use Rattle.ln_lower.specs.Nodes.{PushNodes, pushed_by, HasPolynomial, KeepsLets}
 use Rattle.ln_lower.specs.declared.distinct.Key.{Key}
-use Rattle.ln_lower.specs.Lowered.{nothing, ops_in, pairs_in, PowersFit}
+use Rattle.ln_lower.specs.Lowered.{nothing, ranged, PowersFit}
 use Rattle.ln_lower.specs.StackCode.{IsCodeOf, block_style}
 use Rattle.ln_lower.specs.Wrote.{Drafted}
 use Rattle.ln_code.proofs.Following.Same.{Same}
@@ -44,19 +50,12 @@ use Rattle.ln_lower.proofs.Operations.Meaning.{Setting, StandsFor, meaning, want
 use Rattle.ln_lower.proofs.Operations.Nodes.{facts}
 use Rattle.ln_lower.proofs.Operations.Costs.{all_weigh, block_weighs}
 use Rattle.ln_lower.proofs.Subtrees.Bounding.{limit_most}
-use Rattle.ln_lower.proofs.Operations.Writes.{ops_append, pairs_append}
 
-lines_back : (lines : List (Line Range)) → lines_of (ops_in lines) (pairs_in lines) ≡ lines
-lines_back [] = refl
-lines_back (x ∷ xs) = ap (λ t. x ∷ t) (lines_back xs)
-
-same_length : (lines : List (Line Range)) → length (ops_in lines) ≡ length (pairs_in lines)
-same_length [] = refl
-same_length (x ∷ xs) = ap suc (same_length xs)
-
-ops_length : (lines : List (Line Range)) → length (ops_in lines) ≡ length lines
-ops_length [] = refl
-ops_length (x ∷ xs) = ap suc (ops_length xs)
+-- operations with their pairs are operations with the ranges of these
+lines_ranged : (os : List Op) (ps : List Pair) → lines_of os (map range ps) ≡ map ranged (lines_of os ps)
+lines_ranged [] ps = refl
+lines_ranged (o ∷ os) [] = refl
+lines_ranged (o ∷ os) (p ∷ ps) = ap (λ l. line o (range p) ∷ l) (lines_ranged os ps)
 
 -- ---- powers fit
 
@@ -91,10 +90,10 @@ all_fit vars done (u ∷ us) s = all_cons (λ u. PowersFit (typed u)) u us (root
 -- ---- the block
 
 -- at most 64 sound lets, and a tree that is sound over them
-pub record SoundBlock (vars : List VarInfo) (lets : List Typed) (t : Typed) : Type 0 where
-  pub few : length lets ≤ 64
-  pub lets_sound : AreSound vars [] lets
-  pub root : Sound vars lets t
+record SoundBlock (vars : List VarInfo) (lets : List Typed) (t : Typed) : Type 0 where
+  few : length lets ≤ 64
+  lets_sound : AreSound vars [] lets
+  root : Sound vars lets t
 
 -- sound lets may be written
 lets_good : (at : Setting) (done ts : List Typed) → AreSound at.vars done ts → ((e : Tree) (v : Width) → IsLetNode (closed done) ts e v → at.is_node e v)
@@ -130,18 +129,17 @@ pub record IsLowered (vars : List VarInfo) (code : Code) (t : Typed) (lets : Lis
 
 -- code of sound lets and of a sound tree after them is a lowered block
 lowered_is : (vars : List VarInfo) (code : Code) (t : Typed) (lets : List Typed) (all : List (Line Range)) → IsCodeOf lets t all
-    → SoundBlock vars lets t → code.depth ≡ 2048 → code.ops ≡ ops_in all → code.pairs ≡ pairs_in all → IsLowered vars code t lets
-lowered_is vars code t lets all w s d o b =
+    → SoundBlock vars lets t → code.depth ≡ 2048 → lines_of code.ops code.pairs ≡ all → length code.ops ≡ length code.pairs → IsLowered vars code t lets
+lowered_is vars code t lets all w s d e b =
     let deep : 2048 ≤ code.depth = omega (arith, d) in
     let at : Setting = record { vars = vars; depth = code.depth; is_node = IsNodeOf lets t } in
     let x = code_lands (meaning at) (facts at deep) lets t all w s.few (lets_good at [] lets s.lets_sound (λ e v h. inl h))
     (record { sound = s.root; nodes = λ e v h. inr h }) in
-    let e : lines_of code.ops code.pairs ≡ all = rw (o, b) (lines_back all) in
     let ends : run (rules vars code.depth) all (record { stack = []; locals = no_locals }) ≡ Some (record { stack = x.value ∷ []; locals = x.locals }) =
     x.runs.ends in
     let f : known_of vars code ≡ Some x.value = rw (e, ends) refl in
-    let g : FollowsRules vars code = record { bounded = rw (o, b) (same_length all); answers = rw f refl } in
-    let n : length code.ops ≡ length all = rw o (ops_length all) in
+    let g : FollowsRules vars code = record { bounded = b; answers = rw f refl } in
+    let n : length code.ops ≡ length all = lines_length code.ops code.pairs b ∙ ap (λ (l : List (Line Range)). length l) e in
     let c = code_weight (λ done. block_style) 0 (λ t. 3 * cost t) (λ done. block_weighs) lets t all w in
     let a = all_weigh lets in
     let few = s.few in
@@ -162,14 +160,19 @@ lowered_is vars code t lets all w s d o b =
       few = omega (arith, n, c, a, few);
     }
 
--- the block that is sealed from what was written, with the derivative's exponents
-abbrev pub sealed_from : Pairs → Draft → Code
-sealed_from a d = record { exps = a; ops = d.ops; pairs = map range d.pairs; depth = 2048 }
+-- the block that is sealed from these operations, with the derivative's exponents
+abbrev pub sealed_from : Pairs → Built Pair → Code
+sealed_from a d = record { exps = a; ops = d.ops; pairs = map range d.bounds; depth = 2048 }
+
+-- these are the operations that were written
+record IsBuilt (d : Draft) (c : Built Pair) : Type 0 where
+  lines : lines_of c.ops c.bounds ≡ d.code
+  bounded : length c.ops ≡ length c.bounds
 
 -- a block that is sealed from the operations of sound lets and a sound tree is a lowered one
-pub sealed : (vars : List VarInfo) (a : Pairs) (ks : List Key) (t : Typed) (lets : List Typed) (d : Draft) → SoundBlock vars lets t
-    → Drafted ks lets t d → IsLowered vars (sealed_from a d) t lets
-sealed vars a ks t lets d s x =
+sealed : (vars : List VarInfo) (a : Pairs) (ks : List Key) (t : Typed) (lets : List Typed) (d : Draft) (b : Built Pair) → SoundBlock vars lets t
+    → Drafted ks lets t d → IsBuilt d b → IsLowered vars (sealed_from a b) t lets
+sealed vars a ks t lets d b s x y =
     let v = x.lets in
     let w = x.root in
     let c = w.coded v.kept v.are in
@@ -183,16 +186,22 @@ sealed vars a ks t lets d s x =
       root_code = c.code;
       all = refl;
     } in
-    let i : d.ops ≡ ops_in (v.lines ++ w.lines) = w.wrote.ops ∙ ap (λ l. l ++ ops_in w.lines) v.ops ∙ sym (ops_append v.lines w.lines) in
-    let j : map range d.pairs ≡ pairs_in (v.lines ++ w.lines) = w.wrote.pairs ∙ ap (λ l. l ++ pairs_in w.lines) v.pairs ∙ sym (pairs_append v.lines w.lines) in
-    lowered_is vars (sealed_from a d) t lets (v.lines ++ w.lines) code s refl i j
+    let i : map ranged d.code ≡ v.lines ++ w.lines = w.wrote.code ∙ ap (λ l. l ++ w.lines) v.is in
+    let j : lines_of b.ops (map range b.bounds) ≡ v.lines ++ w.lines =
+    lines_ranged b.ops b.bounds ∙ ap (λ (l : List (Line Pair)). map ranged l) y.lines ∙ i in
+    lowered_is vars (sealed_from a b) t lets (v.lines ++ w.lines) code s refl j (simp length-map y.bounded)
+
+-- the same of lets in memory
+pub built_block : (vars : List VarInfo) (a : Pairs) (t : Typed) (lets : List Fitted) (d : Draft) (b : Built Pair) → length lets ≤ 64
+    → AreSound vars [] (map typed lets) → Sound vars (map typed lets) t → ((ks : List Key) × Drafted ks (map typed lets) t d)
+    → lines_of b.ops b.bounds ≡ d.code → length b.ops ≡ length b.bounds → IsLowered vars (sealed_from a b) t (map typed lets)
+built_block vars a t lets d b few ls root x e n = sealed vars a x.0 t (map typed lets) d b
+    (record { few = simp length-map few; lets_sound = ls; root = root }) x.1 (record { lines = e; bounded = n })
 
 -- what is known of each lowered block is known of the one that is sealed
-pub if_sealed : {E : Type 0} (vars : List VarInfo) (a : Pairs) (t : Typed) (lets : List Typed) (d : Draft) (r : Result Code E) (P : Code → Type 0)
-    → SoundBlock vars lets t → ((ks : List Key) × Drafted ks lets t d) → IfOk r (λ b. b ≡ sealed_from a d)
-    → ((b : Code) → IsLowered vars b t lets → P b) → IfOk r P
-if_sealed vars a t lets d r P s x h f = IfOk-weaker r (λ b. b ≡ sealed_from a d) P
-    (λ b e. subst P (sym e) (f (sealed_from a d) (sealed vars a x.0 t lets d s x.1))) h
+pub if_sealed : {E : Type 0} (vars : List VarInfo) (a : Pairs) (t : Typed) (lets : List Typed) (c : Built Pair) (r : Result Code E) (P : Code → Type 0)
+    → IsLowered vars (sealed_from a c) t lets → IfOk r (λ b. b ≡ sealed_from a c) → ((b : Code) → IsLowered vars b t lets → P b) → IfOk r P
+if_sealed vars a t lets c r P x h f = IfOk-weaker r (λ b. b ≡ sealed_from a c) P (λ b e. subst P (sym e) (f (sealed_from a c) x)) h
 
 top_is : (vars : List VarInfo) (code : Code) (t : Typed) (lets : List Typed) (x : IsLowered vars code t lets) (k : Known)
     → known_of vars code ≡ Some k → x.value ≡ k

@@ -11,6 +11,7 @@ use Rattle.ln_bound.specs.declared.fitted.Width.{Width}
 use Rattle.ln_bound.specs.declared.fitted.Fitted.{Fitted}
 use Rattle.ln_bound.specs.Typed.{Typed, TNeg, TPow, TTwo, pair, operation}
 use Rattle.ln_bound.specs.View.{typed}
+use Rattle.ln_code.specs.declared.op.Op.{Op}
 use Rattle.ln_code.specs.declared.op.Op.TheVariants.{Push, Get, Set, Mul, Neg}
 use Rattle.ln_code.specs.Engine.{Line, op_of}
 use Rattle.ln_lower.specs.declared.draft.Draft.{Draft}
@@ -18,33 +19,28 @@ use Rattle.ln_lower.specs.declared.distinct.Key.{Key}
 use Rattle.ln_code.specs.StackCode as code
 use Rattle.ln_code.specs.StackCode.{IsCode, again, keep, keeping, more, none, opposite, raised, two, zeroth}
 use Rattle.ln_lower.specs.Distinct.{AreNumbersOf, IsNumberOf}
-use Rattle.ln_lower.specs.Lowered.{line, nothing, factors, power_of, ops_in, pairs_in}
+use Rattle.ln_lower.specs.Lowered.{line, nothing, factors, power_of, ranged}
 use Rattle.ln_lower.specs.StackCode.{block_style}
 use Rattle.ln_lower.specs.Wrote.{Coded, IsCoded, MayKeep, Puts, PutsLet, PutsLets, Wrote}
 use Rattle.ln_lower.proofs.Subtrees.Numbering.{all_append, all_last, all_length, kept_at}
 use Rattle.ln_lower.proofs.Subtrees.Roots.{HasRoot}
 
--- the operations of two lists of lines, one after the other, are those of the first and those of the second
-pub ops_append : (a b : List (Line Range)) → ops_in (a ++ b) ≡ ops_in a ++ ops_in b
-ops_append [] b = refl
-ops_append (x ∷ xs) b = ap (λ t. x.op ∷ t) (ops_append xs b)
-
--- the ranges of two lists of lines, one after the other, are those of the first and those of the second
-pub pairs_append : (a b : List (Line Range)) → pairs_in (a ++ b) ≡ pairs_in a ++ pairs_in b
-pairs_append [] b = refl
-pairs_append (x ∷ xs) b = ap (λ t. x.bound ∷ t) (pairs_append xs b)
-
 -- two pieces that are appended one after the other
-joined : {A : Type 0} (a b c l m n : List A) → n ≡ l ++ m → b ≡ a ++ l → c ≡ b ++ m → c ≡ a ++ n
-joined a b c l m n e p q = q ∙ ap (λ t. t ++ m) p ∙ append_assoc a l m ∙ ap (λ t. a ++ t) (sym e)
+joined : {A : Type 0} (a b c l m : List A) → b ≡ a ++ l → c ≡ b ++ m → c ≡ a ++ (l ++ m)
+joined a b c l m p q = q ∙ ap (λ t. t ++ m) p ∙ append_assoc a l m
+
+-- an operation that is appended with its pair is one with the range of it
+pub line_wrote : (a b : Draft) (o : Op) (p : Pair) → b.code ≡ a.code ++ (line o p ∷ []) → b.kept ≡ a.kept → Wrote a b (line o (range p) ∷ []) []
+line_wrote a b o p e k = record {
+  code = ap (λ (l : List (Line Pair)). map ranged l) e ∙ map-append ranged a.code (line o p ∷ []);
+  kept = k ∙ sym (append-nil a.kept);
+}
 
 -- what is written in two pieces is written as one: the lines of both, and the kept subtrees of both
 pub wrote_then : {a b c : Draft} {l m : List (Line Range)} {p q : List ℕ} → Wrote a b l p → Wrote b c m q → Wrote a c (l ++ m) (p ++ q)
 wrote_then {a = a} {b = b} {c = c} {l = l} {m = m} {p = p} {q = q} v w = record {
-  ops = joined a.ops b.ops c.ops (ops_in l) (ops_in m) (ops_in (l ++ m)) (ops_append l m) v.ops w.ops;
-  pairs = joined (map range a.pairs) (map range b.pairs) (map range c.pairs) (pairs_in l) (pairs_in m) (pairs_in (l ++ m))
-      (pairs_append l m) v.pairs w.pairs;
-  kept = joined a.kept b.kept c.kept p q (p ++ q) refl v.kept w.kept;
+  code = joined (map ranged a.code) (map ranged b.code) (map ranged c.code) l m v.code w.code;
+  kept = joined a.kept b.kept c.kept p q v.kept w.kept;
 }
 
 -- the same, where the second piece keeps nothing
@@ -231,9 +227,8 @@ done_power ks a b c t u (suc n) r z x h =
 -- ---- lets
 
 -- the beginning of the loop in `put_lets`: an empty draft has the operations of no lets
-pub no_lets_put : (ks : List Key) (a : Draft) → a.ops ≡ [] → a.pairs ≡ [] → a.kept ≡ [] → PutsLets ks a []
-no_lets_put ks a o p k =
-    record { lines = []; ops = o; pairs = ap (λ (l : List Pair). map range l) p; kept = []; are = rw k tt; code = none }
+pub no_lets_put : (ks : List Key) (a : Draft) → a.code ≡ [] → a.kept ≡ [] → PutsLets ks a []
+no_lets_put ks a e k = record { lines = []; is = ap (λ (l : List (Line Pair)). map ranged l) e; kept = []; are = rw k tt; code = none }
 
 -- one let more, into the local of its number
 pub next_let : (ks : List Key) (a b : Draft) (ts us : List Typed) (t : Typed) (j : ℕ) → j ≡ length ts → us ≡ ts ++ (t ∷ [])
@@ -247,8 +242,7 @@ next_let ks a b ts us t j e f x p =
     let c = y.coded x.kept x.are in
     subst (λ ts. PutsLets ks b ts) (sym f) (record {
       lines = all;
-      ops = w.ops ∙ ap (λ k. k ++ ops_in (y.lines ++ set)) x.ops ∙ sym (ops_append x.lines (y.lines ++ set));
-      pairs = w.pairs ∙ ap (λ k. k ++ pairs_in (y.lines ++ set)) x.pairs ∙ sym (pairs_append x.lines (y.lines ++ set));
+      is = w.code ∙ ap (λ k. k ++ (y.lines ++ set)) x.is;
       kept = x.kept ++ c.new;
       are = rw w.kept (all_append ks a.kept y.more x.kept c.new x.are c.are);
       code = more x.code c.code;

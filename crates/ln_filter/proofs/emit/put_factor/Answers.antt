@@ -12,4 +12,4 @@ returns c =
     let p = c.args.p in
     let a = c.args.a in
     IfOk-weaker c.put_product.result _ _ (λ x g. gives_then _ _ _ (line (Get 64) a ∷ []) (trim_lines (Mul W64) (product_of p a)) _
-    (multiplied p a) x refl c.in_ok-push.ensures g) c.put_product.ensures
+    (multiplied p a) x refl c.in_ok-push.ensures.ok g) c.put_product.ensures

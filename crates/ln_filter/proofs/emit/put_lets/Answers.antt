@@ -20,7 +20,7 @@ lets-preserved c =
     let p : SteadyPut c.args.vars.now c.lets.done c.lets.draft c.put_steady.new.draft (untyped (typed c.index-lets-j.result)) (Some c.in-Some.a) =
     rw (c.as_slice.ensures, c.in-Some.is) at c.in_ok-put_steady.ensures in
     let q : Wrote c.put_steady.new.draft c.push.new.self (line (Set c.lets.j) no_triple ∷ []) =
-    rw c.no_triple.ensures at c.in_ok-push-in-Some.ensures in
+    rw c.no_triple.ensures at c.in_ok-push-in-Some.ensures.ok in
     rw c.in_ok-push-in-Some-2.ensures.ok (let_step c.args.vars.now c.args.lets.now c.args.draft.now s c.put_steady.new.draft c.push.new.self
     (untyped (typed c.index-lets-j.result)) c.in-Some.a n p q c.lets.invariant)
 

@@ -8,4 +8,4 @@ returns-then-n-eq0 c = first_power c.args.a c.args.n c.args.draft.now c.if-n-eq0
 pub returns : goal.returns
 returns c =
     IfOk-weaker c.put_factors.result _ _ (λ x g. later_power c.args.a x c.args.n _ _ _ _ c.if-n-eq0.false
-    (rw c.no_triple.ensures at c.in_ok-push.ensures) c.in_ok-push-2.ensures g) c.put_factors.ensures
+    (rw c.no_triple.ensures at c.in_ok-push.ensures.ok) c.in_ok-push-2.ensures.ok g) c.put_factors.ensures

@@ -1,4 +1,4 @@
-use Rattle.std.proofs.Common.{◌≡◌, [], map}
+use Rattle.std.proofs.Common.{◌≡◌, [], map, refl}
 use Rattle.std.specs.Prelude.{None, Some}
 use Rattle.ln_tree.proofs.KeptLemmas.{laid_out}
 use Rattle.ln_bound.specs.Typed.{untyped}
@@ -6,7 +6,7 @@ use Rattle.ln_bound.specs.View.{typed}
 use Rattle.ln_filter.specs.Tried.{lets_tried, tried}
 use Rattle.ln_filter.specs.Wrote.{LetsPut, SteadyPut}
 use Rattle.ln_filter.proofs.Truncation.Steady.{no_lets_filter, no_root_filter}
-use Rattle.ln_filter.proofs.Operations.Sealed.{blank, predicate_of, sealed, sound_predicate}
+use Rattle.ln_filter.proofs.Operations.Sealed.{predicate_of, sealed, sound_predicate}
 use Rattle.ln_filter.proofs.filters.written.Goals as goal
 
 pub put_steady-requires-clause-ranges : goal.put_steady-requires-clause-ranges
@@ -15,12 +15,12 @@ put_steady-requires-clause-ranges c = rw c.as_slice-vars.ensures (laid_out c.arg
 pub seal-requires : goal.seal-requires
 seal-requires c =
     let p = c.args.p.now in
-    let l : LetsPut p.shape.vars blank c.put_lets.new.draft (map untyped (map typed p.lets)) (Some c.in-Some.lets) =
-    rw (c.as_slice-vars.ensures, c.as_slice.ensures, c.new.ensures, c.new-2.ensures, c.in-Some.is) at c.in_ok-put_lets.ensures in
+    let l : LetsPut p.shape.vars [] c.put_lets.new.draft (map untyped (map typed p.lets)) (Some c.in-Some.lets) =
+    rw (c.as_slice-vars.ensures, c.as_slice.ensures, c.new-draft.ensures, c.in-Some.is) at c.in_ok-put_lets.ensures in
     let r : SteadyPut p.shape.vars c.in-Some.lets c.put_lets.new.draft c.put_steady.new.draft (untyped (typed p.root)) (Some c.in-Some-2.field-0) =
     rw (c.as_slice-vars.ensures, c.as_slice-in-Some.ensures, c.in-Some-2.is) at c.in_ok-put_steady-in-Some.ensures in
-    (sealed (predicate_of p.shape.vars p.lets p.root) c.put_lets.new.draft c.put_steady.new.draft c.in-Some.lets c.in-Some-2.field-0
-    (sound_predicate p.shape.vars p.lets p.root p.few p.sound_lets p.sound_root) l r).filter
+    (sealed (predicate_of p.shape.vars p.lets p.root) c.put_lets.new.draft c.put_steady.new.draft c.in-Some.lets c.in-Some-2.field-0 _
+    (sound_predicate p.shape.vars p.lets p.root p.few p.sound_lets p.sound_root) l r refl c.built-code.ensures.lines c.built-code.ensures.bounded).filter
 
 pub returns-in-None : goal.returns-in-None
 returns-in-None c =
@@ -41,12 +41,12 @@ returns-in-None-2 c =
 pub returns-in-Some-2 : goal.returns-in-Some-2
 returns-in-Some-2 c =
     let p = c.args.p.now in
-    let l : LetsPut p.shape.vars blank c.put_lets.new.draft (map untyped (map typed p.lets)) (Some c.in-Some.lets) =
-    rw (c.as_slice-vars.ensures, c.as_slice.ensures, c.new.ensures, c.new-2.ensures, c.in-Some.is) at c.in_ok-put_lets.ensures in
+    let l : LetsPut p.shape.vars [] c.put_lets.new.draft (map untyped (map typed p.lets)) (Some c.in-Some.lets) =
+    rw (c.as_slice-vars.ensures, c.as_slice.ensures, c.new-draft.ensures, c.in-Some.is) at c.in_ok-put_lets.ensures in
     let r : SteadyPut p.shape.vars c.in-Some.lets c.put_lets.new.draft c.put_steady.new.draft (untyped (typed p.root)) (Some c.in-Some-2.field-0) =
     rw (c.as_slice-vars.ensures, c.as_slice-in-Some.ensures, c.in-Some-2.is) at c.in_ok-put_steady-in-Some.ensures in
-    let x = sealed (predicate_of p.shape.vars p.lets p.root) c.put_lets.new.draft c.put_steady.new.draft c.in-Some.lets c.in-Some-2.field-0
-    (sound_predicate p.shape.vars p.lets p.root p.few p.sound_lets p.sound_root) l r in
+    let x = sealed (predicate_of p.shape.vars p.lets p.root) c.put_lets.new.draft c.put_steady.new.draft c.in-Some.lets c.in-Some-2.field-0 _
+    (sound_predicate p.shape.vars p.lets p.root p.few p.sound_lets p.sound_root) l r refl c.built-code.ensures.lines c.built-code.ensures.bounded in
     rw c.seal.ensures x.planned
 
 pub put_lets-requires-clause-ranges : goal.put_lets-requires-clause-ranges

@@ -5,7 +5,7 @@ use Rattle.ln_lower.proofs.Operations.Writes.{next_let, no_lets_put, more_typed,
 use Rattle.ln_lower.proofs.blocks.put_lets.Goals as goal
 
 pub lets-init : goal.lets-init
-lets-init c = no_lets_put _ _ c.requires.ops c.requires.pairs c.requires.kept
+lets-init c = no_lets_put _ _ c.requires.code c.requires.kept
 
 pub lets-preserved : goal.lets-preserved
 lets-preserved c =
