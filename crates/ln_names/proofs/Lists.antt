@@ -1,17 +1,14 @@
--- Lists of items, and digits.
-use Rattle.std.proofs.Common.{◌≡◌, ℕ, zero, suc, ◌+◌, ◌-◌, ◌*◌, ◌<◌, ◌≤◌, min, Bool, true, false, cond, ◌||◌, ◌⊎◌, inl, inr, List, [], ◌∷◌}
-use Rattle.std.proofs.Common.{length, get_or, take, drop, Some, refl, ap, sym, ◌∙◌, arith, drop-cons, add-one, is_some}
+-- Lists of items.
+use Rattle.std.proofs.Common.{◌≡◌, ℕ, suc, ◌+◌, ◌<◌, ◌≤◌, Bool, true, false, cond, ◌||◌, List, [], ◌∷◌}
+use Rattle.std.proofs.Common.{length, get_or, take, Some, refl, ap, sym, ◌∙◌, arith, is_some}
 use Rattle.std.specs.Prelude.{option_map}
 use Rattle.std.specs.List.{list_any, find, position_from, count_by}
 use Rattle.std.specs.Int.{from_bool}
 use Rattle.std.proofs.Math.ListN.{get_or-map}
-use Rattle.std.proofs.lemmas.List.{take_all, drop_all}
+use Rattle.std.proofs.lemmas.List.{take_all}
 use Rattle.ln_base.proofs.Counting.{counted_more, counted_fits}
 use Rattle.ln_syntax.specs.declared.raw.RawItem.{RawItem}
-use Rattle.ln_lex.specs.declared.token.Kind.{Kind}
-use Rattle.ln_lex.specs.declared.token.Token.{Token}
-use Rattle.ln_syntax.specs.Raw.{Item, item, items, kind_at}
-use Rattle.ln_names.specs.Numbers.{decimal}
+use Rattle.ln_syntax.specs.Raw.{Item, item, items}
 
 -- whether some item passes a test is whether the item of some raw item does
 pub any_items : (p : Item → Bool) (is : List RawItem) → list_any p (items is) ≡ list_any (λ i. p (item i)) is
@@ -27,25 +24,6 @@ find_items p (i ∷ is) =
       | true ↦ refl
       | false ↦ rest
     ]
-
-grows : (n : ℕ) (ds : List ℕ) → n ≤ decimal n ds
-grows n [] = omega arith
-grows n (d ∷ ds) = omega (arith, grows (10 * n + (d - 48)) ds)
-
-one_of : (n c : ℕ) → (min n c ≡ n) ⊎ ((min n c ≡ c) × (c ≤ n))
-one_of n c = grind arith
-
--- a cap on the number of the digits so far doesn't change the capped number of all digits
-pub capped : (n c : ℕ) (ds : List ℕ) → min (decimal (min n c) ds) c ≡ min (decimal n ds) c
-capped n c ds = elim (one_of n c) [
-  | inl e ↦ rw e refl
-  | inr e ↦ rw e.0 (omega (arith, grows c ds, grows n ds, e.1))
-]
-
--- the step of `number`: with one digit more, the capped number of all digits stays the same
-pub one_digit : (n c i : ℕ) (xs : List ℕ) → i < length xs
-    → min (decimal (min (10 * n + (get_or xs i 0 - 48)) c) (drop (i + 1) xs)) c ≡ min (decimal n (drop i xs)) c
-one_digit n c i xs h = rw (add-one, drop-cons xs i 0) (capped (10 * n + (get_or xs i 0 - 48)) c (drop (suc i) xs))
 
 below_by : {A : Type 0} (b : Bool) (p : A → Bool) (i : ℕ) (xs : List A) (n : ℕ) → cond b (Some i) (position_from p (i + 1) xs) ≡ Some n
     → (position_from p (i + 1) xs ≡ Some n → n < (i + 1) + length xs) → n < i + suc (length xs)
@@ -91,23 +69,3 @@ items_fit p is i n m x l e c h =
 -- all items are counted
 pub items_all : (p : Item → Bool) (is : List RawItem) (i n : ℕ) → length is ≤ i → n ≡ count_by p (take i (items is)) → n ≡ count_by p (items is)
 items_all p is i n l e = e ∙ ap (count_by p) (take_all i (items is) (omega (arith, l, items_long is)))
-
--- a token that has a kind is there
-pub kind_within : (ts : List Token) (i : ℕ) (k : Kind) → kind_at ts i ≡ Some k → i < length ts
-kind_within [] i k h = absurd (cc)
-kind_within (t ∷ ts) zero k h = omega arith
-kind_within (t ∷ ts) (suc i) k h = let r = kind_within ts i k h in omega arith
-
--- a loop that looks for an element: it is found, it isn't this one, there is none
-pub any_found : {X : Type 0} (p : X → Bool) (xs : List X) (i : ℕ) (d : X) → i < length xs → p (get_or xs i d) ≡ true
-    → list_any p (drop i xs) ≡ list_any p xs → true ≡ list_any p xs
-any_found p xs i d l h e = sym (rw (drop-cons xs i d, h) refl) ∙ e
-
--- a loop that looks for an element goes on: it isn't this one, so it is looked for among those after it
-pub any_on : {X : Type 0} (p : X → Bool) (xs : List X) (i : ℕ) (d : X) → i < length xs → p (get_or xs i d) ≡ false
-    → list_any p (drop i xs) ≡ list_any p xs → list_any p (drop (i + 1) xs) ≡ list_any p xs
-any_on p xs i d l h e = rw add-one (sym (rw (drop-cons xs i d, h) refl) ∙ e)
-
--- a loop that looks for an element ends without one: there is none
-pub any_none : {X : Type 0} (p : X → Bool) (xs : List X) (i : ℕ) → length xs ≤ i → list_any p (drop i xs) ≡ list_any p xs → false ≡ list_any p xs
-any_none p xs i l e = sym (ap (list_any p) (drop_all i xs l)) ∙ e

@@ -1,17 +1,13 @@
 -- The value of a NUMBER, and of an end of a range.
-use Rattle.std.specs.Prelude.{ℕ, ℤ, pos, neg_ℤ, ◌+◌, ◌-◌, ◌*◌, List, [], ◌∷◌, Bool, true, false}
+use Rattle.std.specs.Prelude.{ℕ, ℤ, pos, neg_ℤ, List, Bool, true, false}
+use Rattle.ln_base.specs.Decimal.{decimal_value}
 use Rattle.ln_base.specs.declared.span.Span.{Span}
 use Rattle.ln_syntax.specs.declared.raw.RawEnd.{RawEnd}
 use Rattle.ln_syntax.specs.Raw.{text}
 
--- the number whose decimal digits are those of n, then these; leading zeros count for nothing
-abbrev pub decimal : ℕ → List ℕ → ℕ
-decimal n [] = n
-decimal n (d ∷ ds) = decimal (10 * n + (d - 48)) ds
-
 -- the number that the bytes of a NUMBER are
 abbrev pub number : List ℕ → Span → ℕ
-number bytes s = decimal 0 (text bytes s)
+number bytes s = decimal_value (text bytes s)
 
 -- a number, or minus it
 abbrev pub signed : Bool → ℕ → ℤ

@@ -1,12 +1,16 @@
 -- What the names of an expression stand for, as places in lists; the rules see to it that each is there.
-use Rattle.std.specs.Prelude.{ℕ, ◌&&◌, List, Option}
+use Rattle.std.specs.Prelude.{ℕ, ◌&&◌, Bool, true, List, Option, Some, None}
 use Rattle.std.specs.List.{position_from}
 use Rattle.ln_base.specs.declared.span.Span.{Span}
 use Rattle.ln_syntax.specs.declared.raw.RawCoord.{RawCoord}
 use Rattle.ln_syntax.specs.declared.raw.RawArg.{RawArg}
 use Rattle.ln_syntax.specs.declared.raw.RawLet.{RawLet}
-use Rattle.ln_syntax.specs.Raw.{items, same}
+use Rattle.ln_syntax.specs.Raw.{Item, items, is_site, is_param, is_pred, same}
 use Rattle.ln_names.specs.declared.resolve.Visible.{Visible}
+use Rattle.ln_names.specs.declared.resolve.ArgKind.{ArgKind}
+use Rattle.ln_names.specs.declared.resolve.ArgKind.TheVariants as of
+use Rattle.ln_names.specs.declared.tokens.ItemKind.{ItemKind}
+use Rattle.ln_names.specs.declared.tokens.ItemKind.TheVariants.{Site, Param, Pred}
 use Rattle.ln_names.specs.Rules.{Scope, scope, is_site_arg, is_param_arg}
 
 -- what an expression can speak of
@@ -17,13 +21,22 @@ visible v = scope (items v.before.now) v.args.now v.lets.now
 abbrev pub let_place : List ℕ → List RawLet → Span → Option ℕ
 let_place bytes lets at = position_from (λ l. same bytes l.name at) 0 lets
 
--- the place of the param argument of this name, among all arguments
-abbrev pub param_place : List ℕ → List RawArg → Span → Option ℕ
-param_place bytes args at = position_from (λ a. is_param_arg a && same bytes a.name at) 0 args
+-- is the item of this kind, if a kind is asked for?
+abbrev pub is_item_of : Option ItemKind → Item → Bool
+is_item_of None i = true
+is_item_of (Some Site) i = is_site i
+is_item_of (Some Param) i = is_param i
+is_item_of (Some Pred) i = is_pred i
 
--- the place of the site argument of this name, among all arguments
-abbrev pub site_place : List ℕ → List RawArg → Span → Option ℕ
-site_place bytes args at = position_from (λ a. is_site_arg a && same bytes a.name at) 0 args
+-- is the argument of this kind, if a kind is asked for?
+abbrev pub is_arg : Option ArgKind → RawArg → Bool
+is_arg None a = true
+is_arg (Some of.Site) a = is_site_arg a
+is_arg (Some of.Param) a = is_param_arg a
+
+-- the place of the argument of this name and kind, among all arguments
+abbrev pub arg_place : List ℕ → Option ArgKind → List RawArg → Span → Option ℕ
+arg_place bytes kind args at = position_from (λ a. is_arg kind a && same bytes a.name at) 0 args
 
 -- the place of the coordinate of this name
 abbrev pub coord_place : List ℕ → List RawCoord → Span → Option ℕ

@@ -87,31 +87,6 @@ abbrev pub is_exponent : Use → Bool
 is_exponent ExponentOf = true
 is_exponent u = false
 
--- the name of a site type after n others
-abbrev pub is_site_past : ℕ → Use → Bool
-is_site_past n (SiteName before) = count_by is_site before == n
-is_site_past n u = false
-
--- the name of a param after n others
-abbrev pub is_param_past : ℕ → Use → Bool
-is_param_past n (ParamName before) = count_by is_param before == n
-is_param_past n u = false
-
--- the name of a predicate after n others
-abbrev pub is_pred_past : ℕ → Use → Bool
-is_pred_past n (PredName before) = count_by is_pred before == n
-is_pred_past n u = false
-
--- the name of a coordinate after n others of its site
-abbrev pub is_coord_past : ℕ → Use → Bool
-is_coord_past n (CoordName before) = length before == n
-is_coord_past n u = false
-
--- the name of a let after n others of its predicate
-abbrev pub is_let_past : ℕ → Use → Bool
-is_let_past n (LetName args before) = length before == n
-is_let_past n u = false
-
 -- a site argument
 abbrev pub is_site_arg : RawArg → Bool
 is_site_arg a = not a.is_param
@@ -120,45 +95,31 @@ is_site_arg a = not a.is_param
 abbrev pub is_param_arg : RawArg → Bool
 is_param_arg a = a.is_param
 
--- the NAME after the colon of a site argument after n others
-abbrev pub is_site_arg_past : ℕ → Use → Bool
-is_site_arg_past n (ArgSite items before) = count_by is_site_arg before == n
-is_site_arg_past n u = false
+-- a name or node that is one too many, and its fault: a file has at most 16 site types, params and predicates each, a site type 32 coordinates,
+-- a predicate 5 site arguments, 8 param arguments, 64 lets and 2,048 nodes
+abbrev pub past_limit : Use → Bool × Fault
+past_limit (SiteName before) = (count_by is_site before == 16, Limit Sites)
+past_limit (ParamName before) = (count_by is_param before == 16, Limit Params)
+past_limit (PredName before) = (count_by is_pred before == 16, Limit Predicates)
+past_limit (CoordName before) = (length before == 32, Limit Coords)
+past_limit (LetName args before) = (length before == 64, Limit Lets)
+past_limit (ArgSite items before) = (count_by is_site_arg before == 5, Limit SiteArgs)
+past_limit (ArgParam items before name) = (count_by is_param_arg before == 8, Limit ParamArgs)
+past_limit (NumberNode before) = (before == 2048, Limit Nodes)
+past_limit (NameNode before s) = (before == 2048, Limit Nodes)
+past_limit (InputNode before s) = (before == 2048, Limit Nodes)
+past_limit (OperatorNode before) = (before == 2048, Limit Nodes)
+past_limit u = (false, Limit Nodes)
 
--- the `param` after the colon of a param argument after n others
-abbrev pub is_param_arg_past : ℕ → Use → Bool
-is_param_arg_past n (ArgParam items before name) = count_by is_param_arg before == n
-is_param_arg_past n u = false
-
--- the token of a node after n others of its predicate
-abbrev pub is_node_past : ℕ → Use → Bool
-is_node_past n (NumberNode before) = before == n
-is_node_past n (NameNode before s) = before == n
-is_node_past n (InputNode before s) = before == n
-is_node_past n (OperatorNode before) = before == n
-is_node_past n u = false
-
--- an item's name that an earlier item has: site types, params and predicates share one space of names
-abbrev pub is_item_twice : List ℕ → Use → Span → Bool
-is_item_twice bytes (SiteName before) at = list_any (λ i. same bytes (item_name i) at) before
-is_item_twice bytes (ParamName before) at = list_any (λ i. same bytes (item_name i) at) before
-is_item_twice bytes (PredName before) at = list_any (λ i. same bytes (item_name i) at) before
-is_item_twice bytes u at = false
-
--- a coordinate's name that an earlier coordinate of its site has
-abbrev pub is_coord_twice : List ℕ → Use → Span → Bool
-is_coord_twice bytes (CoordName before) at = list_any (λ c. same bytes c.name at) before
-is_coord_twice bytes u at = false
-
--- an argument's name that an earlier argument has
-abbrev pub is_arg_twice : List ℕ → Use → Span → Bool
-is_arg_twice bytes (ArgName before) at = list_any (λ a. same bytes a.name at) before
-is_arg_twice bytes u at = false
-
--- a let's name that an argument or an earlier let has
-abbrev pub is_let_twice : List ℕ → Use → Span → Bool
-is_let_twice bytes (LetName args before) at = list_any (λ a. same bytes a.name at) args || list_any (λ l. same bytes l.name at) before
-is_let_twice bytes u at = false
+-- a name that stands before: site types, params and predicates share one space of names, as do the arguments and lets of a predicate
+abbrev pub is_twice : List ℕ → Use → Span → Bool
+is_twice bytes (SiteName before) at = list_any (λ i. same bytes (item_name i) at) before
+is_twice bytes (ParamName before) at = list_any (λ i. same bytes (item_name i) at) before
+is_twice bytes (PredName before) at = list_any (λ i. same bytes (item_name i) at) before
+is_twice bytes (CoordName before) at = list_any (λ c. same bytes c.name at) before
+is_twice bytes (ArgName before) at = list_any (λ a. same bytes a.name at) before
+is_twice bytes (LetName args before) at = list_any (λ a. same bytes a.name at) args || list_any (λ l. same bytes l.name at) before
+is_twice bytes u at = false
 
 -- one of the items is a site type of this name
 abbrev pub has_site : List ℕ → List Item → Span → Bool
@@ -189,30 +150,15 @@ coords_of bytes items (Some a) = coords_in (find (λ i. is_site i && same bytes 
 abbrev pub coords_at : List ℕ → Scope → Span → List RawCoord
 coords_at bytes s arg = coords_of bytes s.items (find (λ a. is_site_arg a && same bytes a.name arg) s.args)
 
--- a NAME after an argument's colon that is no site type declared before
-abbrev pub is_unknown_site : List ℕ → Use → Span → Bool
-is_unknown_site bytes (ArgSite items before) at = not (has_site bytes items at)
-is_unknown_site bytes u at = false
-
--- `param` after an argument's colon, where the argument's name is no param declared before
-abbrev pub is_unknown_param : List ℕ → Use → Bool
-is_unknown_param bytes (ArgParam items before name) = not (has_param bytes items name)
-is_unknown_param bytes u = false
-
--- a bare NAME that is no earlier let and no param argument
-abbrev pub is_unknown_name : List ℕ → Use → Span → Bool
-is_unknown_name bytes (NameNode n s) at = not (has_let bytes s.lets at || has_param_arg bytes s.args at)
-is_unknown_name bytes u at = false
-
--- the first NAME of an input, where it is no site argument
-abbrev pub is_unknown_input : List ℕ → Use → Span → Bool
-is_unknown_input bytes (InputNode n s) at = not (has_site_arg bytes s.args at)
-is_unknown_input bytes u at = false
-
--- the second NAME of an input, where it is no coordinate of that site
-abbrev pub is_unknown_coord : List ℕ → Use → Span → Bool
-is_unknown_coord bytes (InputCoord s arg) at = not (list_any (λ c. same bytes c.name at) (coords_at bytes s arg))
-is_unknown_coord bytes u at = false
+-- a name that stands for nothing: after an argument's colon no site type declared before, before `param` no param declared before, a bare NAME that is
+-- no earlier let and no param argument, the first NAME of an input that is no site argument, the second one that is no coordinate of that site
+abbrev pub is_unknown : List ℕ → Use → Span → Bool
+is_unknown bytes (ArgSite items before) at = not (has_site bytes items at)
+is_unknown bytes (ArgParam items before name) at = not (has_param bytes items name)
+is_unknown bytes (NameNode n s) at = not (has_let bytes s.lets at || has_param_arg bytes s.args at)
+is_unknown bytes (InputNode n s) at = not (has_site_arg bytes s.args at)
+is_unknown bytes (InputCoord s arg) at = not (list_any (λ c. same bytes c.name at) (coords_at bytes s arg))
+is_unknown bytes u at = false
 
 -- the table of faults at a token: each row has its test and its fault
 abbrev pub rules : List ℕ → Use → Span → List (Bool × Fault)
@@ -221,23 +167,9 @@ rules bytes u at =
     ((is_number u && nat_lt most_literal (number bytes at), Limit Literal) ∷
     ((is_end u && (nat_lt most_end (number bytes at) || is_under_low bytes u), Limit RangeEnd) ∷
     ((is_exponent u && nat_lt 16 (number bytes at), Limit Exponent) ∷
-    ((is_site_past 16 u, Limit Sites) ∷
-    ((is_param_past 16 u, Limit Params) ∷
-    ((is_pred_past 16 u, Limit Predicates) ∷
-    ((is_coord_past 32 u, Limit Coords) ∷
-    ((is_let_past 64 u, Limit Lets) ∷
-    ((is_site_arg_past 5 u, Limit SiteArgs) ∷
-    ((is_param_arg_past 8 u, Limit ParamArgs) ∷
-    ((is_node_past 2048 u, Limit Nodes) ∷
-    ((is_item_twice bytes u at, Named Twice) ∷
-    ((is_coord_twice bytes u at, Named Twice) ∷
-    ((is_arg_twice bytes u at, Named Twice) ∷
-    ((is_let_twice bytes u at, Named Twice) ∷
-    ((is_unknown_site bytes u at, Named Unknown) ∷
-    ((is_unknown_param bytes u, Named Unknown) ∷
-    ((is_unknown_name bytes u at, Named Unknown) ∷
-    ((is_unknown_input bytes u at, Named Unknown) ∷
-    ((is_unknown_coord bytes u at, Named Unknown) ∷ []))))))))))))))))))))
+    (past_limit u ∷
+    ((is_twice bytes u at, Named Twice) ∷
+    ((is_unknown bytes u at, Named Unknown) ∷ []))))))
 
 -- the fault of the first row whose test holds
 abbrev pub first_row : List (Bool × Fault) → Option Fault

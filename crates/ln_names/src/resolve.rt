@@ -3,7 +3,7 @@ ghost use Rattle.std.specs.Prelude.{◌≡◌, ◌^◌, ◌<◌, ◌&&◌, pos, 
 ghost use Rattle.ln_syntax.specs.Raw.{same, item, items, item_name, is_site, coords_in};
 ghost use Rattle.ln_names.specs.Numbers.{number, end_value, signed};
 ghost use Rattle.ln_names.specs.Rules.{is_site_arg, coords_of};
-ghost use Rattle.ln_names.specs.Resolve.{let_place, param_place, site_place, coord_place};
+ghost use Rattle.ln_names.specs.Resolve.{is_arg, let_place, arg_place, coord_place};
 
 use crate::spans::{number, same};
 use ln_base::Span;
@@ -30,26 +30,31 @@ pub fn let_place(bytes: &[u8], lets: &[RawLet], at: Span) -> Option<usize>
     None
 }
 
-/// The place of the param argument of this name, among all arguments.
-pub fn param_at(bytes: &[u8], args: &[RawArg], at: Span) -> Option<usize>
-    ensures place { result ≡ param_place bytes.now args.now at }
-    ensures below { IfSome result (λ i. i < length args.now) }
-{
-    'each: for (i, a) in args.iter().enumerate() {
-        if a.is_param && same(bytes, a.name, at) {
-            return Some(i);
-        }
-    }
-    None
+/// A kind of argument.
+#[derive(Clone, Copy)]
+pub enum ArgKind {
+    Site,
+    Param,
 }
 
-/// The place of the site argument of this name, among all arguments.
-pub fn site_at(bytes: &[u8], args: &[RawArg], at: Span) -> Option<usize>
-    ensures place { result ≡ site_place bytes.now args.now at }
+/// Is the argument of this kind, if a kind is asked for?
+pub fn is_arg(kind: Option<ArgKind>, a: &RawArg) -> bool
+    ensures { result ≡ is_arg kind a.now }
+{
+    match kind {
+        None => true,
+        Some(ArgKind::Site) => !a.is_param,
+        Some(ArgKind::Param) => a.is_param,
+    }
+}
+
+/// The place of the argument of this name and kind, among all arguments.
+pub fn arg_at(bytes: &[u8], args: &[RawArg], kind: Option<ArgKind>, at: Span) -> Option<usize>
+    ensures place { result ≡ arg_place bytes.now kind args.now at }
     ensures below { IfSome result (λ i. i < length args.now) }
 {
     'each: for (i, a) in args.iter().enumerate() {
-        if !a.is_param && same(bytes, a.name, at) {
+        if is_arg(kind, a) && same(bytes, a.name, at) {
             return Some(i);
         }
     }

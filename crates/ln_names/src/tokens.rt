@@ -1,18 +1,25 @@
 //! The fault at one token, by what the token is.
-ghost use Rattle.std.specs.Prelude.{◌≡◌, ◌^◌, ◌<◌, ◌&&◌, length, count_by, nat_lt, int_lt, IfNone};
+ghost use Rattle.std.specs.Prelude.{◌≡◌, ◌==◌, ◌^◌, ◌<◌, ◌&&◌, Some, [], ◌∷◌, length, count_by, nat_lt, int_lt, IfNone};
 ghost use Rattle.std.specs.List.{list_any};
-ghost use Rattle.ln_syntax.specs.Raw.{text, same, item, items, item_name, is_site, is_param, is_pred};
+ghost use Rattle.ln_syntax.specs.Raw.{text, same, item, items, item_name};
 ghost use Rattle.ln_names.specs.Numbers.{number, end_value, signed, most_literal, most_end};
-ghost use Rattle.ln_names.specs.Rules.{fault_at, SiteName, ParamName, PredName, CoordName, is_site_arg, is_param_arg, has_site};
-ghost use Rattle.ln_names.specs.Rules.{has_param, has_site_arg, has_param_arg, has_let, LowEnd, HighEnd, ArgName, ArgSite};
-ghost use Rattle.ln_names.specs.Rules.{ArgParam, LetName, NumberNode, NameNode, InputNode, InputCoord, OperatorNode, ExponentOf};
-ghost use Rattle.ln_names.specs.Resolve.{visible};
+ghost use Rattle.ln_names.specs.Rules.{fault_at, first_row, SiteName, ParamName, PredName, CoordName, LowEnd, HighEnd, ArgName, ArgSite};
+ghost use Rattle.ln_names.specs.Rules.{ArgParam, LetName, NumberNode, NameNode, InputNode, InputCoord, OperatorNode, ExponentOf, has_let};
+ghost use Rattle.ln_names.specs.Resolve.{visible, is_item_of, is_arg};
 
 use crate::faults::{Fault, LimitWhat, NameWhat};
-use crate::resolve::{Visible, arg_coords, coord_at, let_place, param_at, site_at};
+use crate::resolve::{ArgKind, Visible, arg_at, arg_coords, coord_at, is_arg, let_place};
 use crate::spans::{number, same, text};
 use ln_base::Span;
 use ln_syntax::{RawArg, RawCoord, RawItem, RawLet, RawRange};
+
+/// A kind of item: each has a limit of its own.
+#[derive(Clone, Copy)]
+pub enum ItemKind {
+    Site,
+    Param,
+    Pred,
+}
 
 fn long_name(bytes: &[u8], at: Span) -> bool
     ensures { result ≡ nat_lt 32 (length (text bytes.now at)) }
@@ -20,85 +27,44 @@ fn long_name(bytes: &[u8], at: Span) -> bool
     text(bytes, at).len() > 32
 }
 
-fn any_named(bytes: &[u8], before: &[RawItem], at: Span) -> bool
-    ensures { result ≡ list_any (λ i. same bytes.now (item_name (item i)) at) before.now }
+// Is the item of this kind, if a kind is asked for?
+fn is_item_of(kind: Option<ItemKind>, i: &RawItem) -> bool
+    ensures { result ≡ is_item_of kind (item i.now) }
+{
+    match kind {
+        None => true,
+        Some(ItemKind::Site) => i.is_site(),
+        Some(ItemKind::Param) => i.is_param(),
+        Some(ItemKind::Pred) => i.is_pred(),
+    }
+}
+
+fn any_of(bytes: &[u8], before: &[RawItem], kind: Option<ItemKind>, at: Span) -> bool
+    ensures { result ≡ list_any (λ i. is_item_of kind (item i) && same bytes.now (item_name (item i)) at) before.now }
 {
     'each: for i in before {
-        if same(bytes, i.name(), at) {
+        if is_item_of(kind, i) && same(bytes, i.name(), at) {
             return true;
         }
     }
     false
 }
 
-fn item_twice(bytes: &[u8], before: &[RawItem], at: Span) -> bool
-    ensures { result ≡ list_any (λ i. same bytes.now (item_name i) at) (items before.now) }
+// Does one of the items have this name?
+fn declared(bytes: &[u8], before: &[RawItem], kind: Option<ItemKind>, at: Span) -> bool
+    ensures { result ≡ list_any (λ i. is_item_of kind i && same bytes.now (item_name i) at) (items before.now) }
 {
-    any_named(bytes, before, at)
+    any_of(bytes, before, kind, at)
 }
 
-fn any_site(bytes: &[u8], before: &[RawItem], at: Span) -> bool
-    ensures { result ≡ list_any (λ i. is_site (item i) && same bytes.now (item_name (item i)) at) before.now }
-{
-    'each: for i in before {
-        if i.is_site() && same(bytes, i.name(), at) {
-            return true;
-        }
-    }
-    false
-}
-
-fn any_param(bytes: &[u8], before: &[RawItem], at: Span) -> bool
-    ensures { result ≡ list_any (λ i. is_param (item i) && same bytes.now (item_name (item i)) at) before.now }
-{
-    'each: for i in before {
-        if i.is_param() && same(bytes, i.name(), at) {
-            return true;
-        }
-    }
-    false
-}
-
-fn sites(before: &[RawItem]) -> usize
-    ensures { result ≡ count_by is_site (items before.now) }
+fn count(before: &[RawItem], kind: Option<ItemKind>) -> usize
+    ensures { result ≡ count_by (is_item_of kind) (items before.now) }
 {
     let mut n = 0usize;
     'each: for i in before {
-        n += usize::from(i.is_site());
+        n += usize::from(is_item_of(kind, i));
     }
     n
-}
-
-fn params(before: &[RawItem]) -> usize
-    ensures { result ≡ count_by is_param (items before.now) }
-{
-    let mut n = 0usize;
-    'each: for i in before {
-        n += usize::from(i.is_param());
-    }
-    n
-}
-
-fn preds(before: &[RawItem]) -> usize
-    ensures { result ≡ count_by is_pred (items before.now) }
-{
-    let mut n = 0usize;
-    'each: for i in before {
-        n += usize::from(i.is_pred());
-    }
-    n
-}
-
-fn known_site(bytes: &[u8], before: &[RawItem], at: Span) -> bool
-    ensures { result ≡ has_site bytes.now (items before.now) at }
-{
-    any_site(bytes, before, at)
-}
-
-fn known_param(bytes: &[u8], before: &[RawItem], at: Span) -> bool
-    ensures { result ≡ has_param bytes.now (items before.now) at }
-{
-    any_param(bytes, before, at)
 }
 
 fn coord_twice(bytes: &[u8], before: &[RawCoord], at: Span) -> bool
@@ -107,19 +73,48 @@ fn coord_twice(bytes: &[u8], before: &[RawCoord], at: Span) -> bool
     coord_at(bytes, before, at).is_some()
 }
 
-/// The fault of a site type's name after the items `before`: over 32 letters, a seventeenth site type, or the name of an item before.
-pub fn site_name(bytes: &[u8], before: &[RawItem], at: Span) -> Option<Fault>
-    ensures { result ≡ fault_at bytes.now (SiteName (items before.now)) at }
+// The fault of the name of an item of this kind after the items `before`: over 32 letters, a seventeenth of the kind, or the name of an item before.
+fn named_item(
+    bytes: &[u8],
+    before: &[RawItem],
+    kind: ItemKind,
+    limit: LimitWhat,
+    at: Span,
+) -> Option<Fault>
+    ensures { result ≡ first_row ((nat_lt 32 (length (text bytes.now at)), Fault.Limit LimitWhat.NameLength)
+        ∷ (count_by (is_item_of (Some kind)) (items before.now) == 16, Fault.Limit limit)
+        ∷ (list_any (λ i. same bytes.now (item_name i) at) (items before.now), Fault.Named NameWhat.Twice) ∷ []) }
 {
     if long_name(bytes, at) {
         Some(Fault::Limit(LimitWhat::NameLength))
-    } else if sites(before) == 16 {
-        Some(Fault::Limit(LimitWhat::Sites))
-    } else if item_twice(bytes, before, at) {
+    } else if count(before, Some(kind)) == 16 {
+        Some(Fault::Limit(limit))
+    } else if declared(bytes, before, None, at) {
         Some(Fault::Named(NameWhat::Twice))
     } else {
         None
     }
+}
+
+/// The fault of a site type's name after the items `before`: over 32 letters, a seventeenth site type, or the name of an item before.
+pub fn site_name(bytes: &[u8], before: &[RawItem], at: Span) -> Option<Fault>
+    ensures { result ≡ fault_at bytes.now (SiteName (items before.now)) at }
+{
+    named_item(bytes, before, ItemKind::Site, LimitWhat::Sites, at)
+}
+
+/// The fault of a param's name after the items `before`: over 32 letters, a seventeenth param, or the name of an item before.
+pub fn param_name(bytes: &[u8], before: &[RawItem], at: Span) -> Option<Fault>
+    ensures { result ≡ fault_at bytes.now (ParamName (items before.now)) at }
+{
+    named_item(bytes, before, ItemKind::Param, LimitWhat::Params, at)
+}
+
+/// The fault of a predicate's name after the items `before`: over 32 letters, a seventeenth predicate, or the name of an item before.
+pub fn pred_name(bytes: &[u8], before: &[RawItem], at: Span) -> Option<Fault>
+    ensures { result ≡ fault_at bytes.now (PredName (items before.now)) at }
+{
+    named_item(bytes, before, ItemKind::Pred, LimitWhat::Predicates, at)
 }
 
 /// The fault of a coordinate's name after those `before` of its site type: over 32 letters, a thirty-third coordinate, or a name before.
@@ -131,36 +126,6 @@ pub fn coord_name(bytes: &[u8], before: &[RawCoord], at: Span) -> Option<Fault>
     } else if before.len() == 32 {
         Some(Fault::Limit(LimitWhat::Coords))
     } else if coord_twice(bytes, before, at) {
-        Some(Fault::Named(NameWhat::Twice))
-    } else {
-        None
-    }
-}
-
-/// The fault of a param's name after the items `before`: over 32 letters, a seventeenth param, or the name of an item before.
-pub fn param_name(bytes: &[u8], before: &[RawItem], at: Span) -> Option<Fault>
-    ensures { result ≡ fault_at bytes.now (ParamName (items before.now)) at }
-{
-    if long_name(bytes, at) {
-        Some(Fault::Limit(LimitWhat::NameLength))
-    } else if params(before) == 16 {
-        Some(Fault::Limit(LimitWhat::Params))
-    } else if item_twice(bytes, before, at) {
-        Some(Fault::Named(NameWhat::Twice))
-    } else {
-        None
-    }
-}
-
-/// The fault of a predicate's name after the items `before`: over 32 letters, a seventeenth predicate, or the name of an item before.
-pub fn pred_name(bytes: &[u8], before: &[RawItem], at: Span) -> Option<Fault>
-    ensures { result ≡ fault_at bytes.now (PredName (items before.now)) at }
-{
-    if long_name(bytes, at) {
-        Some(Fault::Limit(LimitWhat::NameLength))
-    } else if preds(before) == 16 {
-        Some(Fault::Limit(LimitWhat::Predicates))
-    } else if item_twice(bytes, before, at) {
         Some(Fault::Named(NameWhat::Twice))
     } else {
         None
@@ -238,33 +203,19 @@ pub fn high_end(bytes: &[u8], range: RawRange) -> Option<Fault>
     }
 }
 
-fn arg_twice(bytes: &[u8], before: &[RawArg], at: Span) -> bool
-    ensures { result ≡ list_any (λ a. same bytes.now a.name at) before.now }
+// Does one of the arguments have this name?
+fn known_arg(bytes: &[u8], args: &[RawArg], kind: Option<ArgKind>, at: Span) -> bool
+    ensures { result ≡ list_any (λ a. is_arg kind a && same bytes.now a.name at) args.now }
 {
-    'each: for a in before {
-        if same(bytes, a.name, at) {
-            return true;
-        }
-    }
-    false
+    arg_at(bytes, args, kind, at).is_some()
 }
 
-fn site_args(before: &[RawArg]) -> usize
-    ensures { result ≡ count_by is_site_arg before.now }
+fn count_args(before: &[RawArg], kind: Option<ArgKind>) -> usize
+    ensures { result ≡ count_by (is_arg kind) before.now }
 {
     let mut n = 0usize;
     'each: for a in before {
-        n += usize::from(!a.is_param);
-    }
-    n
-}
-
-fn param_args(before: &[RawArg]) -> usize
-    ensures { result ≡ count_by is_param_arg before.now }
-{
-    let mut n = 0usize;
-    'each: for a in before {
-        n += usize::from(a.is_param);
+        n += usize::from(is_arg(kind, a));
     }
     n
 }
@@ -275,7 +226,7 @@ pub fn arg_name(bytes: &[u8], before: &[RawArg], at: Span) -> Option<Fault>
 {
     if long_name(bytes, at) {
         Some(Fault::Limit(LimitWhat::NameLength))
-    } else if arg_twice(bytes, before, at) {
+    } else if known_arg(bytes, before, None, at) {
         Some(Fault::Named(NameWhat::Twice))
     } else {
         None
@@ -288,9 +239,9 @@ pub fn arg_site(bytes: &[u8], its: &[RawItem], before: &[RawArg], at: Span) -> O
 {
     if long_name(bytes, at) {
         Some(Fault::Limit(LimitWhat::NameLength))
-    } else if site_args(before) == 5 {
+    } else if count_args(before, Some(ArgKind::Site)) == 5 {
         Some(Fault::Limit(LimitWhat::SiteArgs))
-    } else if known_site(bytes, its, at) {
+    } else if declared(bytes, its, Some(ItemKind::Site), at) {
         None
     } else {
         Some(Fault::Named(NameWhat::Unknown))
@@ -307,9 +258,9 @@ pub fn arg_param(
 ) -> Option<Fault>
     ensures { result ≡ fault_at bytes.now (ArgParam (items its.now) before.now name) at }
 {
-    if param_args(before) == 8 {
+    if count_args(before, Some(ArgKind::Param)) == 8 {
         Some(Fault::Limit(LimitWhat::ParamArgs))
-    } else if known_param(bytes, its, name) {
+    } else if declared(bytes, its, Some(ItemKind::Param), name) {
         None
     } else {
         Some(Fault::Named(NameWhat::Unknown))
@@ -330,23 +281,11 @@ pub fn let_name(bytes: &[u8], args: &[RawArg], before: &[RawLet], at: Span) -> O
         Some(Fault::Limit(LimitWhat::NameLength))
     } else if before.len() == 64 {
         Some(Fault::Limit(LimitWhat::Lets))
-    } else if arg_twice(bytes, args, at) || known_let(bytes, before, at) {
+    } else if known_arg(bytes, args, None, at) || known_let(bytes, before, at) {
         Some(Fault::Named(NameWhat::Twice))
     } else {
         None
     }
-}
-
-fn known_site_arg(bytes: &[u8], args: &[RawArg], at: Span) -> bool
-    ensures { result ≡ has_site_arg bytes.now args.now at }
-{
-    site_at(bytes, args, at).is_some()
-}
-
-fn known_param_arg(bytes: &[u8], args: &[RawArg], at: Span) -> bool
-    ensures { result ≡ has_param_arg bytes.now args.now at }
-{
-    param_at(bytes, args, at).is_some()
 }
 
 /// The fault of a number in an expression after `before` nodes: 2^127 or more, or one node too many (2,048).
@@ -395,7 +334,9 @@ pub fn name_node(bytes: &[u8], seen: Visible, before: usize, at: Span) -> Option
         Some(Fault::Limit(LimitWhat::NameLength))
     } else if before == 2048 {
         Some(Fault::Limit(LimitWhat::Nodes))
-    } else if known_let(bytes, seen.lets, at) || known_param_arg(bytes, seen.args, at) {
+    } else if known_let(bytes, seen.lets, at)
+        || known_arg(bytes, seen.args, Some(ArgKind::Param), at)
+    {
         None
     } else {
         Some(Fault::Named(NameWhat::Unknown))
@@ -411,7 +352,7 @@ pub fn input_node(bytes: &[u8], seen: Visible, before: usize, at: Span) -> Optio
         Some(Fault::Limit(LimitWhat::NameLength))
     } else if before == 2048 {
         Some(Fault::Limit(LimitWhat::Nodes))
-    } else if known_site_arg(bytes, seen.args, at) {
+    } else if known_arg(bytes, seen.args, Some(ArgKind::Site), at) {
         None
     } else {
         Some(Fault::Named(NameWhat::Unknown))

@@ -11,7 +11,7 @@ ghost use Rattle.ln_parse.specs.Reading.{Reads};
 
 use ln_base::{NoMemory, Span};
 use ln_lex::{Kind, Token};
-use ln_names::resolve::{arg_coords, coord_at, let_place, literal, param_at, site_at};
+use ln_names::resolve::{ArgKind, arg_at, arg_coords, coord_at, let_place, literal};
 use ln_names::spans::number;
 use ln_syntax::items::{is, span_of};
 use ln_syntax::{Places, RawArg, RawItem, RawLet};
@@ -285,7 +285,7 @@ fn name_leaf(s: &Scene, at: Span) -> Expr
         None => Expr {
             at,
             node: Node::Input(Var {
-                arg: or_zero(param_at(s.bytes, s.args, at)),
+                arg: or_zero(arg_at(s.bytes, s.args, Some(ArgKind::Param), at)),
                 coord: 0,
             }),
         },
@@ -301,7 +301,7 @@ fn input_leaf(s: &Scene, at: Span, coord: Span) -> Expr
     Expr {
         at,
         node: Node::Input(Var {
-            arg: or_zero(site_at(s.bytes, s.args, at)),
+            arg: or_zero(arg_at(s.bytes, s.args, Some(ArgKind::Site), at)),
             coord: or_zero(coord_at(s.bytes, coords, coord)),
         }),
     }

@@ -15,9 +15,10 @@ use Rattle.ln_syntax.specs.Expression.{Factors, Terms, Derives, number, name, in
 use Rattle.ln_syntax.specs.Expression.{times, sum, no_term, plus, less}
 use Rattle.ln_parse.specs.Lexemes.{Lexeme, gap, line, word, text_of}
 use Rattle.ln_parse.specs.Canonical.{fits, wrap, inside, whole}
-use Rattle.ln_names.specs.Numbers as names
 use Rattle.std.specs.Fmt.{decimal}
-use Rattle.ln_parse.proofs.Texts.WordTokens.{number_value, number_kind, name_kind}
+use Rattle.ln_base.specs.Decimal.{decimal_value}
+use Rattle.ln_base.proofs.DecimalLemmas.{value_of_text}
+use Rattle.ln_parse.proofs.Texts.WordTokens.{number_kind, name_kind}
 use Rattle.ln_parse.proofs.Texts.LexBack.{soft, undotted, Clear, toks, front, drop_word}
 
 -- the words of the lexemes are the tokens from place i on
@@ -178,7 +179,7 @@ derived bytes ts (WNum t) n i rest h = record {
   end = suc i;
   tree = TNum (span_at ts i);
   derives = number h.0;
-  same = ap (λ (w : List ℕ). WNum (names.decimal 0 w)) h.1 ∙ ap (λ (w : ℕ). WNum w) (number_value t n);
+  same = ap (λ (w : List ℕ). WNum (decimal_value w)) h.1 ∙ ap (λ (w : ℕ). WNum w) (value_of_text t n);
   after = h.2;
 }
 derived bytes ts (WName t) m i rest h =
@@ -236,7 +237,7 @@ derived bytes ts (WPow a n) m i rest h =
       end = suc (suc l.end);
       tree = TPow (span_at ts l.end) l.tree (span_at ts (suc l.end));
       derives = power l.derives l.after.0 q.0;
-      same = rw (l.same, q.1, number_value n m.1) refl;
+      same = rw (l.same, q.1, value_of_text n m.1) refl;
       after = q.2;
     }
 

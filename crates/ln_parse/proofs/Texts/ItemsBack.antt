@@ -21,7 +21,8 @@ use Rattle.ln_parse.specs.Lexemes.{Lexeme, gap, line, word, signed, minus_if, nu
 use Rattle.ln_parse.specs.Written.{Naming, naming, written}
 use Rattle.ln_parse.specs.Canonical.{ranged, coord, site, param, arg, args, lets, root, pred}
 use Rattle.ln_parse.specs.ReadsBack.{Every, CoordNamed, SiteNamed, LetsNamed, PredNamed, ArgWritten, ArgsWritten, LetsWritten, PredWritten, PredsWritten}
-use Rattle.ln_parse.proofs.Texts.WordTokens.{number_value}
+use Rattle.ln_base.specs.Decimal.{decimal_value}
+use Rattle.ln_base.proofs.DecimalLemmas.{value_of_text}
 use Rattle.ln_parse.proofs.Texts.DeriveBack.{Sits, whole_back}
 
 not_below : (n : ℕ) → int_lt (pos n) (pos 0) ≡ false
@@ -50,8 +51,8 @@ end_by bytes ts z false e n i rest h = record {
   to = suc i;
   value = record { negative = false; at = span_at ts i };
   derives = file.plain h.0;
-  says = ap (λ (t : List ℕ). names.signed false (names.decimal 0 t)) h.1
-      ∙ ap (λ (m : ℕ). names.signed false m) (number_value (unsigned_abs z) n) ∙ sign_says z false e;
+  says = ap (λ (t : List ℕ). names.signed false (decimal_value t)) h.1
+      ∙ ap (λ (m : ℕ). names.signed false m) (value_of_text (unsigned_abs z) n) ∙ sign_says z false e;
   after = h.2;
 }
 end_by bytes ts z true e n i rest h =
@@ -60,8 +61,8 @@ end_by bytes ts z true e n i rest h =
       to = suc (suc i);
       value = record { negative = true; at = span_at ts (suc i) };
       derives = file.minus h.0 q.0;
-      says = ap (λ (t : List ℕ). names.signed true (names.decimal 0 t)) q.1
-          ∙ ap (λ (m : ℕ). names.signed true m) (number_value (unsigned_abs z) n) ∙ sign_says z true e;
+      says = ap (λ (t : List ℕ). names.signed true (decimal_value t)) q.1
+          ∙ ap (λ (m : ℕ). names.signed true m) (value_of_text (unsigned_abs z) n) ∙ sign_says z true e;
       after = q.2;
     }
 

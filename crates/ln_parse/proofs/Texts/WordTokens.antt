@@ -1,6 +1,6 @@
 -- Names and numbers as tokens.
-use Rattle.std.proofs.Common.{◌≡◌, ℕ, suc, ◌+◌, ◌-◌, ◌*◌, ◌<◌, ◌≤◌, ◌^◌, ◌||◌, not, Bool, true, false, List, [], ◌∷◌, length, Some}
-use Rattle.std.proofs.Common.{refl, ap, ◌∙◌, arith, pow-suc, codes}
+use Rattle.std.proofs.Common.{◌≡◌, ℕ, ◌<◌, ◌≤◌, ◌^◌, ◌||◌, not, Bool, true, false, List, [], ◌∷◌, length, Some}
+use Rattle.std.proofs.Common.{refl, ap, arith, codes}
 use Rattle.std.specs.Prelude.{bytes_eq, if◌then◌else◌}
 use Rattle.std.specs.Fmt.{decimal}
 use Rattle.std.specs.Str.Parse.{AllDigits}
@@ -9,12 +9,9 @@ use Rattle.std.proofs.lemmas.Str.Parse.{tells_digits}
 use Rattle.std.proofs.lemmas.Bool.{and_parts}
 use Rattle.std.proofs.lemmas.Bool.Decides.{nat_tests}
 use Rattle.ln_base.specs.Words.{is_digit, is_letter, is_name_byte, every, is_name, is_word, is_keyword}
-use Rattle.ln_base.specs.Decimal.{decimal_value}
-use Rattle.ln_base.proofs.DecimalLemmas.{value_of_text}
 use Rattle.ln_lex.specs.declared.token.Kind.{Kind}
 use Rattle.ln_lex.specs.declared.token.Kind.TheVariants.{Name, Number, Site, Param, Predicate, Let, Sign}
 use Rattle.ln_lex.specs.Tokens.{kind_of, word_kind}
-use Rattle.ln_names.specs.Numbers as names
 
 digit : (c : ℕ) → 48 ≤ c → c ≤ 57 → is_digit c ≡ true
 digit c a b = grind (arith, nat_tests)
@@ -33,19 +30,6 @@ numeral_kind (c ∷ cs) l h = let p = tells_digits.parts c cs h in rw (no_letter
 -- the digits of a number are a NUMBER
 pub number_kind : (n : ℕ) → n < 10 ^ 64 → kind_of (decimal n) ≡ Some Number
 number_kind n h = let p = (decimal_is_IsNumeral_wide n h).0 in numeral_kind (decimal n) p.0 p.1
-
-one_more : (n e p v q : ℕ) → q ≡ 10 * p → (10 * n + e) * p + v ≡ n * q + (e * p + v)
-one_more n e p v q h = rw h (omega arith)
-
-running : (n : ℕ) (ds : List ℕ) → names.decimal n ds ≡ n * 10 ^ length ds + decimal_value ds
-running n [] = omega arith
-running n (d ∷ ds) =
-    let q : 10 ^ suc (length ds) ≡ 10 * 10 ^ length ds = omega (arith, pow-suc 10 (length ds)) in
-    running (10 * n + (d - 48)) ds ∙ one_more n (d - 48) (10 ^ length ds) (decimal_value ds) (10 ^ suc (length ds)) q
-
--- the digits of a number say it
-pub number_value : (n : ℕ) → n < 10 ^ 64 → names.decimal 0 (decimal n) ≡ n
-number_value n h = running 0 (decimal n) ∙ let e = value_of_text n h in omega arith
 
 no_keyword : (s p q l g : Bool) → not (s || p || q || l || g) ≡ true
     → (if s then Site else if p then Param else if q then Predicate else if l then Let else if g then Sign else Name) ≡ Name

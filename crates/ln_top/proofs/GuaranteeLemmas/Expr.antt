@@ -202,18 +202,9 @@ module _ (scope : NameScope) (bytes : List ℕ) (ts : List Token) (keys : HasKey
       record { tree = _; derives = sum_less r.derives b.0 c.derives; means = sub r.means c.means }
 
 -- ---- formulas
-one_more : (n e p v q : ℕ) → q ≡ 10 * p → (10 * n + e) * p + v ≡ n * q + (e * p + v)
-one_more n e p v q h = rw h (omega arith)
-
-running : (n : ℕ) (ds : List ℕ) → names.decimal n ds ≡ n * 10 ^ length ds + decimal_value ds
-running n [] = omega arith
-running n (d ∷ ds) =
-    let q : 10 ^ suc (length ds) ≡ 10 * 10 ^ length ds = omega (arith, pow-suc 10 (length ds)) in
-    running (10 * n + (d - 48)) ds ∙ one_more n (d - 48) (10 ^ length ds) (decimal_value ds) (10 ^ suc (length ds)) q
-
 -- the number of a token is the value of its digits
 pub number_is : (bytes : List ℕ) (at : Span) → names.number bytes at ≡ decimal_value (text bytes at)
-number_is bytes at = running 0 (text bytes at) ∙ omega arith
+number_is bytes at = refl
 
 -- names resolve to what the scope has for them
 pub record Linked (scope : NameScope) (bytes : List ℕ) (s : rules.Scope) (vars : List VarInfo) (closed : List algebra.Tree) : Type 0 where

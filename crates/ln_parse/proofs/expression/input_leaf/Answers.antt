@@ -17,7 +17,7 @@ pub returns : goal.returns
 returns c =
     let s = c.args.s.now in
     let a : c.or_zero.result ≡ place (λ a. is_site_arg a && same s.bytes.now a.name c.args.at) s.args.now =
-    c.or_zero.ensures ∙ place_is (λ a. is_site_arg a && same s.bytes.now a.name c.args.at) s.args.now c.site_at.result c.site_at.ensures.place in
+    c.or_zero.ensures ∙ place_is (λ a. is_site_arg a && same s.bytes.now a.name c.args.at) s.args.now c.arg_at.result c.arg_at.ensures.place in
     let b : c.or_zero-2.result
     ≡ place (λ k. same s.bytes.now k.name c.args.coord) (coords_at s.bytes.now (scope (items s.items.now) s.args.now s.lets.now) c.args.at) =
     c.or_zero-2.ensures ∙ place_is (λ k. same s.bytes.now k.name c.args.coord) c.arg_coords-coords.result.now c.coord_at.result c.coord_at.ensures.place

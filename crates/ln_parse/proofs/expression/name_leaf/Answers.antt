@@ -13,5 +13,5 @@ returns-in-Some c =
 pub returns-in-None : goal.returns-in-None
 returns-in-None c =
     let s = c.args.s.now in
-    name_is_param s.bytes.now (scope (items s.items.now) s.args.now s.lets.now) c.args.at c.let_place.result c.param_at.result
-    c.or_zero.result c.let_place.ensures.place c.in-None.is c.param_at.ensures.place c.or_zero.ensures
+    name_is_param s.bytes.now (scope (items s.items.now) s.args.now s.lets.now) c.args.at c.let_place.result c.arg_at.result
+    c.or_zero.result c.let_place.ensures.place c.in-None.is c.arg_at.ensures.place c.or_zero.ensures

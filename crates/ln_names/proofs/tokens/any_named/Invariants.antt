@@ -1,8 +1,0 @@
-use Rattle.std.proofs.Common.{◌≡◌, drop}
-use Rattle.std.specs.List.{list_any}
-use Rattle.ln_syntax.specs.Raw.{item, item_name, same}
-use Rattle.ln_names.proofs.tokens.any_named.Given as goal
-
-abbrev pub invariant-each : goal.invariant-each
-invariant-each l =
-    list_any (λ x. same l.bytes (item_name (item x)) l.at) (drop l.i-index l.before) ≡ list_any (λ x. same l.bytes (item_name (item x)) l.at) l.before

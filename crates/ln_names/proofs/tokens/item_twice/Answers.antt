@@ -1,7 +1,0 @@
-use Rattle.std.proofs.Common.{◌∙◌, sym}
-use Rattle.ln_syntax.specs.Raw.{same, item_name}
-use Rattle.ln_names.proofs.Lists.{any_items}
-use Rattle.ln_names.proofs.tokens.item_twice.Goals as goal
-
-pub returns : goal.returns
-returns c = c.any_named.ensures ∙ sym (any_items (λ i. same c.args.bytes.now (item_name i) c.args.at) c.args.before.now)

@@ -1,7 +1,0 @@
-use Rattle.std.proofs.Common.{◌≡◌, take}
-use Rattle.std.specs.List.{count_by}
-use Rattle.ln_syntax.specs.Raw.{is_pred, items}
-use Rattle.ln_names.proofs.tokens.preds.Given as goal
-
-abbrev pub invariant-each : goal.invariant-each
-invariant-each l = l.n ≡ count_by is_pred (take l.i-index (items l.before))
