@@ -1,7 +1,6 @@
 -- Monomials as numbers.
 pub mod Words
 pub mod Numbers
-pub mod Merges
 pub mod Rows
 pub mod Loops
 pub mod Opened

@@ -5,7 +5,7 @@ pub mod Merging
 pub mod Collected
 pub mod Summing
 pub mod Rising
-pub mod Ends
-pub mod Joining
+pub mod Merges
+pub mod Steps
 pub mod Added
 pub mod Concatenated

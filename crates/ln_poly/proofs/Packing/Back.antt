@@ -6,7 +6,8 @@ use Rattle.std.proofs.lemmas.Int.{ints}
 use Rattle.std.proofs.lemmas.List.Elements.{All-cons, All-head, All-nil, All-tail, All-take}
 use Rattle.ln_algebra.specs.Vector.{same_vector, sum_over}
 use Rattle.ln_tree.specs.Exps.{IsAbove, IsRising, Pairs, exponent, vector}
-use Rattle.ln_poly.specs.Keyed.{AreAllProducts, Has, HaveFactors, IsSumIn, Keyed, passing, row, weight_of}
+use Rattle.ln_poly.specs.Keyed.{AreAllProducts, Has, IsSumIn, Keyed, row}
+use Rattle.ln_poly.specs.Merge.{HaveFactors, passing, weight_of}
 use Rattle.ln_poly.specs.Packed.{ArePackable, keyed, opened, packed, unkeyed}
 use Rattle.ln_poly.specs.Rows.{IsRows, cell_at, row_at}
 use Rattle.ln_poly.specs.Sparse.{IsFactor, IsPoly, Sparse, coefficient_at, part_at, size_of}

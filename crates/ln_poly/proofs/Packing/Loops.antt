@@ -1,120 +1,16 @@
 -- The steps of the loops over terms whose monomials are numbers.
-use Rattle.std.proofs.Common.{◌≡◌, ℕ, ◌+◌, ◌*◌, ◌<◌, ◌≤◌, ◌^◌, zero, suc, [], ◌∷◌, ◌++◌, append_assoc, append-nil, length, get_or, set, ◌-◌, ◌/◌, refl, sym}
-use Rattle.std.proofs.Common.{◌∙◌, ap, arith, subst, take, drop, unsigned_abs, Bool, false, Fits, IsTrue, ◌↔◌, ◌≢◌}
+use Rattle.std.proofs.Common.{◌≡◌, ℕ, ◌+◌, ◌*◌, ◌<◌, ◌≤◌, ◌^◌, zero, suc, [], ◌∷◌, ◌++◌, length, get_or, set, ◌-◌, ◌/◌, sym}
+use Rattle.std.proofs.Common.{◌∙◌, ap, arith, subst, take, drop, unsigned_abs, Fits, ◌≢◌}
 use mir.Syntax.{w64}
-use Rattle.std.proofs.lemmas.Bool.{iff_false}
-use Rattle.std.proofs.Math.IntN.{ℤ, pos, ◌+ℤ◌, ◌*ℤ◌}
+use Rattle.std.proofs.Math.IntN.{ℤ, pos, ◌*ℤ◌}
 use Rattle.std.proofs.Math.Nat.{add-mul, mul-le-mul_left, mul-le-mul_right}
 use Rattle.std.proofs.lemmas.Int.{unsigned_abs-mul}
 use Rattle.std.proofs.lemmas.List.{length-append, length-drop, length-set, length-take-le, map-append, take-append-drop, take_all, take_more, take_more_set}
-use Rattle.ln_poly.specs.Keyed.{AreAllProducts, AreAscending, HaveFactors, IsMerge, Keyed, ProductsFit, both, first, left_over}
-use Rattle.ln_poly.specs.Keyed.{neither, right_over, row, second, weight_of}
+use Rattle.ln_poly.specs.Keyed.{AreAllProducts, AreAscending, IsLower, Keyed, ProductsFit}
+use Rattle.ln_poly.specs.Merge.{HaveFactors, IsMerge, weight_of}
+use Rattle.ln_poly.specs.Keyed.{row}
 use Rattle.std.proofs.lemmas.List.Elements.{All-drop, All-from_recursion, All-take, recursion_from_All}
 use Rattle.ln_poly.proofs.Packing.Rows.{one-row, rows-joined, weight-append}
-use Rattle.ln_poly.proofs.TermLists.Products.{drop-read}
-
--- what is done begins the merge of f and g, whose terms from i and j on remain
-abbrev pub IsMerging : Keyed → Keyed → Keyed → ℕ → ℕ → Type 0
-IsMerging done f g i j = (h : Keyed) → IsMerge (drop i f) (drop j g) h → IsMerge f g (done ++ h)
-
-next-is : (done done' h : Keyed) (x : ℕ × ℤ) → done' ≡ done ++ (x ∷ []) → done ++ (x ∷ h) ≡ done' ++ h
-next-is done done' h x e = sym (append_assoc done (x ∷ []) h) ∙ ap (λ z. z ++ h) (sym e)
-
--- the terms so far, the places and the room
-abbrev pub AreMerging : Keyed → Keyed → Keyed → Keyed → ℕ → ℕ → ℕ → Type 0
-AreMerging old out f g i j k = IsMerging (take k out) f g i j × (length out ≡ length old) × (k ≤ i + j) × (i ≤ length f) × (j ≤ length g)
-
--- a number that isn't below another
-pub not-below : (b : Bool) (x y : ℕ) → IsTrue b ↔ (x < y) → b ≡ false → y ≤ x
-not-below b x y t e = omega (arith, iff_false t e)
-
--- each step, where both lists have terms
-module _ (old out f g : Keyed) (i j k : ℕ) (s t : ℕ × ℤ) (a : s ≡ get_or f i s) (b : t ≡ get_or g j t) (m : AreMerging old out f g i j k)
-    (l : i < length f) (r : j < length g) (room : length f + length g ≤ length old) where
-  from-f : drop i f ≡ s ∷ drop (i + 1) f
-  from-f = drop-read f i s l a
-
-  from-g : drop j g ≡ t ∷ drop (j + 1) g
-  from-g = drop-read g j t r b
-
-  -- what the first terms merge to
-  rebuilt : (h h' : Keyed) → IsMerge (s ∷ drop (i + 1) f) (t ∷ drop (j + 1) g) h' → IsMerge f g (take k out ++ h')
-  rebuilt h h' n = m.0 h' (subst (λ z. IsMerge z (drop j g) h') (sym from-f) (subst (λ z. IsMerge (s ∷ drop (i + 1) f) z h') (sym from-g) n))
-
-  put : (x : ℕ × ℤ) → take (k + 1) (set out k x) ≡ take k out ++ (x ∷ [])
-  put x = take_more_set out k x (omega (arith, m.1, m.2, l, r, room))
-
-  -- the next term is that of f
-  pub merging-first : s.0 < t.0 → AreMerging old (set out k s) f g (i + 1) j (k + 1)
-  merging-first c = (
-    λ h n. subst (IsMerge f g) (next-is (take k out) (take (k + 1) (set out k s)) h s (put s)) (rebuilt h (s ∷ h)
-        (first s t (drop (i + 1) f) (drop (j + 1) g) h c (subst (λ z. IsMerge (drop (i + 1) f) z h) from-g n))),
-    length-set out k s ∙ m.1,
-    omega (arith, m.2),
-    omega (arith, l),
-    m.4,
-  )
-
-  -- the next term is that of g
-  pub merging-second : t.0 < s.0 → AreMerging old (set out k t) f g i (j + 1) (k + 1)
-  merging-second c = (
-    λ h n. subst (IsMerge f g) (next-is (take k out) (take (k + 1) (set out k t)) h t (put t)) (rebuilt h (t ∷ h)
-        (second s t (drop (i + 1) f) (drop (j + 1) g) h c (subst (λ z. IsMerge z (drop (j + 1) g) h) from-f n))),
-    length-set out k t ∙ m.1,
-    omega (arith, m.2),
-    m.3,
-    omega (arith, r),
-  )
-
-  -- it has the sum of both factors
-  pub merging-both : (c : ℤ) → t.0 ≤ s.0 → s.0 ≤ t.0 → c ≡ s.1 +ℤ t.1 → (c ≡ pos 0 → ⊥)
-      → AreMerging old (set out k (s.0, c)) f g (i + 1) (j + 1) (k + 1)
-  merging-both c x y e n = (
-    λ h q. subst (IsMerge f g) (next-is (take k out) (take (k + 1) (set out k (s.0, c))) h (s.0, s.1 +ℤ t.1)
-        (put (s.0, c) ∙ ap (λ z. take k out ++ ((s.0, z) ∷ [])) e)) (rebuilt h ((s.0, s.1 +ℤ t.1) ∷ h)
-        (both s t (drop (i + 1) f) (drop (j + 1) g) h (omega (arith, x, y)) (λ z. n (e ∙ z)) q)),
-    length-set out k (s.0, c) ∙ m.1,
-    omega (arith, m.2),
-    omega (arith, l),
-    omega (arith, r),
-  )
-
-  -- both go
-  pub merging-neither : (c : ℤ) → t.0 ≤ s.0 → s.0 ≤ t.0 → c ≡ s.1 +ℤ t.1 → c ≡ pos 0 → AreMerging old out f g (i + 1) (j + 1) k
-  merging-neither c x y e n = (
-    λ h q. rebuilt h h (neither s t (drop (i + 1) f) (drop (j + 1) g) h (omega (arith, x, y)) (sym e ∙ n) q),
-    m.1,
-    omega (arith, m.2),
-    omega (arith, l),
-    omega (arith, r),
-  )
-
--- the terms of f and g that remain, where one list has come to its end, complete the merge
-pub merging-end : (out done f g : Keyed) (i j : ℕ) → IsMerging done f g i j → (i < length f → j < length g → ⊥) → i ≤ length f → j ≤ length g
-    → out ≡ (done ++ drop i f) ++ drop j g → IsMerge f g out
-merging-end out done f g i j m n l k e = by_case (drop i f) (drop j g) refl refl where
-  by_case : (x y : Keyed) → drop i f ≡ x → drop j g ≡ y → IsMerge f g out
-  by_case [] y p q =
-      let z : out ≡ done ++ y = e ∙ rw (p, q) (ap (λ w. w ++ y) (append-nil done)) in
-      subst (IsMerge f g) (sym z) (m y (rw (p, q) (right_over y)))
-  by_case x [] p q =
-      let z : out ≡ done ++ x = e ∙ rw (p, q) (append-nil (done ++ x)) in
-      subst (IsMerge f g) (sym z) (m x (rw (p, q) (left_over x)))
-  by_case (s ∷ x) (t ∷ y) p q = absurd (n (some f i s x l p) (some g j t y k q)) where
-    some : (f : Keyed) (i : ℕ) (s : ℕ × ℤ) (x : Keyed) → i ≤ length f → drop i f ≡ s ∷ x → i < length f
-    some [] zero s x l p = cc
-    some [] (suc i) s x l p = absurd (omega (arith, l))
-    some (a ∷ f) zero s x l p = omega arith
-    some (a ∷ f) (suc i) s x l p = omega (arith, some f i s x (omega (arith, l)) p)
-
--- what remains of both lists is written
-pub merged-end : (old out out1 out2 f g x y : Keyed) (i j k : ℕ) → AreMerging old out f g i j k → (i < length f → j < length g → ⊥)
-    → x ≡ drop i f → y ≡ drop j g → take (k + length x) out1 ≡ take k out ++ x
-    → take ((k + (length f - i)) + length y) out2 ≡ take (k + (length f - i)) out1 ++ y
-    → IsMerge f g (take ((k + (length f - i)) + (length g - j)) out2)
-merged-end old out out1 out2 f g x y i j k m n e d p q = merging-end (take ((k + (length f - i)) + (length g - j)) out2) (take k out) f g i j m.0 n m.3 m.4
-    (ap (λ z. take ((k + (length f - i)) + z) out2) (sym (ap length d ∙ length-drop j g)) ∙ q ∙ ap (λ z. take (k + (length f - i)) out1 ++ z) d
-    ∙ ap (λ z. z ++ drop j g) (ap (λ z. take (k + z) out1) (sym (ap length e ∙ length-drop i f)) ∙ p ∙ ap (λ z. take k out ++ z) e))
 
 -- ---- sizes
 -- the factor of a term is at most the size
@@ -122,12 +18,6 @@ pub factor-low : (f : Keyed) (i : ℕ) (d : ℕ × ℤ) → i < length f → uns
 factor-low [] i d l = absurd (omega arith)
 factor-low (t ∷ f) zero d l = omega arith
 factor-low (t ∷ f) (suc i) d l = omega (arith, factor-low f i d (omega arith))
-
--- the sum of the factors of two terms has room
-pub factors-room : (f g : Keyed) (i j : ℕ) (s t : ℕ × ℤ) → s ≡ get_or f i s → t ≡ get_or g j t → i < length f → j < length g
-    → weight_of f + weight_of g < 2 ^ 127 → unsigned_abs s.1 + unsigned_abs t.1 < 2 ^ 127
-factors-room f g i j s t a b l k room =
-    omega (arith, factor-low f i s l, factor-low g j t k, ap (λ z. unsigned_abs z.1) a, ap (λ z. unsigned_abs z.1) b, room)
 
 -- a place in a list that has memory is in memory
 pub place-fits : (k n s : ℕ) → k ≤ n → n * s < 2 ^ 63 → Fits w64 (k * s)
@@ -175,7 +65,7 @@ pub sum-room : (a b f f' f'' g : Keyed) → AreAllProducts a f' g → AreAllProd
 sum-room a b f f' f'' g p q e room = omega (arith, p.size, q.size, whole-weight f f' f'' g e, room)
 
 -- the products of both parts, merged
-pub halves-joined : (a b h f f' f'' g : Keyed) → AreAllProducts a f' g → AreAllProducts b f'' g → IsMerge a b h → f ≡ f' ++ f'' → AreAllProducts h f g
+pub halves-joined : (a b h f f' f'' g : Keyed) → AreAllProducts a f' g → AreAllProducts b f'' g → IsMerge IsLower a b h → f ≡ f' ++ f'' → AreAllProducts h f g
 halves-joined a b h f f' f'' g p q m e = subst (λ z. AreAllProducts h z g) (sym e) (rows-joined a b h f' f'' g p q m)
 
 abbrev has_factor : ℕ × ℤ → Type 0

@@ -1,13 +1,14 @@
 -- Products of terms whose monomials are numbers, row by row.
-use Rattle.std.proofs.Common.{◌≡◌, ◌≢◌, ◌⊎◌, inl, inr, ℕ, ◌+◌, ◌*◌, [], ◌∷◌, ◌++◌, refl, ◌∙◌, ap, arith, Bool, unsigned_abs}
+use Rattle.std.proofs.Common.{◌≡◌, ◌≢◌, ◌⊎◌, inl, inr, ℕ, ◌+◌, ◌*◌, [], ◌∷◌, ◌++◌, refl, ◌∙◌, ap, arith, subst, Bool, unsigned_abs}
 use Rattle.std.proofs.Math.IntN.{ℤ, pos, ◌+ℤ◌, ◌*ℤ◌}
 use Rattle.std.proofs.Math.Nat.{add-mul}
 use Rattle.std.proofs.lemmas.Int.{ints, unsigned_abs-mul}
 use Rattle.ln_algebra.specs.Vector.{sum_over}
 use Rattle.ln_algebra.proofs.Expanded.Sums.{sum_over-append}
 use Rattle.ln_algebra.proofs.Ordering.Products.{times-zero}
-use Rattle.ln_poly.specs.Keyed.{AreAllProducts, AreAscending, AreOver, Has, HaveFactors, IsMerge, IsSumIn, Keyed, passing, row, weight_of}
-use Rattle.ln_poly.proofs.Packing.Merges.{merge-ascending, merge-factors, merge-has, merge-passing, merge-weight}
+use Rattle.ln_poly.specs.Keyed.{AreAllProducts, AreAscending, AreOver, Has, IsLower, IsSumIn, Keyed, row}
+use Rattle.ln_poly.specs.Merge.{AllKeys, HaveFactors, IsMerge, passing, weight_of}
+use Rattle.ln_poly.proofs.Sorting.Merges.{merge-factors, merge-in_order, merge-keys, merge-passing, merge-weight}
 
 -- ---- sizes and members of joined lists
 -- the size of a joined list is the sum of both
@@ -25,6 +26,17 @@ has-first (t ∷ f) g k (inr i) = inr (has-first f g k i)
 pub has-second : (f g : Keyed) (k : ℕ) → Has g k → Has (f ++ g) k
 has-second [] g k i = i
 has-second (t ∷ f) g k i = inr (has-second f g k i)
+
+-- what holds of each number of a list, by the numbers that it has
+all-keys : (P : ℕ → Type 0) (f : Keyed) → ((k : ℕ) → Has f k → P k) → AllKeys P f
+all-keys P [] h = tt
+all-keys P (t ∷ f) h = (h t.0 (inl refl), all-keys P f (λ k i. h k (inr i)))
+
+-- it holds of a number that the list has
+key-of : (P : ℕ → Type 0) (f : Keyed) (k : ℕ) → AllKeys P f → Has f k → P k
+key-of P [] k a i = absurd i
+key-of P (t ∷ f) k a (inl e) = subst P e a.0
+key-of P (t ∷ f) k a (inr i) = key-of P f k a.1 i
 
 -- ---- one row
 row-over : (s : ℕ × ℤ) (b : ℕ) (g : Keyed) → AreOver b g → AreOver (s.0 + b) (row s g)
@@ -71,27 +83,28 @@ pub no-row : (g : Keyed) → AreAllProducts [] [] g
 no-row g = record { factors = λ test. refl; size = omega arith; ascending = tt; nonzero = tt; sums = λ k i. absurd i }
 
 -- the products of two lists of terms, merged, are those of both
-pub rows-joined : (a b h f f' g : Keyed) → AreAllProducts a f g → AreAllProducts b f' g → IsMerge a b h → AreAllProducts h (f ++ f') g
+pub rows-joined : (a b h f f' g : Keyed) → AreAllProducts a f g → AreAllProducts b f' g → IsMerge IsLower a b h → AreAllProducts h (f ++ f') g
 rows-joined a b h f f' g p q m = record {
-  factors = λ test. merge-passing test a b h m ∙ both test (p.factors test) (q.factors test);
+  factors = λ test. merge-passing IsLower test a b h m ∙ both test (p.factors test) (q.factors test);
   size = omega (
     arith,
-    merge-weight a b h m,
+    merge-weight IsLower a b h m,
     p.size,
     q.size,
     ap (λ z. z * weight_of g) (weight-append f f'),
     add-mul (weight_of f) (weight_of f') (weight_of g),
   );
-  ascending = merge-ascending a b h m p.ascending q.ascending;
-  nonzero = merge-factors a b h m p.nonzero q.nonzero;
-  sums = λ k i. by_case k (merge-has a b h k m i);
+  ascending = merge-in_order IsLower (λ x y z l r. omega (arith, l, r)) a b h m p.ascending q.ascending;
+  nonzero = merge-factors IsLower a b h m p.nonzero q.nonzero;
+  sums = λ k i. key-of (IsSumIn (f ++ f') g) h k (merge-keys IsLower (IsSumIn (f ++ f') g) a b h m (all-keys (IsSumIn (f ++ f') g) a left)
+      (all-keys (IsSumIn (f ++ f') g) b right)) i;
 } where
   both : (test : ℕ → Bool) → passing test a ≡ sum_over (λ s. passing test (row s g)) f → passing test b ≡ sum_over (λ s. passing test (row s g)) f'
       → passing test a +ℤ passing test b ≡ sum_over (λ s. passing test (row s g)) (f ++ f')
   both test x y = omega (arith, ints, x, y, sum_over-append (λ s. passing test (row s g)) f f')
 
-  by_case : (k : ℕ) → Has a k ⊎ Has b k → IsSumIn (f ++ f') g k
-  by_case k (inl i) = let s : IsSumIn f g k = p.sums k i in
-      record { a = s.a; b = s.b; left = has-first f f' s.a s.left; right = s.right; sum = s.sum }
-  by_case k (inr i) = let s : IsSumIn f' g k = q.sums k i in
-      record { a = s.a; b = s.b; left = has-second f f' s.a s.left; right = s.right; sum = s.sum }
+  left : (k : ℕ) → Has a k → IsSumIn (f ++ f') g k
+  left k i = let s : IsSumIn f g k = p.sums k i in record { a = s.a; b = s.b; left = has-first f f' s.a s.left; right = s.right; sum = s.sum }
+
+  right : (k : ℕ) → Has b k → IsSumIn (f ++ f') g k
+  right k i = let s : IsSumIn f' g k = q.sums k i in record { a = s.a; b = s.b; left = has-second f f' s.a s.left; right = s.right; sum = s.sum }

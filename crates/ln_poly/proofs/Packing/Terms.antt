@@ -11,7 +11,8 @@ use Rattle.std.specs.Ordering.{is_eq, ordering_reverse}
 use Rattle.std.specs.declared.cmp.Ordering.{Ordering}
 use Rattle.ln_tree.specs.Exps.{IsAbove, IsBefore, IsRising, Pairs, exponent, pairs_cmp, pairs_cmp-total, same_pairs-is, same_pairs-ties}
 use Rattle.ln_tree.proofs.Monomials.{is-before}
-use Rattle.ln_poly.specs.Keyed.{AreAscending, AreOver, Has, HaveFactors, IsSumIn, Keyed}
+use Rattle.ln_poly.specs.Keyed.{AreAscending, AreOver, Has, IsSumIn, Keyed}
+use Rattle.ln_poly.specs.Merge.{HaveFactors}
 use Rattle.ln_poly.specs.Lean.{largest}
 use Rattle.ln_poly.specs.Packed.{AreFields, AreSmall, ArePackable, keyed, number, opened, packed, taken, top_of, unkeyed}
 use Rattle.ln_poly.specs.Rows.{PowersFit}

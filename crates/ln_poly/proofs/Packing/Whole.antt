@@ -8,7 +8,8 @@ use Rattle.std.proofs.lemmas.Nat.{pow_pos}
 use Rattle.std.proofs.lemmas.List.{length-drop, length-map, length-take-le, map-append, take-map, take_all, take_at, take_more}
 use Rattle.std.proofs.lemmas.List.Elements.{All-cons, All-nil}
 use Rattle.ln_tree.specs.Exps.{Pairs}
-use Rattle.ln_poly.specs.Keyed.{AreAllProducts, AreAscending, Has, IsGivenUp, IsMerge, Keyed, ProductsFit, weight_of}
+use Rattle.ln_poly.specs.Keyed.{AreAllProducts, AreAscending, Has, IsGivenUp, IsLower, Keyed, ProductsFit}
+use Rattle.ln_poly.specs.Merge.{IsMerge, weight_of}
 use Rattle.ln_poly.specs.Lean.{largest}
 use Rattle.ln_poly.specs.Packed.{AreFields, ArePackable, AreSmall, keyed, opened, packed, taken, top_of, unkeyed, weights}
 use Rattle.ln_poly.specs.Rows.{IsRows, PowersFit}
@@ -224,18 +225,8 @@ size-small f g n e h =
     let l : n ≤ 64 = omega (arith, e, min-le_right (length f) 64) in
     omega (arith, h, mul-le-mul_right (length g) l)
 
--- the products so far and the next ones, merged in memory that is cut off after them
-pub with-next : (done f g e d p m t x y : Keyed) (n k a b : ℕ) → AreAllProducts done e g → AreAllProducts (take n p) f g
-    → IsMerge done (take n d) (take k m) → d ≡ take a (p ++ x) → length p ≡ a → t ≡ take k (take b (m ++ y)) → length m ≡ b → AreAllProducts t (e ++ f) g
-with-next done f g e d p m t x y n k a b u v w q l r h =
-    let i : IsMerge done (take n p) (take k m) = subst (λ z. IsMerge done (take n z) (take k m)) (q ∙ take_at p x a l) w in
-    subst (λ z. AreAllProducts z (e ++ f) g) (sym (r ∙ ap (take k) (take_at m y b h))) (rows-joined done (take n p) (take k m) e f g u v i)
-
--- there is room to merge them
-pub merged-room : (done f g p x d : Keyed) (n a : ℕ) → AreAllProducts (take n p) f g → d ≡ take a (p ++ x) → length p ≡ a
-    → weight_of done + weight_of f * weight_of g < 2 ^ 127 → weight_of done + weight_of (take n d) < 2 ^ 127
-merged-room done f g p x d n a u q l room = omega (arith, ap (λ z. weight_of (take n z)) (q ∙ take_at p x a l), u.size, room)
-
--- what a slice of a whole vector leaves is as long
-pub written-long : (p x : Keyed) (a : ℕ) → length p ≡ a → length (take a (p ++ x)) ≡ length p
-written-long p x a e = ap length (take_at p x a e)
+-- the products so far and the next ones, merged
+pub with-next : (done f g e d p x t : Keyed) (n a : ℕ) → AreAllProducts done e g → AreAllProducts (take n p) f g
+    → IsMerge IsLower done (take n d) t → d ≡ take a (p ++ x) → length p ≡ a → AreAllProducts t (e ++ f) g
+with-next done f g e d p x t n a u v w q l =
+    rows-joined done (take n p) t e f g u v (subst (λ z. IsMerge IsLower done (take n z) t) (q ∙ take_at p x a l) w)

@@ -1,11 +1,13 @@
 -- The steps of the loops over the words of a number.
-use Rattle.std.proofs.Common.{◌≡◌, ◌⊎◌, inl, inr, ℕ, zero, suc, ◌+◌, ◌-◌, ◌*◌, ◌/◌, ◌%◌, ◌<◌, ◌≤◌, ◌^◌, ◌↔◌, All, List, [], ◌∷◌, ◌++◌, length, get_or, set}
-use Rattle.std.proofs.Common.{refl, sym, ◌∙◌, ap, arith, subst, take, drop, replicate, IsTrue}
+use Rattle.std.proofs.Common.{◌≡◌, ◌⊎◌, inl, inr, ℕ, zero, suc, ◌+◌, ◌-◌, ◌*◌, ◌/◌, ◌%◌, ◌<◌, ◌≤◌, ◌^◌, All, List, [], ◌∷◌, ◌++◌, length, get_or, set}
+use Rattle.std.proofs.Common.{refl, sym, ◌∙◌, ap, arith, subst, take, drop, replicate, Less, Equal, Greater}
 use Rattle.std.proofs.Math.Nat.{add-mul-div_left, add-mul-div_right, div-div-eq-div-mul, div-eq_of_lt, div-mul-le_self, mod-eq_of_lt, mul-le-mul_left}
 use Rattle.std.proofs.Math.Nat.{add-mul, mul_assoc, mul_comm, mul_left_comm}
 use Rattle.std.proofs.Math.Nat.{lt_of_mul-lt-mul_right, pow-le-pow_right}
-use Rattle.std.proofs.Math.Dec.{ltb}
-use Rattle.std.proofs.lemmas.Bool.{cases_lt, lt-ltb, ltb-true}
+use Rattle.std.proofs.lemmas.Bool.{cases_lt}
+use Rattle.std.proofs.lemmas.Cmp.{ranked}
+use Rattle.std.specs.Ordering.{MatchOrdering, nat_cmp}
+use Rattle.std.specs.declared.cmp.Ordering.{Ordering}
 use Rattle.std.proofs.lemmas.Nat.{pow-add, pow_pos}
 use Rattle.std.proofs.lemmas.List.{drop_all, get_or-replicate, length-replicate, length-set, length-take-le, take_all, take_more, take_more_set}
 use Rattle.std.proofs.lemmas.List.Elements.{All-get_or, All-head, All-replicate, All-set, All-tail, All-take}
@@ -175,16 +177,16 @@ below-decided n k i ws us p q h e d l =
     value-rises ws us i (omega (arith, p.0, q.0)) p.1 (omega (arith, p.0, e, h))
     (subst (λ z. drop z ws ≡ drop z us) {y = suc i} (omega (arith, e, h)) d) l
 
--- so does its test
-pub below-tested : (n k i x y : ℕ) (ws us : List ℕ) → AreWords n ws → AreWords n us → value ws ≡ x → value us ≡ y → k < n → i ≡ (n - 1) - k
-    → drop (n - k) ws ≡ drop (n - k) us → (get_or ws i 0 ≡ get_or us i 0 → ⊥) → IsTrue (ltb (get_or ws i 0) (get_or us i 0)) ↔ (x < y)
-below-tested n k i x y ws us p q a b h e d o = (
-  λ t. omega (arith, a, b, below-decided n k i ws us p q h e d (ltb-true (get_or ws i 0) (get_or us i 0) t)),
-  λ l. lt-ltb (get_or ws i 0) (get_or us i 0) (by_case l (cases_lt (get_or ws i 0) (get_or us i 0))),
-) where
-  by_case : x < y → (get_or ws i 0 < get_or us i 0) ⊎ (get_or us i 0 ≤ get_or ws i 0) → get_or ws i 0 < get_or us i 0
-  by_case l (inl r) = r
-  by_case l (inr r) = absurd (omega (arith, a, b, l, below-decided n k i us ws q p h e (sym d) (omega (arith, o, r))))
+-- so does its order
+pub order-decided : (n k i x y : ℕ) (ws us : List ℕ) (r : Ordering) → AreWords n ws → AreWords n us → value ws ≡ x → value us ≡ y → k < n → i ≡ (n - 1) - k
+    → drop (n - k) ws ≡ drop (n - k) us → (get_or ws i 0 ≡ get_or us i 0 → ⊥) → r ≡ nat_cmp (get_or ws i 0) (get_or us i 0)
+    → MatchOrdering r (x < y) (x ≡ y) (y < x)
+order-decided n k i x y ws us r p q a b h e d o c = by_case r (ranked (get_or ws i 0) (get_or us i 0) r c) where
+  by_case : (r : Ordering) → MatchOrdering r (get_or ws i 0 < get_or us i 0) (get_or ws i 0 ≡ get_or us i 0) (get_or us i 0 < get_or ws i 0)
+      → MatchOrdering r (x < y) (x ≡ y) (y < x)
+  by_case Less l = omega (arith, a, b, below-decided n k i ws us p q h e d l)
+  by_case Equal l = absurd (o l)
+  by_case Greater l = omega (arith, a, b, below-decided n k i us ws q p h e (sym d) l)
 
 -- ---- fields
 module _ (n shift i s : ℕ) (p : IsPlace n shift) (a : i ≡ shift / 127) (b : s ≡ shift % 127) where

@@ -6,11 +6,10 @@ use Rattle.std.proofs.Math.IntN.{ℤ, ◌+ℤ◌}
 use Rattle.std.proofs.lemmas.Bool.{eqb-true}
 use Rattle.std.proofs.lemmas.List.{get_or_default}
 use Rattle.std.proofs.lemmas.List.Elements.{All-nil, All-push}
-use Rattle.ln_poly.specs.Merge.{AllBefore}
 use Rattle.ln_poly.proofs.Sorting.Rising.{none-sorted, sorted-at, sorted-push}
 use Rattle.ln_tree.specs.Exps.{IsAbove, IsRising, Pairs, pairs_cmp, same_pairs, same_pairs-is}
 use Rattle.ln_poly.specs.Sparse.{AreSorted, Sparse, coefficient_at, exps_of, part_at, size_of}
-use Rattle.ln_poly.specs.Sums.{IsPutIn, IsSpread}
+use Rattle.ln_poly.specs.Sums.{AllBefore, IsPutIn, IsSpread}
 use Rattle.ln_poly.proofs.TermLists.Coefficients.{coefficient_at-more, coefficient_at-nil, coefficient_at-push, size-more, size-next, size-nil, size-push}
 
 -- ---- one term

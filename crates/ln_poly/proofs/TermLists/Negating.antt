@@ -1,6 +1,6 @@
 -- Terms with the other sign.
 use Rattle.std.proofs.Common.{◌≡◌, ℕ, ◌+◌, ◌<◌, ◌≤◌, zero, suc, refl, sym, ◌∙◌, ap, subst, arith, add-one, List, [], ◌∷◌, ◌++◌, length, take}
-use Rattle.std.proofs.Common.{drop, set, get_or, unsigned_abs, ◌^◌, ◌+ℤ◌, ◌-ℤ◌, to_z, of_z, FitsSigned, Bool, true, false, if◌then◌else◌}
+use Rattle.std.proofs.Common.{drop, set, get_or, unsigned_abs, ◌^◌, ◌-ℤ◌, to_z, of_z, FitsSigned, Bool, true, false, if◌then◌else◌}
 use Rattle.std.proofs.Math.IntN.{ℤ, pos, neg_ℤ}
 use Rattle.std.proofs.lemmas.Int.{ints, to_z-of_z}
 use mir.Syntax.{w128}
@@ -121,14 +121,3 @@ pub turned : (z : ℤ) → IsFactor z → to_z w128 (of_z w128 (pos 0 -ℤ to_z 
 turned z f = to_z-of_z w128 (pos 0 -ℤ to_z w128 (of_z w128 z)) (turned-fits z f) ∙ ap (λ y. pos 0 -ℤ y) (to_z-of_z w128 z (fits z f.1)) ∙ minus where
   minus : pos 0 -ℤ z ≡ neg_ℤ z
   minus = omega (arith, ints)
-
--- the sum of two factors
-pub sum-fits : (a b : ℤ) → unsigned_abs a + unsigned_abs b < 2 ^ 127 → FitsSigned w128 (to_z w128 (of_z w128 a) +ℤ to_z w128 (of_z w128 b))
-sum-fits a b h =
-    rw (to_z-of_z w128 a (fits a (omega (arith, h))), to_z-of_z w128 b (fits b (omega (arith, h)))) (fits (a +ℤ b) (omega (arith, ints, h)))
-
--- and it is their sum
-pub sum-taken : (a b : ℤ) → unsigned_abs a + unsigned_abs b < 2 ^ 127
-    → to_z w128 (of_z w128 (to_z w128 (of_z w128 a) +ℤ to_z w128 (of_z w128 b))) ≡ a +ℤ b
-sum-taken a b h = to_z-of_z w128 (to_z w128 (of_z w128 a) +ℤ to_z w128 (of_z w128 b)) (sum-fits a b h)
-    ∙ rw (to_z-of_z w128 a (fits a (omega (arith, h))), to_z-of_z w128 b (fits b (omega (arith, h)))) refl

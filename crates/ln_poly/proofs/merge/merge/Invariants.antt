@@ -1,9 +1,9 @@
-use Rattle.std.proofs.Common.{◌+◌, length, reverse}
-use Rattle.ln_poly.specs.Merge.{IsMerging}
+use Rattle.std.proofs.Common.{length, ◌-◌, ◌+◌}
+use Rattle.ln_poly.proofs.Sorting.Steps.{AreMerging}
 use Rattle.ln_poly.proofs.merge.merge.Given as goal
 
-abbrev pub invariant-terms : goal.invariant-terms
-invariant-terms l = IsMerging l.f.items l.g.items (reverse l.out.items) l.fn.f.items l.fn.g.items
+abbrev pub invariant-both : goal.invariant-both
+invariant-both g l = AreMerging g.K.Ordered.IsBefore l.initial.out l.out l.initial.f l.f l.initial.g l.g l.i l.j l.k
 
-abbrev pub decreases-terms : goal.decreases-terms
-decreases-terms l = length l.f.items + length l.g.items
+abbrev pub decreases-both : goal.decreases-both
+decreases-both g l = (length l.f - l.i) + (length l.g - l.j)

@@ -9,7 +9,7 @@ merge-requires g t c =
     let m = length-take c.products-m.result c.products-m.new.out in
     let e = c.halves-split.ensures in
     let room = sum-room _ _ c.args.f.now _ _ c.args.g.now c.products-n.ensures.products c.products-m.ensures.products e.whole c.requires.fit.room in
-    (search rules, (omega (arith, n, m, c.products-n.ensures.few, c.products-m.ensures.few, c.requires.long, e.split, e.rows), room))
+    record { long = omega (arith, n, m, c.products-n.ensures.few, c.products-m.ensures.few, c.requires.long, e.split, e.rows); room = room }
 
 pub returns-clause-products : goal.returns-clause-products
 returns-clause-products g t c =

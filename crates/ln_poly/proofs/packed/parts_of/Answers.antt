@@ -20,13 +20,13 @@ with_rows-requires g c =
     let fit = part-fit _ c.parts.i c.end_of-j.result _ _ _ c.between.ensures c.requires.fit in
     let further : c.parts.i ≤ c.end_of-j.result = omega (arith, e.further) in
     let room = next-room _ _ _ _ c.parts.i c.end_of-j.result i.products c.between.ensures further c.requires.fit.room in
-    (search rules, (search rules, (long, (aside, (fit, rw c.as_slice.ensures.value room)))))
+    (search rules, (search rules, (long, (aside, (fit, rw c.as_mut_slice.ensures.value room)))))
 
 pub parts-preserved : goal.parts-preserved
 parts-preserved g c =
     let l : c.len.result ≡ length c.in_ok-next.next.items = search rules in
     parts-next _ _ _ _ _ _ _ _ _ _ _ _ _ c.parts.invariant
-    (λ e p. c.in_ok-next.ensures.rows e (subst (λ (z : Keyed). AreAllProducts z e c.args.g.now) (sym c.as_slice.ensures.value) p)) c.between.ensures
+    (λ e p. c.in_ok-next.ensures.rows e (subst (λ (z : Keyed). AreAllProducts z e c.args.g.now) (sym c.as_mut_slice.ensures.value) p)) c.between.ensures
     c.end_of-j.ensures.further c.end_of-j.ensures.within c.in_ok-next.ensures.long c.in_ok-next.ensures.long_aside l
     (iff_false c.are_too_many.ensures c.if-are_too_many.false)
 
@@ -35,7 +35,7 @@ returns-then-are_too_many g c =
     let l : c.len.result ≡ length c.in_ok-next.next.items = search rules in
     let small : c.len.result < 2 ^ 64 = search rules in
     given-up-at _ _ _ _ _ _ _ _ _ c.parts.invariant.products
-    (λ e p. c.in_ok-next.ensures.rows e (subst (λ (z : Keyed). AreAllProducts z e c.args.g.now) (sym c.as_slice.ensures.value) p)) c.between.ensures
+    (λ e p. c.in_ok-next.ensures.rows e (subst (λ (z : Keyed). AreAllProducts z e c.args.g.now) (sym c.as_mut_slice.ensures.value) p)) c.between.ensures
     c.end_of-j.ensures.further l (c.are_too_many.ensures.0 c.if-are_too_many.true) small
 
 pub overflow_sub-f : goal.overflow_sub-f

@@ -3,7 +3,7 @@ use Rattle.std.proofs.lemmas.List.Elements.{All-get_or}
 use Rattle.ln_poly.specs.Packed.{pairs_from}
 use Rattle.ln_poly.specs.Words.{IsPlace}
 use Rattle.ln_poly.proofs.Packing.Fields.{opening-end, opening-small, opening-step}
-use Rattle.ln_poly.proofs.Packing.Loops.{not-below}
+use Rattle.std.proofs.lemmas.Bool.{iff_false}
 use Rattle.ln_poly.proofs.fields.Fields.unpacked.Goals as goal
 use Rattle.ln_poly.proofs.fields.Fields.unpacked.Goals.{then-vars-test+else-is_below, else-vars-test}
 
@@ -31,7 +31,7 @@ pub returns : goal.returns
 returns g c =
     opening-end c.args.self.now.shifts c.args.n c.vars.out c.vars.rest c.vars.v c.vars.invariant
     (elim c.vars-test.branch [
-      | then-vars-test+else-is_below w ↦ λ _ r. omega (arith, r, c.zero-zero.ensures, not-below _ _ _ w.is_below.ensures w.if-is_below.false)
+      | then-vars-test+else-is_below w ↦ λ _ r. omega (arith, r, c.zero-zero.ensures, iff_false w.is_below.ensures w.if-is_below.false)
       | else-vars-test w ↦ λ l _. omega (arith, l, w.vars-test.false)
     ])
     c.args.self.now.long

@@ -1,0 +1,25 @@
+use Rattle.std.proofs.Common.{◌≡◌, ◌≤◌, ap, arith, length, rules, subst, take, ◌∙◌}
+use Rattle.std.proofs.lemmas.List.{take_all}
+use Rattle.std.proofs.lemmas.Result.{IfOk-weaker}
+use Rattle.ln_poly.specs.Merge.{IsMerge, weight_of}
+use Rattle.ln_poly.specs.Sparse.{Precedes, Sparse}
+use Rattle.ln_poly.proofs.Sorting.Added.{size-weight}
+use Rattle.ln_poly.proofs.sums.both.Goals as goal
+
+pub merged-requires : goal.merged-requires
+merged-requires c =
+    let n : length c.args.more.items ≤ c.len-n.result = search rules in
+    let e : take c.len-n.result c.deref_mut-2.result.now ≡ c.args.more.items =
+    ap (take c.len-n.result) c.deref_mut-2.ensures.value ∙ take_all c.len-n.result c.args.more.items n in
+    let first : c.len-n.result ≤ length c.deref_mut-2.result.now = search rules in
+    let f = ap weight_of c.deref_mut.ensures.value in
+    record { first = first; room = omega (arith, c.requires, f, ap weight_of e, size-weight c.args.f.items, size-weight c.args.more.items) }
+
+pub returns : goal.returns
+returns c =
+    let n : length c.args.more.items ≤ c.len-n.result = search rules in
+    let e : take c.len-n.result c.deref_mut-2.result.now ≡ c.args.more.items =
+    ap (take c.len-n.result) c.deref_mut-2.ensures.value ∙ take_all c.len-n.result c.args.more.items n in
+    IfOk-weaker c.merged.result _ _ (λ h m.
+    subst (λ (z : Sparse). IsMerge Precedes z c.args.more.items h.items) c.deref_mut.ensures.value
+    (subst (λ (z : Sparse). IsMerge Precedes c.deref_mut.result.now z h.items) e m)) c.merged.ensures.merge
