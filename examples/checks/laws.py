@@ -1,24 +1,24 @@
-"""What docs/THEOREM.md has to name, and names. Prints what is missing or isn't so, and how many crates and
+"""What docs/MAP.md and docs/THEOREM.md have to name, and name. Prints what is missing or isn't so, and how many crates and
 clauses of `lnc` it looked at. Usage, at the top of the repository: laws.py
 
-- Of each crate whose public functions have contracts there is an entry **CRATE**, which goes to the next entry or heading.
+- Of each crate whose public functions have contracts docs/MAP.md has an entry **CRATE**, which goes to the next entry or heading.
 - The entry of a crate names each of its laws in code font. A law is a public function that takes nothing and returns nothing: its contract is a statement
   alone. Public is what other crates can call.
 - Where an entry has a public function of the crate, a colon and further names, as `call`: `clause`, `other`, these are names of its clauses, up to
   the next semicolon, colon or full stop; what is in brackets explains them.
-- The table of clauses of `lnc` has all of them and no other; and the page names each field of `Keeps`."""
+- The table of clauses of `lnc` in docs/THEOREM.md has all of them and no other; and that page names each field of `Keeps`."""
 import re
 from pathlib import Path
 
 from sources import crates, file_at, functions, is_law, is_tried, public_functions
 
-PAGE = Path("docs/THEOREM.md").read_text()
+MAP, PAGE = Path("docs/MAP.md").read_text(), Path("docs/THEOREM.md").read_text()
 
 
 def entries():
     """For each crate the texts of its entries."""
     found = {}
-    pieces = re.split(r"(?m)^(?=#)|^- (?=\*\*lnc?_)|(?=\*\*ln[a-z_]*\*\*)", PAGE)
+    pieces = re.split(r"(?m)^(?=#)|^- (?=\*\*lnc?_)|(?=\*\*ln[a-z_]*\*\*)", MAP)
     for piece in pieces:
         head = re.match(r"\*\*(lnc?[a-z_]*)\*\*", piece)
         if head:
