@@ -51,7 +51,7 @@ pub record AreAllProducts (out f g : Keyed) : Type 0 where
   pub size : weight_of out ≤ weight_of f * weight_of g
   pub ascending : AreAscending out
   pub nonzero : HaveFactors out
-  pub sums : (k : ℕ) → Has out k → IsSumIn f g k
+  pub sums : AllKeys (IsSumIn f g) out
 
 -- the product of f and g has more than `most` terms: what there is of its first rows has more than those and all products still to come
 pub record IsGivenUp (f g : Keyed) (most : ℕ) : Type 0 where

@@ -1,5 +1,6 @@
 -- Sums of products of terms.
-use Rattle.std.specs.Prelude.{◌≡◌, ℕ, ◌+◌, ◌*◌, ◌≤◌, ◌<◌, ◌+ℤ◌, ◌*ℤ◌, ℤ, pos, All, List, [], ◌∷◌, ◌++◌, take, unsigned_abs, if◌then◌else◌}
+use Rattle.std.specs.Prelude.{◌≡◌, ℕ, ◌+◌, ◌*◌, ◌≤◌, ◌<◌, ◌*ℤ◌, ℤ, pos, All, List, [], ◌∷◌, ◌++◌, take, if◌then◌else◌}
+use Rattle.std.specs.List.{AllZip}
 use Rattle.ln_algebra.specs.Vector.{plus, same_vector, sum_over}
 use Rattle.ln_tree.specs.Exps.{IsAbove, IsRising, Pairs, exponent, vector}
 use Rattle.ln_poly.specs.Sparse.{AreBelow, AreRising, Sparse, coefficient_at, size_of}
@@ -24,18 +25,7 @@ pub record IsProduct (x s t : Pairs × ℤ) : Type 0 where
 
 -- each is the product of s with a term of g, in the order of g
 abbrev pub AreProducts : Pairs × ℤ → Sparse → Sparse → Type 0
-AreProducts s [] [] = Unit {0}
-AreProducts s [] (x ∷ xs) = ⊥
-AreProducts s (t ∷ g) [] = ⊥
-AreProducts s (t ∷ g) (x ∷ xs) = IsProduct x s t × AreProducts s g xs
-
--- out is old with the products of s and the first i terms of g
-pub record IsRow (out old : Sparse) (s : Pairs × ℤ) (g : Sparse) (i : ℕ) : Type 0 where
-  pub coefficients : (n : ℕ) (m : List ℕ) → coefficient_at n out m ≡ coefficient_at n old m +ℤ row_at n m s (take i g)
-  pub size : size_of out ≤ size_of old + unsigned_abs s.1 * size_of (take i g)
-  pub rising : AreRising old → AreRising out
-  pub below : (k : ℕ) → IsAbove s.0 k → AreBelow k g → AreBelow k old → AreBelow k out
-  pub alone : old ≡ [] → AreProducts s (take i g) out
+AreProducts s g out = AllZip (λ t x. IsProduct x s t) g out
 
 -- out has the products of the first i terms of f with those of g
 pub record IsRows (out f g : Sparse) (i : ℕ) : Type 0 where
@@ -46,7 +36,6 @@ pub record IsRows (out f g : Sparse) (i : ℕ) : Type 0 where
 
 -- out is old with the product of s and t appended
 pub record IsProductPut (out old : Sparse) (s t : Pairs × ℤ) : Type 0 where
-  pub exps : Pairs
-  pub put : out ≡ old ++ ((exps, s.1 *ℤ t.1) ∷ [])
-  pub exponents : (v : ℕ) → exponent v exps ≡ exponent v s.0 + exponent v t.0
-  pub rising : IsRising exps
+  pub term : Pairs × ℤ
+  pub put : out ≡ old ++ (term ∷ [])
+  pub product : IsProduct term s t

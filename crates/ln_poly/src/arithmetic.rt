@@ -3,7 +3,7 @@ ghost use Rattle.std.specs.Prelude.{◌≡◌, ℕ, List, [], ◌∷◌, ◌+◌
 ghost use Rattle.std.specs.Prelude.{◌≢◌, pos};
 ghost use Rattle.ln_tree.specs.Exps.{exponent};
 ghost use Rattle.ln_poly.specs.Sparse.{IsFactor, IsPoly, AreBelow, coefficient_at, negated, size_of};
-ghost use Rattle.ln_poly.specs.Rows.{IsProductPut, IsRow, PowersFit};
+ghost use Rattle.ln_poly.specs.Rows.{AreProducts, IsProductPut, PowersFit};
 
 use crate::poly::Poly;
 use crate::sums::sum;
@@ -97,16 +97,17 @@ fn put_product(
     put_times(&mut out[k].0, &s.0, &t.0)
 }
 
-// Appends the products of s with the terms of g.
+// Writes the products of s with the terms of g.
 fn put_row(
     alloc: Global,
     out: &mut Vec<(Exps, i128)>,
     s: &(Exps, i128),
     g: &[(Exps, i128)],
 ) -> Result<(), NoMemory>
-    requires room { size_of out.old.items + unsigned_abs s.now.1 * size_of g.now < 2 ^ 127 }
+    requires empty { out.old.items ≡ [] }
+    requires room { unsigned_abs s.now.1 * size_of g.now < 2 ^ 127 }
     requires powers { PowersFit s.now g.now }
-    ensures { OnOk result (IsRow out.new.items out.old.items s.now g.now (length g.now)) }
+    ensures { OnOk result (AreProducts s.now g.now out.new.items) }
 {
     for t in g {
         put_product(alloc, out, s, t)?;
@@ -120,7 +121,7 @@ pub(crate) fn walk(alloc: Global, s: &(Exps, i128), g: &[(Exps, i128)]) -> Resul
     requires powers { PowersFit s.now g.now }
     requires factor { s.now.1 ≢ pos 0 }
     requires form { IsPoly g.now }
-    ensures row { IfOk result (λ h. IsRow h [] s.now g.now (length g.now)) }
+    ensures row { IfOk result (AreProducts s.now g.now) }
     ensures form { IfOk result IsPoly }
 {
     let mut out = Vec::with_capacity(alloc, g.len())?;

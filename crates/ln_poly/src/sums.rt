@@ -5,8 +5,8 @@ ghost use Rattle.std.specs.List.{AllWithin};
 ghost use Rattle.std.specs.Ordering.{is_lt};
 ghost use Rattle.ln_tree.specs.Exps.{pairs_cmp};
 ghost use Rattle.ln_poly.specs.Merge.{IsMerge};
-ghost use Rattle.ln_poly.specs.Sparse.{AreBelow, AreRising, AreSorted, IsPoly, Precedes, coefficient_at, size_of};
-ghost use Rattle.ln_poly.specs.Sums.{IsPutIn, IsSpread};
+ghost use Rattle.ln_poly.specs.Sparse.{AreBelow, IsPoly, Precedes, coefficient_at, size_of};
+ghost use Rattle.ln_poly.specs.Sums.{IsSpread, Spreads};
 
 use crate::merge::merged;
 use crate::poly::Poly;
@@ -46,7 +46,7 @@ fn put_at(
     t: &(Exps, i128),
 ) -> Result<usize, NoMemory>
     requires { size_of f.old.items + unsigned_abs t.now.1 < 2 ^ 127 }
-    ensures { OnOk result (IsPutIn f.new.items more.new.items f.old.items more.old.items t.now) }
+    ensures { OnOk result (Spreads f.new.items more.new.items f.old.items more.old.items t.now) }
 {
     if stands_at(f.as_slice(), at, t) {
         add_at(f, at, t);
@@ -64,7 +64,7 @@ fn put_in(
     t: &(Exps, i128),
 ) -> Result<usize, NoMemory>
     requires { size_of f.old.items + unsigned_abs t.now.1 < 2 ^ 127 }
-    ensures { OnOk result (IsPutIn f.new.items more.new.items f.old.items more.old.items t.now) }
+    ensures { OnOk result (Spreads f.new.items more.new.items f.old.items more.old.items t.now) }
 {
     if stands_at(f.as_slice(), at, t) {
         add_at(f, at, t);
@@ -81,7 +81,7 @@ fn spread(
     g: &[(Exps, i128)],
 ) -> Result<Vec<(Exps, i128)>, NoMemory>
     requires { size_of f.old.items + size_of g.now < 2 ^ 127 }
-    ensures { IfOk result (λ more. IsSpread f.new.items more.items f.old.items g.now (length g.now)) }
+    ensures { IfOk result (λ more. IsSpread f.old.items g.now f.new.items more.items) }
 {
     let mut more = Vec::new(alloc);
     let mut at = 0;
@@ -100,30 +100,13 @@ fn both(
     requires { size_of f.items + size_of more.items < 2 ^ 127 }
     ensures { IfOk result (λ h. IsMerge Precedes f.items more.items h.items) }
 {
+    if more.is_empty() {
+        return Ok(f);
+    }
     let mut f = f;
     let mut more = more;
     let n = more.len();
     merged(alloc, &mut f, &mut more, n)
-}
-
-// The polynomial of terms in order and of more terms in order.
-fn joined(alloc: Global, f: Vec<(Exps, i128)>, more: Vec<(Exps, i128)>) -> Result<Poly, NoMemory>
-    requires small { size_of f.items + size_of more.items < 2 ^ 127 }
-    requires sorted { AreSorted f.items }
-    requires more_sorted { AreSorted more.items }
-    requires rising { AreRising f.items }
-    requires more_rising { AreRising more.items }
-    ensures coefficients { IfOk result (λ h. (n : ℕ) (m : List ℕ) →
-        coefficient_at n h m ≡ coefficient_at n f.items m +ℤ coefficient_at n more.items m) }
-    ensures size { IfOk result (λ h. size_of h ≤ size_of f.items + size_of more.items) }
-    ensures form { IfOk result IsPoly }
-    ensures below { IfOk result (λ h. (n : ℕ) → AreBelow n f.items → AreBelow n more.items → AreBelow n h) }
-{
-    if more.is_empty() {
-        return Ok(nonzero(f));
-    }
-    let out = both(alloc, f, more)?;
-    Ok(nonzero(out))
 }
 
 /// The sum of two polynomials, in place of the first: only terms with exponents that it doesn't have are copied.
@@ -137,5 +120,6 @@ pub fn sum(alloc: Global, f: Poly, g: &Poly) -> Result<Poly, NoMemory>
 {
     let mut terms = f.into_terms();
     let more = spread(alloc, &mut terms, g.terms())?;
-    joined(alloc, terms, more)
+    let out = both(alloc, terms, more)?;
+    Ok(nonzero(out))
 }

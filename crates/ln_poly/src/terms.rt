@@ -1,7 +1,8 @@
 //! Steps on lists of terms.
 ghost use Rattle.std.specs.Prelude.{◌≡◌, ℕ, List, [], ◌∷◌, ◌++◌, ◌+◌, ◌-◌, ◌<◌, ◌≤◌, ◌^◌};
-ghost use Rattle.std.specs.Prelude.{◌+ℤ◌, OnOk, unsigned_abs, length, slice_index_or};
-ghost use Rattle.ln_poly.specs.Sparse.{AreBelow, AreRising, AreSorted, IsPoly, coefficient_at, exps_of, part_at, size_of};
+ghost use Rattle.std.specs.Prelude.{OnOk, unsigned_abs, length, slice_index_or};
+ghost use Rattle.ln_poly.specs.Sparse.{AreBelow, AreRising, AreSorted, IsPoly, Sparse, coefficient_at, size_of};
+ghost use Rattle.ln_poly.specs.Sums.{Spreads};
 
 use crate::poly::Poly;
 use ln_base::{NoMemory, Seq};
@@ -12,9 +13,7 @@ pub(crate) fn add_at(out: &mut Vec<(Exps, i128)>, at: usize, t: &(Exps, i128))
     requires in_bounds { at < length out.old.items }
     requires same { (slice_index_or out.old.items at t.now).0 ≡ t.now.0 }
     requires room { size_of out.old.items + unsigned_abs t.now.1 < 2 ^ 127 }
-    ensures exps { exps_of out.new.items ≡ exps_of out.old.items }
-    ensures coefficients { (n : ℕ) (m : List ℕ) → coefficient_at n out.new.items m ≡ coefficient_at n out.old.items m +ℤ part_at n t.now m }
-    ensures size { size_of out.new.items ≤ size_of out.old.items + unsigned_abs t.now.1 }
+    ensures { (more : Sparse) → Spreads out.new.items more out.old.items more t.now }
 {
     out[at].1 += t.1;
 }

@@ -7,11 +7,12 @@ use Rattle.std.proofs.lemmas.List.Elements.{All-cons, All-head, All-nil, All-tai
 use Rattle.ln_algebra.specs.Vector.{same_vector, sum_over}
 use Rattle.ln_tree.specs.Exps.{IsAbove, IsRising, Pairs, exponent, vector}
 use Rattle.ln_poly.specs.Keyed.{AreAllProducts, Has, IsSumIn, Keyed, row}
-use Rattle.ln_poly.specs.Merge.{HaveFactors, passing, weight_of}
+use Rattle.ln_poly.specs.Merge.{AllKeys, HaveFactors, passing, weight_of}
 use Rattle.ln_poly.specs.Packed.{ArePackable, keyed, opened, packed, unkeyed}
 use Rattle.ln_poly.specs.Rows.{IsRows, cell_at, row_at}
 use Rattle.ln_poly.specs.Sparse.{IsFactor, IsPoly, Sparse, coefficient_at, part_at, size_of}
 use Rattle.ln_poly.proofs.Packing.Terms.{IsOpened, product-exponent, sum-opened, unkeyed-all, unkeyed-sorted}
+use Rattle.ln_poly.proofs.Sorting.Merges.{keys-weaker}
 use Rattle.ln_poly.proofs.TermLists.Coefficients.{coefficient_at-cons, coefficient_at-nil, size-cons, size-nil, size-take}
 use Rattle.ln_poly.proofs.TermLists.Products.{vector-plus}
 
@@ -74,16 +75,15 @@ part-packable ws left f g i p j d h k e l v = product-exponent ws left f g p j k
 
 -- what is known of each number of a product of the first rows
 pub rows-numbers : (ws : List ℕ) (left : ℕ) (ks : Keyed) (f g : Sparse) (i : ℕ) → ArePackable ws left f g
-    → AreAllProducts ks (keyed ws (take i f)) (keyed ws g) → (k : ℕ) → Has ks k → IsOpened ws f g k
-rows-numbers ws left ks f g i p a k h = sum-opened ws left f g k p (part-sum (a.sums k h)) where
-  has-part : (i : ℕ) (f : Sparse) (b : ℕ) → Has (keyed ws (take i f)) b → Has (keyed ws f) b
-  has-part zero f b j = absurd j
-  has-part (suc i) [] b j = absurd j
-  has-part (suc i) (t ∷ f) b (inl e) = inl e
-  has-part (suc i) (t ∷ f) b (inr j) = inr (has-part i f b j)
-
-  part-sum : IsSumIn (keyed ws (take i f)) (keyed ws g) k → IsSumIn (keyed ws f) (keyed ws g) k
-  part-sum s = record { a = s.a; b = s.b; left = has-part i f s.a s.left; right = s.right; sum = s.sum }
+    → AreAllProducts ks (keyed ws (take i f)) (keyed ws g) → AllKeys (IsOpened ws f g) ks
+rows-numbers ws left ks f g i p a = keys-weaker (IsSumIn (keyed ws (take i f)) (keyed ws g)) (IsOpened ws f g) ks
+    (λ k s. sum-opened ws left f g k p (record { a = s.a; b = s.b; left = has-part i f s.a s.left; right = s.right; sum = s.sum })) a.sums
+  where
+    has-part : (i : ℕ) (f : Sparse) (b : ℕ) → Has (keyed ws (take i f)) b → Has (keyed ws f) b
+    has-part zero f b j = absurd j
+    has-part (suc i) [] b j = absurd j
+    has-part (suc i) (t ∷ f) b (inl e) = inl e
+    has-part (suc i) (t ∷ f) b (inr j) = inr (has-part i f b j)
 
 -- the products of the first rows, as terms
 pub rows-unkeyed : (ws : List ℕ) (left : ℕ) (ks : Keyed) (f g : Sparse) (i : ℕ) → ArePackable ws left f g
@@ -98,8 +98,8 @@ rows-unkeyed ws left ks f g i p a = record {
     ap (λ z. z * weight_of (keyed ws g)) (weight-keyed ws (take i f)),
     ap (λ z. size_of (take i f) * z) (weight-keyed ws g),
   );
-  rising = unkeyed-all IsRising ws ks (λ k h. (rows-numbers ws left ks f g i p a k h).rising);
-  below = λ n x y. unkeyed-all (λ e. IsAbove e n) ws ks (λ k h. (rows-numbers ws left ks f g i p a k h).below n x y);
+  rising = unkeyed-all IsRising (IsOpened ws f g) ws ks (λ k o. o.rising) (rows-numbers ws left ks f g i p a);
+  below = λ n x y. unkeyed-all (λ e. IsAbove e n) (IsOpened ws f g) ws ks (λ k o. o.below n x y) (rows-numbers ws left ks f g i p a);
 }
 
 -- they are a polynomial
@@ -107,7 +107,7 @@ pub rows-poly : (ws : List ℕ) (left : ℕ) (ks : Keyed) (f g : Sparse) (i : �
     → AreAllProducts ks (keyed ws (take i f)) (keyed ws g) → size_of f * size_of g < 2 ^ 127 → IsPoly (unkeyed ws ks)
 rows-poly ws left ks f g i p a room = record {
   sorted = unkeyed-sorted ws left f g ks p (rows-numbers ws left ks f g i p a) a.ascending;
-  rising = unkeyed-all IsRising ws ks (λ k h. (rows-numbers ws left ks f g i p a k h).rising);
+  rising = unkeyed-all IsRising (IsOpened ws f g) ws ks (λ k o. o.rising) (rows-numbers ws left ks f g i p a);
   factors = unkeyed-factors ws ks a.nonzero small;
 } where
   small : weight_of ks < 2 ^ 127

@@ -1,5 +1,5 @@
 -- Products of terms whose monomials are numbers, row by row.
-use Rattle.std.proofs.Common.{◌≡◌, ◌≢◌, ◌⊎◌, inl, inr, ℕ, ◌+◌, ◌*◌, [], ◌∷◌, ◌++◌, refl, ◌∙◌, ap, arith, subst, Bool, unsigned_abs}
+use Rattle.std.proofs.Common.{◌≡◌, ◌≢◌, ◌⊎◌, inl, inr, ℕ, ◌+◌, ◌*◌, [], ◌∷◌, ◌++◌, refl, ◌∙◌, ap, arith, Bool, unsigned_abs}
 use Rattle.std.proofs.Math.IntN.{ℤ, pos, ◌+ℤ◌, ◌*ℤ◌}
 use Rattle.std.proofs.Math.Nat.{add-mul}
 use Rattle.std.proofs.lemmas.Int.{ints, unsigned_abs-mul}
@@ -8,7 +8,7 @@ use Rattle.ln_algebra.proofs.Expanded.Sums.{sum_over-append}
 use Rattle.ln_algebra.proofs.Ordering.Products.{times-zero}
 use Rattle.ln_poly.specs.Keyed.{AreAllProducts, AreAscending, AreOver, Has, IsLower, IsSumIn, Keyed, row}
 use Rattle.ln_poly.specs.Merge.{AllKeys, HaveFactors, IsMerge, passing, weight_of}
-use Rattle.ln_poly.proofs.Sorting.Merges.{merge-factors, merge-in_order, merge-keys, merge-passing, merge-weight}
+use Rattle.ln_poly.proofs.Sorting.Merges.{keys-weaker, merge-factors, merge-in_order, merge-keys, merge-passing, merge-weight}
 
 -- ---- sizes and members of joined lists
 -- the size of a joined list is the sum of both
@@ -26,17 +26,6 @@ has-first (t ∷ f) g k (inr i) = inr (has-first f g k i)
 pub has-second : (f g : Keyed) (k : ℕ) → Has g k → Has (f ++ g) k
 has-second [] g k i = i
 has-second (t ∷ f) g k i = inr (has-second f g k i)
-
--- what holds of each number of a list, by the numbers that it has
-all-keys : (P : ℕ → Type 0) (f : Keyed) → ((k : ℕ) → Has f k → P k) → AllKeys P f
-all-keys P [] h = tt
-all-keys P (t ∷ f) h = (h t.0 (inl refl), all-keys P f (λ k i. h k (inr i)))
-
--- it holds of a number that the list has
-key-of : (P : ℕ → Type 0) (f : Keyed) (k : ℕ) → AllKeys P f → Has f k → P k
-key-of P [] k a i = absurd i
-key-of P (t ∷ f) k a (inl e) = subst P e a.0
-key-of P (t ∷ f) k a (inr i) = key-of P f k a.1 i
 
 -- ---- one row
 row-over : (s : ℕ × ℤ) (b : ℕ) (g : Keyed) → AreOver b g → AreOver (s.0 + b) (row s g)
@@ -62,11 +51,13 @@ row-weight : (s : ℕ × ℤ) (g : Keyed) → weight_of (row s g) ≡ unsigned_a
 row-weight s [] = omega arith
 row-weight s (t ∷ g) = omega (arith, row-weight s g, unsigned_abs-mul s.1 t.1)
 
-row-has : (s : ℕ × ℤ) (g : Keyed) (k : ℕ) → Has (row s g) k → IsSumIn (s ∷ []) g k
-row-has s [] k i = absurd i
-row-has s (t ∷ g) k (inl e) = record { a = s.0; b = t.0; left = inl refl; right = inl refl; sum = e }
-row-has s (t ∷ g) k (inr i) = let h : IsSumIn (s ∷ []) g k = row-has s g k i in
-    record { a = h.a; b = h.b; left = h.left; right = inr h.right; sum = h.sum }
+row-sums : (s : ℕ × ℤ) (g : Keyed) → AllKeys (IsSumIn (s ∷ []) g) (row s g)
+row-sums s [] = tt
+row-sums s (t ∷ g) = (
+  record { a = s.0; b = t.0; left = inl refl; right = inl refl; sum = refl },
+  keys-weaker (IsSumIn (s ∷ []) g) (IsSumIn (s ∷ []) (t ∷ g)) (row s g)
+      (λ k h. record { a = h.a; b = h.b; left = h.left; right = inr h.right; sum = h.sum }) (row-sums s g),
+)
 
 -- a row is all products of its term
 pub one-row : (s : ℕ × ℤ) (g : Keyed) → s.1 ≢ pos 0 → AreAscending g → HaveFactors g → AreAllProducts (row s g) (s ∷ []) g
@@ -75,12 +66,12 @@ one-row s g n a h = record {
   size = omega (arith, row-weight s g);
   ascending = row-ascending s g a;
   nonzero = row-factors s g n h;
-  sums = λ k i. row-has s g k i;
+  sums = row-sums s g;
 }
 
 -- of no term there is no product
 pub no-row : (g : Keyed) → AreAllProducts [] [] g
-no-row g = record { factors = λ test. refl; size = omega arith; ascending = tt; nonzero = tt; sums = λ k i. absurd i }
+no-row g = record { factors = λ test. refl; size = omega arith; ascending = tt; nonzero = tt; sums = tt }
 
 -- the products of two lists of terms, merged, are those of both
 pub rows-joined : (a b h f f' g : Keyed) → AreAllProducts a f g → AreAllProducts b f' g → IsMerge IsLower a b h → AreAllProducts h (f ++ f') g
@@ -96,15 +87,15 @@ rows-joined a b h f f' g p q m = record {
   );
   ascending = merge-in_order IsLower (λ x y z l r. omega (arith, l, r)) a b h m p.ascending q.ascending;
   nonzero = merge-factors IsLower a b h m p.nonzero q.nonzero;
-  sums = λ k i. key-of (IsSumIn (f ++ f') g) h k (merge-keys IsLower (IsSumIn (f ++ f') g) a b h m (all-keys (IsSumIn (f ++ f') g) a left)
-      (all-keys (IsSumIn (f ++ f') g) b right)) i;
+  sums = merge-keys IsLower (IsSumIn (f ++ f') g) a b h m (keys-weaker (IsSumIn f g) (IsSumIn (f ++ f') g) a left p.sums)
+      (keys-weaker (IsSumIn f' g) (IsSumIn (f ++ f') g) b right q.sums);
 } where
   both : (test : ℕ → Bool) → passing test a ≡ sum_over (λ s. passing test (row s g)) f → passing test b ≡ sum_over (λ s. passing test (row s g)) f'
       → passing test a +ℤ passing test b ≡ sum_over (λ s. passing test (row s g)) (f ++ f')
   both test x y = omega (arith, ints, x, y, sum_over-append (λ s. passing test (row s g)) f f')
 
-  left : (k : ℕ) → Has a k → IsSumIn (f ++ f') g k
-  left k i = let s : IsSumIn f g k = p.sums k i in record { a = s.a; b = s.b; left = has-first f f' s.a s.left; right = s.right; sum = s.sum }
+  left : (k : ℕ) → IsSumIn f g k → IsSumIn (f ++ f') g k
+  left k s = record { a = s.a; b = s.b; left = has-first f f' s.a s.left; right = s.right; sum = s.sum }
 
-  right : (k : ℕ) → Has b k → IsSumIn (f ++ f') g k
-  right k i = let s : IsSumIn f' g k = q.sums k i in record { a = s.a; b = s.b; left = has-second f f' s.a s.left; right = s.right; sum = s.sum }
+  right : (k : ℕ) → IsSumIn f' g k → IsSumIn (f ++ f') g k
+  right k s = record { a = s.a; b = s.b; left = has-second f f' s.a s.left; right = s.right; sum = s.sum }

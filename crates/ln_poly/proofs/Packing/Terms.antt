@@ -12,7 +12,7 @@ use Rattle.std.specs.declared.cmp.Ordering.{Ordering}
 use Rattle.ln_tree.specs.Exps.{IsAbove, IsBefore, IsRising, Pairs, exponent, pairs_cmp, pairs_cmp-total, same_pairs-is, same_pairs-ties}
 use Rattle.ln_tree.proofs.Monomials.{is-before}
 use Rattle.ln_poly.specs.Keyed.{AreAscending, AreOver, Has, IsSumIn, Keyed}
-use Rattle.ln_poly.specs.Merge.{HaveFactors}
+use Rattle.ln_poly.specs.Merge.{AllKeys, HaveFactors}
 use Rattle.ln_poly.specs.Lean.{largest}
 use Rattle.ln_poly.specs.Packed.{AreFields, AreSmall, ArePackable, keyed, number, opened, packed, taken, top_of, unkeyed}
 use Rattle.ln_poly.specs.Rows.{PowersFit}
@@ -160,26 +160,23 @@ opened-less ws left f g k l p x y h = by_case (pairs_cmp (opened ws k) (opened w
       ))
 
 -- ---- lists of numbers
--- each term of the monomials of numbers is as all those numbers are
-pub unkeyed-all : (P : Pairs → Type 0) (ws : List ℕ) (ks : Keyed) → ((k : ℕ) → Has ks k → P (opened ws k)) → All (λ t. P t.0) (unkeyed ws ks)
-unkeyed-all P ws [] h = All-nil (λ t. P t.0)
-unkeyed-all P ws (t ∷ ks) h = All-cons (λ z. P z.0) (opened ws t.0, t.1) (unkeyed ws ks) (h t.0 (inl refl)) (unkeyed-all P ws ks (λ k i. h k (inr i)))
+-- what holds of each number is known of each monomial
+pub unkeyed-all : (P : Pairs → Type 0) (Q : ℕ → Type 0) (ws : List ℕ) (ks : Keyed) → ((k : ℕ) → Q k → P (opened ws k)) → AllKeys Q ks
+    → All (λ t. P t.0) (unkeyed ws ks)
+unkeyed-all P Q ws [] w h = All-nil (λ t. P t.0)
+unkeyed-all P Q ws (t ∷ ks) w h = All-cons (λ z. P z.0) (opened ws t.0, t.1) (unkeyed ws ks) (w t.0 h.0) (unkeyed-all P Q ws ks w h.1)
 
-before-all : (ws : List ℕ) (left : ℕ) (f g : Sparse) (k : ℕ) (ks : Keyed) → ArePackable ws left f g → IsOpened ws f g k
-    → ((l : ℕ) → Has ks l → IsOpened ws f g l) → AreOver k ks → AllByRecursion (λ (y : Pairs × ℤ). pairs_cmp (opened ws k) y.0 ≡ Less) (unkeyed ws ks)
+before-all : (ws : List ℕ) (left : ℕ) (f g : Sparse) (k : ℕ) (ks : Keyed) → ArePackable ws left f g → IsOpened ws f g k → AllKeys (IsOpened ws f g) ks
+    → AreOver k ks → AllByRecursion (λ (y : Pairs × ℤ). pairs_cmp (opened ws k) y.0 ≡ Less) (unkeyed ws ks)
 before-all ws left f g k [] p x h o = tt
-before-all ws left f g k (t ∷ ks) p x h o =
-    (opened-less ws left f g k t.0 p x (h t.0 (inl refl)) o.0, before-all ws left f g k ks p x (λ l i. h l (inr i)) o.1)
+before-all ws left f g k (t ∷ ks) p x h o = (opened-less ws left f g k t.0 p x h.0 o.0, before-all ws left f g k ks p x h.1 o.1)
 
 -- rising numbers are of sorted terms
-pub unkeyed-sorted : (ws : List ℕ) (left : ℕ) (f g : Sparse) (ks : Keyed) → ArePackable ws left f g → ((l : ℕ) → Has ks l → IsOpened ws f g l)
+pub unkeyed-sorted : (ws : List ℕ) (left : ℕ) (f g : Sparse) (ks : Keyed) → ArePackable ws left f g → AllKeys (IsOpened ws f g) ks
     → AreAscending ks → AreSorted (unkeyed ws ks)
 unfolding IsStrictlySortedBy
 unkeyed-sorted ws left f g [] p h a = tt
-unkeyed-sorted ws left f g (t ∷ ks) p h a = (
-  before-all ws left f g t.0 ks p (h t.0 (inl refl)) (λ l i. h l (inr i)) a.0,
-  unkeyed-sorted ws left f g ks p (λ l i. h l (inr i)) a.1,
-)
+unkeyed-sorted ws left f g (t ∷ ks) p h a = (before-all ws left f g t.0 ks p h.0 h.1 a.0, unkeyed-sorted ws left f g ks p h.1 a.1)
 
 -- ---- numbers of a list of terms
 keyed-over : (top : ℕ → ℕ) (left : ℕ) (ws : List ℕ) (e : Pairs) (f : Sparse) → AreFields top left 0 ws → IsRising e → ((v : ℕ) → exponent v e ≤ top v)

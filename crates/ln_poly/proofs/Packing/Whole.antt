@@ -1,14 +1,14 @@
 -- The product of two polynomials by their numbers.
-use Rattle.std.proofs.Common.{◌≡◌, inl, inr, ℕ, ◌+◌, ◌-◌, ◌*◌, ◌/◌, ◌<◌, ◌≤◌, ◌^◌, zero, suc, List, [], ◌∷◌}
+use Rattle.std.proofs.Common.{◌≡◌, ℕ, ◌+◌, ◌-◌, ◌*◌, ◌/◌, ◌<◌, ◌≤◌, ◌^◌, zero, suc, List, [], ◌∷◌}
 use Rattle.std.proofs.Common.{◌++◌, length, get_or, take, drop, refl, sym, ◌∙◌, ap}
 use Rattle.std.proofs.Common.{arith, subst, All, min}
 use Rattle.std.proofs.Math.Nat.{add-mul, min-le_right, mul-le-mul_right}
 use Rattle.std.proofs.Math.IntN.{ℤ}
 use Rattle.std.proofs.lemmas.Nat.{pow_pos}
 use Rattle.std.proofs.lemmas.List.{length-drop, length-map, length-take-le, map-append, take-map, take_all, take_at, take_more}
-use Rattle.std.proofs.lemmas.List.Elements.{All-cons, All-nil}
+use Rattle.std.proofs.lemmas.List.Elements.{All-from_recursion}
 use Rattle.ln_tree.specs.Exps.{Pairs}
-use Rattle.ln_poly.specs.Keyed.{AreAllProducts, AreAscending, Has, IsGivenUp, IsLower, Keyed, ProductsFit}
+use Rattle.ln_poly.specs.Keyed.{AreAllProducts, AreAscending, IsGivenUp, IsLower, Keyed, ProductsFit}
 use Rattle.ln_poly.specs.Merge.{IsMerge, weight_of}
 use Rattle.ln_poly.specs.Lean.{largest}
 use Rattle.ln_poly.specs.Packed.{AreFields, ArePackable, AreSmall, keyed, opened, packed, taken, top_of, unkeyed, weights}
@@ -19,7 +19,8 @@ use Rattle.ln_poly.specs.Words.{IsPlace, half}
 use Rattle.ln_poly.proofs.Packing.Back.{rows-numbers, rows-poly, rows-unkeyed, weight-keyed}
 use Rattle.ln_poly.proofs.Packing.Fields.{fields-same, weights-length}
 use Rattle.ln_poly.proofs.Packing.Rows.{no-row, rows-joined, weight-append}
-use Rattle.ln_poly.proofs.Packing.Terms.{keyed-ascending, keyed-factors, keyed-low, largest-both, left-up-to, right-up-to}
+use Rattle.ln_poly.proofs.Packing.Terms.{IsOpened, keyed-ascending, keyed-factors, keyed-low, largest-both, left-up-to, right-up-to}
+use Rattle.ln_poly.proofs.Sorting.Merges.{keys-weaker}
 use Rattle.ln_poly.proofs.TermLists.Bounded.{take-take, takes-more}
 
 -- ---- what there is to pack
@@ -91,10 +92,8 @@ module _ (n : ℕ) (ws : List ℕ) (f g : Sparse) (p : ArePackable ws (half n) f
 
   -- the numbers of a product are those of monomials
   pub product-small : (h : Keyed) → AreAllProducts h (keyed ws f) (keyed ws g) → All (λ t. AreSmall (taken ws t.0)) h
-  product-small h a = each h (λ k i. (rows-numbers ws (half n) h f g (length f) p (all-rows h a) k i).small) where
-    each : (ks : Keyed) → ((k : ℕ) → Has ks k → AreSmall (taken ws k)) → All (λ t. AreSmall (taken ws t.0)) ks
-    each [] m = All-nil (λ t. AreSmall (taken ws t.0))
-    each (t ∷ ks) m = All-cons (λ z. AreSmall (taken ws z.0)) t ks (m t.0 (inl refl)) (each ks (λ k i. m k (inr i)))
+  product-small h a = All-from_recursion (λ (t : ℕ × ℤ). AreSmall (taken ws t.0)) h
+      (keys-weaker (IsOpened ws f g) (λ k. AreSmall (taken ws k)) h (λ k o. o.small) (rows-numbers ws (half n) h f g (length f) p (all-rows h a)))
 
   -- the terms of a product
   pub product-rows : (h : Keyed) → AreAllProducts h (keyed ws f) (keyed ws g) → IsRows (unkeyed ws h) f g (length f)

@@ -1,5 +1,5 @@
 -- Terms sorted, with like ones collected and zeros left out.
-use Rattle.std.proofs.Common.{◌≡◌, ℕ, ◌<◌, ◌≤◌, ◌^◌, ◌≢◌, zero, suc, refl, sym, ap, subst, arith, List, [], ◌∷◌, set, get_or, Bool, true, false, cond, not}
+use Rattle.std.proofs.Common.{◌≡◌, ℕ, ◌<◌, ◌≤◌, ◌^◌, ◌≢◌, zero, suc, refl, sym, ap, subst, arith, List, [], ◌∷◌, get_or, Bool, true, false, cond, not}
 use Rattle.std.proofs.lemmas.Int.{ints}
 use Rattle.std.proofs.Math.IntN.{ℤ, pos}
 use Rattle.std.proofs.lemmas.List.{get_or-map, length-map}
@@ -13,13 +13,14 @@ use Rattle.std.proofs.lemmas.List.Elements.{All-cons, All-filter, All-nil}
 use Rattle.std.proofs.lemmas.List.Kept.{IsStrictlySortedBy-filter}
 use Rattle.ln_tree.specs.Exps.{Pairs, IsRising, pairs_cmp}
 use Rattle.ln_poly.specs.Sparse.{AreRising, AreSorted, IsFactor, IsPoly, Sparse, coefficient_at, exps_of, part_at, size_of}
+use Rattle.ln_poly.specs.Sums.{added_at}
 use Rattle.ln_poly.proofs.TermLists.Coefficients.{coefficient_at-cons, part-zero, size-cons}
 
--- a factor is set, the exponents stay
-pub exps-set : (xs : Sparse) (i : ℕ) (e : Pairs) (a c : ℤ) → (e, a) ≡ get_or xs i (e, a) → exps_of (set xs i (e, c)) ≡ exps_of xs
-exps-set [] i e a c h = refl
-exps-set (x ∷ xs) zero e a c h = ap (λ z. z ∷ exps_of xs) (ap (λ (t : Pairs × ℤ). t.0) h)
-exps-set (x ∷ xs) (suc i) e a c h = ap (λ z. x.0 ∷ z) (exps-set xs i e a c h)
+-- a factor is added, the exponents stay
+pub exps-added : (xs : Sparse) (i : ℕ) (t : Pairs × ℤ) → exps_of (added_at xs i t) ≡ exps_of xs
+exps-added [] i t = refl
+exps-added (x ∷ xs) zero t = refl
+exps-added (x ∷ xs) (suc i) t = ap (λ z. x.0 ∷ z) (exps-added xs i t)
 
 -- ---- zeros
 -- the test of equality of integers

@@ -5,6 +5,11 @@ use Rattle.std.proofs.lemmas.Int.{ints}
 use Rattle.ln_algebra.proofs.Expanded.Normal.{zero_cases}
 use Rattle.ln_poly.specs.Merge.{AllKeys, AreInOrder, HaveFactors, IsMerge, both, first, left_over, neither, passing, right_over, second, weight_of}
 
+-- what holds of each key, weaker
+pub keys-weaker : {K : Type 0} (P Q : K → Type 0) (f : List (K × ℤ)) → ((k : K) → P k → Q k) → AllKeys P f → AllKeys Q f
+keys-weaker P Q [] w h = tt
+keys-weaker P Q (t ∷ f) w h = (w t.0 h.0, keys-weaker P Q f w h.1)
+
 module _ {K : Type 0} (Before : K → K → Type 0) where
   -- what one term adds
   abbrev part : (K → Bool) → K × ℤ → ℤ
@@ -66,8 +71,7 @@ module _ {K : Type 0} (Before : K → K → Type 0) where
   -- where the order is transitive, the keys are in order
   module _ (trans : (a b c : K) → Before a b → Before b c → Before a c) where
     after-lower : (a b : K) (f : List (K × ℤ)) → Before a b → AllKeys (Before b) f → AllKeys (Before a) f
-    after-lower a b [] l o = tt
-    after-lower a b (t ∷ f) l o = (trans a b t.0 l o.0, after-lower a b f l o.1)
+    after-lower a b f l o = keys-weaker (Before b) (Before a) f (λ c k. trans a b c l k) o
 
     pub merge-in_order : (f g h : List (K × ℤ)) → IsMerge Before f g h → AreInOrder Before f → AreInOrder Before g → AreInOrder Before h
     merge-in_order _ _ _ (left_over f) a b = a

@@ -1,6 +1,6 @@
 -- Terms in order, and one more after them.
-use Rattle.std.proofs.Common.{◌≡◌, ℕ, ◌<◌, zero, suc, arith, All, [], ◌∷◌, ◌++◌, length, get_or, Less}
-use Rattle.std.proofs.lemmas.List.Elements.{All-from_recursion, All-head, All-tail}
+use Rattle.std.proofs.Common.{◌≡◌, ℕ, ◌<◌, zero, suc, arith, All, [], ◌∷◌, ◌++◌, length, get_or, Less, Some, refl}
+use Rattle.std.proofs.lemmas.List.Elements.{All-cons, All-from_recursion, All-head, All-nil, All-pop, All-tail, recursion_from_All}
 use Rattle.std.proofs.Math.IntN.{ℤ}
 use Rattle.std.specs.List.{AllByRecursion}
 use Rattle.std.specs.List.Sorted.{IsStrictlySortedBy}
@@ -27,6 +27,17 @@ sorted-push (y ∷ xs) x s a = (
   before-push y.0 xs x s.0 (All-head (λ (z : Pairs × ℤ). pairs_cmp z.0 x.0 ≡ Less) y xs a),
   sorted-push xs x s.1 (All-tail (λ (z : Pairs × ℤ). pairs_cmp z.0 x.0 ≡ Less) y xs a),
 )
+
+-- a term after which there is none
+pub sorted-pop : (xs : Sparse) (x : Pairs × ℤ) → IsStrictlySortedBy (on (λ (t : Pairs × ℤ). t.0) pairs_cmp) (xs ++ (x ∷ []))
+    → IsStrictlySortedBy (on (λ (t : Pairs × ℤ). t.0) pairs_cmp) xs × All (λ (y : Pairs × ℤ). pairs_cmp y.0 x.0 ≡ Less) xs
+unfolding IsStrictlySortedBy
+sorted-pop [] x s = (tt, All-nil (λ (y : Pairs × ℤ). pairs_cmp y.0 x.0 ≡ Less))
+sorted-pop (y ∷ xs) x s =
+    let P : Pairs × ℤ → Type 0 = λ z. pairs_cmp y.0 z.0 ≡ Less in
+    let first = All-pop P (xs ++ (x ∷ [])) xs (Some x) refl (All-from_recursion P (xs ++ (x ∷ [])) s.0) in
+    let rest = sorted-pop xs x s.1 in
+    ((recursion_from_All P xs first.0, rest.0), All-cons (λ (z : Pairs × ℤ). pairs_cmp z.0 x.0 ≡ Less) y xs first.1 rest.1)
 
 -- each is before those after it
 first-before : (e : Pairs) (xs : Sparse) (i : ℕ) (d : Pairs × ℤ) → i < length xs

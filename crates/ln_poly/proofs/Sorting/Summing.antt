@@ -1,97 +1,106 @@
 -- A sum in place of the first polynomial.
-use Rattle.std.proofs.Common.{◌≡◌, ℕ, ◌+◌, ◌<◌, ◌≤◌, refl, sym, ◌∙◌, ap, subst, arith, List, [], ◌∷◌, ◌++◌, length, get_or, unsigned_abs}
-use Rattle.std.proofs.Common.{Bool, true, eqb, Less, ◌⊎◌, inl, inr}
+use Rattle.std.proofs.Common.{◌≡◌, ℕ, ◌+◌, ◌<◌, ◌≤◌, refl, sym, ◌∙◌, ap, subst, arith, List, [], ◌∷◌, ◌++◌, length, get_or, set, take, unsigned_abs}
+use Rattle.std.proofs.Common.{All, Bool, true, eqb, Some}
 use Rattle.std.proofs.lemmas.Int.{ints}
 use Rattle.std.proofs.Math.IntN.{ℤ, ◌+ℤ◌}
 use Rattle.std.proofs.lemmas.Bool.{eqb-true}
-use Rattle.std.proofs.lemmas.List.{get_or_default}
-use Rattle.std.proofs.lemmas.List.Elements.{All-nil, All-push}
-use Rattle.ln_poly.proofs.Sorting.Rising.{none-sorted, sorted-at, sorted-push}
-use Rattle.ln_tree.specs.Exps.{IsAbove, IsRising, Pairs, pairs_cmp, same_pairs, same_pairs-is}
-use Rattle.ln_poly.specs.Sparse.{AreSorted, Sparse, coefficient_at, exps_of, part_at, size_of}
-use Rattle.ln_poly.specs.Sums.{AllBefore, IsPutIn, IsSpread}
-use Rattle.ln_poly.proofs.TermLists.Coefficients.{coefficient_at-more, coefficient_at-nil, coefficient_at-push, size-more, size-next, size-nil, size-push}
+use Rattle.std.proofs.lemmas.List.{get_or_default, take_all, take_more}
+use Rattle.std.proofs.lemmas.List.Elements.{All-pop, All-push}
+use Rattle.ln_tree.specs.Exps.{Pairs, same_pairs, same_pairs-is}
+use Rattle.ln_poly.specs.Merge.{IsMerge}
+use Rattle.ln_poly.specs.Sparse.{AreSorted, Precedes, Sparse, coefficient_at, exps_of, size_of}
+use Rattle.ln_poly.specs.Sums.{IsSpread, Spreads, added, added_at, begun, missed}
+use Rattle.ln_poly.proofs.Sorting.Added.{merged-all, merged-coefficient, merged-size, merged-sorted}
+use Rattle.ln_poly.proofs.Sorting.Gathering.{exps-added, same-all, same-sorted}
+use Rattle.ln_poly.proofs.Sorting.Rising.{sorted-pop, sorted-push}
+use Rattle.ln_poly.proofs.TermLists.Coefficients.{coefficient-added, coefficient_at-push, size-added, size-next, size-push}
 
 -- ---- one term
 -- where the test finds the exponents of t at place i, the term there has them
 pub stands-same : (xs : Sparse) (i : ℕ) (x t : Pairs × ℤ) (b : Bool) → i < length xs → b ≡ same_pairs (get_or xs i x).0 t.0 → b ≡ true → (get_or xs i t).0 ≡ t.0
 stands-same xs i x t b h s r = sym (ap (λ (z : Pairs × ℤ). z.0) (get_or_default xs i x t h)) ∙ same_pairs-is (get_or xs i x).0 t.0 (sym s ∙ r)
 
--- the result of `put_at` and `put_in` where the term was added to one of f with its exponents
-pub put_in-added : (f' f more : Sparse) (t : Pairs × ℤ) → exps_of f' ≡ exps_of f
-    → ((n : ℕ) (m : List ℕ) → coefficient_at n f' m ≡ coefficient_at n f m +ℤ part_at n t m) → size_of f' ≤ size_of f + unsigned_abs t.1
-    → IsPutIn f' more f more t
-put_in-added f' f more t e a s = record {
-  exps = e;
-  coefficients = λ n m. omega (arith, ints, a n m);
-  size = omega (arith, s);
-  rising = λ _ h. h;
-  below = λ k _ h. h;
-  put = inl refl;
-}
-
--- the result of `put_at` where the term was appended to the others
-pub put_in-pushed : (f more : Sparse) (t : Pairs × ℤ) → IsPutIn f (more ++ (t ∷ [])) f more t
-put_in-pushed f more t = record {
-  exps = refl;
-  coefficients = λ n m. omega (arith, ints, coefficient_at-push n m more t);
-  size = omega (arith, size-push more t);
-  rising = λ a h. All-push (λ z. IsRising z.0) more t h a;
-  below = λ k a h. All-push (λ z. IsAbove z.0 k) more t h a;
-  put = inr refl;
-}
+-- a term that was read is set with another factor
+pub set-added : (xs : Sparse) (i : ℕ) (x t : Pairs × ℤ) (c : ℤ) → i < length xs → x ≡ get_or xs i x → c ≡ x.1 +ℤ t.1 → set xs i (x.0, c) ≡ added_at xs i t
+set-added xs i x t c h e f = ap (λ z. set xs i (x.0, z)) f ∙ ap (λ (y : Pairs × ℤ). set xs i (y.0, y.1 +ℤ t.1)) (e ∙ get_or_default xs i x t h)
 
 -- ---- all terms
--- the loop in `spread` begins with no term added
-pub spread-init : (f g : Sparse) → IsSpread f [] f g 0
-spread-init f g = record {
-  exps = refl;
-  coefficients = λ n m. omega (arith, ints, coefficient_at-nil n m);
-  size = omega (arith, size-nil);
-  rising = λ _. All-nil (λ z. IsRising z.0);
-  below = λ k _. All-nil (λ z. IsAbove z.0 k);
-  sorted = λ _. none-sorted;
-  before = λ e _. All-nil (λ y. pairs_cmp y.0 e ≡ Less);
-}
+module _ (old : Sparse) where
+  -- the exponents of the first stay
+  spread-exps : (g f more : Sparse) → IsSpread old g f more → exps_of f ≡ exps_of old
+  spread-exps _ _ _ begun = refl
+  spread-exps _ _ _ (added g f more t i l e s) = exps-added f i t ∙ spread-exps g f more s
+  spread-exps _ _ _ (missed g f more t s) = spread-exps g f more s
 
--- in `spread` there is room to add the next term
-pub spread-room : (f more old g : Sparse) (i : ℕ) (t : Pairs × ℤ) (k : ℕ) → IsSpread f more old g i → i < length g → t ≡ get_or g i t
-    → size_of old + size_of g < k → size_of f + unsigned_abs t.1 < k
-spread-room f more old g i t k r h e room = omega (arith, r.size, size-next g i t h e, room)
+  -- the coefficients add up
+  spread-coefficient : (n : ℕ) (m : List ℕ) (g f more : Sparse) → IsSpread old g f more
+      → coefficient_at n f m +ℤ coefficient_at n more m ≡ coefficient_at n old m +ℤ coefficient_at n g m
+  spread-coefficient n m _ _ _ begun = refl
+  spread-coefficient n m _ _ _ (added g f more t i l e s) =
+      omega (arith, ints, spread-coefficient n m g f more s, coefficient-added n m f i t l e, coefficient_at-push n m g t)
+  spread-coefficient n m _ _ _ (missed g f more t s) =
+      omega (arith, ints, spread-coefficient n m g f more s, coefficient_at-push n m more t, coefficient_at-push n m g t)
 
--- what is appended is in order
-more-sorted : (more' more g : Sparse) (i : ℕ) (t : Pairs × ℤ) → i < length g → t ≡ get_or g i t → (more' ≡ more) ⊎ (more' ≡ more ++ (t ∷ [])) → AreSorted g
-    → AreSorted more → ((e : Pairs) → ((j : ℕ) (d : Pairs × ℤ) → j < i → pairs_cmp (get_or g j d).0 e ≡ Less) → AllBefore more e) → AreSorted more'
-more-sorted more' more g i t h e (inl p) s r b = subst AreSorted (sym p) r
-more-sorted more' more g i t h e (inr p) s r b = subst AreSorted (sym p)
-    (sorted-push more t r (b t.0 (λ j d l. subst (λ z. pairs_cmp (get_or g j d).0 z.0 ≡ Less) (sym e) (sorted-at g j i d t l h s))))
+  -- the sizes add up at most
+  pub spread-size : (g f more : Sparse) → IsSpread old g f more → size_of f + size_of more ≤ size_of old + size_of g
+  spread-size _ _ _ begun = omega arith
+  spread-size _ _ _ (added g f more t i l e s) = omega (arith, spread-size g f more s, size-added f i t, size-push g t)
+  spread-size _ _ _ (missed g f more t s) = omega (arith, spread-size g f more s, size-push more t, size-push g t)
 
-more-before : (more' more g : Sparse) (i : ℕ) (t : Pairs × ℤ) → t ≡ get_or g i t → (more' ≡ more) ⊎ (more' ≡ more ++ (t ∷ []))
-    → ((e : Pairs) → ((j : ℕ) (d : Pairs × ℤ) → j < i → pairs_cmp (get_or g j d).0 e ≡ Less) → AllBefore more e) → (e : Pairs)
-    → ((j : ℕ) (d : Pairs × ℤ) → j < i + 1 → pairs_cmp (get_or g j d).0 e ≡ Less) → AllBefore more' e
-more-before more' more g i t q (inl p) b e k = subst (λ z. AllBefore z e) (sym p) (b e (λ j d l. k j d (omega arith)))
-more-before more' more g i t q (inr p) b e k = subst (λ z. AllBefore z e) (sym p)
-    (All-push (λ y. pairs_cmp y.0 e ≡ Less) more t (b e (λ j d l. k j d (omega arith))) (subst (λ z. pairs_cmp z.0 e ≡ Less) (sym q) (k i t (omega arith))))
+  -- the others are terms of g
+  spread-all : (P : Pairs → Type 0) (g f more : Sparse) → IsSpread old g f more → All (λ t. P t.0) g → All (λ t. P t.0) more
+  spread-all P _ _ _ begun h = h
+  spread-all P _ _ _ (added g f more t i l e s) h = spread-all P g f more s (All-pop (λ z. P z.0) (g ++ (t ∷ [])) g (Some t) refl h).0
+  spread-all P _ _ _ (missed g f more t s) h = let a = All-pop (λ z. P z.0) (g ++ (t ∷ [])) g (Some t) refl h in
+      All-push (λ z. P z.0) more t (spread-all P g f more s a.0) a.1
 
--- the step of `spread`: the next term of g is added to one of f or appended
-pub spread-step : (f' more' f more old g : Sparse) (i : ℕ) (t : Pairs × ℤ) → IsSpread f more old g i → i < length g → t ≡ get_or g i t
-    → IsPutIn f' more' f more t → IsSpread f' more' old g (i + 1)
-spread-step f' more' f more old g i t r h e p = record {
-  exps = p.exps ∙ r.exps;
-  coefficients = λ n m. omega (arith, ints, r.coefficients n m, p.coefficients n m, coefficient_at-more n m g i t h, ap (λ w. part_at n w m) e);
-  size = let a : unsigned_abs t.1 ≡ unsigned_abs (get_or g i t).1 = ap (λ w. unsigned_abs w.1) e in omega (arith, r.size, p.size, size-more g i t h, a);
-  rising = λ a. p.rising (subst (λ z. IsRising z.0) (sym e) (a i t h)) (r.rising a);
-  below = λ k a. p.below k (subst (λ z. IsAbove z.0 k) (sym e) (a i t h)) (r.below k a);
-  sorted = λ s. more-sorted more' more g i t h e p.put s (r.sorted s) r.before;
-  before = more-before more' more g i t e p.put r.before;
-}
+  -- in their order
+  spread-sorted : (g f more : Sparse) → IsSpread old g f more → AreSorted g → AreSorted more
+  spread-sorted _ _ _ begun h = h
+  spread-sorted _ _ _ (added g f more t i l e s) h = spread-sorted g f more s (sorted-pop g t h).0
+  spread-sorted _ _ _ (missed g f more t s) h = let a = sorted-pop g t h in
+      sorted-push more t (spread-sorted g f more s a.0) (spread-all (λ e. Precedes e t.0) g f more s a.1)
 
--- ---- where nothing remains
+  -- in `spread` there is room to add the next term
+  pub spread-room : (g f more : Sparse) (i : ℕ) (t : Pairs × ℤ) (k : ℕ) → IsSpread old (take i g) f more → i < length g → t ≡ get_or g i t
+      → size_of old + size_of g < k → size_of f + unsigned_abs t.1 < k
+  spread-room g f more i t k s h e room = omega (arith, spread-size (take i g) f more s, size-next g i t h e, room)
+
+  -- the next term of g
+  pub spread-next : (g f more f' more' : Sparse) (i : ℕ) (t : Pairs × ℤ) → IsSpread old (take i g) f more → i < length g → t ≡ get_or g i t
+      → Spreads f' more' f more t → IsSpread old (take (i + 1) g) f' more'
+  spread-next g f more f' more' i t s h e p =
+      subst (λ z. IsSpread old z f' more') (ap (λ z. take i g ++ (z ∷ [])) e ∙ sym (take_more g i t h)) (p old (take i g) s)
+
+  -- all terms of g
+  pub spread-end : (g f more : Sparse) (i : ℕ) → length g ≤ i → IsSpread old (take i g) f more → IsSpread old g f more
+  spread-end g f more i l s = subst (λ z. IsSpread old z f more) (take_all i g l) s
+
+-- ---- the sum of f and g, where both are handed on
+module _ (f g old more h f' g' : Sparse) (a : f' ≡ f) (b : g' ≡ g) (s : IsSpread f' g' old more) (m : IsMerge Precedes old more h) where
+  pub sum-coefficient : (n : ℕ) (k : List ℕ) → coefficient_at n h k ≡ coefficient_at n f k +ℤ coefficient_at n g k
+  sum-coefficient n k = omega (
+    arith,
+    ints,
+    merged-coefficient old more h m n k,
+    spread-coefficient f' n k g' old more s,
+    ap (λ z. coefficient_at n z k) a,
+    ap (λ z. coefficient_at n z k) b,
+  )
+
+  pub sum-size : size_of h ≤ size_of f + size_of g
+  sum-size = omega (arith, merged-size old more h m, spread-size f' g' old more s, ap size_of a, ap size_of b)
+
+  pub sum-sorted : AreSorted f → AreSorted g → AreSorted h
+  sum-sorted x y = merged-sorted old more h m (same-sorted f' old (subst AreSorted (sym a) x) (spread-exps f' g' old more s))
+      (spread-sorted f' g' old more s (subst AreSorted (sym b) y))
+
+  pub sum-all : (P : Pairs → Type 0) → All (λ t. P t.0) f → All (λ t. P t.0) g → All (λ t. P t.0) h
+  sum-all P x y = merged-all old more h m P
+      (same-all P f' old (spread-exps f' g' old more s) (subst (All (λ (t : Pairs × ℤ). P t.0)) (sym a) x))
+      (spread-all f' P g' old more s (subst (All (λ (t : Pairs × ℤ). P t.0)) (sym b) y))
+
 -- a list whose length is 0 by the test is empty
 pub none-left : (xs : Sparse) (k : ℕ) (b : Bool) → b ≡ eqb k 0 → b ≡ true → k ≡ length xs → xs ≡ []
 none-left [] k b e t l = refl
 none-left (x ∷ xs) k b e t l = absurd (omega (arith, eqb-true k 0 (sym e ∙ t)))
-
--- an empty list of terms adds nothing to a coefficient
-pub alone : (n : ℕ) (m : List ℕ) (xs ys : Sparse) → ys ≡ [] → coefficient_at n xs m ≡ coefficient_at n xs m +ℤ coefficient_at n ys m
-alone n m xs ys e = omega (arith, ints, ap (λ z. coefficient_at n z m) e, coefficient_at-nil n m)

@@ -1,13 +1,14 @@
 -- Coefficients and sizes of lists of terms.
-use Rattle.std.proofs.Common.{◌≡◌, ℕ, ◌+◌, ◌<◌, ◌≤◌, zero, suc, refl, ◌∙◌, ap, arith, List, [], ◌∷◌, ◌++◌, length, take, set, get_or, Bool}
+use Rattle.std.proofs.Common.{◌≡◌, ℕ, ◌+◌, ◌<◌, ◌≤◌, zero, suc, refl, ◌∙◌, ap, arith, List, [], ◌∷◌, ◌++◌, length, take, get_or, Bool}
 use Rattle.std.proofs.Common.{true, false, if◌then◌else◌, unsigned_abs}
 use Rattle.std.proofs.lemmas.Int.{ints}
 use Rattle.std.proofs.Math.IntN.{ℤ, pos, ◌+ℤ◌}
-use Rattle.std.proofs.lemmas.List.{get_or_default, take_more}
-use Rattle.std.proofs.lemmas.List.Sums.{get_or-le-sum_by, sum_by-set, sum_by_push, sum_by_more, sum_by-take-le, sum_by-cons}
+use Rattle.std.proofs.lemmas.List.{take_more}
+use Rattle.std.proofs.lemmas.List.Sums.{get_or-le-sum_by, sum_by_push, sum_by_more, sum_by-take-le, sum_by-cons}
 use Rattle.ln_algebra.specs.Vector.{same_vector}
 use Rattle.ln_tree.specs.Exps.{Pairs, vector}
 use Rattle.ln_poly.specs.Sparse.{Sparse, coefficient_at, part_at, size_of}
+use Rattle.ln_poly.specs.Sums.{added_at}
 
 -- ---- coefficients
 -- each coefficient of an empty list of terms is 0
@@ -34,14 +35,6 @@ pub coefficient_at-more : (n : ℕ) (m : List ℕ) (xs : Sparse) (i : ℕ) (d : 
     → coefficient_at n (take (i + 1) xs) m ≡ coefficient_at n (take i xs) m +ℤ part_at n (get_or xs i d) m
 coefficient_at-more n m xs i d h = ap (λ z. coefficient_at n z m) (take_more xs i d h) ∙ coefficient_at-push n m (take i xs) (get_or xs i d)
 
--- a term that is replaced no longer adds its part; the new one adds its own
-pub coefficient_at-set : (n : ℕ) (m : List ℕ) (xs : Sparse) (i : ℕ) (t d : Pairs × ℤ) → i < length xs
-    → coefficient_at n (set xs i t) m +ℤ part_at n (get_or xs i d) m ≡ coefficient_at n xs m +ℤ part_at n t m
-coefficient_at-set n m [] i t d h = absurd (omega arith)
-coefficient_at-set n m (x ∷ xs) zero t d h = omega (arith, ints, coefficient_at-cons n m x xs, coefficient_at-cons n m t xs)
-coefficient_at-set n m (x ∷ xs) (suc i) t d h =
-    omega (arith, ints, coefficient_at-set n m xs i t d (omega arith), coefficient_at-cons n m x xs, coefficient_at-cons n m x (set xs i t))
-
 -- two terms with the same exponents add up to one
 pub part-sum : (n : ℕ) (m : List ℕ) (e : Pairs) (a b : ℤ) → part_at n (e, a +ℤ b) m ≡ part_at n (e, a) m +ℤ part_at n (e, b) m
 unfolding part_at
@@ -58,11 +51,20 @@ part-zero n m e = by_case (same_vector (vector n e) m) where
   by_case true = refl
   by_case false = refl
 
--- the term t added at a place where a term with its exponents is
-pub set-adds : (n : ℕ) (m : List ℕ) (xs : Sparse) (i : ℕ) (e : Pairs) (a b c : ℤ) → i < length xs → (e, a) ≡ get_or xs i (e, a) → c ≡ a +ℤ b
-    → coefficient_at n (set xs i (e, c)) m ≡ coefficient_at n xs m +ℤ part_at n (e, b) m
-set-adds n m xs i e a b c h at' s =
-    omega (arith, ints, coefficient_at-set n m xs i (e, c) (e, a) h, ap (λ z. part_at n z m) at', ap (λ z. part_at n (e, z) m) s, part-sum n m e a b)
+-- where t is added to a term with its exponents, the coefficients are those with t appended
+pub coefficient-added : (n : ℕ) (m : List ℕ) (xs : Sparse) (i : ℕ) (t : Pairs × ℤ) → i < length xs → (get_or xs i t).0 ≡ t.0
+    → coefficient_at n (added_at xs i t) m ≡ coefficient_at n xs m +ℤ part_at n t m
+coefficient-added n m [] i t h e = absurd (omega arith)
+coefficient-added n m (x ∷ xs) zero t h e = omega (
+  arith,
+  ints,
+  coefficient_at-cons n m x xs,
+  coefficient_at-cons n m (x.0, x.1 +ℤ t.1) xs,
+  part-sum n m x.0 x.1 t.1,
+  ap (λ z. part_at n (z, t.1) m) e,
+)
+coefficient-added n m (x ∷ xs) (suc i) t h e =
+    omega (arith, ints, coefficient-added n m xs i t (omega arith) e, coefficient_at-cons n m x xs, coefficient_at-cons n m x (added_at xs i t))
 
 -- ---- sizes
 -- an empty list of terms has the size 0
@@ -102,26 +104,14 @@ item-small xs i x h e = let f : unsigned_abs x.1 ≡ unsigned_abs (get_or xs i x
 abs_add : (x y : ℤ) → unsigned_abs (x +ℤ y) ≤ unsigned_abs x + unsigned_abs y
 abs_add x y = omega (arith, ints)
 
--- a number that is added to a factor adds at most its absolute value to the size
-pub size-set : (xs : Sparse) (i : ℕ) (e : Pairs) (a b c : ℤ) → i < length xs → (e, a) ≡ get_or xs i (e, a) → c ≡ a +ℤ b
-    → size_of (set xs i (e, c)) ≤ size_of xs + unsigned_abs b
-unfolding size_of
-size-set xs i e a b c h at' s =
-    let f : unsigned_abs a ≡ unsigned_abs (get_or xs i (e, a)).1 = ap (λ z. unsigned_abs z.1) at' in
-    let g : unsigned_abs c ≡ unsigned_abs (a +ℤ b) = ap unsigned_abs s in
-    omega (arith, sum_by-set (λ z. unsigned_abs z.1) xs i (e, c) (e, a) h, f, g, abs_add a b)
+-- a term that is added to one adds at most its absolute factor to the size
+pub size-added : (xs : Sparse) (i : ℕ) (t : Pairs × ℤ) → size_of (added_at xs i t) ≤ size_of xs + unsigned_abs t.1
+size-added [] i t = omega arith
+size-added (x ∷ xs) zero t = omega (arith, size-cons x xs, size-cons (x.0, x.1 +ℤ t.1) xs, abs_add x.1 t.1)
+size-added (x ∷ xs) (suc i) t = omega (arith, size-added xs i t, size-cons x xs, size-cons x (added_at xs i t))
 
 -- the first n terms weigh no more with the next than the whole
 pub size-next : (xs : Sparse) (i : ℕ) (x : Pairs × ℤ) → i < length xs → x ≡ get_or xs i x → size_of (take i xs) + unsigned_abs x.1 ≤ size_of xs
 size-next xs i x h e =
     let f : unsigned_abs x.1 ≡ unsigned_abs (get_or xs i x).1 = ap (λ z. unsigned_abs z.1) e in
     omega (arith, f, size-more xs i x h, size-take xs (i + 1))
-
--- ---- a term added where one with its exponents is
-alike : (xs : Sparse) (i : ℕ) (x t : Pairs × ℤ) → i < length xs → x ≡ get_or xs i x → (get_or xs i t).0 ≡ t.0 → x.0 ≡ t.0
-alike xs i x t h e s = ap (λ (z : Pairs × ℤ). z.0) (e ∙ get_or_default xs i x t h) ∙ s
-
--- where t is added to a term with its exponents, the coefficients are those with t appended
-pub adds-term : (n : ℕ) (m : List ℕ) (xs : Sparse) (i : ℕ) (x t : Pairs × ℤ) (c : ℤ) → i < length xs → x ≡ get_or xs i x
-    → (get_or xs i t).0 ≡ t.0 → c ≡ x.1 +ℤ t.1 → coefficient_at n (set xs i (x.0, c)) m ≡ coefficient_at n xs m +ℤ part_at n t m
-adds-term n m xs i x t c h e s f = set-adds n m xs i x.0 x.1 t.1 c h e f ∙ ap (λ z. coefficient_at n xs m +ℤ part_at n (z, t.1) m) (alike xs i x t h e s)

@@ -1,9 +1,10 @@
-use Rattle.std.proofs.Common.{◌≡◌, ◌≤◌, ap, arith, length, rules, subst, take, ◌∙◌}
+use Rattle.std.proofs.Common.{◌≡◌, ◌≤◌, ap, arith, length, rules, subst, sym, take, ◌∙◌}
 use Rattle.std.proofs.lemmas.List.{take_all}
 use Rattle.std.proofs.lemmas.Result.{IfOk-weaker}
-use Rattle.ln_poly.specs.Merge.{IsMerge, weight_of}
+use Rattle.ln_poly.specs.Merge.{IsMerge, left_over, weight_of}
 use Rattle.ln_poly.specs.Sparse.{Precedes, Sparse}
 use Rattle.ln_poly.proofs.Sorting.Added.{size-weight}
+use Rattle.ln_poly.proofs.Sorting.Summing.{none-left}
 use Rattle.ln_poly.proofs.sums.both.Goals as goal
 
 pub merged-requires : goal.merged-requires
@@ -14,6 +15,10 @@ merged-requires c =
     let first : c.len-n.result ≤ length c.deref_mut-2.result.now = search rules in
     let f = ap weight_of c.deref_mut.ensures.value in
     record { first = first; room = omega (arith, c.requires, f, ap weight_of e, size-weight c.args.f.items, size-weight c.args.more.items) }
+
+pub returns-then-is_empty : goal.returns-then-is_empty
+returns-then-is_empty c = subst (λ (z : Sparse). IsMerge Precedes c.args.f.items z c.args.f.items)
+    (sym (none-left c.args.more.items _ c.is_empty.result c.is_empty.ensures c.if-is_empty.true c.args.more.ok.0)) (left_over c.args.f.items)
 
 pub returns : goal.returns
 returns c =

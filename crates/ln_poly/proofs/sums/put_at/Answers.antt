@@ -1,9 +1,9 @@
 -- The remaining goals of `put_at`.
-use Rattle.ln_poly.proofs.Sorting.Summing.{put_in-added, put_in-pushed}
+use Rattle.ln_poly.specs.Sums.{missed}
 use Rattle.ln_poly.proofs.sums.put_at.Goals as goal
 
 pub returns-then-stands_at : goal.returns-then-stands_at
-returns-then-stands_at c = put_in-added _ _ _ _ c.add_at.ensures.exps c.add_at.ensures.coefficients c.add_at.ensures.size
+returns-then-stands_at c = c.add_at.ensures _
 
 pub returns : goal.returns
-returns c = rw c.in_ok-push.ensures (put_in-pushed _ _ _)
+returns c = λ old g s. rw c.in_ok-push.ensures (missed g _ _ _ s)

@@ -1,25 +1,39 @@
 -- The remaining goals of `sum`.
-use Rattle.std.proofs.Common.{subst, sym}
-use Rattle.std.proofs.lemmas.Result.{IfOk-weaker}
+use Rattle.std.proofs.Common.{ap, arith, ◌∙◌}
 use Rattle.ln_tree.specs.Exps.{IsAbove, IsRising}
-use Rattle.ln_poly.specs.Sparse.{AreBelow, AreRising, AreSorted}
-use Rattle.ln_poly.proofs.Sorting.Gathering.{same-all, same-sorted}
+use Rattle.ln_poly.specs.Sparse.{size_of}
+use Rattle.ln_poly.proofs.Sorting.Summing.{spread-size, sum-all, sum-coefficient, sum-size, sum-sorted}
 use Rattle.ln_poly.proofs.sums.sum.Goals as goal
 
-pub joined-requires-clause-sorted : goal.joined-requires-clause-sorted
-joined-requires-clause-sorted c = same-sorted c.into_terms-terms.result.items c.spread.new.f.items
-    (subst AreSorted (sym c.into_terms-terms.ensures.value) c.into_terms-terms.ensures.form.sorted) c.in_ok-more.ensures.exps
+pub both-requires : goal.both-requires
+both-requires c = omega (arith, c.requires, spread-size _ _ _ _ c.in_ok-more.ensures, ap size_of c.into_terms-terms.ensures.value, ap size_of c.terms.ensures.value)
 
-pub joined-requires-clause-rising : goal.joined-requires-clause-rising
-joined-requires-clause-rising c = same-all IsRising c.into_terms-terms.result.items c.spread.new.f.items c.in_ok-more.ensures.exps
-    (subst AreRising (sym c.into_terms-terms.ensures.value) c.into_terms-terms.ensures.form.rising)
+pub nonzero-requires-clause-small : goal.nonzero-requires-clause-small
+nonzero-requires-clause-small c = omega (
+  arith,
+  c.requires,
+  sum-size _ _ _ _ _ _ _ c.into_terms-terms.ensures.value c.terms.ensures.value c.in_ok-more.ensures c.in_ok-out.ensures,
+)
+
+pub nonzero-requires-clause-rising : goal.nonzero-requires-clause-rising
+nonzero-requires-clause-rising c = sum-all _ _ _ _ _ _ _ c.into_terms-terms.ensures.value c.terms.ensures.value c.in_ok-more.ensures c.in_ok-out.ensures
+    IsRising c.into_terms-terms.ensures.form.rising c.terms.ensures.form.rising
+
+pub nonzero-requires-clause-sorted : goal.nonzero-requires-clause-sorted
+nonzero-requires-clause-sorted c = sum-sorted _ _ _ _ _ _ _ c.into_terms-terms.ensures.value c.terms.ensures.value c.in_ok-more.ensures
+    c.in_ok-out.ensures c.into_terms-terms.ensures.form.sorted c.terms.ensures.form.sorted
+
+pub returns-clause-coefficients : goal.returns-clause-coefficients
+returns-clause-coefficients c = λ n m. c.nonzero.ensures.coefficients n m
+    ∙ sum-coefficient _ _ _ _ _ _ _ c.into_terms-terms.ensures.value c.terms.ensures.value c.in_ok-more.ensures c.in_ok-out.ensures n m
+
+pub returns-clause-size : goal.returns-clause-size
+returns-clause-size c = omega (
+  arith,
+  c.nonzero.ensures.size,
+  sum-size _ _ _ _ _ _ _ c.into_terms-terms.ensures.value c.terms.ensures.value c.in_ok-more.ensures c.in_ok-out.ensures,
+)
 
 pub returns-clause-below : goal.returns-clause-below
-returns-clause-below c = IfOk-weaker c.joined.result _ _ (λ h k n a b.
-    k n
-    (same-all (λ e. IsAbove e n) c.into_terms-terms.result.items c.spread.new.f.items c.in_ok-more.ensures.exps
-    (subst (AreBelow n) (sym c.into_terms-terms.ensures.value) a))
-    (c.in_ok-more.ensures.below n (subst (AreBelow n) (sym c.terms.ensures.value) b))) c.joined.ensures.below
-
-pub joined-requires-clause-more_sorted : goal.joined-requires-clause-more_sorted
-joined-requires-clause-more_sorted c = c.in_ok-more.ensures.sorted (subst AreSorted (sym c.terms.ensures.value) c.terms.ensures.form.sorted)
+returns-clause-below c = λ n a b. c.nonzero.ensures.below n (sum-all _ _ _ _ _ _ _ c.into_terms-terms.ensures.value c.terms.ensures.value
+    c.in_ok-more.ensures c.in_ok-out.ensures (λ e. IsAbove e n) a b)
