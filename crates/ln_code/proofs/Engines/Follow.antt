@@ -1,6 +1,7 @@
 -- Where one engine has a result, an engine that follows it has one too.
 use Rattle.std.proofs.Common.{◌≡◌, ℕ, ℤ, Bool, true, false, List, [], ◌∷◌, length, refl, suc, ap}
-use Rattle.std.specs.Prelude.{Option, Some, None}
+use Rattle.std.specs.Prelude.{Option, Some, None, if◌then◌else◌, ◌==◌}
+use Rattle.ln_code.specs.Numbers.{with_local}
 use Rattle.ln_code.specs.declared.op.Op.{Op}
 use Rattle.ln_code.specs.declared.op.Op.TheVariants.{Push, Input, Get, Set, Add, Sub, Mul, Neg, Cut}
 use Rattle.ln_bound.specs.declared.fitted.Width.{Width}
@@ -15,6 +16,19 @@ Reaches R v o = Sigma_of R v o
     Sigma_of : {V W : Type 0} → (V → W → Type 0) → V → Option W → Type 0
     Sigma_of R v None = ⊥
     Sigma_of R v (Some w) = R v w
+
+-- what is in a local of the first is in that of the second as something that stands for it
+abbrev pub LocalsStand : {V M : Type 0} → (V → M → Type 0) → (ℕ → Option V) → (ℕ → M) → Type 0
+LocalsStand {V = V} R l m = (j : ℕ) (v : V) → l j ≡ Some v → R v (m j)
+
+-- so is what is put into a local of both
+pub local_stands : {V M : Type 0} (R : V → M → Type 0) (l : ℕ → Option V) (m : ℕ → M) (j : ℕ) (v : V) (z : M) → LocalsStand R l m → R v z
+    → LocalsStand R (with_local l j v) (λ k. if k == j then z else m k)
+local_stands R l m j v z h f i k = by_case (i == j)
+  where
+    by_case : (b : Bool) → (if b then Some v else l i) ≡ Some k → R k (if b then z else m i)
+    by_case true q = let r : v ≡ k = cc in rw (← r) f
+    by_case false q = h i k q
 
 -- the values of two stacks stand for each other, one by one
 abbrev pub Stacked : {V W : Type 0} → (V → W → Type 0) → List V → List W → Type 0

@@ -16,9 +16,9 @@ use Rattle.ln_code.specs.Bare.{bare}
 use Rattle.ln_code.specs.Part.{Code, FilterCode, lines_of, block_value, filter_value, known_of, filter_known_of}
 use Rattle.ln_code.specs.Kept.{FollowsRules, FollowsFilterRules}
 use Rattle.ln_code.specs.Memory.{plain, shifted}
-use Rattle.ln_code.proofs.Engines.Follow.{Reaches, Stacked, Agree, Follows, relined, run_follows}
-use Rattle.ln_code.proofs.Following.Known.{Fits, Locals, Slots, exact_follows, bare_follows}
-use Rattle.ln_code.proofs.Filters.FilterKnown.{HoldsHeld, HeldLocals, HeldSlots, IsNumber, roomy, roomy_follows, exact_follows_roomy, bare_follows_roomy}
+use Rattle.ln_code.proofs.Engines.Follow.{Reaches, Stacked, Agree, Follows, LocalsStand, relined, run_follows}
+use Rattle.ln_code.proofs.Following.Known.{Fits, exact_follows, bare_follows}
+use Rattle.ln_code.proofs.Filters.FilterKnown.{HoldsHeld, IsNumber, roomy, roomy_follows, exact_follows_roomy, bare_follows_roomy}
 use Rattle.ln_code.specs.Errors.{left_error}
 use Rattle.ln_code.proofs.Filters.ErrorLaws.{left_has}
 
@@ -86,9 +86,9 @@ pub block_runs : (vars : List VarInfo) (zs : List ℤ) (c : Code) (places : ℕ)
 block_runs vars zs c places locals r range d =
     let k = some_is (known_of vars c) r.answers in
     let lines = lines_of c.ops c.pairs in
-    let a = answer_follows (rules vars c.depth) (exact zs) (λ (p : Range). p) (Fits zs) (Locals zs)
+    let a = answer_follows (rules vars c.depth) (exact zs) (λ (p : Range). p) (Fits zs) (LocalsStand (Reaches (Fits zs)))
     (exact_follows vars c.depth zs range) no_locals no_locals lines k.0 (λ j v e. cc) k.1 in
-    let b = answer_follows (rules vars c.depth) (bare zs places) (λ (p : Range). 0) (Fits zs) (Slots zs)
+    let b = answer_follows (rules vars c.depth) (bare zs places) (λ (p : Range). 0) (Fits zs) (LocalsStand (Fits zs))
     (bare_follows vars c.depth places zs range d) no_locals locals lines k.0 (λ j v e. cc) k.1 in
     let p = reached_some (Fits zs) k.0 _ (rw same_lines at a) in
     let q = reached_some (Fits zs) k.0 _ (rw (plain_lines c.ops c.pairs r.bounded) at b) in
@@ -111,13 +111,13 @@ pub filter_runs : (vars : List VarInfo) (zs : List ℤ) (f : FilterCode) (places
     → AreWithin vars zs → f.depth ≤ places → FilterRuns vars zs f places locals
 filter_runs vars zs f places locals r range d =
     let lines = lines_of f.ops f.triples in
-    let a = answer_follows (filter_rules vars f.depth) (roomy zs f.depth) (λ (a : Triple). a) (HoldsHeld zs) (HeldLocals zs)
+    let a = answer_follows (filter_rules vars f.depth) (roomy zs f.depth) (λ (a : Triple). a) (HoldsHeld zs) (LocalsStand (Reaches (HoldsHeld zs)))
     (roomy_follows vars f.depth zs range) no_locals no_locals lines r.what (λ j v e. cc) r.known in
     let p = reached_some (HoldsHeld zs) r.what _ (rw same_lines at a) in
     let b = answer_follows (roomy zs f.depth) (exact_filter zs) (λ (a : Triple). a) (λ (x y : Held). x ≡ y)
     (λ (l m : ℕ → Option Held). l ≡ m) (exact_follows_roomy f.depth zs) no_locals no_locals lines p.0 refl p.1 in
     let q = reached_some (λ (x y : Held). x ≡ y) p.0 _ (rw same_lines at b) in
-    let c = answer_follows (roomy zs f.depth) (bare zs places) (λ (a : Triple). a.k) IsNumber HeldSlots
+    let c = answer_follows (roomy zs f.depth) (bare zs places) (λ (a : Triple). a.k) IsNumber (LocalsStand IsNumber)
     (bare_follows_roomy f.depth places zs d) no_locals locals lines p.0 (λ j v e. cc) p.1 in
     let s = reached_some IsNumber p.0 _ (rw (shifted_lines f.ops f.triples) at c) in
     let x : filter_value zs f ≡ Some p.0 = rw (← q.2) at q.1 in

@@ -20,11 +20,11 @@ use Rattle.ln_bound.specs.Widths.{limit, no_wider}
 use Rattle.ln_bound.specs.Typed.{two_of}
 use Rattle.ln_code.specs.declared.op.Triple.{Triple}
 use Rattle.ln_code.specs.Engine.{Engine, when, next}
-use Rattle.ln_code.specs.Numbers.{result_of, cut_by, fits, with_local}
+use Rattle.ln_code.specs.Numbers.{result_of, cut_by, fits}
 use Rattle.ln_code.specs.Exact.{Held, held, held_at, exact_filter}
 use Rattle.ln_code.specs.FilterRules.{Approximates, FilterKnown, error_after, push_error, covers, filter_known, two_known, filter_rules}
 use Rattle.ln_code.specs.Bare.{bare}
-use Rattle.ln_code.proofs.Engines.Follow.{Reaches, Follows, when_some}
+use Rattle.ln_code.proofs.Engines.Follow.{Reaches, Follows, LocalsStand, local_stands, when_some}
 use Rattle.ln_code.proofs.Following.Known.{InSize, in_size, if_some, next_some}
 use Rattle.ln_code.proofs.Filters.Near.{cut_stands, product_stands, sum_stands, difference_stands, minus_stands, exact_stands}
 
@@ -189,21 +189,9 @@ roomy zs depth = record {
   room = λ n. nat_le n depth;
 }
 
--- each local that is known has a number that stands for it
-abbrev pub HeldLocals : List ℤ → (ℕ → Option FilterKnown) → (ℕ → Option Held) → Type 0
-HeldLocals zs l m = (j : ℕ) (k : FilterKnown) → l j ≡ Some k → Reaches (HoldsHeld zs) k (m j)
-
-exact_put : (zs : List ℤ) (l : ℕ → Option FilterKnown) (m : ℕ → Option Held) (j : ℕ) (v : FilterKnown) (z : Held) → HeldLocals zs l m
-    → HoldsHeld zs v z → HeldLocals zs (with_local l j v) (with_local m j z)
-exact_put zs l m j v z h f i k = by_case (i == j)
-  where
-    by_case : (b : Bool) → (if b then Some v else l i) ≡ Some k → Reaches (HoldsHeld zs) k (if b then Some z else m i)
-    by_case true q = let r : v ≡ k = cc in rw (← r) f
-    by_case false q = h i k q
-
 -- it follows the rules
 pub roomy_follows : (vars : List VarInfo) (depth : ℕ) (zs : List ℤ) → AreWithin vars zs
-    → Follows (filter_rules vars depth) (roomy zs depth) (λ (a : Triple). a) (HoldsHeld zs) (HeldLocals zs)
+    → Follows (filter_rules vars depth) (roomy zs depth) (λ (a : Triple). a) (HoldsHeld zs) (LocalsStand (Reaches (HoldsHeld zs)))
 roomy_follows vars depth zs h = record {
   push = λ c a r q. inside zs a.k _ _ _ (tree.Num c) a r (cut_by a.k c) (push_stands c a.k) q;
   input = exact_input vars zs h;
@@ -212,7 +200,7 @@ roomy_follows vars depth zs h = record {
   minus = λ w a m y r f q. exact_minus zs w a m r y.number f.holds q;
   cut = λ n a m y r f q. inside zs _ _ _ _ m.tree a r (cut_by n y.number) (cut_stands n m.triple y.number (value (values zs) [] m.tree) f.holds.stands) q;
   got = λ l m j r k q. k j r q;
-  put = exact_put zs;
+  put = λ l m j v z h f. local_stands (Reaches (HoldsHeld zs)) l m j v (Some z) h f;
   room = λ n q. q;
 }
 
@@ -253,18 +241,6 @@ held_at_says : (w : Width) (a : Triple) (z : ℤ) (y : Held) → held_at w a z �
 held_at_says W64 a z y q = (refl, held_says a z y q)
 held_at_says W128 a z y q = cc
 
--- each local that has a number has it in the processor's memory
-abbrev pub HeldSlots : (ℕ → Option Held) → (ℕ → ℤ) → Type 0
-HeldSlots l m = (j : ℕ) (y : Held) → l j ≡ Some y → IsNumber y (m j)
-
-held_put : (l : ℕ → Option Held) (m : ℕ → ℤ) (j : ℕ) (v : Held) (z : ℤ) → HeldSlots l m → IsNumber v z
-    → HeldSlots (with_local l j v) (λ k. if k == j then z else m k)
-held_put l m j v z h f i k = by_case (i == j)
-  where
-    by_case : (b : Bool) → (if b then Some v else l i) ≡ Some k → IsNumber k (if b then z else m i)
-    by_case true q = let r : v ≡ k = cc in rw (← r) f
-    by_case false q = h i k q
-
 held_input : (zs : List ℤ) (v : ℕ) (a : Triple) (y : Held) → next (slice_get zs v) (λ z. held a z) ≡ Some y → Reaches IsNumber y (slice_get zs v)
 held_input zs v a y q =
     let r = next_some (slice_get zs v) (λ (z : ℤ). held a z) y q in
@@ -285,7 +261,7 @@ held_minus w a x v y f q =
     rw (r.0, f.narrow) r.1
 
 -- the processor follows the machine
-pub bare_follows_roomy : (depth places : ℕ) (zs : List ℤ) → depth ≤ places → Follows (roomy zs depth) (bare zs places) (λ (a : Triple). a.k) IsNumber HeldSlots
+pub bare_follows_roomy : (depth places : ℕ) (zs : List ℤ) → depth ≤ places → Follows (roomy zs depth) (bare zs places) (λ (a : Triple). a.k) IsNumber (LocalsStand IsNumber)
 bare_follows_roomy depth places zs d = record {
   push = λ c a v q. held_says a (cut_by a.k c) v q;
   input = held_input zs;
@@ -294,7 +270,7 @@ bare_follows_roomy depth places zs d = record {
   minus = λ w a x y v f q. held_minus w a x v y f q;
   cut = λ n a x y v f q. held_says a (cut_by n y) v (rw f.same at q);
   got = λ l m j v k q. k j v q;
-  put = held_put;
+  put = λ l m j v z h f. local_stands IsNumber l m j v z h f;
   room = λ n q. le-leb _ _ (room_le n (leb-true _ _ q));
 }
   where

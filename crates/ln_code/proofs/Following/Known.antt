@@ -1,6 +1,6 @@
 -- A block that follows the rules: the machine over integers and the processor follow them too.
 use Rattle.std.proofs.Common.{◌≡◌, ℕ, ℤ, ◌≤◌, Bool, true, false, List, [], ◌∷◌, refl, zero, suc, ap, arith, neg_ℤ, unsigned_abs, ◌&&◌}
-use Rattle.std.specs.Prelude.{Option, Some, None, if◌then◌else◌, ◌==◌, slice_get, ◌≤ℤ◌, int_le}
+use Rattle.std.specs.Prelude.{Option, Some, None, if◌then◌else◌, slice_get, ◌≤ℤ◌, int_le}
 use Rattle.std.proofs.lemmas.Int.{ints}
 use Rattle.std.proofs.lemmas.Bool.{leb-true, le-leb, and_parts}
 use Rattle.ln_algebra.specs.Tree as tree
@@ -15,9 +15,9 @@ use Rattle.ln_bound.specs.Value.{value, values, size_of}
 use Rattle.ln_bound.specs.Widths.{limit, least, wider, no_wider}
 use Rattle.ln_bound.specs.Typed.{bound_of, two_of, range_of}
 use Rattle.ln_code.specs.Engine.{when, next}
-use Rattle.ln_code.specs.Numbers.{result_of, cut_by, fits, with_local}
+use Rattle.ln_code.specs.Numbers.{result_of, cut_by, fits}
 use Rattle.ln_code.specs.Bare.{bare}
-use Rattle.ln_code.proofs.Engines.Follow.{Reaches, Follows, when_some}
+use Rattle.ln_code.proofs.Engines.Follow.{Reaches, Follows, LocalsStand, local_stands, when_some}
 use Rattle.ln_code.proofs.Filters.Cutting.{cut_none}
 use Rattle.ln_interval.specs.Range.{Range, Holds, Covers, point, opposite, magnitude, most}
 use Rattle.ln_bound.specs.Sound.{IsIn, holds, covers, is_in}
@@ -34,25 +34,6 @@ pub record Fits (zs : List ℤ) (k : Known) (z : ℤ) : Type 0 where
   pub narrow : magnitude k.range ≤ limit k.width
 
 -- ---- rows
--- the value of a variable, and its size
-pub record InSize (zs : List ℤ) (v : ℕ) (i : VarInfo) : Type 0 where
-  pub number : ℤ
-  pub there : slice_get zs v ≡ Some number
-  pub same : number ≡ values zs v
-  pub small : unsigned_abs number ≤ size_of i
-
--- each variable of a row in range has a value, of at most its size
-pub in_size : (vars : List VarInfo) (zs : List ℤ) → AreWithin vars zs → (v : ℕ) (i : VarInfo) → slice_get vars v ≡ Some i → InSize zs v i
-in_size [] zs h v i e = cc
-in_size (j ∷ js) [] h v i e = absurd h
-in_size (j ∷ js) (z ∷ zs) h zero i e =
-    let q : j ≡ i = cc in
-    rw (← q) (record { number = z; there = refl; same = refl; small = within_m j z h.0 h.1 })
-  where
-    within_m : (i : VarInfo) (z : ℤ) → i.lo ≤ℤ z → z ≤ℤ i.hi → unsigned_abs z ≤ size_of i
-    within_m i z l h = omega (arith, ints, l, h)
-in_size (j ∷ js) (z ∷ zs) h (suc v) i e = let r = in_size js zs h.2 v i e in record { number = r.number; there = r.there; same = r.same; small = r.small }
-
 -- the value of a variable, in its range
 pub record InRange (zs : List ℤ) (v : ℕ) (i : VarInfo) : Type 0 where
   pub number : ℤ
@@ -68,6 +49,22 @@ in_range (j ∷ js) (z ∷ zs) h zero i e =
     let q : j ≡ i = cc in
     rw (← q) (record { number = z; there = refl; same = refl; held = (h.0, h.1) })
 in_range (j ∷ js) (z ∷ zs) h (suc v) i e = let r = in_range js zs h.2 v i e in record { number = r.number; there = r.there; same = r.same; held = r.held }
+
+-- the value of a variable, and its size
+pub record InSize (zs : List ℤ) (v : ℕ) (i : VarInfo) : Type 0 where
+  pub number : ℤ
+  pub there : slice_get zs v ≡ Some number
+  pub same : number ≡ values zs v
+  pub small : unsigned_abs number ≤ size_of i
+
+-- which is of at most its size
+pub in_size : (vars : List VarInfo) (zs : List ℤ) → AreWithin vars zs → (v : ℕ) (i : VarInfo) → slice_get vars v ≡ Some i → InSize zs v i
+in_size vars zs h v i e =
+    let r = in_range vars zs h v i e in
+    record { number = r.number; there = r.there; same = r.same; small = small i r.number r.held.0 r.held.1 }
+  where
+    small : (i : VarInfo) (z : ℤ) → i.lo ≤ℤ z → z ≤ℤ i.hi → unsigned_abs z ≤ size_of i
+    small i z l h = omega (arith, ints, l, h)
 
 -- ---- numbers
 -- a number and its opposite have the same absolute value
@@ -193,21 +190,9 @@ exact_minus zs w p m y v f q =
     let r = if_some _ _ _ q in
     reached zs (opposite m.range) p w w m.size (tree.Neg m.tree) v (neg_ℤ y) (same_limit w) (ap neg_ℤ f.same) (opposite_holds m.range y f.held) r.1
 
--- each local that is known has its value
-abbrev pub Locals : List ℤ → (ℕ → Option Known) → (ℕ → Option ℤ) → Type 0
-Locals zs l m = (j : ℕ) (k : Known) → l j ≡ Some k → Reaches (Fits zs) k (m j)
-
-exact_put : (zs : List ℤ) (l : ℕ → Option Known) (m : ℕ → Option ℤ) (j : ℕ) (v : Known) (z : ℤ) → Locals zs l m → Fits zs v z
-    → Locals zs (with_local l j v) (with_local m j z)
-exact_put zs l m j v z h f i k = by_case (i == j)
-  where
-    by_case : (b : Bool) → (if b then Some v else l i) ≡ Some k → Reaches (Fits zs) k (if b then Some z else m i)
-    by_case true q = let r : v ≡ k = cc in rw (← r) f
-    by_case false q = h i k q
-
 -- the machine over integers follows the rules
 pub exact_follows : (vars : List VarInfo) (depth : ℕ) (zs : List ℤ) → AreWithin vars zs
-    → Follows (rules vars depth) (exact zs) (λ (p : Range). p) (Fits zs) (Locals zs)
+    → Follows (rules vars depth) (exact zs) (λ (p : Range). p) (Fits zs) (LocalsStand (Reaches (Fits zs)))
 exact_follows vars depth zs h = record {
   push = λ c p k q. reached zs (point c) p (least (magnitude p)) W128 (unsigned_abs c) (tree.Num c) k c (limit_wide _) refl (number_held c) q;
   input = exact_input vars zs h;
@@ -216,7 +201,7 @@ exact_follows vars depth zs h = record {
   minus = λ w p m y v f q. exact_minus zs w p m y v f q;
   cut = λ n p m y v f q. cc;
   got = λ l m j v k q. k j v q;
-  put = exact_put zs;
+  put = λ l m j v z h f. local_stands (Reaches (Fits zs)) l m j v (Some z) h f;
   room = λ n q. refl;
 }
 
@@ -251,18 +236,6 @@ bare_two zs t w p k m y z v f g q =
     rw (fits_is zs k w y n.0 f, fits_is zs m w z n.1 g, c)
     (kept zs (range_of t k.range m.range) p w (bound_of t k.size m.size) (two_of t k.tree m.tree) v (result_of t y z) (two_same zs t k m y z f g) a r.1)
 
--- each local that is known has its value
-abbrev pub Slots : List ℤ → (ℕ → Option Known) → (ℕ → ℤ) → Type 0
-Slots zs l m = (j : ℕ) (k : Known) → l j ≡ Some k → Fits zs k (m j)
-
-bare_put : (zs : List ℤ) (l : ℕ → Option Known) (m : ℕ → ℤ) (j : ℕ) (v : Known) (z : ℤ) → Slots zs l m → Fits zs v z
-    → Slots zs (with_local l j v) (λ k. if k == j then z else m k)
-bare_put zs l m j v z h f i k = by_case (i == j)
-  where
-    by_case : (b : Bool) → (if b then Some v else l i) ≡ Some k → Fits zs k (if b then z else m i)
-    by_case true q = let r : v ≡ k = cc in rw (← r) f
-    by_case false q = h i k q
-
 bare_minus : (zs : List ℤ) (w : Width) (p : Range) (m : Known) (y : ℤ) (v : Known) → Fits zs m y
     → (if no_wider m.width w then known (opposite m.range) p w m.size (tree.Neg m.tree) else None) ≡ Some v → Reaches (Fits zs) v (when (fits w y) (neg_ℤ y))
 bare_minus zs w p m y v f q =
@@ -271,7 +244,7 @@ bare_minus zs w p m y v f q =
 
 -- the processor follows the rules
 pub bare_follows : (vars : List VarInfo) (depth places : ℕ) (zs : List ℤ) → AreWithin vars zs → depth ≤ places
-    → Follows (rules vars depth) (bare zs places) (λ (p : Range). 0) (Fits zs) (Slots zs)
+    → Follows (rules vars depth) (bare zs places) (λ (p : Range). 0) (Fits zs) (LocalsStand (Fits zs))
 bare_follows vars depth places zs h d = record {
   push = bare_push zs;
   input = bare_input vars zs h;
@@ -280,7 +253,7 @@ bare_follows vars depth places zs h d = record {
   minus = λ w p m y v f q. bare_minus zs w p m y v f q;
   cut = λ n p m y v f q. cc;
   got = λ l m j v k q. k j v q;
-  put = bare_put zs;
+  put = λ l m j v z h f. local_stands (Fits zs) l m j v z h f;
   room = λ n q. le-leb _ _ (room_le n (leb-true _ _ q));
 }
   where
