@@ -5,3 +5,4 @@ pub mod Runs
 pub mod Present
 pub mod Lands
 pub mod Sizes
+pub mod Walks

@@ -13,6 +13,7 @@ pub mod Carried
 pub mod MachineLaw
 pub mod Pushes
 pub mod StackCode
+pub mod Walk
 pub mod NodeList
 pub mod Nodes
 pub mod NodePushes

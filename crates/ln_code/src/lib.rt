@@ -9,6 +9,7 @@
 pub(crate) mod arithmetic;
 pub mod block;
 pub mod builder;
+pub mod draft;
 pub mod exps;
 pub mod filter_block;
 pub mod halving;
@@ -21,10 +22,12 @@ pub mod row;
 pub mod run;
 pub mod scratch;
 pub mod verdict;
+pub mod walk;
 
 pub use arithmetic::cut;
 pub use block::Block;
 pub use builder::{Builder, Built};
+pub use draft::Draft;
 pub use exps::{are_below, are_of_sites, exps_of};
 pub use filter_block::FilterBlock;
 pub use halving::{error_after, shifted};
@@ -35,3 +38,4 @@ pub use row::Row;
 pub use run::{block_value, decided, run_row, sign_of};
 pub use scratch::Scratch;
 pub use verdict::{By, Verdict};
+pub use walk::{Marks, put_tree};

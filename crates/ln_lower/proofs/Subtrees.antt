@@ -3,4 +3,3 @@ pub mod KeyLaws
 pub mod Bounding
 pub mod Roots
 pub mod Numbering
-pub mod Operands

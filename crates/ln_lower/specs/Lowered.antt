@@ -1,34 +1,38 @@
--- The operations that are written for a node.
-use Rattle.std.specs.Prelude.{ℕ, zero, suc, ◌≤◌, List, [], ◌∷◌}
-use Rattle.ln_interval.specs.Range.{Range, magnitude, most, power}
-use Rattle.ln_interval.specs.View.{range}
-use Rattle.ln_interval.specs.declared.pair.Pair.{Pair}
-use Rattle.ln_bound.specs.declared.fitted.Width.{Width}
-use Rattle.ln_bound.specs.Typed.{Typed, TNum, TInput, TLet, TNeg, TTwo, TPow, pair}
-use Rattle.ln_code.specs.declared.op.Op.TheVariants.{Get, Set, Mul}
-use Rattle.ln_code.specs.Engine.{Line}
-pub use Rattle.ln_code.specs.Kept.{nothing}
-pub use Rattle.ln_code.specs.StackCode.{line}
+-- Which trees are lowered, and what a lowered block is.
+use Rattle.std.specs.Prelude.{◌≡◌, ℕ, ℤ, ◌+◌, ◌*◌, ◌≤◌, List, [], Some, length, map}
+use Rattle.ln_algebra.specs.Coefficient.{normal_coefficient}
+use Rattle.ln_interval.specs.Range.{Covers, magnitude, most, power}
+use Rattle.ln_tree.specs.Exps.{Pairs}
+use Rattle.ln_tree.specs.Row.{AreWithin}
+use Rattle.ln_tree.specs.declared.shape.VarInfo.{VarInfo}
+use Rattle.ln_bound.specs.Light.{let_values}
+use Rattle.ln_bound.specs.Typed.{Typed, TNum, TInput, TLet, TNeg, TTwo, TPow, cost, costs, pair, polynomial, untyped}
+use Rattle.ln_bound.specs.Value.{value, values}
+use Rattle.ln_code.specs.Kept.{FollowsRules, IsBlock}
+use Rattle.ln_code.specs.Nodes.{IsNodeOf}
+use Rattle.ln_code.specs.Part.{Code, block_value, known_of, lines_of}
+use Rattle.ln_code.specs.Rules.{Known}
+use Rattle.ln_lower.specs.Nodes.{KeepsLets, PushNodes, pushed_by}
+use Rattle.ln_lower.specs.StackCode.{IsCodeOf}
 
--- n more factors, from the power m on; local 64 has the base, with the range p
-abbrev pub factors : Range → Width → ℕ → ℕ → List (Line Range)
-factors p w m zero = []
-factors p w m (suc n) = line (Get 64) p ∷ (line (Mul w) (power p (suc m)) ∷ factors p w (suc m) n)
-
--- from the base on the stack to its power n + 1
-abbrev pub power_of : Range → Width → ℕ → List (Line Range)
-power_of p w zero = []
-power_of p w (suc n) = line (Set 64) nothing ∷ (line (Get 64) p ∷ factors p w 1 (suc n))
-
--- an operation with the range of its pair
-abbrev pub ranged : Line Pair → Line Range
-ranged x = line x.op (range x.bound)
-
--- the range of each power is within 2^127 - 1
+-- the range of each power is within 2^127 - 1, and that of the power 1 is the base's
 abbrev pub PowersFit : Typed → Type 0
 PowersFit (TNum c p w) = Unit {0}
 PowersFit (TInput v p w) = Unit {0}
 PowersFit (TLet j p w) = Unit {0}
 PowersFit (TNeg t p w) = PowersFit t
 PowersFit (TTwo k s t p w) = PowersFit s × PowersFit t
-PowersFit (TPow t n p w) = PowersFit t × (magnitude (power (pair t) n) ≤ most)
+PowersFit (TPow t n p w) = PowersFit t × (magnitude (power (pair t) n) ≤ most) × (power (pair t) 1 ≡ pair t)
+
+-- what is known of a lowered block: the rules that it follows, its value, what it pushes, its locals, and its operations
+pub record IsLowered (vars : List VarInfo) (a : Pairs) (lets : List Typed) (t : Typed) (b : Code) : Type 0 where
+  pub exponents : b.exps ≡ a
+  pub block : IsBlock b
+  pub follows : FollowsRules vars b
+  pub gives : (zs : List ℤ) → AreWithin vars zs → block_value zs b ≡ Some (value (values zs) (let_values (values zs) [] (map untyped lets)) (untyped t))
+  pub covers : (k : Known) → known_of vars b ≡ Some k → Covers (pair t) k.range
+  pub root : (k : Known) → known_of vars b ≡ Some k → (m : List ℕ) → normal_coefficient k.tree m ≡ polynomial lets t m
+  pub nodes : PushNodes (IsNodeOf lets t) (pushed_by vars b)
+  pub locals : KeepsLets vars b lets
+  pub code : IsCodeOf lets t (lines_of b.ops b.pairs)
+  pub small : length b.ops ≤ 4 * (cost t + costs lets) + 64

@@ -4,7 +4,7 @@ use Rattle.ln_interval.specs.Range.{Range}
 use Rattle.ln_bound.specs.Typed.{Typed, pair}
 use Rattle.ln_code.specs.Engine.{Line}
 use Rattle.ln_code.specs.StackCode.{IsCodeIn, Style}
-use Rattle.ln_lower.specs.Lowered.{nothing}
+use Rattle.ln_code.specs.Kept.{nothing}
 
 -- each operation carries the range of its node, within a power that of the lower power, and is done in the node's width; nothing is divided
 abbrev pub block_style : Style Range

@@ -1,12 +1,12 @@
 //! Writes the block of a tree with its lets: stack code that computes equal subtrees once, while there are locals for them.
-ghost use Rattle.std.specs.Prelude.{◌≡◌, ℕ, ◌+◌, ◌*◌, ◌<◌, ◌≤◌, [], All, IfOk, IfSome, OnOk, Some, List, ℤ, length, map, slice_get};
+ghost use Rattle.std.specs.Prelude.{◌≡◌, ℕ, ◌+◌, ◌*◌, ◌≤◌, [], All, IfOk, OnOk, Some, List, ℤ, length, map};
 ghost use Rattle.ln_algebra.specs.Coefficient.{normal_coefficient};
-ghost use Rattle.ln_interval.specs.Range.{Covers, magnitude, most, power, product};
+ghost use Rattle.ln_interval.specs.Range.{Covers};
 ghost use Rattle.ln_interval.specs.View.{range};
 ghost use Rattle.ln_tree.specs.Row.{AreWithin};
 ghost use Rattle.ln_bound.specs.Value.{value, values};
 ghost use Rattle.ln_bound.specs.Light.{let_values};
-ghost use Rattle.ln_bound.specs.Typed.{cost, costs, operation, pair, polynomial, untyped};
+ghost use Rattle.ln_bound.specs.Typed.{cost, costs, pair, polynomial, untyped};
 ghost use Rattle.ln_bound.specs.Sound.{AreSound, Sound};
 ghost use Rattle.ln_bound.specs.View.{typed};
 ghost use Rattle.ln_code.specs.Rules.{Known};
@@ -15,138 +15,19 @@ ghost use Rattle.ln_code.specs.Kept.{AreOfSites, FollowsRules, IsBlock};
 ghost use Rattle.ln_code.specs.Nodes.{IsNodeOf};
 ghost use Rattle.ln_lower.specs.Nodes.{KeepsLets, PushNodes, pushed_by};
 ghost use Rattle.ln_lower.specs.StackCode.{IsCodeOf};
-ghost use Rattle.ln_lower.specs.Lowered.{factors, line, power_of, PowersFit};
-ghost use Rattle.ln_code.specs.Engine.{op_of};
+ghost use Rattle.ln_lower.specs.Lowered.{IsLowered, PowersFit};
 ghost use Rattle.ln_lower.specs.declared.distinct.Key.{Key};
 ghost use Rattle.ln_lower.specs.Distinct.{AreNumbersOf, IsNumberOf};
-ghost use Rattle.ln_lower.specs.Wrote.{Drafted, MayKeep, Puts, PutsLast, PutsLet, PutsLets, Wrote};
+ghost use Rattle.ln_lower.specs.Wrote.{Drafted, PutsLet, PutsLets};
 
 use crate::distinct::{Distinct, number};
-use crate::draft::{Draft, nothing};
+use crate::marks::nothing;
 use ln_base::{NoMemory, Seq};
-use ln_bound::{FitOp, Fitted, Two, Width};
-use ln_code::{Block, Builder, Built, Op};
+use ln_bound::Fitted;
+use ln_code::{Block, Built, Draft, Op, put_tree};
 use ln_interval::Pair;
 use ln_tree::{Exps, Shape};
 use std::alloc::Global;
-
-// The pair of the product of two, where it is within the limit.
-fn product_of(p: Pair, q: Pair) -> Pair
-    requires { magnitude (product (range p) (range q)) ≤ most }
-    ensures { range result ≡ product (range p) (range q) }
-{
-    p.mul(q).unwrap()
-}
-
-// The base's further factors, and the pair of the power that they leave. The base, of this pair, is in local 64.
-fn put_factors(draft: &mut Draft, base: Pair, width: Width, n: u8) -> Result<Pair, NoMemory>
-    requires { magnitude (power (range base) (n + 1)) ≤ most }
-    ensures pair { IfOk result (λ p. range p ≡ power (range base) (n + 1)) }
-    ensures wrote { OnOk result (Wrote draft.old draft.new (factors (range base) width 1 n) []) }
-{
-    if n == 0 {
-        return Ok(base);
-    }
-    let below = put_factors(draft, base, width, n - 1)?;
-    let power = product_of(below, base);
-    draft.push(Op::Get(64), base)?;
-    draft.push(Op::Mul(width), power)?;
-    Ok(power)
-}
-
-// From the base on the stack to its power n + 1.
-fn put_power(draft: &mut Draft, base: Pair, width: Width, n: u8) -> Result<(), NoMemory>
-    requires { magnitude (power (range base) (n + 1)) ≤ most }
-    ensures { OnOk result (Wrote draft.old draft.new (power_of (range base) width n) []) }
-{
-    if n != 0 {
-        draft.push(Op::Set(64), nothing())?;
-        draft.push(Op::Get(64), base)?;
-        put_factors(draft, base, width, n)?;
-    }
-    Ok(())
-}
-
-// The local in which a subtree is kept, if it is shared.
-fn local_of(draft: &Draft, distinct: &Distinct, k: usize) -> Option<u8>
-    ensures { IfSome result (λ j. (i : ℕ) × (slice_get draft.now.kept i ≡ Some k) × (j ≡ 65 + i)) }
-{
-    if distinct.is_shared(k) {
-        draft.local_of(k)
-    } else {
-        None
-    }
-}
-
-// Keeps the value on the stack, if its subtree is shared.
-fn put_kept(draft: &mut Draft, is_shared: bool, k: usize, pair: Pair) -> Result<(), NoMemory>
-    ensures { OnOk result (MayKeep draft.old draft.new k (range pair)) }
-{
-    if is_shared {
-        draft.keep(k, pair)
-    } else {
-        Ok(())
-    }
-}
-
-// The last operation of a tree, whose number is k and whose range is this.
-fn put_done(
-    draft: &mut Draft,
-    distinct: &Distinct,
-    op: Op,
-    pair: Pair,
-    k: usize,
-) -> Result<(), NoMemory>
-    ensures { OnOk result (PutsLast draft.old draft.new (line op (range pair)) k (range pair)) }
-{
-    draft.push(op, pair)?;
-    put_kept(draft, distinct.is_shared(k), k, pair)
-}
-
-// The operation on two that a tree is.
-fn op_of(t: &Fitted) -> Op
-    ensures { result ≡ op_of (operation (typed t.now)) t.now.width }
-{
-    match t.operation() {
-        Two::Plus => Op::Add(t.width),
-        Two::Minus => Op::Sub(t.width),
-        Two::Times => Op::Mul(t.width),
-    }
-}
-
-// The operations of a tree, whose number is k.
-fn put_tree(draft: &mut Draft, distinct: &Distinct, t: &Fitted, k: usize) -> Result<(), NoMemory>
-    requires powers { PowersFit (typed t.now) }
-    requires stands { IsNumberOf distinct.now.keys k (typed t.now) }
-    ensures { OnOk result (Puts distinct.now.keys draft.old draft.new (typed t.now)) }
-{
-    if let Some(j) = local_of(draft, distinct, k) {
-        return draft.push(Op::Get(j), t.pair);
-    }
-    match &t.op {
-        FitOp::Num(c) => draft.push(Op::Push(*c), t.pair),
-        FitOp::Input(v) => draft.push(Op::Input(*v), t.pair),
-        FitOp::Let(j) => draft.push(Op::Get(*j), t.pair),
-        FitOp::Neg(x) => {
-            put_tree(draft, distinct, x, distinct.operand(k))?;
-            put_done(draft, distinct, Op::Neg(t.width), t.pair, k)
-        }
-        FitOp::Add(x, y) | FitOp::Sub(x, y) | FitOp::Mul(x, y) => {
-            put_tree(draft, distinct, x, distinct.operand(k))?;
-            put_tree(draft, distinct, y, distinct.right(k))?;
-            put_done(draft, distinct, op_of(t), t.pair, k)
-        }
-        FitOp::Pow(x, n) => {
-            if *n == 0 {
-                put_done(draft, distinct, Op::Push(1), t.pair, k)
-            } else {
-                put_tree(draft, distinct, x, distinct.operand(k))?;
-                put_power(draft, x.pair, t.width, *n - 1)?;
-                put_kept(draft, distinct.is_shared(k), k, t.pair)
-            }
-        }
-    }
-}
 
 // The numbers of trees, each of which is at one place more.
 fn number_all(
@@ -167,7 +48,7 @@ fn number_all(
 
 // The operations of a let, whose subtree has number k, into the local of its own number.
 fn put_let(
-    draft: &mut Draft,
+    draft: &mut Draft<Pair>,
     distinct: &Distinct,
     u: &Fitted,
     k: usize,
@@ -178,12 +59,12 @@ fn put_let(
     ensures { OnOk result (PutsLet distinct.now.keys draft.old draft.new (typed u.now) j) }
 {
     put_tree(draft, distinct, u, k)?;
-    draft.push(Op::Set(j), nothing())
+    draft.code.push(Op::Set(j), nothing())
 }
 
 // The operations of the lets, whose subtrees have these numbers, each into the local of its own number.
 fn put_lets(
-    draft: &mut Draft,
+    draft: &mut Draft<Pair>,
     distinct: &Distinct,
     lets: &[Fitted],
     numbers: &[usize],
@@ -201,77 +82,40 @@ fn put_lets(
     Ok(())
 }
 
-// Appends the operations of the lets and of a tree after them, whose subtrees have these numbers.
-fn put_all(
-    draft: &mut Draft,
+// The operations of the lets and of a tree after them, whose subtrees have these numbers.
+fn drafted(
+    alloc: Global,
     distinct: &Distinct,
     lets: &[Fitted],
     numbers: &[usize],
     t: &Fitted,
     k: usize,
-) -> Result<(), NoMemory>
+) -> Result<Draft<Pair>, NoMemory>
     requires few { length lets.now ≤ 64 }
     requires powers { All (λ u. PowersFit (typed u)) lets.now }
     requires stand { AreNumbersOf distinct.now.keys numbers.now (map typed lets.now) }
     requires root { PowersFit (typed t.now) }
     requires stands { IsNumberOf distinct.now.keys k (typed t.now) }
-    requires code { draft.now.code ≡ [] }
-    requires kept { draft.now.kept ≡ [] }
-    ensures { OnOk result (Drafted distinct.now.keys (map typed lets.now) (typed t.now) draft.new) }
+    ensures { IfOk result (λ d. Drafted distinct.now.keys (map typed lets.now) (typed t.now) d) }
 {
-    put_lets(draft, distinct, lets, numbers)?;
-    put_tree(draft, distinct, t, k)
-}
-
-// The operations of the lets, whose subtrees have these numbers, and of a tree after them.
-fn drafted(
-    alloc: Global,
-    distinct: &mut Distinct,
-    lets: &[Fitted],
-    numbers: &[usize],
-    t: &Fitted,
-) -> Result<Draft, NoMemory>
-    requires few { length lets.now ≤ 64 }
-    requires powers { All (λ u. PowersFit (typed u)) lets.now }
-    requires stand { AreNumbersOf distinct.old.keys numbers.now (map typed lets.now) }
-    requires root { PowersFit (typed t.now) }
-    ensures { IfOk result (λ d. Drafted distinct.new.keys (map typed lets.now) (typed t.now) d) }
-{
-    let k = number(distinct, t)?;
-    distinct.place(k);
-    let mut draft = Draft {
-        code: Builder::new(alloc),
-        kept: Seq::new(alloc),
-    };
-    put_all(&mut draft, distinct, lets, numbers, t, k)?;
+    let mut draft = Draft::new(alloc);
+    put_lets(&mut draft, distinct, lets, numbers)?;
+    put_tree(&mut draft, distinct, t, k)?;
     Ok(draft)
 }
 
 // The operations of the lets and of a tree after them, whose subtrees get their numbers.
-fn numbered(
-    alloc: Global,
-    distinct: &mut Distinct,
-    lets: &[Fitted],
-    t: &Fitted,
-) -> Result<Draft, NoMemory>
-    requires few { length lets.now ≤ 64 }
-    requires powers { All (λ u. PowersFit (typed u)) lets.now }
-    requires root { PowersFit (typed t.now) }
-    ensures { IfOk result (λ d. Drafted distinct.new.keys (map typed lets.now) (typed t.now) d) }
-{
-    let numbers = number_all(alloc, distinct, lets)?;
-    drafted(alloc, distinct, lets, numbers.as_slice(), t)
-}
-
-// The operations of the lets and of a tree after them.
-fn written(alloc: Global, lets: &[Fitted], t: &Fitted) -> Result<Draft, NoMemory>
+fn written(alloc: Global, lets: &[Fitted], t: &Fitted) -> Result<Draft<Pair>, NoMemory>
     requires few { length lets.now ≤ 64 }
     requires powers { All (λ u. PowersFit (typed u)) lets.now }
     requires root { PowersFit (typed t.now) }
     ensures { IfOk result (λ d. (ks : List Key) × Drafted ks (map typed lets.now) (typed t.now) d) }
 {
     let mut distinct = Distinct::new(alloc)?;
-    numbered(alloc, &mut distinct, lets, t)
+    let numbers = number_all(alloc, &mut distinct, lets)?;
+    let k = number(&mut distinct, t)?;
+    distinct.place(k);
+    drafted(alloc, &distinct, lets, numbers.as_slice(), t, k)
 }
 
 // The block of these operations, which computes the derivative of these exponents.
@@ -281,6 +125,23 @@ fn finished(alloc: Global, a: &Exps, code: Built<Pair>) -> Result<Block, NoMemor
 {
     let exps = a.copy(alloc)?;
     Ok(Block::seal(exps, code.ops, code.bounds, 2048))
+}
+
+// The block of a tree with its lets, and what is known of it.
+fn lowered(
+    alloc: Global,
+    a: &Exps,
+    s: &Shape,
+    t: &Fitted,
+    lets: &Seq<Fitted>,
+) -> Result<Block, NoMemory>
+    requires few { length lets.now ≤ 64 }
+    requires lets { AreSound s.now.vars [] (map typed lets.now) }
+    requires root { Sound s.now.vars (map typed lets.now) (typed t.now) }
+    ensures { IfOk result (λ b. IsLowered s.now.vars a.now (map typed lets.now) (typed t.now) b) }
+{
+    let Draft { code, kept: _kept } = written(alloc, lets.as_slice(), t)?;
+    finished(alloc, a, code.built())
 }
 
 /// The block of a tree with its lets, which computes the derivative of these exponents. The exponents are of coordinates of
@@ -317,7 +178,6 @@ pub fn lower(
     ensures code { IfOk result (λ b. IsCodeOf (map typed lets.now) (typed t.now) (lines_of b.ops b.pairs)) }
     ensures small { IfOk result (λ b. length b.ops ≤ 4 * (cost (typed t.now) + costs (map typed lets.now)) + 64) }
 {
-    let draft = written(alloc, lets.as_slice(), t)?;
-    let code = draft.built();
-    finished(alloc, a, code)
+    let b = lowered(alloc, a, s, t, lets)?;
+    Ok(b)
 }

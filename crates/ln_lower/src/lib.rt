@@ -6,7 +6,7 @@
 
 pub mod blocks;
 pub(crate) mod distinct;
-pub(crate) mod draft;
 pub(crate) mod keys;
+pub(crate) mod marks;
 
 pub use blocks::lower;

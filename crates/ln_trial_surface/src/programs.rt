@@ -1,8 +1,9 @@
 //! Compiled sources, found by their names, and programs by total degree.
 use ln_base::{NoMemory, Seq, Sign};
-use ln_bound::FittedPred;
+use ln_bound::{FittedPred, Width};
 use ln_code::{
-    Block, FilterBlock, Op, Program, Programs, Row, Scratch, Triple, Verdict, block_value, run_row,
+    Block, Builder, Built, Draft, FilterBlock, Op, Program, Programs, Row, Scratch, Triple,
+    Verdict, block_value, run_row,
 };
 use ln_compile::{Compiled, Refusal, compile};
 use ln_factor::product_row;
@@ -58,5 +59,88 @@ fn is_compiled(alloc: Global, source: &str) -> Result<bool, NoMemory> {
 #[test]
 fn the_orientation_is_found_by_its_name_and_has_30_stages(rt: HostRuntime) -> Result<(), Fail> {
     assert!(rt; is_compiled(rt.alloc(), ORIENT)?);
+    Ok(())
+}
+
+// Are they a variable and its opposite?
+fn are_opposite(ops: &[Op]) -> bool {
+    match ops {
+        [Op::Input(0), Op::Neg(_)] => true,
+        _ => false,
+    }
+}
+
+// Has a builder of two operations both, each with its bound?
+fn is_built(alloc: Global) -> Result<bool, NoMemory> {
+    let mut code = Builder::new(alloc);
+    code.push(Op::Input(0), 7u64)?;
+    code.push(Op::Neg(Width::W64), 9u64)?;
+    let Built { ops, bounds } = code.built();
+    Ok(are_opposite(ops.as_slice()) && bounds.as_slice() == [7u64, 9u64].as_slice())
+}
+
+#[test]
+fn two_operations_are_built_with_their_bounds(rt: HostRuntime) -> Result<(), Fail> {
+    assert!(rt; is_built(rt.alloc())?);
+    Ok(())
+}
+
+// Is the second of two subtrees that are kept in local 66, and another in none?
+fn is_in_66(alloc: Global) -> Result<bool, NoMemory> {
+    let mut draft: Draft<u64> = Draft::new(alloc);
+    draft.kept.push(4)?;
+    draft.kept.push(7)?;
+    Ok(draft.local_of(7) == Some(66) && draft.local_of(5).is_none())
+}
+
+#[test]
+fn the_second_subtree_that_is_kept_is_in_local_66(rt: HostRuntime) -> Result<(), Fail> {
+    assert!(rt; is_in_66(rt.alloc())?);
+    Ok(())
+}
+
+const SQUARE: &str =
+    "site num { t: -10 .. 10; } predicate same(a: num, b: num) { sign (a.t + b.t) * (a.t + b.t); }";
+
+// Is it a sum that is computed once, kept in local 65 and multiplied by itself?
+fn are_shared(ops: &[Op]) -> bool {
+    match ops {
+        [
+            Op::Input(0),
+            Op::Input(1),
+            Op::Add(_),
+            Op::Set(65),
+            Op::Get(65),
+            Op::Get(65),
+            Op::Mul(_),
+        ] => true,
+        _ => false,
+    }
+}
+
+// Are they the operations of the first block of the first program?
+fn has_shared(programs: &[Program]) -> bool {
+    match programs {
+        [p] => {
+            match p.blocks() {
+                [b, ..] => are_shared(b.ops()),
+                [] => false,
+            }
+        }
+        _ => false,
+    }
+}
+
+// The same of a source.
+fn is_shared(alloc: Global, source: &str) -> Result<bool, NoMemory> {
+    match compiled(alloc, source)? {
+        Some(c) => Ok(has_shared(c.programs().as_slice())),
+        None => Ok(false),
+    }
+}
+
+#[test]
+fn a_sum_that_is_used_twice_is_computed_once(rt: HostRuntime) -> Result<(), Fail> {
+    assert!(rt; is_shared(rt.alloc(), SQUARE)?);
     Ok(())
 }

@@ -33,7 +33,7 @@ use Rattle.ln_lower.proofs.Subtrees.Bounding.{two_covers, wider_in, wider_narrow
 use Rattle.ln_lower.proofs.Operations.Meaning.{IsAllowed, IsGood, Setting, StandsFor, is_one, meaning, rooted, small_as, stands_wider, wanted}
 
 -- the range of a sound node is one, and fits its width
-sound_in : (vars : List VarInfo) (lets : List Typed) (t : Typed) → SoundNodes vars lets t → IsIn (pair t) (width t)
+pub sound_in : (vars : List VarInfo) (lets : List Typed) (t : Typed) → SoundNodes vars lets t → IsIn (pair t) (width t)
 sound_in vars lets (TNum c p w) s = s.1
 sound_in vars lets (TInput v p w) s = s.2
 sound_in vars lets (TLet j p w) s = s.1

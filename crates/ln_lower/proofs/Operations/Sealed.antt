@@ -33,11 +33,13 @@ use Rattle.ln_code.proofs.Lines.{lines_length}
 use Rattle.ln_code.specs.StackCode.{line}
 use Rattle.ln_code.specs.declared.op.Op.{Op}
 use Rattle.ln_code.specs.declared.builder.Built.{Built}
-use Rattle.ln_lower.specs.declared.draft.Draft.{Draft}
+use Rattle.ln_code.specs.declared.draft.Draft.{Draft}
+use Rattle.ln_code.specs.Walk.{told_line}
 use Rattle.ln_code.specs.Nodes.{IsLetNode, IsNodeOf}
 use Rattle.ln_lower.specs.Nodes.{PushNodes, pushed_by, HasPolynomial, KeepsLets}
 use Rattle.ln_lower.specs.declared.distinct.Key.{Key}
-use Rattle.ln_lower.specs.Lowered.{nothing, ranged, PowersFit}
+use Rattle.ln_code.specs.Kept.{nothing}
+use Rattle.ln_lower.specs.Lowered.{IsLowered, PowersFit}
 use Rattle.ln_lower.specs.StackCode.{IsCodeOf, block_style}
 use Rattle.ln_lower.specs.Wrote.{Drafted}
 use Rattle.ln_code.proofs.Following.Same.{Same}
@@ -47,12 +49,12 @@ use Rattle.ln_code.proofs.Building.Present.{Present}
 use Rattle.ln_code.proofs.Building.Lands.{AreGood, code_lands}
 use Rattle.ln_code.proofs.Building.Sizes.{code_stores, code_weight}
 use Rattle.ln_lower.proofs.Operations.Meaning.{Setting, StandsFor, meaning, wanted}
-use Rattle.ln_lower.proofs.Operations.Nodes.{facts}
+use Rattle.ln_lower.proofs.Operations.Nodes.{facts, sound_in}
 use Rattle.ln_lower.proofs.Operations.Costs.{all_weigh, block_weighs}
-use Rattle.ln_lower.proofs.Subtrees.Bounding.{limit_most}
+use Rattle.ln_lower.proofs.Subtrees.Bounding.{limit_most, power_one}
 
 -- operations with their pairs are operations with the ranges of these
-lines_ranged : (os : List Op) (ps : List Pair) → lines_of os (map range ps) ≡ map ranged (lines_of os ps)
+lines_ranged : (os : List Op) (ps : List Pair) → lines_of os (map range ps) ≡ map (told_line range) (lines_of os ps)
 lines_ranged [] ps = refl
 lines_ranged (o ∷ os) [] = refl
 lines_ranged (o ∷ os) (p ∷ ps) = ap (λ l. line o (range p) ∷ l) (lines_ranged os ps)
@@ -69,7 +71,8 @@ powers_fit vars lets (TPow t n p w) s =
     let h = limit_most w in
     let c = covers_magnitude p (power (pair t) n) (power_ordered (pair t) n) s.1 in
     let i = s.2.1 in
-    (powers_fit vars lets t s.0, omega (arith, h, c, i))
+    let o = sound_in vars lets t s.0 in
+    (powers_fit vars lets t s.0, omega (arith, h, c, i), power_one (pair t) o.0)
 
 -- the ranges of all powers in a sound tree are within 2^127 - 1
 pub root_fits : (vars : List VarInfo) (lets : List Typed) (t : Typed) → Sound vars lets t → PowersFit t
@@ -115,21 +118,13 @@ lets_are_kept at lets kept l k j h =
     let u : Typed = get_or lets j d in
     has_polynomial lets (TLet j (pair u) (width u)) at (l j) (k.lets_there j u (slice_get-get_or lets j d h))
 
--- what is known of a lowered block: the rules that it follows, its value, what it pushes, its locals, and its operations
-pub record IsLowered (vars : List VarInfo) (code : Code) (t : Typed) (lets : List Typed) : Type 0 where
-  pub block : IsBlock code
-  pub rules : FollowsRules vars code
-  pub value : Known
-  pub top : StandsFor (wanted lets t) value
-  pub known : known_of vars code ≡ Some value
-  pub each : PushNodes (IsNodeOf lets t) (pushed_by vars code)
-  pub locals : KeepsLets vars code lets
-  pub lines : IsCodeOf lets t (lines_of code.ops code.pairs)
-  pub few : length code.ops ≤ 4 * (cost t + costs lets) + 64
+top_is : (o : Option Known) (v k : Known) → o ≡ Some v → o ≡ Some k → v ≡ k
+top_is o v k a b = let e : Some v ≡ Some k = sym a ∙ b in cc
 
 -- code of sound lets and of a sound tree after them is a lowered block
 lowered_is : (vars : List VarInfo) (code : Code) (t : Typed) (lets : List Typed) (all : List (Line Range)) → IsCodeOf lets t all
-    → SoundBlock vars lets t → code.depth ≡ 2048 → lines_of code.ops code.pairs ≡ all → length code.ops ≡ length code.pairs → IsLowered vars code t lets
+    → SoundBlock vars lets t → code.depth ≡ 2048 → lines_of code.ops code.pairs ≡ all → length code.ops ≡ length code.pairs
+    → IsLowered vars code.exps lets t code
 lowered_is vars code t lets all w s d e b =
     let deep : 2048 ≤ code.depth = omega (arith, d) in
     let at : Setting = record { vars = vars; depth = code.depth; is_node = IsNodeOf lets t } in
@@ -138,45 +133,46 @@ lowered_is vars code t lets all w s d e b =
     let ends : run (rules vars code.depth) all (record { stack = []; locals = no_locals }) ≡ Some (record { stack = x.value ∷ []; locals = x.locals }) =
     x.runs.ends in
     let f : known_of vars code ≡ Some x.value = rw (e, ends) refl in
+    let top : (k : Known) → known_of vars code ≡ Some k → StandsFor (wanted lets t) k =
+    λ k h. subst (λ n. StandsFor (wanted lets t) n) (top_is (known_of vars code) x.value k f h) x.stands in
     let g : FollowsRules vars code = record { bounded = b; answers = rw f refl } in
     let n : length code.ops ≡ length all = lines_length code.ops code.pairs b ∙ ap (λ (l : List (Line Range)). length l) e in
     let c = code_weight (λ done. block_style) 0 (λ t. 3 * cost t) (λ done. block_weighs) lets t all w in
     let a = all_weigh lets in
     let few = s.few in
     record {
+      exponents = refl;
       block = record {
         shallow = let i : code.depth ≤ 2048 = omega (arith, d) in i;
         stores_have = rw e (code_stores (λ done. block_style) nothing (λ done. refl) lets t all w);
         vars = vars;
         rules = g;
       };
-      rules = g;
-      value = x.value;
-      top = x.stands;
-      known = f;
-      each = rw e x.runs.each;
+      follows = g;
+      gives = λ zs h. let m = blocks_mean vars zs code h g in let same = (top m.what m.known).same in
+          m.answer ∙ ap Some (same.values (values zs) ∙ sym (whole_value (values zs) (map untyped lets) (untyped t)));
+      covers = λ k h. (top k h).covered;
+      root = λ k h m. let same = (top k h).same in ap (λ (f : Series). f m) same.series;
+      nodes = rw e x.runs.each;
       locals = rw (e, ends) (lets_are_kept at lets x.kept x.locals x.present);
-      lines = rw e w;
-      few = omega (arith, n, c, a, few);
+      code = rw e w;
+      small = omega (arith, n, c, a, few);
     }
 
 -- the block that is sealed from these operations, with the derivative's exponents
 abbrev pub sealed_from : Pairs → Built Pair → Code
 sealed_from a d = record { exps = a; ops = d.ops; pairs = map range d.bounds; depth = 2048 }
 
--- these are the operations that were written
-record IsBuilt (d : Draft) (c : Built Pair) : Type 0 where
-  lines : lines_of c.ops c.bounds ≡ d.code
-  bounded : length c.ops ≡ length c.bounds
-
 -- a block that is sealed from the operations of sound lets and a sound tree is a lowered one
-sealed : (vars : List VarInfo) (a : Pairs) (ks : List Key) (t : Typed) (lets : List Typed) (d : Draft) (b : Built Pair) → SoundBlock vars lets t
-    → Drafted ks lets t d → IsBuilt d b → IsLowered vars (sealed_from a b) t lets
-sealed vars a ks t lets d b s x y =
-    let v = x.lets in
-    let w = x.root in
+pub sealed : (vars : List VarInfo) (a : Pairs) (t : Typed) (lets : List Fitted) (d : Draft Pair) (b : Built Pair) → length lets ≤ 64
+    → AreSound vars [] (map typed lets) → Sound vars (map typed lets) t → ((ks : List Key) × Drafted ks (map typed lets) t d)
+    → lines_of b.ops b.bounds ≡ d.code → length b.ops ≡ length b.bounds → IsLowered vars a (map typed lets) t (sealed_from a b)
+sealed vars a t lets d b few sound root x e n =
+    let v = x.1.lets in
+    let w = x.1.root in
     let c = w.coded v.kept v.are in
-    let code : IsCodeOf lets t (v.lines ++ w.lines) = record {
+    let all : List (Line Range) = v.lines ++ w.lines in
+    let code : IsCodeOf (map typed lets) t (v.lines ++ w.lines) = record {
       first = v.lines;
       last = w.lines;
       kept = v.kept;
@@ -186,41 +182,7 @@ sealed vars a ks t lets d b s x y =
       root_code = c.code;
       all = refl;
     } in
-    let i : map ranged d.code ≡ v.lines ++ w.lines = w.wrote.code ∙ ap (λ l. l ++ w.lines) v.is in
-    let j : lines_of b.ops (map range b.bounds) ≡ v.lines ++ w.lines =
-    lines_ranged b.ops b.bounds ∙ ap (λ (l : List (Line Pair)). map ranged l) y.lines ∙ i in
-    lowered_is vars (sealed_from a b) t lets (v.lines ++ w.lines) code s refl j (simp length-map y.bounded)
-
--- the same of lets in memory
-pub built_block : (vars : List VarInfo) (a : Pairs) (t : Typed) (lets : List Fitted) (d : Draft) (b : Built Pair) → length lets ≤ 64
-    → AreSound vars [] (map typed lets) → Sound vars (map typed lets) t → ((ks : List Key) × Drafted ks (map typed lets) t d)
-    → lines_of b.ops b.bounds ≡ d.code → length b.ops ≡ length b.bounds → IsLowered vars (sealed_from a b) t (map typed lets)
-built_block vars a t lets d b few ls root x e n = sealed vars a x.0 t (map typed lets) d b
-    (record { few = simp length-map few; lets_sound = ls; root = root }) x.1 (record { lines = e; bounded = n })
-
--- what is known of each lowered block is known of the one that is sealed
-pub if_sealed : {E : Type 0} (vars : List VarInfo) (a : Pairs) (t : Typed) (lets : List Typed) (c : Built Pair) (r : Result Code E) (P : Code → Type 0)
-    → IsLowered vars (sealed_from a c) t lets → IfOk r (λ b. b ≡ sealed_from a c) → ((b : Code) → IsLowered vars b t lets → P b) → IfOk r P
-if_sealed vars a t lets c r P x h f = IfOk-weaker r (λ b. b ≡ sealed_from a c) P (λ b e. subst P (sym e) (f (sealed_from a c) x)) h
-
-top_is : (vars : List VarInfo) (code : Code) (t : Typed) (lets : List Typed) (x : IsLowered vars code t lets) (k : Known)
-    → known_of vars code ≡ Some k → x.value ≡ k
-top_is vars code t lets x k h = let e : Some x.value ≡ Some k = sym x.known ∙ h in cc
-
--- the range that the rules find for the value of a lowered block is within the range of the tree
-pub lowered_range : (vars : List VarInfo) (code : Code) (t : Typed) (lets : List Typed) → IsLowered vars code t lets → (k : Known)
-    → known_of vars code ≡ Some k → Covers (pair t) k.range
-lowered_range vars code t lets x k h = subst (λ (n : Known). Covers (pair t) n.range) (top_is vars code t lets x k h) x.top.covered
-
--- the expression that the rules find for the value of a lowered block is, as a polynomial, the tree after its lets
-pub lowered_same : (vars : List VarInfo) (code : Code) (t : Typed) (lets : List Typed) → IsLowered vars code t lets → (k : Known)
-    → known_of vars code ≡ Some k → Same k.tree (tree_in lets t)
-lowered_same vars code t lets x k h = subst (λ (n : Known). Same n.tree (tree_in lets t)) (top_is vars code t lets x k h) x.top.same
-
--- on a row in range a lowered block has the value of the tree after its lets
-pub lowered_value : (vars : List VarInfo) (code : Code) (t : Typed) (lets : List Typed) → IsLowered vars code t lets → (zs : List ℤ)
-    → AreWithin vars zs → block_value zs code ≡ Some (value (values zs) (let_values (values zs) [] (map untyped lets)) (untyped t))
-lowered_value vars code t lets x zs h =
-    let m = blocks_mean vars zs code h x.rules in
-    let s = lowered_same vars code t lets x m.what m.known in
-    m.answer ∙ ap Some (s.values (values zs) ∙ sym (whole_value (values zs) (map untyped lets) (untyped t)))
+    let i : lines_of b.ops (map range b.bounds) ≡ v.lines ++ w.lines = lines_ranged b.ops b.bounds
+    ∙ ap (λ (l : List (Line Pair)). map (told_line range) l) e ∙ w.wrote.code ∙ ap (λ l. l ++ w.lines) v.is in
+    lowered_is vars (sealed_from a b) t (map typed lets) all code (record { few = simp length-map few; lets_sound = sound; root = root }) refl i
+    (simp length-map n)

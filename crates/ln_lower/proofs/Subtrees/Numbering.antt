@@ -1,6 +1,7 @@
 -- Proves that a number stands for one tree alone, and still does when more subtrees are numbered.
-use Rattle.std.proofs.Common.{◌≡◌, ℕ, List, [], ◌∷◌, ◌++◌, refl, zero, suc, ap, arith, ◌∙◌, sym, subst, length, map, get_or, ◌<◌}
+use Rattle.std.proofs.Common.{◌≡◌, ℕ, List, [], ◌∷◌, ◌++◌, refl, zero, suc, ap, ap₂, arith, ◌∙◌, sym, subst, length, map, get_or, ◌<◌}
 use Rattle.std.specs.Prelude.{Some, slice_get}
+use Rattle.std.proofs.lemmas.List.{length-map}
 use Rattle.ln_interval.specs.Range.{Range}
 use Rattle.ln_bound.specs.declared.fitted.Width.{Width}
 use Rattle.ln_bound.specs.declared.fitted.Two.{Two}
@@ -10,109 +11,53 @@ use Rattle.ln_lower.specs.declared.distinct.KeyOp.{KeyOp}
 use Rattle.ln_lower.specs.declared.distinct.KeyOp.TheVariants.{Number, Variable, Name, Opposite, Both, Raised}
 use Rattle.ln_bound.specs.declared.fitted.Fitted.{Fitted}
 use Rattle.ln_bound.specs.View.{typed}
+use Rattle.ln_code.proofs.Building.Walks.{all_append, all_length}
 use Rattle.ln_lower.proofs.Subtrees.Roots.{HasRoot}
-use Rattle.ln_lower.specs.Distinct.{key, IsNumberOf, AreNumbersOf, Extends, Added, Numbered, operand_or, right_or}
+use Rattle.ln_lower.specs.Distinct.{key, IsNumberOf, AreNumbersOf, Extends, Added, Numbered}
 
 -- ---- one number, one tree
 
-abbrev range_in : Key → Range
-range_in x = record { low = x.low; high = x.high }
+-- a tree with this operation over operands of these numbers, in this range and width
+abbrev IsRoot : List Key → KeyOp → Range → Width → Typed → Type 0
+IsRoot ks (Number c) p w t = t ≡ TNum c p w
+IsRoot ks (Variable v) p w t = t ≡ TInput v p w
+IsRoot ks (Name j) p w t = t ≡ TLet j p w
+IsRoot ks (Opposite a) p w t = (s : Typed) × (t ≡ TNeg s p w) × IsNumberOf ks a s
+IsRoot ks (Both o a b) p w t = (r : Typed) × (s : Typed) × (t ≡ TTwo o r s p w) × IsNumberOf ks a r × IsNumberOf ks b s
+IsRoot ks (Raised a n) p w t = (s : Typed) × (t ≡ TPow s n p w) × IsNumberOf ks a s
 
-same_parts : (o i : KeyOp) (p q : Range) (w v : Width) → key o p w ≡ key i q v → (o ≡ i) × (p ≡ q) × (w ≡ v)
-same_parts o i p q w v e = (ap (λ (x : Key). x.op) e, ap range_in e, ap (λ (x : Key). x.width) e)
+abbrev IsRooted : List Key → Key → Typed → Type 0
+IsRooted ks x t = IsRoot ks x.op (record { low = x.low; high = x.high }) x.width t
 
-same_key : (ks : List Key) (k : ℕ) (o i : KeyOp) (p q : Range) (w v : Width) → slice_get ks k ≡ Some (key o p w)
-    → slice_get ks k ≡ Some (key i q v) → (o ≡ i) × (p ≡ q) × (w ≡ v)
-same_key ks k o i p q w v a b =
-    let e : Some (key o p w) ≡ Some (key i q v) = sym a ∙ b in
-    let f : key o p w ≡ key i q v = cc in
-    same_parts o i p q w v f
-
--- two subtrees at one number don't differ in their operations
-differ : (ks : List Key) (k : ℕ) {x y : Key} → slice_get ks k ≡ Some x → slice_get ks k ≡ Some y → (x.op ≡ y.op → ⊥) → ⊥
-differ ks k {x = x} {y = y} a b n =
+same_root : (ks : List Key) (k : ℕ) (x y : Key) (t : Typed) → slice_get ks k ≡ Some x → slice_get ks k ≡ Some y → IsRooted ks x t → IsRooted ks y t
+same_root ks k x y t a b h =
     let e : Some x ≡ Some y = sym a ∙ b in
     let f : x ≡ y = cc in
-    n (ap (λ (z : Key). z.op) f)
+    subst (λ z. IsRooted ks z t) f h
+
+-- a tree with a number has the root that is noted for it
+rooted : (ks : List Key) (t : Typed) (k : ℕ) (x : Key) → slice_get ks k ≡ Some x → IsNumberOf ks k t → IsRooted ks x t
+rooted ks (TNum c p w) k x e s = same_root ks k (key (Number c) p w) x (TNum c p w) s e refl
+rooted ks (TInput v p w) k x e s = same_root ks k (key (Variable v) p w) x (TInput v p w) s e refl
+rooted ks (TLet j p w) k x e s = same_root ks k (key (Name j) p w) x (TLet j p w) s e refl
+rooted ks (TNeg t p w) k x e s = same_root ks k (key (Opposite s.0) p w) x (TNeg t p w) s.1 e (t, refl, s.2)
+rooted ks (TTwo o t u p w) k x e s = same_root ks k (key (Both o s.0 s.1) p w) x (TTwo o t u p w) s.2 e (t, u, refl, s.3, s.4)
+rooted ks (TPow t n p w) k x e s = same_root ks k (key (Raised s.0 n) p w) x (TPow t n p w) s.1 e (t, refl, s.2)
 
 -- a number is one tree alone
 pub unique : (ks : List Key) (t u : Typed) (k : ℕ) → IsNumberOf ks k t → IsNumberOf ks k u → t ≡ u
-unique ks (TNum c p w) (TNum d q v) k x y =
-    let z = same_key ks k (Number c) (Number d) p q w v x y in
-    let u : Number c ≡ Number d = z.0 in
-    let g : p ≡ q = z.1 in
-    let h : w ≡ v = z.2 in
-    cc
-unique ks (TNum c p w) (TInput d q v) k x y = absurd (differ ks k x y (λ (e : Number c ≡ Variable d). cc))
-unique ks (TNum c p w) (TLet d q v) k x y = absurd (differ ks k x y (λ (e : Number c ≡ Name d). cc))
-unique ks (TNum c p w) (TNeg e q v) k x y = absurd (differ ks k x y.1 (λ (e : Number c ≡ Opposite y.0). cc))
-unique ks (TNum c p w) (TTwo i e f q v) k x y = absurd (differ ks k x y.2 (λ (e : Number c ≡ Both i y.0 y.1). cc))
-unique ks (TNum c p w) (TPow e m q v) k x y = absurd (differ ks k x y.1 (λ (e : Number c ≡ Raised y.0 m). cc))
-unique ks (TInput c p w) (TNum d q v) k x y = absurd (differ ks k x y (λ (e : Variable c ≡ Number d). cc))
-unique ks (TInput c p w) (TInput d q v) k x y =
-    let z = same_key ks k (Variable c) (Variable d) p q w v x y in
-    let u : Variable c ≡ Variable d = z.0 in
-    let g : p ≡ q = z.1 in
-    let h : w ≡ v = z.2 in
-    cc
-unique ks (TInput c p w) (TLet d q v) k x y = absurd (differ ks k x y (λ (e : Variable c ≡ Name d). cc))
-unique ks (TInput c p w) (TNeg e q v) k x y = absurd (differ ks k x y.1 (λ (e : Variable c ≡ Opposite y.0). cc))
-unique ks (TInput c p w) (TTwo i e f q v) k x y = absurd (differ ks k x y.2 (λ (e : Variable c ≡ Both i y.0 y.1). cc))
-unique ks (TInput c p w) (TPow e m q v) k x y = absurd (differ ks k x y.1 (λ (e : Variable c ≡ Raised y.0 m). cc))
-unique ks (TLet c p w) (TNum d q v) k x y = absurd (differ ks k x y (λ (e : Name c ≡ Number d). cc))
-unique ks (TLet c p w) (TInput d q v) k x y = absurd (differ ks k x y (λ (e : Name c ≡ Variable d). cc))
-unique ks (TLet c p w) (TLet d q v) k x y =
-    let z = same_key ks k (Name c) (Name d) p q w v x y in
-    let u : Name c ≡ Name d = z.0 in
-    let g : p ≡ q = z.1 in
-    let h : w ≡ v = z.2 in
-    cc
-unique ks (TLet c p w) (TNeg e q v) k x y = absurd (differ ks k x y.1 (λ (e : Name c ≡ Opposite y.0). cc))
-unique ks (TLet c p w) (TTwo i e f q v) k x y = absurd (differ ks k x y.2 (λ (e : Name c ≡ Both i y.0 y.1). cc))
-unique ks (TLet c p w) (TPow e m q v) k x y = absurd (differ ks k x y.1 (λ (e : Name c ≡ Raised y.0 m). cc))
-unique ks (TNeg s p w) (TNum d q v) k x y = absurd (differ ks k x.1 y (λ (e : Opposite x.0 ≡ Number d). cc))
-unique ks (TNeg s p w) (TInput d q v) k x y = absurd (differ ks k x.1 y (λ (e : Opposite x.0 ≡ Variable d). cc))
-unique ks (TNeg s p w) (TLet d q v) k x y = absurd (differ ks k x.1 y (λ (e : Opposite x.0 ≡ Name d). cc))
-unique ks (TNeg s p w) (TNeg e q v) k x y =
-    let z = same_key ks k (Opposite x.0) (Opposite y.0) p q w v x.1 y.1 in
-    let u : Opposite x.0 ≡ Opposite y.0 = z.0 in
-    let r : x.0 ≡ y.0 = cc in
-    let g : p ≡ q = z.1 in
-    let h : w ≡ v = z.2 in
-    let l : s ≡ e = unique ks s e y.0 (rw r at x.2) y.2 in
-    cc
-unique ks (TNeg s p w) (TTwo i e f q v) k x y = absurd (differ ks k x.1 y.2 (λ (e : Opposite x.0 ≡ Both i y.0 y.1). cc))
-unique ks (TNeg s p w) (TPow e m q v) k x y = absurd (differ ks k x.1 y.1 (λ (e : Opposite x.0 ≡ Raised y.0 m). cc))
-unique ks (TTwo o s t p w) (TNum d q v) k x y = absurd (differ ks k x.2 y (λ (e : Both o x.0 x.1 ≡ Number d). cc))
-unique ks (TTwo o s t p w) (TInput d q v) k x y = absurd (differ ks k x.2 y (λ (e : Both o x.0 x.1 ≡ Variable d). cc))
-unique ks (TTwo o s t p w) (TLet d q v) k x y = absurd (differ ks k x.2 y (λ (e : Both o x.0 x.1 ≡ Name d). cc))
-unique ks (TTwo o s t p w) (TNeg e q v) k x y = absurd (differ ks k x.2 y.1 (λ (e : Both o x.0 x.1 ≡ Opposite y.0). cc))
-unique ks (TTwo o s t p w) (TTwo i e f q v) k x y =
-    let z = same_key ks k (Both o x.0 x.1) (Both i y.0 y.1) p q w v x.2 y.2 in
-    let u : Both o x.0 x.1 ≡ Both i y.0 y.1 = z.0 in
-    let r : x.0 ≡ y.0 = cc in
-    let b : x.1 ≡ y.1 = cc in
-    let j : o ≡ i = cc in
-    let g : p ≡ q = z.1 in
-    let h : w ≡ v = z.2 in
-    let l : s ≡ e = unique ks s e y.0 (rw r at x.3) y.3 in
-    let a : t ≡ f = unique ks t f y.1 (rw b at x.4) y.4 in
-    cc
-unique ks (TTwo o s t p w) (TPow e m q v) k x y = absurd (differ ks k x.2 y.1 (λ (e : Both o x.0 x.1 ≡ Raised y.0 m). cc))
-unique ks (TPow s n p w) (TNum d q v) k x y = absurd (differ ks k x.1 y (λ (e : Raised x.0 n ≡ Number d). cc))
-unique ks (TPow s n p w) (TInput d q v) k x y = absurd (differ ks k x.1 y (λ (e : Raised x.0 n ≡ Variable d). cc))
-unique ks (TPow s n p w) (TLet d q v) k x y = absurd (differ ks k x.1 y (λ (e : Raised x.0 n ≡ Name d). cc))
-unique ks (TPow s n p w) (TNeg e q v) k x y = absurd (differ ks k x.1 y.1 (λ (e : Raised x.0 n ≡ Opposite y.0). cc))
-unique ks (TPow s n p w) (TTwo i e f q v) k x y = absurd (differ ks k x.1 y.2 (λ (e : Raised x.0 n ≡ Both i y.0 y.1). cc))
-unique ks (TPow s n p w) (TPow e m q v) k x y =
-    let z = same_key ks k (Raised x.0 n) (Raised y.0 m) p q w v x.1 y.1 in
-    let u : Raised x.0 n ≡ Raised y.0 m = z.0 in
-    let r : x.0 ≡ y.0 = cc in
-    let j : n ≡ m = cc in
-    let g : p ≡ q = z.1 in
-    let h : w ≡ v = z.2 in
-    let l : s ≡ e = unique ks s e y.0 (rw r at x.2) y.2 in
-    cc
+unique ks (TNum c p w) u k x y = sym (rooted ks u k (key (Number c) p w) x y)
+unique ks (TInput v p w) u k x y = sym (rooted ks u k (key (Variable v) p w) x y)
+unique ks (TLet j p w) u k x y = sym (rooted ks u k (key (Name j) p w) x y)
+unique ks (TNeg t p w) u k x y =
+    let r = rooted ks u k (key (Opposite x.0) p w) x.1 y in
+    ap (λ s. TNeg s p w) (unique ks t r.0 x.0 x.2 r.2) ∙ sym r.1
+unique ks (TTwo o s t p w) u k x y =
+    let r = rooted ks u k (key (Both o x.0 x.1) p w) x.2 y in
+    ap₂ (λ a b. TTwo o a b p w) (unique ks s r.0 x.0 x.3 r.3) (unique ks t r.1 x.1 x.4 r.4) ∙ sym r.2
+unique ks (TPow t n p w) u k x y =
+    let r = rooted ks u k (key (Raised x.0 n) p w) x.1 y in
+    ap (λ s. TPow s n p w) (unique ks t r.0 x.0 x.2 r.2) ∙ sym r.1
 
 -- ---- more numbers
 
@@ -172,18 +117,10 @@ all_more ks ls [] (t ∷ ts) e a = a
 all_more ks ls (n ∷ ns) [] e a = a
 all_more ks ls (n ∷ ns) (t ∷ ts) e a = (stands_more ks ls t n e a.0, all_more ks ls ns ts e a.1)
 
--- numbers that are trees one by one still are with one more number and its tree at the end
-pub all_last : (ks : List Key) (ns : List ℕ) (ts : List Typed) (n : ℕ) (t : Typed) → AreNumbersOf ks ns ts → IsNumberOf ks n t
-    → AreNumbersOf ks (ns ++ (n ∷ [])) (ts ++ (t ∷ []))
-all_last ks [] [] n t a s = (s, tt)
-all_last ks [] (u ∷ us) n t a s = absurd a
-all_last ks (m ∷ ms) [] n t a s = absurd a
-all_last ks (m ∷ ms) (u ∷ us) n t a s = (a.0, all_last ks ms us n t a.1 s)
-
 -- one tree more
 pub next_stands : (ks ls : List Key) (ns os : List ℕ) (ts us : List Typed) (k : ℕ) (t : Typed) → us ≡ ts ++ (t ∷ [])
     → os ≡ ns ++ (k ∷ []) → Numbered ks ls k t → AreNumbersOf ks ns ts → AreNumbersOf ls os us
-next_stands ks ls ns os ts us k t e f n a = rw (e, f) (all_last ls ns ts k t (all_more ks ls ns ts n.more a) n.stands)
+next_stands ks ls ns os ts us k t e f n a = rw (e, f) (all_append (IsNumberOf ls) ns (k ∷ []) ts (t ∷ []) (all_more ks ls ns ts n.more a) (n.stands, tt))
 
 -- the same trees after one more
 pub stand_behind : (ks ls : List Key) (ns : List ℕ) (ts : List Typed) (k : ℕ) (t : Typed) → Numbered ks ls k t → AreNumbersOf ks ns ts → AreNumbersOf ls ns ts
@@ -200,44 +137,4 @@ stands_at ks (m ∷ ms) (v ∷ vs) (suc j) u a h e = stands_at ks ms vs j u a.1 
 
 -- there are as many numbers as trees
 pub stand_length : (ks : List Key) (ns : List ℕ) (us : List Fitted) → AreNumbersOf ks ns (map typed us) → length ns ≡ length us
-stand_length ks [] [] a = refl
-stand_length ks [] (v ∷ vs) a = absurd a
-stand_length ks (m ∷ ms) [] a = absurd a
-stand_length ks (m ∷ ms) (v ∷ vs) a = ap suc (stand_length ks ms vs a.1)
-
--- numbers of trees in two lists, one after the other
-pub all_append : (ks : List Key) (ms ns : List ℕ) (ts us : List Typed) → AreNumbersOf ks ms ts → AreNumbersOf ks ns us → AreNumbersOf ks (ms ++ ns) (ts ++ us)
-all_append ks [] ns [] us a b = b
-all_append ks [] ns (t ∷ ts) us a b = absurd a
-all_append ks (m ∷ ms) ns [] us a b = absurd a
-all_append ks (m ∷ ms) ns (t ∷ ts) us a b = (a.0, all_append ks ms ns ts us a.1 b)
-
--- there are as many numbers as trees
-pub all_length : (ks : List Key) (ns : List ℕ) (ts : List Typed) → AreNumbersOf ks ns ts → length ns ≡ length ts
-all_length ks [] [] a = refl
-all_length ks [] (t ∷ ts) a = absurd a
-all_length ks (n ∷ ns) [] a = absurd a
-all_length ks (n ∷ ns) (t ∷ ts) a = ap suc (all_length ks ns ts a.1)
-
--- the tree with a number that is kept is at the number's place
-pub kept_at : (ks : List Key) (ns : List ℕ) (ts : List Typed) (i k : ℕ) (t : Typed) → AreNumbersOf ks ns ts → slice_get ns i ≡ Some k
-    → IsNumberOf ks k t → slice_get ts i ≡ Some t
-kept_at ks [] ts i k t a e s = cc
-kept_at ks (n ∷ ns) [] i k t a e s = absurd a
-kept_at ks (n ∷ ns) (u ∷ us) zero k t a e s =
-    let f : n ≡ k = cc in
-    let h : IsNumberOf ks n t = rw f s in
-    ap Some (unique ks u t n a.0 h)
-kept_at ks (n ∷ ns) (u ∷ us) (suc i) k t a e s = kept_at ks ns us i k t a.1 e s
-
--- ---- operands
-
--- the left operand that is noted for the number of an operation on two is the number of its left operand
-pub two_operand : (ks : List Key) (k : ℕ) (o : Two) (t u : Typed) (p : Range) (w : Width) → IsNumberOf ks k (TTwo o t u p w)
-    → IsNumberOf ks (operand_or (slice_get ks k)) t
-two_operand ks k o t u p w s = rw s.2 s.3
-
--- the right operand that is noted for the number of an operation on two is the number of its right operand
-pub two_right : (ks : List Key) (k : ℕ) (o : Two) (t u : Typed) (p : Range) (w : Width) → IsNumberOf ks k (TTwo o t u p w)
-    → IsNumberOf ks (right_or (slice_get ks k)) u
-two_right ks k o t u p w s = rw s.2 s.4
+stand_length ks ns us a = all_length (IsNumberOf ks) ns (map typed us) a ∙ length-map us typed
