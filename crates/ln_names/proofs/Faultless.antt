@@ -1,5 +1,5 @@
 -- A file without a fault is within the limits: the table's tests, turned round.
-use Rattle.std.proofs.Common.{◌≡◌, ℕ, zero, suc, ◌+◌, ◌-◌, ◌<◌, ◌≤◌, ◌==◌, Bool, true, false, cond, not, ◌||◌, nat_lt, List, [], ◌∷◌, ◌++◌}
+use Rattle.std.proofs.Common.{◌≡◌, ℕ, zero, suc, ◌+◌, ◌-◌, ◌≤◌, ◌==◌, Bool, true, false, cond, not, ◌||◌, nat_lt, List, [], ◌∷◌, ◌++◌}
 use Rattle.std.proofs.Common.{length, Option, Some, None, refl, sym, true≢false, subst, arith}
 use Rattle.std.specs.Prelude.{count_by, int_lt, ℤ, pos, negsuc, ◌≤ℤ◌}
 use Rattle.std.specs.List.{list_any}
@@ -17,14 +17,18 @@ use Rattle.ln_syntax.specs.declared.raw.Places.{Places}
 use Rattle.ln_syntax.specs.Raw.{Item, SiteItem, ParamItem, PredItem, is_site, is_param, is_pred, text, same, span_at}
 use Rattle.ln_names.specs.declared.faults.Fault.{Fault}
 use Rattle.ln_names.specs.declared.roles.Role.{Role}
-use Rattle.ln_names.specs.declared.roles.Role.TheVariants.{Value, AfterCaret, Bare, Input, AfterDot, Operator}
+use Rattle.ln_names.specs.declared.roles.Role.TheVariants.{Value, AfterCaret, Bare, Input, AfterDot, Operator, Caret}
 use Rattle.ln_names.specs.Numbers.{number, end_value, most_literal, most_end}
+use Rattle.ln_names.proofs.Trees.{Judged, judge, judged}
+use Rattle.ln_names.proofs.Machine.{tokens_of}
+use Rattle.ln_syntax.specs.Expression.{Tree, TNum, TName, TInput, TNeg, TAdd, TSub, TMul, TPow}
+use Rattle.ln_names.specs.Rules.{InputNode, OperatorNode}
 use Rattle.ln_names.specs.Rules.{Scope, scope, ArgSite, ArgParam, is_site_arg, is_param_arg, has_site, has_param, has_site_arg}
 use Rattle.ln_names.specs.Rules.{has_param_arg, has_let, coords_at, fault_at}
 use Rattle.ln_names.specs.Visits.{Visit, visits_by, range_visits, coord_visits, arg_visits, role_at, is_node_at, token_visits, expr_visits}
 use Rattle.ln_names.specs.Visits.{nodes, value_visits, value_nodes, nodes_before, let_visits, pred_visits, item_visits}
 use Rattle.ln_names.specs.First.{Clean, NoFault}
-use Rattle.ln_names.specs.Limits.{Each, RangeWithin, CoordWithin, IsKnown, ArgWithin, TokenWithin, ValueWithin, LetWithin, PredWithin, ItemWithin, FileWithin}
+use Rattle.ln_names.specs.Limits.{Each, RangeWithin, CoordWithin, IsKnown, ArgWithin, Fit, ValueWithin, LetWithin, PredWithin, ItemWithin, FileWithin}
 
 -- where no row's test holds, the first one's doesn't, and none after it
 no_row : (a : Bool) (f : Fault) (o : Option Fault) → cond a (Some f) o ≡ None → (a ≡ false) × (o ≡ None)
@@ -142,53 +146,78 @@ arg_within bytes is before a h =
     let k = kind_within bytes is before a a.is_param h.1.0 in
     record { short = not_above 32 _ n.0; new = n.1; known = k.0 }
 
-token_within : (bytes : List ℕ) (ts : List Token) (s : Scope) (n k : ℕ) (o : Option Role) → Clean bytes (token_visits ts s n k o)
-    → TokenWithin bytes ts s k o × (n ≤ 2048 → n + is_node_at o ≤ 2048)
-token_within bytes ts s n k None c = (tt, λ l. omega (arith, l))
-token_within bytes ts s n k (Some Value) c =
+-- a token without a fault is a node only where there is room for it
+token_few : (bytes : List ℕ) (ts : List Token) (s : Scope) (n k : ℕ) (o : Option Role) → Clean bytes (token_visits ts s n k o) → n ≤ 2048
+    → n + is_node_at o ≤ 2048
+token_few bytes ts s n k None c l = omega (arith, l)
+token_few bytes ts s n k (Some Value) c l =
     let r : (nat_lt most_literal (number bytes (span_at ts k)) ≡ false) × ((n == 2048) ≡ false) = rows_two _ _ _ _ c.0 in
-    let a = not_above most_literal (number bytes (span_at ts k)) r.0 in
-    (omega (arith, a), λ l. let m = not_there n 2048 r.1 l in omega (arith, m))
-token_within bytes ts s n k (Some AfterCaret) c =
-    let r = rows_two (nat_lt most_literal (number bytes (span_at ts k))) (nat_lt 16 (number bytes (span_at ts k))) _ _ c.0 in
-    (not_above 16 _ r.1, λ l. omega (arith, l))
-token_within bytes ts s n k (Some Bare) c =
+    omega (arith, not_there n 2048 r.1 l)
+token_few bytes ts s n k (Some AfterCaret) c l = omega (arith, l)
+token_few bytes ts s n k (Some Bare) c l =
     let r = rows_three (nat_lt 32 (length (text bytes (span_at ts k)))) (n == 2048)
     (not (has_let bytes s.lets (span_at ts k) || has_param_arg bytes s.args (span_at ts k))) _ _ _ c.0 in
-    (not_false _ r.2, λ l. let m = not_there n 2048 r.1 l in omega (arith, m))
-token_within bytes ts s n k (Some Input) c =
+    omega (arith, not_there n 2048 r.1 l)
+token_few bytes ts s n k (Some Input) c l =
     let r = rows_three (nat_lt 32 (length (text bytes (span_at ts k)))) (n == 2048) (not (has_site_arg bytes s.args (span_at ts k))) _ _ _ c.0 in
-    (not_false _ r.2, λ l. let m = not_there n 2048 r.1 l in omega (arith, m))
-token_within bytes ts s n k (Some AfterDot) c =
-    let r = rows_two (nat_lt 32 (length (text bytes (span_at ts k))))
-    (not (list_any (λ c. same bytes c.name (span_at ts k)) (coords_at bytes s (span_at ts (k - 2))))) _ _ c.0 in
-    (not_false _ r.1, λ l. omega (arith, l))
-token_within bytes ts s n k (Some Operator) c = let r = row _ _ c.0 in (tt, λ l. let m = not_there n 2048 r l in omega (arith, m))
-
-tokens_within : (bytes : List ℕ) (ts : List Token) (s : Scope) (n k m : ℕ) → Clean bytes (expr_visits ts s n k m) → (d : ℕ) → d < m
-    → TokenWithin bytes ts s (k + d) (role_at ts (k + d))
-tokens_within bytes ts s n k zero c d l = let f : ⊥ = omega (arith, l) in absurd f
-tokens_within bytes ts s n k (suc m) c zero l =
-    let p = clean_append bytes (token_visits ts s n k (role_at ts k)) (expr_visits ts s (n + is_node_at (role_at ts k)) (k + 1) m) c in
-    let q : k ≡ k + 0 = omega arith in
-    subst (λ (w : ℕ). TokenWithin bytes ts s w (role_at ts w)) q (token_within bytes ts s n k (role_at ts k) p.0).0
-tokens_within bytes ts s n k (suc m) c (suc d) l =
-    let p = clean_append bytes (token_visits ts s n k (role_at ts k)) (expr_visits ts s (n + is_node_at (role_at ts k)) (k + 1) m) c in
-    let q : k + 1 + d ≡ k + suc d = omega arith in
-    subst (λ (w : ℕ). TokenWithin bytes ts s w (role_at ts w)) q (tokens_within bytes ts s (n + is_node_at (role_at ts k)) (k + 1) m p.1 d (omega (arith, l)))
+    omega (arith, not_there n 2048 r.1 l)
+token_few bytes ts s n k (Some AfterDot) c l = omega (arith, l)
+token_few bytes ts s n k (Some (Operator p)) c l = let r = row (n == 2048) _ c.0 in omega (arith, not_there n 2048 r l)
+token_few bytes ts s n k (Some Caret) c l = let r = row (n == 2048) _ c.0 in omega (arith, not_there n 2048 r l)
 
 tokens_few : (bytes : List ℕ) (ts : List Token) (s : Scope) (n k m : ℕ) → Clean bytes (expr_visits ts s n k m) → n ≤ 2048 → n + nodes ts k m ≤ 2048
 tokens_few bytes ts s n k zero c l = omega (arith, l)
 tokens_few bytes ts s n k (suc m) c l =
     let p = clean_append bytes (token_visits ts s n k (role_at ts k)) (expr_visits ts s (n + is_node_at (role_at ts k)) (k + 1) m) c in
-    let a = (token_within bytes ts s n k (role_at ts k) p.0).1 l in
+    let a = token_few bytes ts s n k (role_at ts k) p.0 l in
     let b = tokens_few bytes ts s (n + is_node_at (role_at ts k)) (k + 1) m p.1 a in
     omega (arith, b)
 
+-- where the tokens of a tree have no fault, none before them has, and the tree is fit
+fit_of : (bytes : List ℕ) (s : Scope) (e : Tree) (j : Judged) → Clean bytes (judged s e j).visits → Clean bytes j.visits × Fit bytes s e
+fit_of bytes s (TNum at) j c =
+    let p = clean_append bytes j.visits _ c in
+    let r : (nat_lt most_literal (number bytes at) ≡ false) × ((j.count == 2048) ≡ false) = rows_two _ _ _ _ p.1.0 in
+    (p.0, omega (arith, not_above most_literal (number bytes at) r.0))
+fit_of bytes s (TName at) j c =
+    let p = clean_append bytes j.visits _ c in
+    let r = rows_three (nat_lt 32 (length (text bytes at))) (j.count == 2048) (not (has_let bytes s.lets at || has_param_arg bytes s.args at)) _ _ _ p.1.0 in
+    (p.0, not_false _ r.2)
+fit_of bytes s (TInput at x) j c =
+    let p = clean_append bytes (judge j (InputNode j.count s) at 1).visits _ c in
+    let q = clean_append bytes j.visits _ p.0 in
+    let r = rows_three (nat_lt 32 (length (text bytes at))) (j.count == 2048) (not (has_site_arg bytes s.args at)) _ _ _ q.1.0 in
+    let t = rows_two (nat_lt 32 (length (text bytes x))) (not (list_any (λ c. same bytes c.name x) (coords_at bytes s at))) _ _ p.1.0 in
+    (q.0, (not_false _ r.2, not_false _ t.1))
+fit_of bytes s (TNeg at e) j c =
+    let r = fit_of bytes s e (judge j (OperatorNode j.count) at 1) c in ((clean_append bytes j.visits _ r.0).0, r.1)
+fit_of bytes s (TAdd at e f) j c =
+    let l = judged s e j in
+    let r = fit_of bytes s f (judge l (OperatorNode l.count) at 1) c in
+    let q = fit_of bytes s e j (clean_append bytes l.visits _ r.0).0 in
+    (q.0, (q.1, r.1))
+fit_of bytes s (TSub at e f) j c =
+    let l = judged s e j in
+    let r = fit_of bytes s f (judge l (OperatorNode l.count) at 1) c in
+    let q = fit_of bytes s e j (clean_append bytes l.visits _ r.0).0 in
+    (q.0, (q.1, r.1))
+fit_of bytes s (TMul at e f) j c =
+    let l = judged s e j in
+    let r = fit_of bytes s f (judge l (OperatorNode l.count) at 1) c in
+    let q = fit_of bytes s e j (clean_append bytes l.visits _ r.0).0 in
+    (q.0, (q.1, r.1))
+fit_of bytes s (TPow at e n) j c =
+    let l = judged s e j in
+    let p = clean_append bytes (judge l (OperatorNode l.count) at 1).visits _ c in
+    let q = fit_of bytes s e j (clean_append bytes l.visits _ p.0).0 in
+    let r = rows_two (nat_lt most_literal (number bytes n)) (nat_lt 16 (number bytes n)) _ _ p.1.0 in
+    (q.0, (q.1, not_above 16 _ r.1))
+
 value_within : (bytes : List ℕ) (ts : List Token) (s : Scope) (n : ℕ) (p : Places) → Clean bytes (value_visits ts s n p) → ValueWithin bytes ts s p
-value_within bytes ts s n p c = λ k l h.
-    let q : p.from + (k - p.from) ≡ k = omega (arith, l) in
-    subst (λ (w : ℕ). TokenWithin bytes ts s w (role_at ts w)) q (tokens_within bytes ts s n p.from (p.to - p.from) c (k - p.from) (omega (arith, l, h)))
+value_within bytes ts s n p c = λ e d h b.
+    let j : Judged = record { visits = []; count = n } in
+    let v = tokens_of ts s n d h b in
+    (fit_of bytes s e j (subst (λ (w : Judged). Clean bytes w.visits) (sym v) c)).1
 
 let_within : (bytes : List ℕ) (ts : List Token) (is : List Item) (args : List RawArg) (before : List RawLet) (l : RawLet) →
     Clean bytes (let_visits ts is args before l) →

@@ -4,3 +4,6 @@ pub mod FirstFault
 pub mod Within
 pub mod Order
 pub mod Faultless
+pub mod Trees
+pub mod Machine
+pub mod Names

@@ -13,7 +13,8 @@ use Rattle.ln_syntax.specs.Raw.{Item, Is, kind_at}
 use Rattle.ln_syntax.specs.Expression.{IsExpr}
 use Rattle.ln_syntax.specs.File.{End, plain, minus, Range, range, Coords, no_coord, coord, Arg, site_arg, param_arg, Args, last_arg}
 use Rattle.ln_syntax.specs.File.{more_args, Lets, no_let, a_let, IsItem, site, param, predicate, Items, no_item, an_item, Spelt}
-use Rattle.ln_names.specs.declared.roles.Role.TheVariants.{Value, AfterCaret, Bare, Input, AfterDot}
+use Rattle.ln_names.specs.declared.nodes.Operation.TheVariants.{Negation, Difference}
+use Rattle.ln_names.specs.declared.roles.Role.TheVariants.{Value, AfterCaret, Bare, Input, AfterDot, Operator}
 use Rattle.ln_names.specs.Rules.{Scope, scope, Use, LowEnd, HighEnd, is_number}
 use Rattle.ln_names.specs.Visits.{Visit, visit, visits_by, range_visits, coord_visits, arg_visits, role_of, role_at, is_node_at}
 use Rattle.ln_names.specs.Visits.{token_visits, expr_visits, value_visits, let_visits, item_visits, nodes_before}
@@ -65,13 +66,19 @@ number_along : (ts : List Token) (s : Scope) (n k j : ℕ) (vs : List Visit) (a 
 number_along ts s n k j vs true h rest = judged (rw h refl) rest
 number_along ts s n k j vs false h rest = judged (rw h refl) rest
 
+-- a minus sign of an expression, by whether an operand ends before it
+minus_along : (ts : List Token) (s : Scope) (n k j : ℕ) (vs : List Visit) (a : Bool) → Is ts k Minus → Along ts (suc k) j vs →
+    Along ts k j (token_visits ts s n k (if a then Some (Operator Difference) else Some (Operator Negation)) ++ vs)
+minus_along ts s n k j vs true h rest = judged (rw h refl) rest
+minus_along ts s n k j vs false h rest = judged (rw h refl) rest
+
 token_along : (ts : List Token) (s : Scope) (n k j : ℕ) (vs : List Visit) (o : Option Kind) → kind_at ts k ≡ o → Along ts (suc k) j vs →
     Along ts k j (token_visits ts s n k (role_of ts k o) ++ vs)
 token_along ts s n k j vs None h rest = passed (rw h refl) rest
 token_along ts s n k j vs (Some Name) h rest = name_along ts s n k j vs _ _ h rest
 token_along ts s n k j vs (Some Number) h rest = number_along ts s n k j vs _ h rest
 token_along ts s n k j vs (Some Plus) h rest = judged (rw h refl) rest
-token_along ts s n k j vs (Some Minus) h rest = judged (rw h refl) rest
+token_along ts s n k j vs (Some Minus) h rest = minus_along ts s n k j vs _ h rest
 token_along ts s n k j vs (Some Star) h rest = judged (rw h refl) rest
 token_along ts s n k j vs (Some Caret) h rest = judged (rw h refl) rest
 token_along ts s n k j vs o h rest = passed (rw h refl) rest

@@ -1,22 +1,27 @@
 -- A walk over a list of tokens.
-use Rattle.std.proofs.Common.{◌≡◌, ℕ, suc, ◌+◌, ◌-◌, ◌<◌, List, [], ◌∷◌, ◌++◌, length, get_or, take, drop, Option, Some, None, refl, ap}
-use Rattle.std.proofs.Common.{sym, ◌∙◌, arith, drop-cons, add-one}
+use Rattle.std.proofs.Common.{◌≡◌, ℕ, suc, ◌+◌, ◌-◌, ◌<◌, ◌≤◌, List, [], ◌∷◌, ◌++◌, length, get_or, take, drop, Option, Some, None, refl, ap}
+use Rattle.std.proofs.Common.{sym, ◌∙◌, subst, arith, drop-cons, add-one}
 use Rattle.std.proofs.Math.Seq.{take-suc}
-use Rattle.std.proofs.Math.ListN.{get_or-map}
-use Rattle.std.proofs.lemmas.List.{take-map, length-map}
+use Rattle.std.proofs.lemmas.List.{take-map, length-map, append-nil, append_assoc, drop_all, take_all}
 use Rattle.std.proofs.lemmas.List.Sums.{sum_by-append}
 use Rattle.ln_syntax.specs.declared.raw.RawItem.{RawItem}
 use Rattle.ln_syntax.specs.declared.raw.RawArg.{RawArg}
 use Rattle.ln_syntax.specs.declared.raw.RawLet.{RawLet}
 use Rattle.ln_syntax.specs.declared.raw.Places.{Places}
-use Rattle.ln_syntax.specs.Raw.{Item, item, items}
+use Rattle.ln_syntax.specs.Raw.{Item, PredItem, item, items}
 use Rattle.ln_base.specs.declared.span.Span.{Span}
 use Rattle.ln_lex.specs.declared.token.Token.{Token}
 use Rattle.ln_names.specs.declared.faults.Fault.{Fault}
 use Rattle.ln_names.specs.declared.faults.Found.{Found}
-use Rattle.ln_names.specs.Rules.{fault_at, Scope, scope}
-use Rattle.ln_names.specs.Visits.{Visit, or_later, first_fault, visits_by, expr_visits, token_visits, role_at, is_node_at, nodes}
-use Rattle.ln_names.specs.Visits.{arg_visits, let_visits, value_visits, nodes_before, value_nodes, pred_visits, item_visits, file_visits}
+use Rattle.ln_names.specs.declared.faults.NamesStop.{NamesStop}
+use Rattle.ln_names.specs.declared.faults.NamesStop.TheVariants as stop
+use Rattle.ln_names.proofs.Lists.{item_at}
+use Rattle.ln_names.specs.First.{StopsAt}
+use Rattle.ln_names.specs.declared.nodes.Body.{Body}
+use Rattle.ln_names.specs.Nodes.{Paired}
+use Rattle.ln_names.specs.Rules.{fault_at, Scope, scope, PredName}
+use Rattle.ln_names.specs.Visits.{Visit, visit, or_later, first_fault, visits_by, expr_visits, token_visits, role_at, is_node_at, nodes}
+use Rattle.ln_names.specs.Visits.{arg_visits, let_visits, value_visits, nodes_before, value_nodes, body_visits, item_visits, file_visits}
 
 -- the fault that comes first, or else the later one
 abbrev pub first_or : Option Found → Option Found → Option Found
@@ -63,26 +68,15 @@ stopped bytes f xs i d x h l n =
     let w = rw n at u in
     sym l ∙ w
 
--- a token of an expression, and the rest
-next_token : (ts : List Token) (s : Scope) (n k to : ℕ) → k < to →
-    expr_visits ts s n k (to - k) ≡ token_visits ts s n k (role_at ts k) ++ expr_visits ts s (n + is_node_at (role_at ts k)) (k + 1) (to - (k + 1))
-next_token ts s n k to h =
-    let e : to - k ≡ suc (to - (k + 1)) = omega arith in
-    rw e refl
-
-next_nodes : (ts : List Token) (k to : ℕ) → k < to → nodes ts k (to - k) ≡ is_node_at (role_at ts k) + nodes ts (k + 1) (to - (k + 1))
-next_nodes ts k to h =
-    let e : to - k ≡ suc (to - (k + 1)) = omega arith in
-    rw e refl
-
+-- the first fault from a token on is the token's, or else that of the tokens after it
 token_unrolled : (bytes : List ℕ) (ts : List Token) (s : Scope) (n k to : ℕ) → k < to →
     first_fault bytes (expr_visits ts s n k (to - k)) ≡ first_or (first_fault bytes (token_visits ts s n k (role_at ts k)))
     (first_fault bytes (expr_visits ts s (n + is_node_at (role_at ts k)) (k + 1) (to - (k + 1))))
 token_unrolled bytes ts s n k to h =
-    rw (next_token ts s n k to h)
-    (first_append bytes (token_visits ts s n k (role_at ts k)) (expr_visits ts s (n + is_node_at (role_at ts k)) (k + 1) (to - (k + 1))))
+    let e : to - k ≡ suc (to - (k + 1)) = omega arith in
+    rw e (first_append bytes (token_visits ts s n k (role_at ts k)) (expr_visits ts s (n + is_node_at (role_at ts k)) (k + 1) (to - (k + 1))))
 
--- the step of `value_fault`: after a token without a fault, the fault of the remaining tokens is the same
+-- the step of `value_nodes`: after a token without a fault, the fault of the remaining tokens is the same
 pub token_walked : (bytes : List ℕ) (ts : List Token) (s : Scope) (n m k to : ℕ) (x : Option Found) → k < to →
     first_fault bytes (expr_visits ts s n k (to - k)) ≡ x →
     first_fault bytes (token_visits ts s n k (role_at ts k)) ≡ None → m ≡ n + is_node_at (role_at ts k) →
@@ -92,58 +86,109 @@ token_walked bytes ts s n m k to x h l f q =
     let w = rw f at u in
     rw q (sym w ∙ l)
 
--- the end of `value_fault` at a token with a fault: it is the fault of the remaining tokens
-pub token_stopped : (bytes : List ℕ) (ts : List Token) (s : Scope) (n k to : ℕ) (x : Option Found) (f : Found) → k < to →
-    first_fault bytes (expr_visits ts s n k (to - k)) ≡ x →
-    first_fault bytes (token_visits ts s n k (role_at ts k)) ≡ Some f → x ≡ Some f
-token_stopped bytes ts s n k to x f h l e =
-    let u = token_unrolled bytes ts s n k to h in
-    let w = rw e at u in
-    sym l ∙ w
-
--- the step of `value_fault`: one token more is counted, and with the nodes of the remaining ones the count stays that of all
+-- and one token more is counted, so that with the nodes of the remaining ones the count stays that of all
 pub nodes_walked : (ts : List Token) (n m k to all : ℕ) → k < to → n + nodes ts k (to - k) ≡ all → m ≡ n + is_node_at (role_at ts k)
     → m + nodes ts (k + 1) (to - (k + 1)) ≡ all
-nodes_walked ts n m k to all h l q = omega (arith, next_nodes ts k to h)
+nodes_walked ts n m k to all h l q =
+    let e : to - k ≡ suc (to - (k + 1)) = omega arith in
+    let r : n + (is_node_at (role_at ts k) + nodes ts (k + 1) (to - (k + 1))) ≡ all = rw e at l in omega (arith, r, q)
 
--- the step of `lets_fault`: the nodes of one let more are counted
+-- the step of `lets_nodes`: the nodes of one let more are counted
 pub nodes_more : (ts : List Token) (ls : List RawLet) (i n m : ℕ) (d : RawLet) → i < length ls → n ≡ nodes_before ts (take i ls)
     → m ≡ n + value_nodes ts (get_or ls i d).value → m ≡ nodes_before ts (take (i + 1) ls)
 nodes_more ts ls i n m d h a b =
     let t = take-suc ls i d h in
     rw (add-one, t, sum_by-append (λ (l : RawLet). value_nodes ts l.value)) (omega arith)
 
+-- a stop at the first of two lists is one at both, and one at the second where the first has no fault
+pub stops_first : (x y : Option Found) (e : NamesStop) → StopsAt x e → StopsAt (first_or x y) e
+stops_first x y (stop.Found f) h = rw h refl
+stops_first x y (stop.NoMemory e) h = tt
+
+pub stops_later : (x y : Option Found) (e : NamesStop) → x ≡ None → StopsAt y e → StopsAt (first_or x y) e
+stops_later x y e n h = rw n h
+
+-- a stop at an element is a stop at all
+pub stops : {A : Type 0} (bytes : List ℕ) (f : List A → A → List Visit) (xs : List A) (i : ℕ) (d : A) (e : NamesStop) → i < length xs
+    → Left bytes f xs i → StopsAt (first_fault bytes (f (take i xs) (get_or xs i d))) e → StopsAt (first_fault bytes (visits_by f [] xs)) e
+stops bytes f xs i d (stop.Found x) h l n = stopped bytes f xs i d x h l n
+stops bytes f xs i d (stop.NoMemory x) h l n = tt
+
+-- and so is one at a token
+pub token_stops : (bytes : List ℕ) (ts : List Token) (s : Scope) (n k to : ℕ) (x : Option Found) (e : NamesStop) → k < to →
+    first_fault bytes (expr_visits ts s n k (to - k)) ≡ x →
+    StopsAt (first_fault bytes (token_visits ts s n k (role_at ts k))) e → StopsAt x e
+token_stops bytes ts s n k to x e h l d =
+    subst (λ (o : Option Found). StopsAt o e) (sym (token_unrolled bytes ts s n k to h) ∙ l) (stops_first _ _ e d)
+
 -- the parts of a predicate
-pub pred_parts : (bytes : List ℕ) (ts : List Token) (is : List Item) (args : List RawArg) (ls : List RawLet) (root : Places) →
-    first_fault bytes (pred_visits ts is args ls root) ≡ first_or (first_fault bytes (visits_by (arg_visits is) [] args))
-    (first_or (first_fault bytes (visits_by (let_visits ts is args) [] ls)) (first_fault bytes (value_visits ts (scope is args ls) (nodes_before ts ls) root)))
-pred_parts bytes ts is args ls root =
-    first_append bytes (visits_by (arg_visits is) [] args)
-    (visits_by (let_visits ts is args) [] ls ++ value_visits ts (scope is args ls) (nodes_before ts ls) root)
-    ∙ ap (λ (o : Option Found). first_or (first_fault bytes (visits_by (arg_visits is) [] args)) o)
-    (first_append bytes (visits_by (let_visits ts is args) [] ls) (value_visits ts (scope is args ls) (nodes_before ts ls) root))
+pub body_parts : (bytes : List ℕ) (ts : List Token) (is : List Item) (args : List RawArg) (ls : List RawLet) (root : Places) →
+    first_fault bytes (body_visits ts is args ls root) ≡ first_or (first_fault bytes (visits_by (let_visits ts is args) [] ls))
+    (first_fault bytes (value_visits ts (scope is args ls) (nodes_before ts ls) root))
+body_parts bytes ts is args ls root =
+    first_append bytes (visits_by (let_visits ts is args) [] ls) (value_visits ts (scope is args ls) (nodes_before ts ls) root)
+
+pub pred_parts : (bytes : List ℕ) (ts : List Token) (is : List Item) (name : Span) (args : List RawArg) (ls : List RawLet) (root : Places) →
+    first_fault bytes (item_visits ts is (PredItem name args ls root))
+    ≡ first_or (first_fault bytes (visit (PredName is) name ∷ visits_by (arg_visits is) [] args)) (first_fault bytes (body_visits ts is args ls root))
+pred_parts bytes ts is name args ls root =
+    first_append bytes (visit (PredName is) name ∷ visits_by (arg_visits is) [] args) (body_visits ts is args ls root)
 
 -- the items of a file
-at_items : (is : List RawItem) (i : ℕ) (x : RawItem) → x ≡ get_or is i x → get_or (items is) i (item x) ≡ item x
-at_items is i x e = get_or-map item is i x ∙ ap item (sym e)
-
 items_at : (bytes : List ℕ) (ts : List Token) (is : List RawItem) (i : ℕ) (x : RawItem) → x ≡ get_or is i x → (o : Option Found) →
     o ≡ first_fault bytes (item_visits ts (items (take i is)) (item x)) →
     first_fault bytes (item_visits ts (take i (items is)) (get_or (items is) i (item x))) ≡ o
-items_at bytes ts is i x e o h = rw (at_items is i x e, take-map item i is) (sym h)
+items_at bytes ts is i x e o h = rw (item_at is i x e, take-map item i is) (sym h)
 
--- the step of `names_fault`: after an item without a fault, the fault of the remaining items is still that of all
-pub items_walked : (bytes : List ℕ) (ts : List Token) (is : List RawItem) (i : ℕ) (x : RawItem) (o : Option Found) → i < length is →
+-- the step of `file_nodes`: after an item without a fault, the fault of the remaining items is still that of all
+pub items_walked : (bytes : List ℕ) (ts : List Token) (is : List RawItem) (i : ℕ) (x : RawItem) → i < length is →
     x ≡ get_or is i x → Left bytes (item_visits ts) (items is) i →
-    o ≡ first_fault bytes (item_visits ts (items (take i is)) (item x)) → o ≡ None → Left bytes (item_visits ts) (items is) (i + 1)
-items_walked bytes ts is i x o h e l f n =
+    first_fault bytes (item_visits ts (items (take i is)) (item x)) ≡ None → Left bytes (item_visits ts) (items is) (i + 1)
+items_walked bytes ts is i x h e l n =
     let len = length-map is item in
-    walked bytes (item_visits ts) (items is) i (item x) (omega arith) l (items_at bytes ts is i x e o f ∙ n)
+    walked bytes (item_visits ts) (items is) i (item x) (omega arith) l (items_at bytes ts is i x e None (sym n))
 
--- the end of `names_fault` at an item with a fault: it is the file's first
-pub items_stopped : (bytes : List ℕ) (ts : List Token) (is : List RawItem) (i : ℕ) (x : RawItem) (o : Option Found) (found : Found) →
-    i < length is → x ≡ get_or is i x → Left bytes (item_visits ts) (items is) i →
-    o ≡ first_fault bytes (item_visits ts (items (take i is)) (item x)) → o ≡ Some found → Some found ≡ first_fault bytes (file_visits ts (items is))
-items_stopped bytes ts is i x o found h e l f n =
+-- the end of `file_nodes` at an item with a stop: it is the file's
+pub items_stop : (bytes : List ℕ) (ts : List Token) (is : List RawItem) (i : ℕ) (x : RawItem) (e : NamesStop) → i < length is
+    → x ≡ get_or is i x → Left bytes (item_visits ts) (items is) i
+    → StopsAt (first_fault bytes (item_visits ts (items (take i is)) (item x))) e → StopsAt (first_fault bytes (file_visits ts (items is))) e
+items_stop bytes ts is i x e h q l n =
     let len = length-map is item in
-    sym (stopped bytes (item_visits ts) (items is) i (item x) found (omega arith) l (items_at bytes ts is i x e o f ∙ n))
+    let a = items_at bytes ts is i x q _ refl in
+    stops bytes (item_visits ts) (items is) i (item x) e (omega arith) l (subst (λ (o : Option Found). StopsAt o e) (sym a) n)
+
+-- ---- lists that go together
+
+-- one more of each
+pub paired_more : {A B : Type 0} (P : List A → A → B → Type 0) (before xs : List A) (ys : List B) (x : A) (y : B) → Paired P before xs ys
+    → P (before ++ xs) x y → Paired P before (xs ++ (x ∷ [])) (ys ++ (y ∷ []))
+paired_more {A} P before [] [] x y p h = (subst (λ (w : List A). P w x y) (append-nil before) h, tt)
+paired_more P before [] (z ∷ ys) x y p h = absurd p
+paired_more P before (w ∷ xs) [] x y p h = absurd p
+paired_more {A} P before (w ∷ xs) (z ∷ ys) x y p h = (
+  p.0,
+  paired_more P (before ++ (w ∷ [])) xs ys x y p.1 (subst (λ (v : List A). P v x y) (sym (append_assoc before (w ∷ []) xs)) h),
+)
+
+-- the step of a loop that gives each element its companion
+pub paired_next : {A B : Type 0} (P : List A → A → B → Type 0) (xs : List A) (ys : List B) (i : ℕ) (d : A) (y : B) → i < length xs
+    → Paired P [] (take i xs) ys → P (take i xs) (get_or xs i d) y → Paired P [] (take (i + 1) xs) (ys ++ (y ∷ []))
+paired_next P xs ys i d y l p h = let t = take-suc xs i d l in rw (add-one, t) (paired_more P [] (take i xs) ys (get_or xs i d) y p h)
+
+-- the step of `file_nodes`: one item's nodes more
+pub items_next : (P : List Item → Item → Body → Type 0) (is : List RawItem) (bs : List Body) (i : ℕ) (x : RawItem) (b : Body) → i < length is
+    → x ≡ get_or is i x → Paired P [] (take i (items is)) bs → P (items (take i is)) (item x) b → Paired P [] (take (i + 1) (items is)) (bs ++ (b ∷ []))
+items_next P is bs i x b l e p h =
+    let len = length-map is item in
+    paired_next P (items is) bs i (item x) b (omega arith) p (rw (item_at is i x e, take-map item i is) h)
+
+-- the end of `file_nodes`: no item has a fault, and each has its nodes
+pub items_done : (bytes : List ℕ) (ts : List Token) (is : List RawItem) (i : ℕ) → length is ≤ i → Left bytes (item_visits ts) (items is) i
+    → first_fault bytes (file_visits ts (items is)) ≡ None
+items_done bytes ts is i h l =
+    let len = length-map is item in
+    let d : drop i (items is) ≡ [] = drop_all i (items is) (omega arith) in
+    sym l ∙ rw d refl
+
+pub items_taken : (is : List RawItem) (i : ℕ) → length is ≤ i → take i (items is) ≡ items is
+items_taken is i h = let len = length-map is item in take_all i (items is) (omega arith)

@@ -1,8 +1,10 @@
 -- The first fault of a file: a token that has one, after tokens that have none.
-use Rattle.std.specs.Prelude.{◌≡◌, ℕ, List, [], ◌∷◌, ◌++◌, Some, None}
+use Rattle.std.specs.Prelude.{◌≡◌, ℕ, List, [], ◌∷◌, ◌++◌, Option, Some, None}
 use Rattle.ln_lex.specs.declared.token.Token.{Token}
 use Rattle.ln_syntax.specs.Raw.{Item}
 use Rattle.ln_names.specs.declared.faults.Found.{Found}
+use Rattle.ln_names.specs.declared.faults.NamesStop.{NamesStop}
+use Rattle.ln_names.specs.declared.faults.NamesStop.TheVariants as stop
 use Rattle.ln_names.specs.Rules.{Use, fault_at}
 use Rattle.ln_names.specs.Visits.{Visit, visit, file_visits}
 
@@ -27,3 +29,13 @@ FirstFault bytes ts is f = IsFirst bytes (file_visits ts is) f
 -- a file with these tokens and items has no fault of names and limits
 abbrev pub NoFault : List ℕ → List Token → List Item → Type 0
 NoFault bytes ts is = Clean bytes (file_visits ts is)
+
+-- a stop at this first fault, or out of memory
+abbrev pub StopsAt : Option Found → NamesStop → Type 0
+StopsAt o (stop.Found f) = o ≡ Some f
+StopsAt o (stop.NoMemory e) = Unit {0}
+
+-- a stop at the first fault of a file with these tokens and items, or out of memory
+abbrev pub StopsNames : List ℕ → List Token → List Item → NamesStop → Type 0
+StopsNames bytes ts is (stop.Found f) = FirstFault bytes ts is f
+StopsNames bytes ts is (stop.NoMemory e) = Unit {0}

@@ -5,3 +5,5 @@ pub mod First
 pub mod Resolve
 pub mod Along
 pub mod Limits
+pub mod Nodes
+pub mod Machine

@@ -1,21 +1,22 @@
 -- What holds of a file without a fault of names and limits: the limits of the language and the rules on its names, item by item.
-use Rattle.std.specs.Prelude.{◌≡◌, ℕ, ◌+◌, ◌-◌, ◌<◌, ◌≤◌, ◌^◌, ◌≤ℤ◌, Bool, true, false}
-use Rattle.std.specs.Prelude.{◌||◌, List, [], ◌∷◌, ◌++◌, length, count_by, Option, Some}
+use Rattle.std.specs.Prelude.{◌≡◌, ℕ, ◌+◌, ◌<◌, ◌≤◌, ◌^◌, ◌≤ℤ◌, Bool, true, false}
+use Rattle.std.specs.Prelude.{◌||◌, List, [], ◌∷◌, ◌++◌, length, count_by}
 use Rattle.std.specs.List.{list_any}
 use Rattle.ln_base.specs.declared.span.Span.{Span}
 use Rattle.ln_lex.specs.declared.token.Token.{Token}
+use Rattle.ln_lex.specs.declared.token.Kind.TheVariants.{Semi}
 use Rattle.ln_syntax.specs.declared.raw.RawRange.{RawRange}
 use Rattle.ln_syntax.specs.declared.raw.RawCoord.{RawCoord}
 use Rattle.ln_syntax.specs.declared.raw.RawArg.{RawArg}
 use Rattle.ln_syntax.specs.declared.raw.RawLet.{RawLet}
 use Rattle.ln_syntax.specs.declared.raw.Places.{Places}
-use Rattle.ln_syntax.specs.Raw.{Item, SiteItem, ParamItem, PredItem, item_name, is_site, is_param, is_pred, text, same, span_at}
-use Rattle.ln_names.specs.declared.roles.Role.{Role}
-use Rattle.ln_names.specs.declared.roles.Role.TheVariants.{Value, AfterCaret, Bare, Input, AfterDot}
+use Rattle.ln_syntax.specs.Raw.{Item, SiteItem, ParamItem, PredItem, item_name, is_site, is_param, is_pred, Is, text, same}
+use Rattle.ln_syntax.specs.Expression.{Tree, TNum, TName, TInput, TNeg, TAdd, TSub, TMul, TPow, Derives, Sum}
 use Rattle.ln_names.specs.Numbers.{number, end_value}
 use Rattle.ln_names.specs.Rules.{Scope, scope, is_site_arg, is_param_arg, has_site, has_param}
 use Rattle.ln_names.specs.Rules.{has_site_arg, has_param_arg, has_let, coords_at}
-use Rattle.ln_names.specs.Visits.{role_at, nodes_before, value_nodes}
+use Rattle.ln_names.specs.Nodes.{Begins}
+use Rattle.ln_names.specs.Visits.{nodes_before, value_nodes}
 use Rattle.ln_names.specs.First.{NoFault}
 
 -- each element of a list, with those before it
@@ -50,18 +51,20 @@ pub record ArgWithin (bytes : List ℕ) (is : List Item) (before : List RawArg) 
   pub new : list_any (λ b. same bytes b.name a.name) before ≡ false
   pub known : IsKnown bytes is a a.is_param
 
--- a token of an expression: a literal is at most 2^127 - 1, an exponent at most 16, and a name stands for something in scope
-abbrev pub TokenWithin : List ℕ → List Token → Scope → ℕ → Option Role → Type 0
-TokenWithin bytes ts s k (Some Value) = number bytes (span_at ts k) < 2 ^ 127
-TokenWithin bytes ts s k (Some AfterCaret) = number bytes (span_at ts k) ≤ 16
-TokenWithin bytes ts s k (Some Bare) = (has_let bytes s.lets (span_at ts k) || has_param_arg bytes s.args (span_at ts k)) ≡ true
-TokenWithin bytes ts s k (Some Input) = has_site_arg bytes s.args (span_at ts k) ≡ true
-TokenWithin bytes ts s k (Some AfterDot) = list_any (λ c. same bytes c.name (span_at ts k)) (coords_at bytes s (span_at ts (k - 2))) ≡ true
-TokenWithin bytes ts s k o = Unit {0}
+-- literals are at most 2^127 - 1, exponents at most 16, and names stand for something in scope
+abbrev pub Fit : List ℕ → Scope → Tree → Type 0
+Fit bytes s (TNum at) = number bytes at < 2 ^ 127
+Fit bytes s (TName at) = (has_let bytes s.lets at || has_param_arg bytes s.args at) ≡ true
+Fit bytes s (TInput at x) = (has_site_arg bytes s.args at ≡ true) × (list_any (λ c. same bytes c.name x) (coords_at bytes s at) ≡ true)
+Fit bytes s (TNeg at e) = Fit bytes s e
+Fit bytes s (TAdd at e f) = Fit bytes s e × Fit bytes s f
+Fit bytes s (TSub at e f) = Fit bytes s e × Fit bytes s f
+Fit bytes s (TMul at e f) = Fit bytes s e × Fit bytes s f
+Fit bytes s (TPow at e n) = Fit bytes s e × (number bytes n ≤ 16)
 
--- each token of an expression
+-- the tree that the tokens at these places are, before a semicolon
 abbrev pub ValueWithin : List ℕ → List Token → Scope → Places → Type 0
-ValueWithin bytes ts s p = (k : ℕ) → p.from ≤ k → k < p.to → TokenWithin bytes ts s k (role_at ts k)
+ValueWithin bytes ts s p = (e : Tree) → Derives ts Sum p.from p.to e → Is ts p.to Semi → Begins ts p.from → Fit bytes s e
 
 -- a let with a name of its own within its predicate
 pub record LetWithin (bytes : List ℕ) (ts : List Token) (is : List Item) (args : List RawArg) (before : List RawLet)

@@ -3,7 +3,7 @@ use Rattle.std.specs.Prelude.{ℕ, zero, suc, ◌+◌, ◌-◌, Bool, true, fals
 use Rattle.ln_base.specs.declared.span.Span.{Span}
 use Rattle.ln_lex.specs.declared.token.Token.{Token}
 use Rattle.ln_lex.specs.declared.token.Kind.{Kind}
-use Rattle.ln_lex.specs.declared.token.Kind.TheVariants.{Name, Number, Dot, Plus, Minus, Star, Caret}
+use Rattle.ln_lex.specs.declared.token.Kind.TheVariants.{Name, Number, ParR, Dot, Plus, Minus, Star, Caret as CaretToken}
 use Rattle.ln_syntax.specs.declared.raw.RawRange.{RawRange}
 use Rattle.ln_syntax.specs.declared.raw.RawCoord.{RawCoord}
 use Rattle.ln_syntax.specs.declared.raw.RawArg.{RawArg}
@@ -12,8 +12,9 @@ use Rattle.ln_syntax.specs.declared.raw.Places.{Places}
 use Rattle.ln_syntax.specs.Raw.{Item, SiteItem, ParamItem, PredItem, kind_at, span_at}
 use Rattle.ln_names.specs.declared.faults.Fault.{Fault}
 use Rattle.ln_names.specs.declared.faults.Found.{Found}
+use Rattle.ln_names.specs.declared.nodes.Operation.TheVariants.{Negation, Sum, Difference, Product}
 use Rattle.ln_names.specs.declared.roles.Role.{Role}
-use Rattle.ln_names.specs.declared.roles.Role.TheVariants.{Value, AfterCaret, Bare, Input, AfterDot, Operator}
+use Rattle.ln_names.specs.declared.roles.Role.TheVariants.{Value, AfterCaret, Bare, Input, AfterDot, Operator, Caret}
 use Rattle.ln_names.specs.Rules.{Scope, scope, Use, SiteName, ParamName, PredName, CoordName, LowEnd}
 use Rattle.ln_names.specs.Rules.{HighEnd, ArgName, ArgSite, ArgParam, LetName, NumberNode, NameNode}
 use Rattle.ln_names.specs.Rules.{InputNode, InputCoord, OperatorNode, ExponentOf, fault_at}
@@ -55,8 +56,15 @@ is_dot o = false
 
 -- is there a token, and is it a `^`?
 abbrev pub is_caret : Option Kind → Bool
-is_caret (Some Caret) = true
+is_caret (Some CaretToken) = true
 is_caret o = false
+
+-- does an operand end with this token?
+abbrev pub ends_operand : Option Kind → Bool
+ends_operand (Some Number) = true
+ends_operand (Some Name) = true
+ends_operand (Some ParR) = true
+ends_operand o = false
 
 -- what a token of an expression is by its kind and its neighbours, if the rules speak of it
 abbrev pub role_of : List Token → ℕ → Option Kind → Option Role
@@ -64,10 +72,10 @@ role_of ts k (Some Number) = if is_caret (kind_at ts (k - 1)) then Some AfterCar
 role_of ts k (Some Name) =
     if is_dot (kind_at ts (k - 1)) then Some AfterDot
     else if is_dot (kind_at ts (k + 1)) then Some Input else Some Bare
-role_of ts k (Some Plus) = Some Operator
-role_of ts k (Some Minus) = Some Operator
-role_of ts k (Some Star) = Some Operator
-role_of ts k (Some Caret) = Some Operator
+role_of ts k (Some Minus) = if ends_operand (kind_at ts (k - 1)) then Some (Operator Difference) else Some (Operator Negation)
+role_of ts k (Some Plus) = Some (Operator Sum)
+role_of ts k (Some Star) = Some (Operator Product)
+role_of ts k (Some CaretToken) = Some Caret
 role_of ts k o = None
 
 -- what token k of the file is in its expression
@@ -92,7 +100,8 @@ role_use ts s n k AfterCaret = ExponentOf
 role_use ts s n k Bare = NameNode n s
 role_use ts s n k Input = InputNode n s
 role_use ts s n k AfterDot = InputCoord s (span_at ts (k - 2))
-role_use ts s n k Operator = OperatorNode n
+role_use ts s n k (Operator p) = OperatorNode n
+role_use ts s n k Caret = OperatorNode n
 
 -- token k, after n nodes, with what it is for the rules; nothing where they don't speak of it
 abbrev pub token_visits : List Token → Scope → ℕ → ℕ → Option Role → List Visit
@@ -126,11 +135,14 @@ abbrev pub let_visits : List Token → List Item → List RawArg → List RawLet
 let_visits ts items args before l =
     visit (LetName args before) l.name ∷ value_visits ts (scope items args before) (nodes_before ts before) l.value
 
+-- a predicate's lets and sign expression
+abbrev pub body_visits : List Token → List Item → List RawArg → List RawLet → Places → List Visit
+body_visits ts before args lets root =
+    visits_by (let_visits ts before args) [] lets ++ value_visits ts (scope before args lets) (nodes_before ts lets) root
+
 -- a predicate's arguments, lets and sign expression
 abbrev pub pred_visits : List Token → List Item → List RawArg → List RawLet → Places → List Visit
-pred_visits ts before args lets root =
-    visits_by (arg_visits before) [] args
-    ++ (visits_by (let_visits ts before args) [] lets ++ value_visits ts (scope before args lets) (nodes_before ts lets) root)
+pred_visits ts before args lets root = visits_by (arg_visits before) [] args ++ body_visits ts before args lets root
 
 -- an item after others
 abbrev pub item_visits : List Token → List Item → Item → List Visit

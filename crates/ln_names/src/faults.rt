@@ -1,5 +1,5 @@
 //! Faults of names and limits.
-use ln_base::Span;
+use ln_base::{NoMemory, Span};
 
 /// A limit of the language. Those of tokens and nesting are tested before names are.
 #[derive(Clone, Copy, PartialEq, Eq, Debug)]
@@ -55,4 +55,23 @@ pub enum Fault {
 pub struct Found {
     pub fault: Fault,
     pub at: Span,
+}
+
+/// Why a file's expressions have no nodes: its first fault, or out of memory.
+#[derive(Clone, Copy)]
+pub enum NamesStop {
+    Found(Found),
+    NoMemory(NoMemory),
+}
+
+impl From<NoMemory> for NamesStop {
+    ghost use Rattle.std.specs.Prelude.{◌≡◌};
+    ghost use Rattle.ln_base.specs.Outside.{refused};
+    ghost use Rattle.ln_names.specs.declared.faults.NamesStop.TheVariants.{NoMemory as OutOfMemory};
+
+    ghost from_gives = { λ _ e. e ≡ OutOfMemory refused };
+
+    fn from(e: NoMemory) -> Self {
+        NamesStop::NoMemory(e)
+    }
 }

@@ -1,8 +1,9 @@
 //! What the tokens of an expression are, by their kinds and their neighbours'.
 ghost use Rattle.std.specs.Prelude.{◌≡◌, ◌<◌};
 ghost use Rattle.ln_syntax.specs.Raw.{kind_at};
-ghost use Rattle.ln_names.specs.Visits.{is_dot, is_caret, role_at, is_node};
+ghost use Rattle.ln_names.specs.Visits.{is_dot, is_caret, ends_operand, role_at, is_node};
 
+use crate::nodes::Operation;
 use ln_lex::{Kind, Token};
 
 /// What a token of an expression is; parentheses and the dot are nothing.
@@ -18,8 +19,10 @@ pub enum Role {
     Input,
     /// The second NAME of an input.
     AfterDot,
-    /// `+`, `-`, `*` or `^`.
-    Operator,
+    /// `+`, `-` or `*`.
+    Operator(Operation),
+    /// `^`.
+    Caret,
 }
 
 /// What token `k` of the file is in its expression, by its kind and the kinds beside it.
@@ -43,9 +46,16 @@ pub fn role_at(ts: &[Token], k: usize) -> Option<Role>
                 Some(Role::Bare)
             }
         }
-        Some(Kind::Plus) | Some(Kind::Minus) | Some(Kind::Star) | Some(Kind::Caret) => {
-            Some(Role::Operator)
+        Some(Kind::Minus) => {
+            if operand_at(ts, k.saturating_sub(1)) {
+                Some(Role::Operator(Operation::Difference))
+            } else {
+                Some(Role::Operator(Operation::Negation))
+            }
         }
+        Some(Kind::Plus) => Some(Role::Operator(Operation::Sum)),
+        Some(Kind::Star) => Some(Role::Operator(Operation::Product)),
+        Some(Kind::Caret) => Some(Role::Caret),
         _ => None,
     }
 }
@@ -61,7 +71,8 @@ pub fn node_of(role: Role) -> usize
     }
 }
 
-fn kind_at(ts: &[Token], i: usize) -> Option<Kind>
+/// The kind of the token at a place, if there is one.
+pub fn kind_at(ts: &[Token], i: usize) -> Option<Kind>
     ensures { result ≡ kind_at ts.now i }
 {
     match ts.get(i) {
@@ -80,4 +91,10 @@ fn caret_at(ts: &[Token], i: usize) -> bool
     ensures { result ≡ is_caret (kind_at ts.now i) }
 {
     matches!(kind_at(ts, i), Some(Kind::Caret))
+}
+
+fn operand_at(ts: &[Token], i: usize) -> bool
+    ensures { result ≡ ends_operand (kind_at ts.now i) }
+{
+    matches!(kind_at(ts, i), Some(Kind::Number | Kind::Name | Kind::ParR))
 }

@@ -1,14 +1,16 @@
 //! The fault at one token, by what the token is.
-ghost use Rattle.std.specs.Prelude.{◌≡◌, ◌==◌, ◌^◌, ◌<◌, ◌&&◌, Some, [], ◌∷◌, length, count_by, nat_lt, int_lt, IfNone};
+ghost use Rattle.std.specs.Prelude.{◌≡◌, ◌==◌, ◌^◌, ◌<◌, ◌&&◌, Some, None, pos, OnOk, IfOk, IfErr, [], ◌∷◌, length, count_by, nat_lt, int_lt, IfNone};
 ghost use Rattle.std.specs.List.{list_any};
 ghost use Rattle.ln_syntax.specs.Raw.{text, same, item, items, item_name};
 ghost use Rattle.ln_names.specs.Numbers.{number, end_value, signed, most_literal, most_end};
 ghost use Rattle.ln_names.specs.Rules.{fault_at, first_row, SiteName, ParamName, PredName, CoordName, LowEnd, HighEnd, ArgName, ArgSite};
 ghost use Rattle.ln_names.specs.Rules.{ArgParam, LetName, NumberNode, NameNode, InputNode, InputCoord, OperatorNode, ExponentOf, has_let};
-ghost use Rattle.ln_names.specs.Resolve.{visible, is_item_of, is_arg};
+ghost use Rattle.ln_names.specs.Nodes.{named, input_of};
+ghost use Rattle.ln_names.specs.Resolve.{visible, is_of, is_arg};
 
 use crate::faults::{Fault, LimitWhat, NameWhat};
-use crate::resolve::{ArgKind, Visible, arg_at, arg_coords, coord_at, is_arg, let_place};
+use crate::nodes::What;
+use crate::resolve::{ArgKind, Visible, arg_at, arg_coords, coord_at, is_arg, let_place, literal};
 use crate::spans::{number, same, text};
 use ln_base::Span;
 use ln_syntax::{RawArg, RawCoord, RawItem, RawLet, RawRange};
@@ -28,8 +30,8 @@ fn long_name(bytes: &[u8], at: Span) -> bool
 }
 
 // Is the item of this kind, if a kind is asked for?
-fn is_item_of(kind: Option<ItemKind>, i: &RawItem) -> bool
-    ensures { result ≡ is_item_of kind (item i.now) }
+fn is_of(kind: Option<ItemKind>, i: &RawItem) -> bool
+    ensures { result ≡ is_of kind (item i.now) }
 {
     match kind {
         None => true,
@@ -40,10 +42,10 @@ fn is_item_of(kind: Option<ItemKind>, i: &RawItem) -> bool
 }
 
 fn any_of(bytes: &[u8], before: &[RawItem], kind: Option<ItemKind>, at: Span) -> bool
-    ensures { result ≡ list_any (λ i. is_item_of kind (item i) && same bytes.now (item_name (item i)) at) before.now }
+    ensures { result ≡ list_any (λ i. is_of kind (item i) && same bytes.now (item_name (item i)) at) before.now }
 {
     'each: for i in before {
-        if is_item_of(kind, i) && same(bytes, i.name(), at) {
+        if is_of(kind, i) && same(bytes, i.name(), at) {
             return true;
         }
     }
@@ -52,17 +54,17 @@ fn any_of(bytes: &[u8], before: &[RawItem], kind: Option<ItemKind>, at: Span) ->
 
 // Does one of the items have this name?
 fn declared(bytes: &[u8], before: &[RawItem], kind: Option<ItemKind>, at: Span) -> bool
-    ensures { result ≡ list_any (λ i. is_item_of kind i && same bytes.now (item_name i) at) (items before.now) }
+    ensures { result ≡ list_any (λ i. is_of kind i && same bytes.now (item_name i) at) (items before.now) }
 {
     any_of(bytes, before, kind, at)
 }
 
 fn count(before: &[RawItem], kind: Option<ItemKind>) -> usize
-    ensures { result ≡ count_by (is_item_of kind) (items before.now) }
+    ensures { result ≡ count_by (is_of kind) (items before.now) }
 {
     let mut n = 0usize;
     'each: for i in before {
-        n += usize::from(is_item_of(kind, i));
+        n += usize::from(is_of(kind, i));
     }
     n
 }
@@ -82,7 +84,7 @@ fn named_item(
     at: Span,
 ) -> Option<Fault>
     ensures { result ≡ first_row ((nat_lt 32 (length (text bytes.now at)), Fault.Limit LimitWhat.NameLength)
-        ∷ (count_by (is_item_of (Some kind)) (items before.now) == 16, Fault.Limit limit)
+        ∷ (count_by (is_of (Some kind)) (items before.now) == 16, Fault.Limit limit)
         ∷ (list_any (λ i. same bytes.now (item_name i) at) (items before.now), Fault.Named NameWhat.Twice) ∷ []) }
 {
     if long_name(bytes, at) {
@@ -288,16 +290,18 @@ pub fn let_name(bytes: &[u8], args: &[RawArg], before: &[RawLet], at: Span) -> O
     }
 }
 
-/// The fault of a number in an expression after `before` nodes: 2^127 or more, or one node too many (2,048).
-pub fn number_node(bytes: &[u8], before: usize, at: Span) -> Option<Fault>
-    ensures { result ≡ fault_at bytes.now (NumberNode before) at }
+/// The literal that a number in an expression is after `before` nodes; or its fault: 2^127 or more, or one node too many (2,048).
+pub fn number_node(bytes: &[u8], before: usize, at: Span) -> Result<What, Fault>
+    ensures fine { OnOk result (fault_at bytes.now (NumberNode before) at ≡ None) }
+    ensures what { IfOk result (λ w. w ≡ What.Number (pos (number bytes.now at))) }
+    ensures err { IfErr result (λ f. fault_at bytes.now (NumberNode before) at ≡ Some f) }
 {
     if over_literal(bytes, at) {
-        Some(Fault::Limit(LimitWhat::Literal))
+        Err(Fault::Limit(LimitWhat::Literal))
     } else if before == 2048 {
-        Some(Fault::Limit(LimitWhat::Nodes))
+        Err(Fault::Limit(LimitWhat::Nodes))
     } else {
-        None
+        Ok(What::Number(literal(bytes, at)))
     }
 }
 
@@ -312,34 +316,41 @@ pub fn operator_node(bytes: &[u8], before: usize, at: Span) -> Option<Fault>
     }
 }
 
-/// The fault of an exponent: a number of 2^127 or more, or one above 16.
-pub fn exponent(bytes: &[u8], at: Span) -> Option<Fault>
-    ensures { result ≡ fault_at bytes.now ExponentOf at }
+/// The power that an exponent makes; or its fault: a number of 2^127 or more, or one above 16.
+pub fn exponent(bytes: &[u8], at: Span) -> Result<What, Fault>
+    ensures fine { OnOk result (fault_at bytes.now ExponentOf at ≡ None) }
+    ensures what { IfOk result (λ w. w ≡ What.Power (number bytes.now at)) }
+    ensures err { IfErr result (λ f. fault_at bytes.now ExponentOf at ≡ Some f) }
 {
-    if over_literal(bytes, at) {
-        Some(Fault::Limit(LimitWhat::Literal))
-    } else if number(bytes, at) > 16 {
-        Some(Fault::Limit(LimitWhat::Exponent))
+    let n = number(bytes, at);
+    if n > MOST_LITERAL {
+        Err(Fault::Limit(LimitWhat::Literal))
+    } else if n > 16 {
+        Err(Fault::Limit(LimitWhat::Exponent))
     } else {
-        None
+        Ok(What::Power(n as u8))
     }
 }
 
-/// The fault of a name in an expression after `before` nodes: over 32 letters, one node too many (2,048), or no let and no param
-/// of this name.
-pub fn name_node(bytes: &[u8], seen: Visible, before: usize, at: Span) -> Option<Fault>
-    ensures { result ≡ fault_at bytes.now (NameNode before (visible seen.entry)) at }
+/// What a name in an expression stands for, after `before` nodes; or its fault: over 32 letters, one node too many (2,048), or no let
+/// and no param of this name.
+pub fn name_node(bytes: &[u8], seen: Visible, before: usize, at: Span) -> Result<What, Fault>
+    ensures fine { OnOk result (fault_at bytes.now (NameNode before (visible seen.entry)) at ≡ None) }
+    ensures what { IfOk result (λ w. w ≡ named bytes.now (visible seen.entry) at) }
+    ensures err { IfErr result (λ f. fault_at bytes.now (NameNode before (visible seen.entry)) at ≡ Some f) }
 {
     if long_name(bytes, at) {
-        Some(Fault::Limit(LimitWhat::NameLength))
-    } else if before == 2048 {
-        Some(Fault::Limit(LimitWhat::Nodes))
-    } else if known_let(bytes, seen.lets, at)
-        || known_arg(bytes, seen.args, Some(ArgKind::Param), at)
-    {
-        None
-    } else {
-        Some(Fault::Named(NameWhat::Unknown))
+        return Err(Fault::Limit(LimitWhat::NameLength));
+    }
+    if before == 2048 {
+        return Err(Fault::Limit(LimitWhat::Nodes));
+    }
+    if let Some(j) = let_place(bytes, seen.lets, at) {
+        return Ok(What::Let(j));
+    }
+    match arg_at(bytes, seen.args, Some(ArgKind::Param), at) {
+        Some(a) => Ok(What::Input(a, 0)),
+        None => Err(Fault::Named(NameWhat::Unknown)),
     }
 }
 
@@ -359,15 +370,21 @@ pub fn input_node(bytes: &[u8], seen: Visible, before: usize, at: Span) -> Optio
     }
 }
 
-/// The fault of the coordinate that is read of an argument: none of this name in its site type.
-pub fn input_coord(bytes: &[u8], seen: Visible, arg: Span, at: Span) -> Option<Fault>
-    ensures { result ≡ fault_at bytes.now (InputCoord (visible seen.entry) arg) at }
+/// What an argument and the coordinate that is read of it stand for; or the coordinate's fault: over 32 letters, or none of this name in the
+/// argument's site type.
+pub fn input_coord(bytes: &[u8], seen: Visible, arg: Span, at: Span) -> Result<What, Fault>
+    ensures fine { OnOk result (fault_at bytes.now (InputCoord (visible seen.entry) arg) at ≡ None) }
+    ensures what { IfOk result (λ w. w ≡ input_of bytes.now (visible seen.entry) arg at) }
+    ensures err { IfErr result (λ f. fault_at bytes.now (InputCoord (visible seen.entry) arg) at ≡ Some f) }
 {
     if long_name(bytes, at) {
-        Some(Fault::Limit(LimitWhat::NameLength))
-    } else if coord_twice(bytes, arg_coords(bytes, seen.before, seen.args, arg), at) {
-        None
-    } else {
-        Some(Fault::Named(NameWhat::Unknown))
+        return Err(Fault::Limit(LimitWhat::NameLength));
+    }
+    let Some(a) = arg_at(bytes, seen.args, Some(ArgKind::Site), arg) else {
+        return Err(Fault::Named(NameWhat::Unknown));
+    };
+    match coord_at(bytes, arg_coords(bytes, seen.before, seen.args, arg), at) {
+        Some(c) => Ok(What::Input(a, c)),
+        None => Err(Fault::Named(NameWhat::Unknown)),
     }
 }

@@ -1,6 +1,5 @@
 pub mod Says
 pub mod Text
-pub mod Reading
 pub mod Lexemes
 pub mod Written
 pub mod Canonical
@@ -9,3 +8,4 @@ pub mod Spanless
 pub mod WholeTable
 pub mod Fault
 pub mod Ready
+pub mod Stack

@@ -1,7 +1,7 @@
 -- What holds of a source without a fault, for the code that builds its table: names are names, numbers fit, and what names stand for is there.
-use Rattle.std.specs.Prelude.{◌≡◌, ◌+◌, ℕ, pos, neg_ℤ, int_lt, nat_lt, nat_le, not, ◌&&◌, ◌<◌}
-use Rattle.std.specs.Prelude.{◌≤◌, ◌^◌, ◌||◌, Bool, true, List, [], ◌++◌, length, count_by}
-use Rattle.std.specs.List.{list_any, list_all}
+use Rattle.std.specs.Prelude.{◌≡◌, ◌+◌, ℕ, nat_lt, nat_le, ◌&&◌, ◌<◌}
+use Rattle.std.specs.Prelude.{◌≤◌, Bool, true, List, [], ◌++◌, length, count_by}
+use Rattle.std.specs.List.{list_all}
 use Rattle.ln_base.specs.declared.span.Span.{Span}
 use Rattle.ln_base.specs.Words.{is_name}
 use Rattle.ln_lex.specs.declared.token.Token.{Token}
@@ -11,15 +11,15 @@ use Rattle.ln_syntax.specs.declared.raw.RawRange.{RawRange}
 use Rattle.ln_syntax.specs.declared.raw.RawArg.{RawArg}
 use Rattle.ln_syntax.specs.declared.raw.RawLet.{RawLet}
 use Rattle.ln_syntax.specs.declared.raw.Places.{Places}
-use Rattle.ln_syntax.specs.Raw.{Item, SiteItem, ParamItem, PredItem, Is, is_site, is_param, is_pred, text, same}
-use Rattle.ln_syntax.specs.Expression.{Tree, TNum, TName, TInput, TNeg, TAdd, TSub, TMul, TPow, Sort, Derives, Sum}
-use Rattle.ln_syntax.specs.Stops.{Stops}
-use Rattle.ln_names.specs.Numbers.{number}
-use Rattle.ln_names.specs.Rules.{Scope, scope, is_site_arg, is_param_arg, has_site_arg, has_param_arg, has_let, coords_at}
+use Rattle.ln_syntax.specs.Raw.{Item, SiteItem, ParamItem, PredItem, Is, is_site, is_param, is_pred, text}
+use Rattle.ln_syntax.specs.Expression.{Tree, Derives, Sum}
+use Rattle.ln_names.specs.Rules.{Scope, scope, is_site_arg, is_param_arg, coords_at}
 use Rattle.ln_names.specs.Visits.{nodes_before, value_nodes}
-use Rattle.ln_names.specs.Limits.{Each, RangeWithin, IsKnown}
+use Rattle.ln_names.specs.Nodes.{Begins}
+pub use Rattle.ln_names.specs.Limits.{Each, RangeWithin, IsKnown, Fit}
 use Rattle.ln_tree.specs.Formula.{node_count}
 use Rattle.ln_tree.specs.Table.{CoordOf, SiteOf}
+use Rattle.ln_tree.specs.Whole.{is_range}
 use Rattle.ln_parse.specs.Says.{resolved, site_names, param_names, sites_said, params_said}
 
 -- a name of the language, of at most 32 bytes
@@ -27,30 +27,12 @@ pub record IsNamed (bytes : List ℕ) (at : Span) : Type 0 where
   pub named : is_name (text bytes at) ≡ true
   pub short : length (text bytes at) ≤ 32
 
--- literals are at most 2^127 - 1, exponents at most 16, and names stand for something in scope
-abbrev pub Fit : List ℕ → Scope → Tree → Type 0
-Fit bytes s (TNum at) = number bytes at < 2 ^ 127
-Fit bytes s (TName at) = (has_let bytes s.lets at || has_param_arg bytes s.args at) ≡ true
-Fit bytes s (TInput at x) = (has_site_arg bytes s.args at ≡ true) × (list_any (λ c. same bytes c.name x) (coords_at bytes s at) ≡ true)
-Fit bytes s (TNeg at e) = Fit bytes s e
-Fit bytes s (TAdd at e f) = Fit bytes s e × Fit bytes s f
-Fit bytes s (TSub at e f) = Fit bytes s e × Fit bytes s f
-Fit bytes s (TMul at e f) = Fit bytes s e × Fit bytes s f
-Fit bytes s (TPow at e n) = Fit bytes s e × (number bytes n ≤ 16)
-
--- some fit expression of a sort begins at place i, and what follows doesn't go on with it
-pub record HasTree (bytes : List ℕ) (ts : List Token) (s : Scope) (o : Sort) (i : ℕ) : Type 0 where
-  pub to : ℕ
-  pub tree : Tree
-  pub derives : Derives ts o i to tree
-  pub stops : Stops ts o to
-  pub fit : Fit bytes s tree
-
 -- the tokens at these places are a fit expression, before a semicolon
 pub record ReadyValue (bytes : List ℕ) (ts : List Token) (s : Scope) (p : Places) : Type 0 where
   pub tree : Tree
   pub derives : Derives ts Sum p.from p.to tree
   pub ends : Is ts p.to Semi
+  pub begins : Begins ts p.from
   pub fit : Fit bytes s tree
   pub counted : node_count (resolved bytes s tree) ≡ value_nodes ts p
 
@@ -60,13 +42,9 @@ pub record IsNarrow (bytes : List ℕ) (s : Scope) : Type 0 where
   pub lets : length s.lets < 256
   pub coords : (at : Span) → length (coords_at bytes s at) < 256
 
--- a range in order, from -(2^63 - 1) on
-abbrev pub is_ranged : CoordOf → Bool
-is_ranged c = not (int_lt c.hi c.lo) && int_lt (neg_ℤ (pos (2 ^ 63))) c.lo
-
 -- a site type has 1 to 32 coordinates, each with its range
 abbrev pub is_good_site : SiteOf → Bool
-is_good_site s = nat_lt 0 (length s.coords) && nat_le (length s.coords) 32 && list_all is_ranged s.coords
+is_good_site s = nat_lt 0 (length s.coords) && nat_le (length s.coords) 32 && list_all is_range s.coords
 
 -- the site types and params of a table begin with those that items declare
 pub record Declares (bytes : List ℕ) (is : List Item) (sites : List SiteOf) (params : List CoordOf) : Type 0 where
@@ -75,7 +53,7 @@ pub record Declares (bytes : List ℕ) (is : List Item) (sites : List SiteOf) (p
   pub more_params : List CoordOf
   pub params_are : params ≡ params_said bytes is ++ more_params
   pub good_sites : list_all is_good_site sites ≡ true
-  pub good_params : list_all is_ranged params ≡ true
+  pub good_params : list_all is_range params ≡ true
 
 -- a coordinate whose name and range fit
 pub record ReadyCoord (bytes : List ℕ) (c : RawCoord) : Type 0 where

@@ -1,5 +1,5 @@
 //! The arguments of a predicate and their variables.
-ghost use Rattle.std.specs.Prelude.{◌≡◌, ◌≤◌, ◌<◌, true, [], Some, ◌+◌, ◌∷◌, ◌++◌, suc, List, length, map, count_by, slice_get, IfOk, OnOk};
+ghost use Rattle.std.specs.Prelude.{◌≡◌, ◌≤◌, ◌<◌, true, [], Some, ◌+◌, ◌∷◌, ◌++◌, suc, List, length, map, count_by, slice_get, IfOk, OnOk, IfSome, unwrap_or};
 ghost use Rattle.std.specs.List.{filter_map, position_from, list_all};
 ghost use Rattle.ln_syntax.specs.Raw.{item, items, same};
 ghost use Rattle.ln_tree.specs.Table.{ArgOf, arg_of, coord_of, site_of, param_of};
@@ -7,8 +7,8 @@ ghost use Rattle.ln_names.specs.Limits.{Each};
 ghost use Rattle.ln_parse.specs.Ready.{ReadyArg, is_good_site};
 ghost use Rattle.ln_parse.specs.Says.{arg_said, name_if, site_names, param_names, site_vars, param_vars, coords_or, vars_behind, is_site_said};
 
-use crate::expression::{Scene, or_zero};
 use crate::name::name_at;
+use crate::predicate::Scene;
 use ln_base::{NoMemory, Seq, Span};
 use ln_names::spans::same;
 use ln_syntax::{RawArg, RawItem};
@@ -180,5 +180,16 @@ fn var_of_param(k: u8, p: &Param) -> VarInfo
         coord: 0,
         lo: p.lo,
         hi: p.hi,
+    }
+}
+
+// The place, or 0 where there is none.
+fn or_zero(place: Option<usize>) -> u8
+    requires { IfSome place (λ i. i < 256) }
+    ensures { result ≡ unwrap_or place 0 }
+{
+    match place {
+        Some(i) => i as u8,
+        None => 0,
     }
 }

@@ -6,7 +6,7 @@
 //! faults, or a table and a fault. `print` returns the canonical text of a table.
 //!
 //! The passes are in the crates below (`tokens`, `nesting_fault`, `syntax_fault`, `read_items`, `check_names`). The table is built last, from
-//! the places of the items' tokens, where nothing but an allocation can fail.
+//! the items and the nodes of their expressions, where nothing but an allocation can fail.
 #![tactic(auto)]
 
 mod build;

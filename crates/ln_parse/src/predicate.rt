@@ -1,5 +1,5 @@
 //! Builds one predicate of a table from its item: its arguments, its lets and its sign expression.
-ghost use Rattle.std.specs.Prelude.{◌≡◌, ◌^◌, ◌<◌, true, [], length, map, IfOk};
+ghost use Rattle.std.specs.Prelude.{◌≡◌, ◌<◌, true, [], length, map, IfOk};
 ghost use Rattle.std.specs.List.{list_all};
 ghost use Rattle.ln_syntax.specs.Raw.{items, text};
 ghost use Rattle.ln_names.specs.Limits.{Each};
@@ -7,17 +7,40 @@ ghost use Rattle.ln_tree.specs.Names.{name_bytes};
 ghost use Rattle.ln_tree.specs.Formula.{formula};
 ghost use Rattle.ln_tree.specs.Variables.{is_laid_out};
 ghost use Rattle.ln_tree.specs.Table.{TableOf, site_of, param_of, pred_of, pred_fits};
+ghost use Rattle.ln_names.specs.Nodes.{LetsNodes, PredNodes};
 ghost use Rattle.ln_names.specs.Rules.{scope};
 ghost use Rattle.ln_parse.specs.Says.{LetsSay, PredSays, Says};
 ghost use Rattle.ln_parse.specs.Ready.{ReadyLet, ReadyPred, ReadyValue, Declares, is_few};
 
-use crate::expression::{Scene, expression};
+use crate::expression::expression;
 use crate::layout::{Layout, args, laid_out};
 use crate::name::name_at;
 use ln_base::{NoMemory, Seq, Span};
-use ln_syntax::{Places, RawLet};
+use ln_lex::Token;
+use ln_names::Body as Nodes;
+use ln_syntax::{Places, RawArg, RawItem, RawLet};
 use ln_tree::{Expr, Name, Param, Pred, Shape, Site};
 use std::alloc::Global;
+
+/// A source: its bytes, their tokens and items, and the nodes of the items' expressions.
+#[derive(Clone, Copy)]
+pub struct Source<'a> {
+    pub bytes: &'a [u8],
+    pub ts: &'a [Token],
+    pub items: &'a [RawItem],
+    pub nodes: &'a [Nodes],
+}
+
+/// A source and what a predicate in it can speak of: the items before it, its arguments and its lets; and the nodes of its expressions.
+#[derive(Clone, Copy)]
+pub struct Scene<'a> {
+    pub bytes: &'a [u8],
+    pub ts: &'a [Token],
+    pub items: &'a [RawItem],
+    pub args: &'a [RawArg],
+    pub lets: &'a [RawLet],
+    pub nodes: &'a Nodes,
+}
 
 // The lets of a predicate, their names, and the expression of its sign.
 #[derive(Drop)]
@@ -37,8 +60,8 @@ pub fn predicate(
     name: Span,
     root: Places,
 ) -> Result<Pred, NoMemory>
-    requires small { length s.now.ts.now < 2 ^ 32 }
     requires ready { ReadyPred s.now.bytes.now s.now.ts.now (items s.now.items.now) name s.now.args.now s.now.lets.now root }
+    requires nodes { PredNodes s.now.bytes.now s.now.ts.now (items s.now.items.now) s.now.args.now s.now.lets.now root s.now.nodes.now }
     requires declared { Declares s.now.bytes.now (items s.now.items.now) (map site_of sites.now) (map param_of params.now) }
     ensures says { IfOk result (λ p. (t : TableOf) → t.sites ≡ map site_of sites.now → t.params ≡ map param_of params.now →
         PredSays s.now.bytes.now s.now.ts.now (items s.now.items.now) t name s.now.args.now s.now.lets.now root (pred_of p)) }
@@ -62,9 +85,9 @@ pub fn predicate(
 
 // The parts between the braces of a predicate.
 fn body_of(alloc: Global, s: &Scene, sign: Places) -> Result<Body, NoMemory>
-    requires small { length s.now.ts.now < 2 ^ 32 }
     requires ready { Each (ReadyLet s.now.bytes.now s.now.ts.now (items s.now.items.now) s.now.args.now) [] s.now.lets.now }
     requires sign { ReadyValue s.now.bytes.now s.now.ts.now (scope (items s.now.items.now) s.now.args.now s.now.lets.now) sign }
+    requires nodes { PredNodes s.now.bytes.now s.now.ts.now (items s.now.items.now) s.now.args.now s.now.lets.now sign s.now.nodes.now }
     requires args { length s.now.args.now < 256 }
     requires lets { length s.now.lets.now < 256 }
     requires few { list_all is_few (items s.now.items.now) ≡ true }
@@ -76,7 +99,7 @@ fn body_of(alloc: Global, s: &Scene, sign: Places) -> Result<Body, NoMemory>
 {
     let lets = lets(alloc, s)?;
     let let_names = let_names(alloc, s, s.lets)?;
-    let root = expression(alloc, s, sign)?;
+    let root = expression(alloc, s.nodes.root.as_slice())?;
     Ok(Body {
         lets,
         let_names,
@@ -97,25 +120,18 @@ fn shape(name: Name, layout: Layout) -> Shape
 }
 
 fn lets(alloc: Global, s: &Scene) -> Result<Seq<Expr>, NoMemory>
-    requires small { length s.now.ts.now < 2 ^ 32 }
     requires ready { Each (ReadyLet s.now.bytes.now s.now.ts.now (items s.now.items.now) s.now.args.now) [] s.now.lets.now }
+    requires nodes { LetsNodes s.now.bytes.now s.now.ts.now (items s.now.items.now) s.now.args.now s.now.lets.now s.now.nodes.now.lets }
     requires args { length s.now.args.now < 256 }
     requires lets { length s.now.lets.now < 256 }
     requires few { list_all is_few (items s.now.items.now) ≡ true }
     ensures { IfOk result (λ xs. LetsSay s.now.bytes.now s.now.ts.now (items s.now.items.now) s.now.args.now [] s.now.lets.now
         (map formula xs)) }
 {
-    let lets = s.lets;
+    let lets = s.nodes.lets.as_slice();
     let mut values = Seq::new(alloc);
-    'lets: for (i, l) in lets.iter().enumerate() {
-        let before = Scene {
-            bytes: s.bytes,
-            ts: s.ts,
-            items: s.items,
-            args: s.args,
-            lets: &lets[..i],
-        };
-        values.push(expression(alloc, &before, l.value)?)?;
+    'lets: for nodes in lets {
+        values.push(expression(alloc, nodes.as_slice())?)?;
     }
     Ok(values)
 }

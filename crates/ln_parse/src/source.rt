@@ -3,6 +3,7 @@ ghost use Rattle.std.specs.Prelude.{◌≡◌, ◌≤◌, ◌<◌, ◌^◌, ◌�
 ghost use Rattle.ln_base.specs.Limits.{most_source, most_tokens};
 ghost use Rattle.ln_lex.specs.Tokens.{IsSlice, Lexed};
 ghost use Rattle.ln_syntax.specs.Raw.{items};
+ghost use Rattle.ln_names.specs.Nodes.{BodiesAre};
 ghost use Rattle.ln_tree.specs.Table.{TableOf, table_of};
 ghost use Rattle.ln_parse.specs.declared.source.ParseStop.{ParseStop as Stop};
 ghost use Rattle.ln_parse.specs.Text.{TextOf};
@@ -11,7 +12,7 @@ ghost use Rattle.ln_parse.specs.Fault.{one_byte, place_of, stop_of, TextFault, I
 use crate::build::build;
 use ln_base::{NoMemory, Seq, Span};
 use ln_lex::{LexStop, Token, tokens};
-use ln_names::{Fault, Found, LimitWhat, NameWhat, check_names};
+use ln_names::{Body, Fault, Found, LimitWhat, NameWhat, NamesStop, check_names};
 use ln_syntax::items::span_of;
 use ln_syntax::{RawItem, nesting_fault, read_items, syntax_fault};
 use ln_tree::Table;
@@ -37,8 +38,8 @@ pub fn parse(alloc: Global, bytes: &[u8]) -> Result<Table, ParseStop>
 {
     let list = scanned(alloc, bytes)?;
     let ts = list.as_slice();
-    let its = checked(alloc, bytes, ts)?;
-    match build(alloc, bytes, ts, &its) {
+    let file = checked(alloc, bytes, ts)?;
+    match build(alloc, bytes, ts, &file.items, file.nodes.as_slice()) {
         Ok(table) => Ok(table),
         Err(e) => Err(ParseStop::NoMemory(e)),
     }
@@ -60,12 +61,20 @@ fn scanned(alloc: Global, bytes: &[u8]) -> Result<Seq<Token>, ParseStop>
     }
 }
 
-// The items of tokens without a fault.
-fn checked(alloc: Global, bytes: &[u8], ts: &[Token]) -> Result<Vec<RawItem>, ParseStop>
+// The items of a file without a fault, and the nodes of their expressions.
+#[derive(Drop)]
+struct File {
+    items: Vec<RawItem>,
+    nodes: Seq<Body>,
+}
+
+// The items of tokens without a fault, and their nodes.
+fn checked(alloc: Global, bytes: &[u8], ts: &[Token]) -> Result<File, ParseStop>
     requires lexed { Lexed bytes.now ts.now }
     requires few { length ts.now ≤ most_tokens }
     requires short { length bytes.now ≤ most_source }
-    ensures ok { IfOk result (λ its. IsFaultless bytes.now ts.now (items its.items)) }
+    ensures ok { IfOk result (λ f. IsFaultless bytes.now ts.now (items f.items.items)) }
+    ensures nodes { IfOk result (λ f. BodiesAre bytes.now ts.now (items f.items.items) f.nodes) }
     ensures err { IfErr result (λ e. IsRefusal bytes.now e) }
 {
     if let Some(at) = nesting_fault(ts) {
@@ -78,9 +87,10 @@ fn checked(alloc: Global, bytes: &[u8], ts: &[Token]) -> Result<Vec<RawItem>, Pa
         Ok(its) => its,
         Err(e) => return Err(ParseStop::NoMemory(e)),
     };
-    match check_names(bytes, ts, &its) {
-        Ok(()) => Ok(its),
-        Err(found) => Err(stop_of(found)),
+    match check_names(alloc, bytes, ts, &its) {
+        Ok(nodes) => Ok(File { items: its, nodes }),
+        Err(NamesStop::Found(found)) => Err(stop_of(found)),
+        Err(NamesStop::NoMemory(e)) => Err(ParseStop::NoMemory(e)),
     }
 }
 

@@ -4,7 +4,7 @@ ghost use Rattle.ln_base.specs.Limits.{most_tokens};
 
 use ln_base::limits::MOST_SOURCE;
 use ln_lex::{Token, tokens};
-use ln_names::{Fault, LimitWhat, check_names};
+use ln_names::{Fault, LimitWhat, NamesStop, check_names};
 use ln_parse::parse;
 use ln_syntax::{RawItem, read_items, syntax_fault};
 use ln_tree::Table;
@@ -14,13 +14,14 @@ use std::alloc::Global;
 type Want = Option<(LimitWhat, u32)>;
 
 /// Whether the first fault of these items is as is wanted.
-fn is_fault(source: &[u8], ts: &[Token], its: &[RawItem], want: Want) -> bool {
-    match check_names(source, ts, its) {
-        Ok(()) => want.is_none(),
-        Err(found) => match found.fault {
+fn is_fault(alloc: Global, source: &[u8], ts: &[Token], its: &[RawItem], want: Want) -> bool {
+    match check_names(alloc, source, ts, its) {
+        Ok(_) => want.is_none(),
+        Err(NamesStop::Found(found)) => match found.fault {
             Fault::Limit(what) => want == Some((what, found.at.start)),
             Fault::Named(_) => false,
         },
+        Err(NamesStop::NoMemory(_)) => false,
     }
 }
 
@@ -32,7 +33,7 @@ fn is_fault_of(alloc: Global, source: &[u8], ts: &[Token], want: Want) -> bool
         return false;
     }
     match read_items(alloc, ts) {
-        Ok(its) => is_fault(source, ts, &its, want),
+        Ok(its) => is_fault(alloc, source, ts, &its, want),
         Err(_) => false,
     }
 }

@@ -39,27 +39,31 @@ use Rattle.ln_tree.specs.Variables.{is_laid_out}
 use Rattle.ln_tree.specs.Table.{CoordOf, SiteOf, ArgOf, TableOf, PredOf, arg_of, site_of, param_of, pred_of, pred_fits, is_table}
 use Rattle.ln_parse.specs.Says.{ranged, resolved, Says, LetsSay, PredsSay, arg_said, site_said, param_said, sites_said, params_said, vars_behind}
 use Rattle.ln_parse.specs.Says.{is_site_said}
-use Rattle.ln_parse.specs.Ready.{ReadyValue, ReadyCoord, ReadyArg, ReadyLet, ReadyPred, ReadyItem, ReadyFile, is_ranged, is_good_site, Declares}
+use Rattle.ln_parse.specs.Ready.{ReadyValue, ReadyCoord, ReadyArg, ReadyLet, ReadyPred, ReadyItem, ReadyFile, is_good_site, Declares}
 use Rattle.ln_parse.proofs.Building.Predicates.{PredAt}
 use Rattle.ln_parse.proofs.Building.LaidOut.{Known, count_cons, laid_out}
 use Rattle.ln_parse.proofs.Building.Arguments.{all_are_of, all_fit}
 use Rattle.ln_parse.proofs.Expressions.Found.{said_count, each_weaker}
 use Rattle.ln_parse.proofs.Expressions.Fitting.{Sees, said, all_known, fits}
 use Rattle.ln_parse.proofs.Wholes.TestLemmas.{in_order}
-use Rattle.ln_tree.specs.Whole.{is_one_of, is_param_said}
+use Rattle.ln_tree.specs.Whole.{is_range, is_one_of, is_param_said}
 
 above : (b : Bool) (n : ℕ) → n < 2 ^ 63 → int_lt (neg_ℤ (pos (2 ^ 63))) (signed b n) ≡ true
 above false n h = grind (arith, nat_tests, ints)
 above true n h = grind (arith, nat_tests, ints)
 
--- a range within the limits is a range
-ranged_good : (bytes : List ℕ) (name : Span) (r : RawRange) → RangeWithin bytes r → is_ranged (ranged bytes name r) ≡ true
-ranged_good bytes name r w =
-    let e = in_order (end_value bytes r.low) (end_value bytes r.high) w.order in
-    and_from _ _ (ap not e) (above r.low.negative (number bytes r.low.at) w.low)
+below : (b : Bool) (n : ℕ) → n < 2 ^ 63 → int_lt (signed b n) (pos (2 ^ 63)) ≡ true
+below false n h = grind (arith, nat_tests, ints)
+below true n h = grind (arith, nat_tests, ints)
 
-coords_good : (bytes : List ℕ) (before cs : List RawCoord) → Each (λ before c. ReadyCoord bytes c) before cs
-    → list_all is_ranged (map (λ c. ranged bytes c.name c.range) cs) ≡ true
+-- a range within the limits is a range
+pub ranged_good : (bytes : List ℕ) (name : Span) (r : RawRange) → RangeWithin bytes r → is_range (ranged bytes name r) ≡ true
+ranged_good bytes name r w =
+    and_from _ _ (and_from _ _ (ap not (in_order (end_value bytes r.low) (end_value bytes r.high) w.order))
+    (above r.low.negative (number bytes r.low.at) w.low)) (below r.high.negative (number bytes r.high.at) w.high)
+
+pub coords_good : (bytes : List ℕ) (before cs : List RawCoord) → Each (λ before c. ReadyCoord bytes c) before cs
+    → list_all is_range (map (λ c. ranged bytes c.name c.range) cs) ≡ true
 coords_good bytes before [] e = refl
 coords_good bytes before (c ∷ cs) e = and_from _ _ (ranged_good bytes c.name c.range e.0.range) (coords_good bytes (before ++ (c ∷ [])) cs e.1)
 
@@ -83,7 +87,7 @@ sites_good bytes ts before (PredItem n as' ls p ∷ is) e = sites_good bytes ts 
 
 -- and so are the params
 pub params_good : (bytes : List ℕ) (ts : List Token) (before is : List Item) → Each (ReadyItem bytes ts) before is
-    → list_all is_ranged (params_said bytes is) ≡ true
+    → list_all is_range (params_said bytes is) ≡ true
 params_good bytes ts before [] e = refl
 params_good bytes ts before (SiteItem n cs ∷ is) e = params_good bytes ts (before ++ (SiteItem n cs ∷ [])) is e.1
 params_good bytes ts before (ParamItem n r ∷ is) e =
@@ -100,7 +104,7 @@ declared bytes ts before rest is S P q s p e =
       more_params = params_said bytes rest;
       params_are = p ∙ ap (λ (w : List Item). params_said bytes w) (sym q) ∙ filter_map-append (param_said bytes) before rest;
       good_sites = ap (list_all is_good_site) s ∙ sites_good bytes ts [] is e;
-      good_params = ap (list_all is_ranged) p ∙ params_good bytes ts [] is e;
+      good_params = ap (list_all is_range) p ∙ params_good bytes ts [] is e;
     }
 
 -- the arguments of a ready predicate are declared

@@ -1,7 +1,7 @@
 -- The variables of known arguments are laid out as a shape wants them.
-use Rattle.std.proofs.Common.{◌≡◌, ℕ, zero, suc, ◌+◌, ◌*◌, ◌<◌, ◌≤◌, ◌==◌, ◌&&◌, Bool, true, false, cond, nat_lt, nat_le, List, [], ◌∷◌}
+use Rattle.std.proofs.Common.{◌≡◌, ℕ, zero, suc, ◌+◌, ◌*◌, ◌<◌, ◌≤◌, ◌==◌, ◌^◌, ◌&&◌, not, Bool, true, false, cond, nat_lt, nat_le, List, [], ◌∷◌}
 use Rattle.std.proofs.Common.{◌++◌, length, Option, Some, None, refl, ap, sym, ◌∙◌, subst, arith, length-append}
-use Rattle.std.specs.Prelude.{slice_get, count_by}
+use Rattle.std.specs.Prelude.{slice_get, count_by, int_lt, neg_ℤ, pos}
 use Rattle.std.specs.List.{list_all}
 use Rattle.std.proofs.lemmas.Bool.{and_parts, and_from, ltb-true, lt-ltb, le-leb, leb-true, eq-eqb}
 use Rattle.std.proofs.lemmas.Bool.Decides.{nat_tests}
@@ -11,8 +11,8 @@ use Rattle.ln_tree.specs.declared.shape.VarInfo.{VarInfo}
 use Rattle.ln_tree.specs.Variables.{in_order, goes_on, has_range, starts_site, starts_arg, is_param, no_var, is_laid_out}
 use Rattle.ln_tree.specs.Table.{CoordOf, SiteOf, ArgOf, SiteArg, ParamArg}
 use Rattle.ln_parse.specs.Says.{site_vars, coords_or, param_vars, vars_behind, is_site_said}
-use Rattle.ln_parse.specs.Ready.{is_ranged, is_good_site}
-use Rattle.ln_tree.specs.Whole.{is_one_of}
+use Rattle.ln_parse.specs.Ready.{is_good_site}
+use Rattle.ln_tree.specs.Whole.{is_range, is_one_of}
 
 -- an element that passes, where all do
 pub get_all : {A : Type 0} (p : A → Bool) (xs : List A) (k : ℕ) → list_all p xs ≡ true → k < length xs → (x : A) × (slice_get xs k ≡ Some x) × (p x ≡ true)
@@ -66,25 +66,28 @@ param_order : (a s : ℕ) (b : VarInfo) (x : CoordOf) (rest : List VarInfo) → 
     → in_order a s b (param_vars a (Some x) ++ rest) ≡ true
 param_order a s b x rest r = and_from _ _ (and_from (a == a) true (same a) refl) (r (record { arg = a; site = None; coord = 0; lo = x.lo; hi = x.hi }))
 
-good_parts : (x : SiteOf) → is_good_site x ≡ true → (0 < length x.coords) × (length x.coords ≤ 32) × (list_all is_ranged x.coords ≡ true)
+good_parts : (x : SiteOf) → is_good_site x ≡ true → (0 < length x.coords) × (length x.coords ≤ 32) × (list_all is_range x.coords ≡ true)
 good_parts x h =
-    let a = and_parts (nat_lt 0 (length x.coords) && nat_le (length x.coords) 32) (list_all is_ranged x.coords) h in
+    let a = and_parts (nat_lt 0 (length x.coords) && nat_le (length x.coords) 32) (list_all is_range x.coords) h in
     let b = and_parts (nat_lt 0 (length x.coords)) (nat_le (length x.coords) 32) a.0 in
     (ltb-true 0 (length x.coords) b.0, leb-true (length x.coords) 32 b.1, a.1)
 
 -- the site types and params of arguments are good, and the arguments are of them
 pub record Known (S : List SiteOf) (P : List CoordOf) : Type 0 where
   pub sites : list_all is_good_site S ≡ true
-  pub params : list_all is_ranged P ≡ true
+  pub params : list_all is_range P ≡ true
 
 coords_order : (a s : ℕ) (b : VarInfo) (xs : List CoordOf) (rest : List VarInfo) → 0 < length xs → length xs ≤ 32
     → ((b : VarInfo) → in_order (suc a) (suc s) b rest ≡ true) → in_order a s b (site_vars a s 0 xs ++ rest) ≡ true
 coords_order a s b [] rest p q r = absurd (omega arith)
 coords_order a s b (x ∷ xs) rest p q r = site_order a s b x xs rest (omega arith) r
 
-site_ranges : (k s c : ℕ) (xs : List CoordOf) → list_all is_ranged xs ≡ true → list_all has_range (site_vars k s c xs) ≡ true
+in_range : (c : CoordOf) → is_range c ≡ true → (not (int_lt c.hi c.lo) && int_lt (neg_ℤ (pos (2 ^ 63))) c.lo) ≡ true
+in_range c h = (and_parts (not (int_lt c.hi c.lo) && int_lt (neg_ℤ (pos (2 ^ 63))) c.lo) (int_lt c.hi (pos (2 ^ 63))) h).0
+
+site_ranges : (k s c : ℕ) (xs : List CoordOf) → list_all is_range xs ≡ true → list_all has_range (site_vars k s c xs) ≡ true
 site_ranges k s c [] h = refl
-site_ranges k s c (x ∷ xs) h = let q = and_parts (is_ranged x) (list_all is_ranged xs) h in and_from _ _ q.0 (site_ranges k s (suc c) xs q.1)
+site_ranges k s c (x ∷ xs) h = let q = and_parts (is_range x) (list_all is_range xs) h in and_from _ _ (in_range x q.0) (site_ranges k s (suc c) xs q.1)
 
 -- none of the variables of a site from coordinate c on passes a test that none from it on passes
 pub site_none : (p : VarInfo → Bool) (k s c : ℕ) (xs : List CoordOf)
@@ -152,7 +155,7 @@ all_laid S P g a s (SiteArg n t ∷ args) h =
     })
 all_laid S P g a s (ParamArg p ∷ args) h =
     let q = and_parts (nat_lt p (length P)) (list_all (is_one_of (length S) (length P)) args) h in
-    let x = get_all is_ranged P p g.params (ltb-true p (length P) q.0) in
+    let x = get_all is_range P p g.params (ltb-true p (length P) q.0) in
     let mine = param_vars a (Some x.0) in
     let rest = vars_behind S P (suc a) s args in
     let r = all_laid S P g (suc a) s args q.1 in
@@ -165,7 +168,7 @@ all_laid S P g a s (ParamArg p ∷ args) h =
     let r1 = r.sites in let r2 = r.args in let r3 = r.params in let r4 = r.size in
     subst (λ (w : List VarInfo). Laid a s (ParamArg p ∷ args) w) (sym v) (record {
       order = λ b. param_order a s b x.0 rest r.order;
-      ranges = and_from _ _ x.2 r.ranges;
+      ranges = and_from _ _ (in_range x.0 x.2) r.ranges;
       sites = omega arith;
       args = omega arith;
       params = omega arith;

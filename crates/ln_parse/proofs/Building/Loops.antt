@@ -1,10 +1,10 @@
 -- What a loop has at each element.
-use Rattle.std.proofs.Common.{◌≡◌, ℕ, suc, ◌<◌, ◌≤◌, ◌&&◌, Bool, true, false, cond, List, [], ◌∷◌, length, get_or, take, Option, Some, None}
-use Rattle.std.proofs.Common.{refl, ap, sym, ◌∙◌, subst, arith, length-take}
+use Rattle.std.proofs.Common.{◌≡◌, ℕ, suc, ◌<◌, ◌≤◌, ◌&&◌, Bool, true, false, cond, List, [], ◌∷◌, ◌++◌, zero, length, get_or, take, append-nil, append_assoc, Option, Some, None}
+use Rattle.std.proofs.Common.{refl, ap, sym, subst, arith, length-take}
 use Rattle.std.specs.Prelude.{IfSome}
 use Rattle.std.specs.List.{list_all, find, position_from}
 use Rattle.std.proofs.lemmas.Bool.{and_parts, leb-true}
-use Rattle.std.proofs.lemmas.List.{take-map, get_or-map}
+use Rattle.std.proofs.lemmas.List.{take-map, length-map}
 use Rattle.std.proofs.lemmas.Option.{slice_get-get_or}
 use Rattle.ln_syntax.specs.declared.raw.RawArg.{RawArg}
 use Rattle.ln_syntax.specs.declared.raw.RawLet.{RawLet}
@@ -12,28 +12,30 @@ use Rattle.ln_syntax.specs.declared.raw.RawItem.{RawItem}
 use Rattle.ln_syntax.specs.Raw.{Item, SiteItem, ParamItem, PredItem, item, items, item_name, is_site, coords_in, same}
 use Rattle.ln_names.specs.Rules.{scope, is_site_arg, coords_of}
 use Rattle.ln_names.specs.Limits.{Each}
-use Rattle.ln_names.proofs.Lists.{place_below}
-use Rattle.ln_parse.specs.Ready.{IsNarrow, is_few}
+use Rattle.ln_names.specs.declared.nodes.Body.{Body}
+use Rattle.ln_names.specs.declared.nodes.Node.{Node}
+use Rattle.ln_names.specs.Nodes.{Paired, AreNodes, LetsNodes}
+use Rattle.ln_lex.specs.declared.token.Token.{Token}
+use Rattle.ln_tree.specs.Formula.{Formula}
+use Rattle.ln_names.proofs.Lists.{place_below, item_at}
+use Rattle.ln_parse.specs.Ready.{IsNarrow, ReadyLet, is_few}
+use Rattle.ln_parse.specs.Says.{Says}
+use Rattle.ln_parse.specs.Stack.{Brings, AreOne}
+use Rattle.ln_parse.proofs.Expressions.Stack.{value_one, value_said}
 use Rattle.ln_parse.proofs.Expressions.Found.{each_get}
 
 -- what holds of each element holds of the one at an index
-pub each_index : {A : Type 0} (P : List A → A → Type 0) (xs : List A) (i : ℕ) (x : A) → Each P [] xs → i < length xs → x ≡ get_or xs i x → P (take i xs) x
-each_index P xs i x e l q =
-    each_get P [] xs i x e (slice_get-get_or xs i x l ∙ ap (λ w. Some w) (sym q))
+pub each_or : {A : Type 0} (P : List A → A → Type 0) (xs : List A) (i : ℕ) (d : A) → Each P [] xs → i < length xs → P (take i xs) (get_or xs i d)
+each_or P xs i d e l = each_get P [] xs i (get_or xs i d) e (slice_get-get_or xs i d l)
 
 -- the same of items that are seen without where they lie
 pub item_index : (P : List Item → Item → Type 0) (its : List RawItem) (i : ℕ) (x : RawItem) → Each P [] (items its) → i < length its
     → x ≡ get_or its i x → P (items (take i its)) (item x)
 item_index P its i x e l q =
-    let m : get_or (items its) i (item x) ≡ item (get_or its i x) = get_or-map item its i x (item x) l in
-    let n : length (items its) ≡ length its = lengths its in
-    let r : item x ≡ get_or (items its) i (item x) = ap item q ∙ sym m in
+    let m = item_at its i x q in
     let t : take i (items its) ≡ items (take i its) = take-map item i its in
-    subst (λ (w : List Item). P w (item x)) t (each_index P (items its) i (item x) e (omega arith) r)
-  where
-    lengths : (its : List RawItem) → length (items its) ≡ length its
-    lengths [] = refl
-    lengths (x ∷ its) = ap suc (lengths its)
+    let n = length-map its item in
+    rw (m, t) at (each_or P (items its) i (item x) e (omega arith))
 
 -- a place in a short list fits a byte
 pub below_byte : {A : Type 0} (p : A → Bool) (xs : List A) (o : Option ℕ) → o ≡ position_from p 0 xs → length xs ≤ 16 → IfSome o (λ i. i < 256)
@@ -61,10 +63,57 @@ pub is_narrow : (bytes : List ℕ) (is : List Item) (args : List RawArg) (ls : L
 is_narrow bytes is args ls f a l =
     record { args = a; lets = l; coords = λ at. let h = few_of bytes is (find (λ a. is_site_arg a && same bytes a.name at) args) f in omega arith }
 
--- the first elements of a list of fewer than n are fewer than n
-pub short_take : {A : Type 0} (i n : ℕ) (xs : List A) → length xs < n → length (take i xs) < n
-short_take i n xs h = let e = length-take i xs in omega arith
+-- lists that go together are equally long
+pub paired_length : {A B : Type 0} (P : List A → A → B → Type 0) (before xs : List A) (ys : List B) → Paired P before xs ys → length xs ≡ length ys
+paired_length P before [] [] p = refl
+paired_length P before [] (y ∷ ys) p = absurd p
+paired_length P before (x ∷ xs) [] p = absurd p
+paired_length P before (x ∷ xs) (y ∷ ys) p = ap suc (paired_length P (before ++ (x ∷ [])) xs ys p.1)
 
--- what holds of each element holds of the one at an index, as a read of a copy has it
-pub each_or : {A : Type 0} (P : List A → A → Type 0) (xs : List A) (i : ℕ) (d : A) → Each P [] xs → i < length xs → P (take i xs) (get_or xs i d)
-each_or P xs i d e l = each_get P [] xs i (get_or xs i d) e (slice_get-get_or xs i d l)
+paired_get : {A B : Type 0} (P : List A → A → B → Type 0) (before xs : List A) (ys : List B) (i : ℕ) (d : A) (e : B) → Paired P before xs ys
+    → i < length xs → P (before ++ take i xs) (get_or xs i d) (get_or ys i e)
+paired_get P before [] ys i d e p l = absurd (omega arith)
+paired_get P before (x ∷ xs) [] i d e p l = absurd p
+paired_get {A} P before (x ∷ xs) (y ∷ ys) zero d e p l = subst (λ (w : List A). P w x y) (sym (append-nil before)) p.0
+paired_get {A} P before (x ∷ xs) (y ∷ ys) (suc i) d e p l =
+    subst (λ (w : List A). P w (get_or xs i d) (get_or ys i e)) (append_assoc before (x ∷ []) (take i xs))
+    (paired_get P (before ++ (x ∷ [])) xs ys i d e p.1 (omega arith))
+
+-- an element of one has its companion in the other
+pub paired_at : {A B : Type 0} (P : List A → A → B → Type 0) (xs : List A) (ys : List B) (i : ℕ) (d : A) (y : B) → Paired P [] xs ys
+    → i < length ys → y ≡ get_or ys i y → P (take i xs) (get_or xs i d) y
+paired_at {B = B} P xs ys i d y p l q =
+    let n = paired_length P [] xs ys p in
+    subst (λ (w : B). P (take i xs) (get_or xs i d) w) (sym q) (paired_get P [] xs ys i d y p (omega arith))
+
+-- there are as many bodies as items
+pub bodies_length : (P : List Item → Item → Body → Type 0) (its : List RawItem) (bs : List Body) → Paired P [] (items its) bs → length its ≡ length bs
+bodies_length P its bs p = let n = length-map its item in let m = paired_length P [] (items its) bs p in omega arith
+
+-- and each has its own
+pub body_index : (P : List Item → Item → Body → Type 0) (its : List RawItem) (bs : List Body) (i : ℕ) (x : RawItem) (y : Body)
+    → Paired P [] (items its) bs → i < length its → x ≡ get_or its i x → y ≡ get_or bs i y → P (items (take i its)) (item x) y
+body_index P its bs i x y p l q r =
+    let m = item_at its i x q in
+    let t : take i (items its) ≡ items (take i its) = take-map item i its in
+    let n = bodies_length P its bs p in
+    rw (m, t) at (paired_at P (items its) bs i (item x) y p (omega arith) r)
+
+-- the nodes of a let are those of the formula that its tokens say
+pub record LetAt (bytes : List ℕ) (ts : List Token) (is : List Item) (args : List RawArg) (ls : List RawLet) (i : ℕ) (d : RawLet) (y : List Node) : Type 0 where
+  pub below : i < length ls
+  pub one : AreOne y
+  pub said : {x : Formula} → ((f : Formula) → Brings y [] (f ∷ []) → x ≡ f) → Says bytes ts (scope is args (take i ls)) (get_or ls i d).value x
+
+pub let_at : (bytes : List ℕ) (ts : List Token) (is : List Item) (args : List RawArg) (ls : List RawLet) (vs : List (List Node)) (i : ℕ) (d : RawLet)
+    (y : List Node) → Each (ReadyLet bytes ts is args) [] ls → LetsNodes bytes ts is args ls vs → IsNarrow bytes (scope is args ls)
+    → i < length vs → y ≡ get_or vs i y → LetAt bytes ts is args ls i d y
+let_at bytes ts is args ls vs i d y e p k l q =
+    let P = λ (before : List RawLet) (l : RawLet) (v : List Node). AreNodes bytes ts (scope is args before) l.value v in
+    let n = paired_length P [] ls vs p in
+    let a = paired_at P ls vs i d y p l q in
+    let v = (each_or (ReadyLet bytes ts is args) ls i d e (omega arith)).value in
+    let t = length-take i ls in
+    let few = k.lets in
+    let w : IsNarrow bytes (scope is args (take i ls)) = record { args = k.args; lets = omega arith; coords = k.coords } in
+    record { below = omega arith; one = value_one v w a; said = value_said v w a }

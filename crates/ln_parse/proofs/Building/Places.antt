@@ -1,16 +1,12 @@
 -- Places in lists, as the calls that look for them have them.
-use Rattle.std.proofs.Common.{◌≡◌, ℕ, ◌<◌, length, get_or, ◌+◌, ◌&&◌, Bool, true, false, List, [], ◌∷◌, drop, Option, Some, None, refl, ap, sym, ◌∙◌}
-use Rattle.ln_base.specs.declared.span.Span.{Span}
+use Rattle.std.proofs.Common.{◌≡◌, ℕ, ◌<◌, length, get_or, ◌+◌, Bool, true, false, List, [], ◌∷◌, drop, Option, Some, None, refl, ap, sym, ◌∙◌}
 use Rattle.ln_syntax.specs.declared.raw.RawItem.{RawItem}
-use Rattle.ln_syntax.specs.Raw.{Item, item, items, same}
-use Rattle.ln_syntax.specs.Expression.{TName}
-use Rattle.ln_names.specs.Rules.{Scope, is_param_arg}
-use Rattle.ln_tree.specs.Formula.{FName, FInput}
+use Rattle.ln_syntax.specs.Raw.{Item, item, items}
 use Rattle.std.specs.Prelude.{position, unwrap_or}
 use Rattle.std.specs.List.{filter_map, cons_option, position_from}
 use Rattle.std.proofs.lemmas.Iterator.Adapters.{position_from-zero}
 use Rattle.ln_parse.proofs.Building.Lists.{drop_item}
-use Rattle.ln_parse.specs.Says.{place, resolved}
+use Rattle.ln_parse.specs.Says.{place}
 
 -- the first place, looked for from the beginning on
 pub position_is : {A : Type 0} (p : A → Bool) (xs : List A) (o : Option ℕ) → o ≡ position_from p 0 xs → position p xs ≡ o
@@ -19,20 +15,6 @@ position_is p xs o h = position_from-zero p xs ∙ sym h
 -- the place, or 0 where there is none
 pub place_is : {A : Type 0} (p : A → Bool) (xs : List A) (o : Option ℕ) → o ≡ position_from p 0 xs → unwrap_or o 0 ≡ place p xs
 place_is p xs o h = sym (ap (λ (w : Option ℕ). unwrap_or w 0) (position_is p xs o h))
-
--- a bare name that is a let
-pub name_is_let : (bytes : List ℕ) (s : Scope) (at : Span) (o : Option ℕ) (j n : ℕ)
-    → o ≡ position_from (λ l. same bytes l.name at) 0 s.lets → o ≡ Some j → n ≡ j
-    → FName at n ≡ resolved bytes s (TName at)
-name_is_let bytes s at o j n h is q = let p = position_is (λ l. same bytes l.name at) s.lets o h in rw (p, is, q) refl
-
--- a bare name that is a param argument
-pub name_is_param : (bytes : List ℕ) (s : Scope) (at : Span) (o p : Option ℕ) (n : ℕ) → o ≡ position_from (λ l. same bytes l.name at) 0 s.lets → o ≡ None
-    → p ≡ position_from (λ a. is_param_arg a && same bytes a.name at) 0 s.args → n ≡ unwrap_or p 0 → FInput at n 0 ≡ resolved bytes s (TName at)
-name_is_param bytes s at o p n h is g q =
-    let e = position_is (λ l. same bytes l.name at) s.lets o h in
-    let f = place_is (λ a. is_param_arg a && same bytes a.name at) s.args p g in
-    rw (e, is, q, f) refl
 
 -- what items of the program say, seen through the items that they are
 pub said_items : {A : Type 0} (f : Item → Option A) (its : List RawItem) → filter_map (λ i. f (item i)) its ≡ filter_map f (items its)

@@ -22,16 +22,16 @@ use Rattle.ln_parse.specs.Says.{name_if, site_names, param_names}
 use Rattle.ln_parse.specs.Ready.{ReadyValue, ReadyCoord, ReadyArg, ReadyLet, ReadyItem, ReadyFile, is_few}
 use Rattle.ln_parse.proofs.Texts.Names.{Sliced, name_text}
 use Rattle.ln_parse.proofs.Expressions.Found.{said_count}
-use Rattle.ln_parse.proofs.Expressions.Roles.{Fresh, fresh_behind, has_roles, is_fit}
+use Rattle.ln_names.specs.Nodes.{Begins}
+use Rattle.ln_names.proofs.Machine.{begins}
 use Rattle.ln_parse.proofs.Expressions.Counts.{node_count_is}
 use Rattle.ln_parse.proofs.Building.LaidOut.{count_cons, count_append}
 
 -- an expression whose tokens are within the limits
-value_ready : {bytes : List ℕ} {ts : List Token} {s : Scope} {i j : ℕ} → IsExpr ts i j → Is ts j Semi → Fresh ts i
+value_ready : {bytes : List ℕ} {ts : List Token} {s : Scope} {i j : ℕ} → IsExpr ts i j → Is ts j Semi → Begins ts i
     → ValueWithin bytes ts s (record { from = i; to = j }) → ReadyValue bytes ts s (record { from = i; to = j })
 value_ready {bytes = bytes} {s = s} e m f w =
-    let r = has_roles e.1 m f in
-    record { tree = e.0; derives = e.1; ends = m; fit = is_fit {s = s} (record { each = w }) r; counted = node_count_is bytes s r }
+    record { tree = e.0; derives = e.1; ends = m; begins = f; fit = w e.0 e.1 m f; counted = node_count_is bytes s e.1 m f }
 
 coords_ready : (bytes : List ℕ) (ts : List Token) (before : List RawCoord) {i j : ℕ} {cs : List RawCoord} → Sliced bytes ts
     → Coords ts i j cs → Each (CoordWithin bytes) before cs → Each (λ before c. ReadyCoord bytes c) before cs
@@ -56,7 +56,7 @@ lets_ready : (bytes : List ℕ) (ts : List Token) (is : List Item) (args : List 
     → Each (ReadyLet bytes ts is args) before ls
 lets_ready bytes ts is args before s no_let w = tt
 lets_ready bytes ts is args before s (a_let {i = i} {j = j} l n q e m r) w = (
-  record { name = record { named = name_text bytes ts (suc i) s n; short = w.0.short }; value = value_ready e m (fresh_behind Equals q refl refl) w.0.value },
+  record { name = record { named = name_text bytes ts (suc i) s n; short = w.0.short }; value = value_ready e m (begins Equals q refl refl refl) w.0.value },
   lets_ready bytes ts is args (before ++ (record { name = span_at ts (suc i); value = record { from = suc (suc (suc i)); to = j } } ∷ [])) s r w.1,
 )
 
@@ -80,7 +80,7 @@ item_ready bytes ts before s f m n (predicate {i = i} {j = j} {k = k} {l = l} {a
       args = args_ready bytes ts before [] s d w.parts.args_each;
       let_count = w.parts.let_count;
       lets = lets_ready bytes ts before args [] s g w.parts.lets_each;
-      root = value_ready e t (fresh_behind Sign h refl refl) w.parts.root_value;
+      root = value_ready e t (begins Sign h refl refl refl) w.parts.root_value;
       nodes = w.parts.node_count;
       few = f;
       sites = m;

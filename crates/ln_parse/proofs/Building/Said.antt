@@ -13,37 +13,9 @@ use Rattle.ln_syntax.specs.declared.raw.RawLet.{RawLet}
 use Rattle.ln_syntax.specs.declared.raw.RawItem.{RawItem}
 use Rattle.ln_syntax.specs.declared.raw.RawItem.TheVariants.{Site, Param, Pred}
 use Rattle.ln_syntax.specs.Raw.{Item, SiteItem, ParamItem, PredItem, item, items, is_pred}
-use Rattle.ln_names.specs.Rules.{Scope, scope}
-use Rattle.ln_tree.specs.Formula.{Formula}
 use Rattle.ln_tree.specs.Table.{TableOf, PredOf}
-use Rattle.ln_parse.specs.Says.{Says, LetsSay, PredsSay, site_said}
-use Rattle.ln_parse.proofs.Building.Lists.{IsAt, SeenAt, drop_item, take_item, drop_seen, take_seen}
-
--- the lets from place i on, after these formulas
-abbrev pub LetsOn : List ℕ → List Token → List Item → List RawArg → List RawLet → ℕ → List Formula → Type 0
-LetsOn bytes ts is args ls i done = (xs : List Formula) → LetsSay bytes ts is args (take i ls) (drop i ls) xs → LetsSay bytes ts is args [] ls (done ++ xs)
-
--- all lets are said
-pub lets_end : (bytes : List ℕ) (ts : List Token) (is : List Item) (args : List RawArg) (ls : List RawLet) (i : ℕ) (done : List Formula)
-    → length ls ≤ i → LetsOn bytes ts is args ls i done → LetsSay bytes ts is args [] ls done
-lets_end bytes ts is args ls i done h on =
-    let q : drop i ls ≡ [] = drop_all i ls h in
-    let d : LetsSay bytes ts is args (take i ls) (drop i ls) [] = subst (λ (w : List RawLet). LetsSay bytes ts is args (take i ls) w []) (sym q) tt in
-    subst (λ (w : List Formula). LetsSay bytes ts is args [] ls w) (append-nil done) (on [] d)
-
--- one more let is said
-pub lets_more : (bytes : List ℕ) (ts : List Token) (s : Scope) (i : ℕ) (done more : List Formula) (l : RawLet) (x : Formula) → IsAt s.lets i l
-    → Says bytes ts (scope s.items s.args (take i s.lets)) l.value x → more ≡ done ++ (x ∷ []) → LetsOn bytes ts s.items s.args s.lets i done
-    → LetsOn bytes ts s.items s.args s.lets (i + 1) more
-lets_more bytes ts s i done more l x h e m on xs d =
-    let q : drop i s.lets ≡ l ∷ drop (i + 1) s.lets = drop_item s.lets i l h in
-    let p : take (i + 1) s.lets ≡ take i s.lets ++ (l ∷ []) = take_item s.lets i l h in
-    let d' : LetsSay bytes ts s.items s.args (take i s.lets ++ (l ∷ [])) (drop (i + 1) s.lets) xs =
-    subst (λ (w : List RawLet). LetsSay bytes ts s.items s.args w (drop (i + 1) s.lets) xs) p d in
-    let here : LetsSay bytes ts s.items s.args (take i s.lets) (drop i s.lets) (x ∷ xs) =
-    subst (λ (w : List RawLet). LetsSay bytes ts s.items s.args (take i s.lets) w (x ∷ xs)) (sym q) (e, d') in
-    let r : done ++ (x ∷ xs) ≡ more ++ xs = sym (ap (λ (w : List Formula). w ++ xs) m ∙ append_assoc done (x ∷ []) xs) in
-    subst (λ (w : List Formula). LetsSay bytes ts s.items s.args [] s.lets w) r (on (x ∷ xs) here)
+use Rattle.ln_parse.specs.Says.{PredsSay, site_said}
+use Rattle.ln_parse.proofs.Building.Lists.{SeenAt, drop_seen, take_seen}
 
 -- what these say, and what the items from place i on say, is all that the items say
 abbrev pub SaidOn : {A B : Type 0} → (Item → Option B) → (A → B) → List RawItem → ℕ → List A → Type 0

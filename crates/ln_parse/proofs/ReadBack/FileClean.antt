@@ -27,7 +27,7 @@ use Rattle.ln_parse.specs.WholeTable.{IsShortName, SiteNames, PredKept, IsWhole}
 use Rattle.ln_parse.proofs.Texts.ItemsBack.{Like, no_more, a_site, a_param, a_pred, like_sites, like_params}
 use Rattle.ln_parse.proofs.Building.Predicates.{PredAt}
 use Rattle.ln_parse.proofs.Building.Kept.{pred_name, said_sites, said_params, preds_counted}
-use Rattle.ln_parse.proofs.Expressions.Roles.{fresh_behind}
+use Rattle.ln_names.proofs.Machine.{begins}
 use Rattle.ln_parse.proofs.ReadBack.NamePlaces.{Differ}
 use Rattle.ln_parse.proofs.ReadBack.CleanValue.{clean_join, not_over, not_at}
 use Rattle.ln_parse.proofs.ReadBack.ScopeNames.{differ_left, differ_right, coord_map}
@@ -172,7 +172,7 @@ module _ (bytes : List ℕ) (ts : List Token) (t : TableOf) (all : List Item) (w
         lets = ls;
         root = record { from = suc kk; to = l };
       } in
-      let b = pred_back here t p d a7 (fresh_behind Sign a8 refl refl) v gp.0.0 gp.0.1 in
+      let b = pred_back here t p d a7 (begins Sign a8 refl refl refl) v gp.0.0 gp.0.1 in
       let y = items_done (before ++ (x ∷ [])) (append_assoc before (x ∷ []) xs ∙ q) r m gs gc gp.1 in
       let few_before = room is_pred 16 all before x xs q refl w.few_preds in
       let f : fault_at bytes (PredName before) (item_name x) ≡ None =

@@ -15,7 +15,7 @@ use Rattle.ln_parse.specs.ReadsBack.{PredWritten}
 use Rattle.ln_parse.specs.Spanless.{pred_spanless}
 use Rattle.ln_parse.specs.WholeTable.{PredKept}
 use Rattle.ln_parse.proofs.Building.Predicates.{PredAt, same_pred}
-use Rattle.ln_parse.proofs.Expressions.Roles.{Fresh}
+use Rattle.ln_names.specs.Nodes.{Begins}
 use Rattle.ln_parse.proofs.ReadBack.CleanValue.{clean_join}
 use Rattle.ln_parse.proofs.ReadBack.ScopeNames.{PredIn, InScope}
 use Rattle.ln_parse.proofs.ReadBack.ValueBack.{RemainingLets, value_back, lets_back}
@@ -30,7 +30,7 @@ pub record PredBack (r : PredAt) (t : TableOf) (p : PredOf) : Type 0 where
   pub clean : Clean r.bytes (pred_visits r.ts r.before r.args r.lets r.root)
 
 -- a predicate of a canonical text says the table's, and its tokens have no fault
-pub pred_back : (r : PredAt) (t : TableOf) (p : PredOf) {i k : ℕ} → Declared r.bytes r.before t → Lets r.ts i k r.lets → Fresh r.ts r.root.from
+pub pred_back : (r : PredAt) (t : TableOf) (p : PredOf) {i k : ℕ} → Declared r.bytes r.before t → Lets r.ts i k r.lets → Begins r.ts r.root.from
     → PredWritten r.bytes r.ts t r.name r.args r.lets r.root p → PredKept p → PredParts t.sites t.params p → PredBack r t p
 pred_back r t p d dl fr w k h =
     let z3 : nodes_before r.ts [] ≡ 0 = refl in

@@ -29,7 +29,8 @@ use Rattle.ln_parse.specs.WholeTable.{IsShortName}
 use Rattle.ln_parse.specs.Written.{Written, naming, written, spelling}
 use Rattle.ln_parse.proofs.Building.LaidOut.{count_cons, count_append}
 use Rattle.ln_parse.proofs.Expressions.Counts.{node_count_is}
-use Rattle.ln_parse.proofs.Expressions.Roles.{Fresh, fresh_behind, has_roles}
+use Rattle.ln_names.specs.Nodes.{Begins}
+use Rattle.ln_names.proofs.Machine.{begins}
 use Rattle.ln_parse.proofs.ReadBack.NamePlaces.{NoneIs, Differ}
 use Rattle.ln_parse.proofs.Expressions.Meaning.{meaning, meaning_is}
 use Rattle.ln_parse.proofs.ReadBack.CleanValue.{Meant, value_clean, clean_join, not_over, not_at}
@@ -57,14 +58,13 @@ pub record ValueBack (bytes : List ℕ) (ts : List Token) (s : Scope) (p : Place
 
 -- an expression of a canonical text says the table's formula, and its tokens have no fault
 pub value_back : (bytes : List ℕ) (ts : List Token) (s : Scope) (t : TableOf) (p : PredOf) → InScope bytes s t p → (f : Formula)
-    → is_fit (length p.vars) (length s.lets) (tree p.vars f) ≡ true → (at : Places) → Spells bytes ts at (written (naming t p) f) → Fresh ts at.from
+    → is_fit (length p.vars) (length s.lets) (tree p.vars f) ≡ true → (at : Places) → Spells bytes ts at (written (naming t p) f) → Begins ts at.from
     → ValueBack bytes ts s at f
 value_back bytes ts s t p v f h at sp fr =
     let m = means bytes s t p v f h in
-    let roles = has_roles sp.derives sp.ends fr in
     let same : spanless (resolved bytes s sp.tree) ≡ spanless f = meaning_is bytes s sp.tree ∙ ap (meaning bytes s) sp.same ∙ m.0 in
     let mt : Meant bytes s (spelling bytes sp.tree) = subst (λ (w : Written). Meant bytes s w) (sym sp.same) m.1 in
-    let c : node_count (resolved bytes s sp.tree) ≡ value_nodes ts at = node_count_is bytes s roles in
+    let c : node_count (resolved bytes s sp.tree) ≡ value_nodes ts at = node_count_is bytes s sp.derives sp.ends fr in
     let d = nodes_spanless (resolved bytes s sp.tree) in
     let e = nodes_spanless f in
     let x = ap node_count same in
@@ -74,7 +74,7 @@ value_back bytes ts s t p v f h at sp fr =
       says = record { tree = sp.tree; derives = sp.derives; ends = sp.ends; means = refl };
       same = same;
       count = count;
-      clean = λ m l. value_clean bytes s roles mt m (omega arith);
+      clean = λ m l. value_clean bytes s sp.derives sp.ends fr mt m (omega arith);
     }
 
 -- a name is that of one of the elements exactly where it is among their names
@@ -178,7 +178,7 @@ lets_back bytes ts s t p (a_let {i = i} {j = j} {ls = ls} l m c d e r) (u ∷ us
     let q = and_parts (is_fit (length p.vars) (length s.lets) (tree p.vars f)) (lets_fit (length p.vars) (suc (length s.lets)) (map (tree p.vars) fs)) w.fit in
     let wr = w.writes in
     let v : InScope bytes s t p = record { pred = w.pred; more = u ∷ us; lets = w.names } in
-    let x = value_back bytes ts s t p v f q.0 here.value wr.1 (fresh_behind Equals c refl refl) in
+    let x = value_back bytes ts s t p v f q.0 here.value wr.1 (begins Equals c refl refl refl) in
     let xc = x.count in
     let wf = w.few in
     let wn = w.nodes in

@@ -22,8 +22,31 @@ use Rattle.ln_parse.specs.Says.{place, name_of, resolved}
 use Rattle.ln_parse.specs.Ready.{Fit}
 use Rattle.ln_parse.proofs.Expressions.Found.{found_at, no_position}
 use Rattle.ln_parse.proofs.Expressions.Fitting.{said, said_at, said_param}
-use Rattle.ln_parse.proofs.Expressions.Steps.{fit_front}
 use Rattle.ln_parse.proofs.Texts.Nested.{nesting_is, tokens_are}
+
+-- what a sort that goes on begins with
+abbrev FitBefore : List ℕ → Scope → Sort → Type 0
+FitBefore bytes s (Factors f) = Fit bytes s f
+FitBefore bytes s (Terms f) = Fit bytes s f
+FitBefore bytes s o = Unit {0}
+
+-- what begins a fit expression is fit
+fit_front : (bytes : List ℕ) (s : Scope) {ts : List Token} {o : Sort} {i j : ℕ} {e : Tree} → Derives ts o i j e → Fit bytes s e → FitBefore bytes s o
+fit_front bytes s (number n) h = tt
+fit_front bytes s (name n) h = tt
+fit_front bytes s (input n d x) h = tt
+fit_front bytes s (parens n d c) h = tt
+fit_front bytes s (plain d) h = tt
+fit_front bytes s (power d c n) h = tt
+fit_front bytes s (base d) h = tt
+fit_front bytes s (minus m d) h = tt
+fit_front bytes s (term d r) h = tt
+fit_front bytes s no_factor h = h
+fit_front bytes s (times t d r) h = (fit_front bytes s r h).0
+fit_front bytes s (sum d r) h = tt
+fit_front bytes s no_term h = h
+fit_front bytes s (plus t d r) h = (fit_front bytes s r h).0
+fit_front bytes s (less t d r) h = (fit_front bytes s r h).0
 
 -- the tightness that a sort has
 abbrev want : Sort → ℕ

@@ -1,12 +1,11 @@
 -- The table of a file without a fault is whole.
-use Rattle.std.proofs.Common.{◌≡◌, ℕ, zero, suc, ◌+◌, ◌*◌, ◌<◌, ◌≤◌, ◌^◌, ◌==◌, ◌&&◌, ◌||◌, not, Bool, true, false, nat_lt, List, [], ◌∷◌, ◌++◌}
+use Rattle.std.proofs.Common.{◌≡◌, ℕ, zero, suc, ◌+◌, ◌*◌, ◌<◌, ◌≤◌, ◌==◌, ◌&&◌, ◌||◌, Bool, true, false, nat_lt, List, [], ◌∷◌, ◌++◌}
 use Rattle.std.proofs.Common.{length, map, take, Option, Some, None, refl, ap, sym, ◌∙◌, subst, arith, append_assoc, append-nil}
-use Rattle.std.specs.Prelude.{filter_map, ℤ, pos, neg_ℤ, int_lt, nat_le, slice_get, bytes_eq, count_by}
+use Rattle.std.specs.Prelude.{filter_map, ℤ, pos, int_lt, nat_le, slice_get, bytes_eq, count_by}
 use Rattle.std.specs.List.{list_any, list_all}
 use Rattle.std.specs.Ordering.{int_eq}
 use Rattle.std.specs.Cmp.{signed_Decides}
 use Rattle.std.proofs.lemmas.Bool.{and_from, le-leb, lt-ltb, eq-eqb}
-use Rattle.std.proofs.lemmas.Bool.Decides.{nat_tests}
 use Rattle.std.proofs.lemmas.Int.{ints}
 use Rattle.std.proofs.lemmas.List.{length-map, map-append}
 use Rattle.std.proofs.lemmas.List.Folds.{list_any-append}
@@ -29,7 +28,7 @@ use Rattle.ln_syntax.specs.File.{Spelt}
 use Rattle.ln_syntax.proofs.Spellings.OneTree.{one_tree}
 use Rattle.ln_names.specs.Numbers.{number, signed, end_value}
 use Rattle.ln_names.specs.Rules.{scope}
-use Rattle.ln_names.specs.Limits.{Each, RangeWithin, CoordWithin, IsKnown, ArgWithin, LetWithin, ItemWithin, FileWithin}
+use Rattle.ln_names.specs.Limits.{Each, CoordWithin, IsKnown, ArgWithin, LetWithin, ItemWithin, FileWithin}
 use Rattle.ln_tree.specs.declared.shape.VarInfo.{VarInfo}
 use Rattle.ln_tree.specs.Variables.{same_site}
 use Rattle.ln_tree.specs.Formula.{Formula}
@@ -43,10 +42,10 @@ use Rattle.ln_parse.specs.Ready.{ReadyValue, ReadyLet, ReadyPred, ReadyItem, Rea
 use Rattle.ln_parse.proofs.Expressions.Fitting.{said, all_known}
 use Rattle.ln_parse.proofs.Expressions.Found.{found_at, sites_named, params_named, any_param, get_longer, each_weaker}
 use Rattle.ln_parse.proofs.Wholes.FromTokens.{depth_step, expression_nests, expression_tokens}
-use Rattle.ln_parse.proofs.Building.Kept.{sees, sites_are, params_are, declared, pred_name, preds_named}
+use Rattle.ln_parse.proofs.Building.Kept.{ranged_good, coords_good, sees, sites_are, params_are, declared, pred_name, preds_named}
 use Rattle.ln_parse.proofs.ReadBack.NamePlaces.{NoneIs, Differ}
 use Rattle.ln_parse.proofs.ReadBack.ScopeNames.{flip, coord_map}
-use Rattle.ln_parse.proofs.Wholes.TestLemmas.{in_order, neither, or_false, get_map}
+use Rattle.ln_parse.proofs.Wholes.TestLemmas.{neither, or_false, get_map}
 use Rattle.ln_parse.proofs.ReadBack.ValueBack.{any_map}
 
 -- names that differ, as a test
@@ -92,25 +91,6 @@ each_differ us name before (x ∷ xs) d e =
     let n = subst (λ (w : List (List ℕ)). Differ w) m (push (us ++ map name before) t d a) in
     subst (λ w. Differ (us ++ map name w)) (append_assoc before (x ∷ []) xs) (each_differ us name (before ++ (x ∷ [])) xs n e.1)
 
--- a range
-range_low : (b : Bool) (n : ℕ) → n < 2 ^ 63 → int_lt (neg_ℤ (pos (2 ^ 63))) (signed b n) ≡ true
-range_low false n h = grind (arith, nat_tests, ints)
-range_low true n h = grind (arith, nat_tests, ints)
-
-range_high : (b : Bool) (n : ℕ) → n < 2 ^ 63 → int_lt (signed b n) (pos (2 ^ 63)) ≡ true
-range_high false n h = grind (arith, nat_tests, ints)
-range_high true n h = grind (arith, nat_tests, ints)
-
-range_whole : (bytes : List ℕ) (name : Span) (r : RawRange) → RangeWithin bytes r → is_range (ranged bytes name r) ≡ true
-range_whole bytes name r w =
-    and_from _ _ (and_from _ _ (ap not (in_order (end_value bytes r.low) (end_value bytes r.high) w.order))
-    (range_low r.low.negative (number bytes r.low.at) w.low)) (range_high r.high.negative (number bytes r.high.at) w.high)
-
-coords_whole : (bytes : List ℕ) (before cs : List RawCoord) → Each (CoordWithin bytes) before cs
-    → list_all is_range (map (λ (c : RawCoord). ranged bytes c.name c.range) cs) ≡ true
-coords_whole bytes before [] e = refl
-coords_whole bytes before (c ∷ cs) e = and_from _ _ (range_whole bytes c.name c.range e.0.range) (coords_whole bytes (before ++ (c ∷ [])) cs e.1)
-
 -- a site type
 site_from : (bytes : List ℕ) (n : Span) (cs : List RawCoord) → ReadySite bytes n cs → Each (CoordWithin bytes) [] cs
     → site_whole (record { name = text bytes n; coords = map (λ (c : RawCoord). ranged bytes c.name c.range) cs }) ≡ true
@@ -120,7 +100,7 @@ site_from bytes n cs r e =
     let a = r.some in let b = r.few in
     let d : Differ (map (λ (c : RawCoord). text bytes c.name) cs) =
     each_differ [] (λ (c : RawCoord). text bytes c.name) [] cs tt (each_weaker (CoordWithin bytes) _ (λ b c w. w.new) [] cs e) in
-    and_from _ _ (and_from _ _ (and_from _ _ (lt-ltb 0 (length xs) (omega arith)) (le-leb (length xs) 32 (omega arith))) (coords_whole bytes [] cs e))
+    and_from _ _ (and_from _ _ (and_from _ _ (lt-ltb 0 (length xs) (omega arith)) (le-leb (length xs) 32 (omega arith))) (coords_good bytes [] cs r.coords))
     (differ_test (map (λ (c : CoordOf). c.name) xs) (subst (λ (w : List (List ℕ)). Differ w) (sym (coord_map bytes cs)) d))
 
 -- the same variables
@@ -406,7 +386,7 @@ items_whole bytes ts t all before (file.an_item {x = x} {xs = xs} (file.param {i
     let m = items_whole bytes ts t all (before ++ (x ∷ [])) y ps s (next_read r e1) in
     let c = range_count bytes a4 in
     let g = m.tokens in
-    let f = range_whole bytes (span_at ts (suc i)) rr r.within.0.parts in
+    let f = ranged_good bytes (span_at ts (suc i)) rr r.within.0.parts in
     record { sites = m.sites; params = and_from _ _ f m.params; preds = m.preds; tokens = omega arith }
 items_whole bytes ts t all before (file.an_item (file.predicate a1 a2 a3 a4 a5 a6 a7 a8 a9 b1 b2) y) [] s r = absurd s
 items_whole bytes ts t all before (file.an_item {x = x} {xs = xs} (file.predicate a1 a2 a3 a4 a5 a6 a7 a8 a9 b1 b2) y) (p ∷ ps) s r =

@@ -1,12 +1,11 @@
-use Rattle.std.proofs.Common.{◌∙◌, sym}
+use Rattle.std.proofs.lemmas.Result.{on_ok_weaker, IfErr-weaker}
 use Rattle.ln_syntax.specs.Raw.{items}
 use Rattle.ln_names.specs.Visits.{file_visits}
-use Rattle.ln_names.proofs.FirstFault.{is_first, is_clean}
+use Rattle.ln_names.proofs.FirstFault.{is_clean, stops_names}
 use Rattle.ln_names.proofs.walk.check_names.Goals as goal
 
-pub returns-in-None-clause-ok : goal.returns-in-None-clause-ok
-returns-in-None-clause-ok c = is_clean c.args.bytes.now (file_visits c.args.ts.now (items c.args.its.now)) (sym c.names_fault.ensures ∙ c.in-None.is)
+pub returns-clause-ok : goal.returns-clause-ok
+returns-clause-ok c = on_ok_weaker c.file_nodes.result (is_clean c.args.bytes.now (file_visits c.args.ts.now (items c.args.its.now))) c.file_nodes.ensures.fine
 
-pub returns-in-Some-clause-err : goal.returns-in-Some-clause-err
-returns-in-Some-clause-err c =
-    is_first c.args.bytes.now (file_visits c.args.ts.now (items c.args.its.now)) c.in-Some.found (sym c.names_fault.ensures ∙ c.in-Some.is)
+pub returns-clause-err : goal.returns-clause-err
+returns-clause-err c = IfErr-weaker c.file_nodes.result _ _ (stops_names c.args.bytes.now c.args.ts.now (items c.args.its.now)) c.file_nodes.ensures.err

@@ -6,44 +6,60 @@ use Rattle.std.proofs.lemmas.List.Folds.{list_all-append}
 use Rattle.ln_syntax.specs.declared.raw.RawArg.{RawArg}
 use Rattle.ln_syntax.specs.declared.raw.RawLet.{RawLet}
 use Rattle.ln_syntax.specs.Raw.{Item, PredItem, item, items}
+use Rattle.ln_names.specs.Nodes.{BodyIs}
 use Rattle.ln_tree.specs.declared.pred.Pred.{Pred}
 use Rattle.ln_tree.specs.Table.{PredOf, site_of, param_of, pred_of, pred_fits}
 use Rattle.ln_parse.specs.Ready.{ReadyItem, ReadyPred}
 use Rattle.ln_parse.proofs.Building.Lists.{IsAt, SeenAt}
 use Rattle.ln_parse.proofs.Building.Said.{PredsOn, no_pred, preds_end, preds_skip, preds_pred}
 use Rattle.ln_parse.proofs.Building.Kept.{declared}
-use Rattle.ln_parse.proofs.Building.Loops.{item_index}
+use Rattle.ln_parse.proofs.Building.Loops.{item_index, body_index, bodies_length}
 use Rattle.ln_parse.proofs.build.preds.Goals as goal
 use Rattle.ln_parse.proofs.build.preds.Goals.{in-Pred+in_ok-predicate+in_ok-push, in_default}
 
 pub predicate-requires-clause-ready : goal.predicate-requires-clause-ready
 predicate-requires-clause-ready c =
-    let its = c.args.its.now in
-    let bytes = c.args.bytes.now in
-    let ts = c.args.ts.now in
+    let its = c.args.s.now.items.now in
+    let bytes = c.args.s.now.bytes.now in
+    let ts = c.args.s.now.ts.now in
     let is = items (take c.items.i its) in
     let e = item_index (ReadyItem bytes ts) its c.items.i c.index-its-i.result c.requires.ready (omega arith) c.index-its-i.is in
     let f = subst (λ (w : Item). ReadyItem bytes ts is w) (ap item c.in-Pred.is) e in
     subst (λ (w : List RawArg). ReadyPred bytes ts is c.in-Pred.name w c.deref-in-Pred.result.now c.in-Pred.root) (sym c.deref.ensures.value)
     (subst (λ (w : List RawLet). ReadyPred bytes ts is c.in-Pred.name c.in-Pred.args.items w c.in-Pred.root) (sym c.deref-in-Pred.ensures.value) f)
 
+pub bounds-nodes-i : goal.bounds-nodes-i
+bounds-nodes-i c = let n = bodies_length _ c.args.s.now.items.now c.args.s.now.nodes.now c.requires.nodes in omega arith
+
+pub predicate-requires-clause-nodes : goal.predicate-requires-clause-nodes
+predicate-requires-clause-nodes c =
+    let its = c.args.s.now.items.now in
+    let bytes = c.args.s.now.bytes.now in
+    let ts = c.args.s.now.ts.now in
+    let is = items (take c.items.i its) in
+    let b = c.index-nodes-i.result in
+    let e = body_index (BodyIs bytes ts) its c.args.s.now.nodes.now c.items.i c.index-its-i.result b c.requires.nodes (omega arith) c.index-its-i.is
+    c.index-nodes-i.is in
+    let f = subst (λ (w : Item). BodyIs bytes ts is w b) (ap item c.in-Pred.is) e in
+    rw (c.deref.ensures.value, c.deref-in-Pred.ensures.value) f
+
 pub predicate-requires-clause-declared : goal.predicate-requires-clause-declared
 predicate-requires-clause-declared c =
-    let its = c.args.its.now in
+    let its = c.args.s.now.items.now in
     let i = c.items.i in
     let q = sym (map-append item (take i its) (drop i its)) ∙ ap items (take-append-drop i its) in
-    declared c.args.bytes.now c.args.ts.now (items (take i its)) (items (drop i its)) (items its) (map site_of c.args.sites.now)
+    declared c.args.s.now.bytes.now c.args.s.now.ts.now (items (take i its)) (items (drop i its)) (items its) (map site_of c.args.sites.now)
     (map param_of c.args.params.now) q c.requires.sites c.requires.params c.requires.ready
 
 pub returns-clause-says : goal.returns-clause-says
 returns-clause-says c t s p =
-    preds_end c.args.bytes.now c.args.ts.now t c.args.its.now c.items.i (map pred_of c.items.preds) (omega arith) (c.items.invariant.says t s p)
+    preds_end c.args.s.now.bytes.now c.args.s.now.ts.now t c.args.s.now.items.now c.items.i (map pred_of c.items.preds) (omega arith) (c.items.invariant.says t s p)
 
 pub items-preserved : goal.items-preserved
 items-preserved c =
-    let its = c.args.its.now in
-    let bytes = c.args.bytes.now in
-    let ts = c.args.ts.now in
+    let its = c.args.s.now.items.now in
+    let bytes = c.args.s.now.bytes.now in
+    let ts = c.args.s.now.ts.now in
     let i = c.items.i in
     let x = c.index-its-i.result in
     let done = map pred_of c.items.preds in

@@ -1,11 +1,14 @@
-use Rattle.ln_parse.proofs.Expressions.Steps.{value_tree, value_said, value_within}
+use Rattle.ln_parse.proofs.Expressions.Stack.{next, needs}
 use Rattle.ln_parse.proofs.expression.expression.Goals as goal
 
-pub sum-requires-clause-within : goal.sum-requires-clause-within
-sum-requires-clause-within c = value_within c.requires.ready
+pub apply-requires-clause-there : goal.apply-requires-clause-there
+apply-requires-clause-there c =
+    (needs c.args.nodes.now c.nodes.node-index _ c.nodes.operands.items c.nodes.invariant c.nodes-test.true c.requires).0
 
-pub sum-requires-clause-there : goal.sum-requires-clause-there
-sum-requires-clause-there c = value_tree c.requires.ready
+pub apply-requires-clause-small : goal.apply-requires-clause-small
+apply-requires-clause-small c =
+    (needs c.args.nodes.now c.nodes.node-index _ c.nodes.operands.items c.nodes.invariant c.nodes-test.true c.requires).1
 
-pub returns : goal.returns
-returns c = value_said c.requires.ready c.in_ok-read.ensures
+pub nodes-preserved : goal.nodes-preserved
+nodes-preserved c =
+    next c.args.nodes.now c.nodes.node-index _ c.nodes.operands.items c.nodes.invariant c.nodes-test.true _ c.in_ok-apply.ensures

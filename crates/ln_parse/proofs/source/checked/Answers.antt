@@ -2,6 +2,7 @@ use Rattle.std.proofs.Common.{List, inl, subst}
 use Rattle.ln_syntax.specs.declared.raw.RawItem.{RawItem}
 use Rattle.ln_syntax.specs.Raw.{items}
 use Rattle.ln_names.specs.First.{FirstFault, NoFault}
+use Rattle.ln_names.specs.Nodes.{BodiesAre}
 use Rattle.ln_parse.specs.Fault.{nesting, syntax, names}
 use Rattle.ln_parse.proofs.source.checked.Goals as goal
 
@@ -12,10 +13,10 @@ pub returns-in-Some-syntax_fault-clause-err : goal.returns-in-Some-syntax_fault-
 returns-in-Some-syntax_fault-clause-err c =
     rw c.fault_place.ensures (inl (syntax c.requires.lexed c.requires.few c.in_default.ensures.none c.in-Some-syntax_fault.ensures.some))
 
-pub returns-in-Err-check_names-clause-err : goal.returns-in-Err-check_names-clause-err
-returns-in-Err-check_names-clause-err c =
-    let f = subst (λ (w : List RawItem). FirstFault c.args.bytes.now c.args.ts.now (items w) c.in-Err-check_names.found)
-    c.deref.ensures.value c.in-Err-check_names.ensures.err in
+pub returns-in-Err-Found-clause-err : goal.returns-in-Err-Found-clause-err
+returns-in-Err-Found-clause-err c =
+    let f = subst (λ (w : List RawItem). FirstFault c.args.bytes.now c.args.ts.now (items w) c.in-Err-Found.found)
+    c.deref.ensures.value (rw c.in-Err-Found.field-0-is at c.in-Err-Found.ensures.err) in
     rw c.stop_of.ensures (inl (names c.requires.lexed c.requires.few c.in_default.ensures.none c.in-Ok.ensures.ok f))
 
 pub returns-in-Ok-check_names-clause-ok : goal.returns-in-Ok-check_names-clause-ok
@@ -27,3 +28,7 @@ returns-in-Ok-check_names-clause-ok c =
       spelt = c.in-Ok.ensures.ok;
       clean = subst (λ (w : List RawItem). NoFault c.args.bytes.now c.args.ts.now (items w)) c.deref.ensures.value c.in-Ok-check_names.ensures.ok;
     }
+
+pub returns-in-Ok-check_names-clause-nodes : goal.returns-in-Ok-check_names-clause-nodes
+returns-in-Ok-check_names-clause-nodes c = subst
+    (λ (w : List RawItem). BodiesAre c.args.bytes.now c.args.ts.now (items w) c.in-Ok-check_names.nodes) c.deref.ensures.value c.in-Ok-check_names.ensures.nodes

@@ -1,7 +1,0 @@
-use Rattle.ln_syntax.specs.Raw.{items}
-use Rattle.ln_names.specs.Visits.{item_visits}
-use Rattle.ln_names.proofs.Walking.{Left}
-use Rattle.ln_names.proofs.walk.names_fault.Given as goal
-
-abbrev pub invariant-loop-i : goal.invariant-loop-i
-invariant-loop-i l = Left l.bytes (item_visits l.ts) (items l.its) l.i

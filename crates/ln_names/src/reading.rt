@@ -1,0 +1,113 @@
+//! Reads the nodes of an expression in one pass over its tokens, without recursion.
+ghost use Rattle.std.specs.Prelude.{◌≡◌, OnOk, IfOk, true, []};
+ghost use Rattle.ln_names.specs.Machine.{machine, emit_if, settled, wait, operate, enclose, strength, view, Settles};
+
+use crate::nodes::{Node, Operation, Waiting, What};
+use ln_base::{NoMemory, Seq, Span};
+use ln_lex::Kind;
+use std::alloc::Global;
+
+/// What was read of an expression: the nodes whose operands were read, and what waits for an operand or its closing parenthesis.
+#[derive(Drop)]
+pub struct Reading {
+    pub nodes: Seq<Node>,
+    pub waiting: Vec<Waiting>,
+}
+
+// How tightly an operation binds its operands.
+fn strength(p: Operation) -> u8
+    ensures { result ≡ strength p }
+{
+    match p {
+        Operation::Negation => 3,
+        Operation::Product => 2,
+        Operation::Sum | Operation::Difference => 1,
+    }
+}
+
+impl Reading {
+    /// Nothing was read.
+    pub fn new(alloc: Global) -> Reading
+        ensures { view result ≡ machine [] [] }
+    {
+        Reading {
+            nodes: Seq::new(alloc),
+            waiting: Vec::new(alloc),
+        }
+    }
+
+    /// Appends a node, if there is one.
+    pub fn emit(&mut self, node: Option<Node>) -> Result<(), NoMemory>
+        ensures { OnOk result (view self.new ≡ emit_if (view self.old) node) }
+    {
+        if let Some(node) = node {
+            self.nodes.push(node)?;
+        }
+        Ok(())
+    }
+
+    /// An operation or a parenthesis waits.
+    pub fn wait(&mut self, w: Waiting) -> Result<(), NoMemory>
+        ensures { OnOk result (view self.new ≡ wait (view self.old) w) }
+    {
+        self.waiting.push(w)?;
+        Ok(())
+    }
+
+    // What waited last is a node, where it is an operation that binds at least this tightly; or else it waits again.
+    fn finish(&mut self, w: Waiting, bar: u8) -> Result<bool, NoMemory>
+        ensures settles { IfOk result (λ more. Settles more bar (wait (view self.old) w) (view self.new)) }
+        ensures rest { IfOk result (λ more. more ≡ true → self.new.waiting.items ≡ self.old.waiting.items) }
+    {
+        match w {
+            Waiting::For(p, at) if strength(p) >= bar => {
+                self.nodes.push(Node {
+                    what: What::Apply(p),
+                    at,
+                })?;
+                Ok(true)
+            }
+            _ => {
+                self.wait(w)?;
+                Ok(false)
+            }
+        }
+    }
+
+    /// Operations that wait and bind at least this tightly are nodes.
+    pub fn settle(&mut self, bar: u8) -> Result<(), NoMemory>
+        ensures { OnOk result (view self.new ≡ settled bar (view self.old)) }
+    {
+        'waiting: while let Some(w) = self.waiting.pop() {
+            if !self.finish(w, bar)? {
+                return Ok(());
+            }
+        }
+        Ok(())
+    }
+
+    /// An operation comes.
+    pub fn operate(&mut self, p: Operation, at: Span) -> Result<(), NoMemory>
+        ensures { OnOk result (view self.new ≡ operate p at (view self.old)) }
+    {
+        if !matches!(p, Operation::Negation) {
+            self.settle(strength(p))?;
+        }
+        self.wait(Waiting::For(p, at))
+    }
+
+    /// A parenthesis comes, or another token that is nothing.
+    pub fn enclose(&mut self, kind: Option<Kind>) -> Result<(), NoMemory>
+        ensures { OnOk result (view self.new ≡ enclose kind (view self.old)) }
+    {
+        match kind {
+            Some(Kind::ParL) => self.wait(Waiting::Open),
+            Some(Kind::ParR) => {
+                self.settle(1)?;
+                self.waiting.pop();
+                Ok(())
+            }
+            _ => Ok(()),
+        }
+    }
+}
