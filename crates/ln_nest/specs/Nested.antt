@@ -1,5 +1,5 @@
 -- A list of terms as a nested tree.
-use Rattle.std.specs.Prelude.{ℕ, zero, suc, ◌-◌, Bool, true, false, ℤ, pos, ◌+ℤ◌, List, [], ◌∷◌, if◌then◌else◌}
+use Rattle.std.specs.Prelude.{ℕ, zero, suc, ◌-◌, ◌/◌, ◌%◌, min, nat_eq, nat_le, Bool, true, false, ◌&&◌, ℤ, pos, ◌+ℤ◌, List, [], ◌∷◌, if◌then◌else◌}
 use Rattle.ln_algebra.specs.Terms.{Term}
 use Rattle.std.specs.Prelude.{negsuc}
 pub use Rattle.ln_poly.specs.Lean.{exponent_of}
@@ -11,17 +11,17 @@ abbrev pub is_positive : ℕ → Bool
 is_positive zero = false
 is_positive (suc n) = true
 
--- the vector with one less of variable v
-abbrev pub one_less : ℕ → List ℕ → List ℕ
-one_less v [] = []
-one_less zero (n ∷ m) = (n - 1) ∷ m
-one_less (suc v) (n ∷ m) = n ∷ one_less v m
+-- the vector with e less of variable v
+abbrev pub less : ℕ → ℕ → List ℕ → List ℕ
+less e v [] = []
+less e zero (n ∷ m) = (n - e) ∷ m
+less e (suc v) (n ∷ m) = n ∷ less e v m
 
--- the terms with variable v, divided by it
-abbrev pub divided : ℕ → List Term → List Term
-divided v [] = []
-divided v (t ∷ f) = if is_positive (exponent_of v t.exponents)
-    then record { exponents = one_less v t.exponents; factor = t.factor } ∷ divided v f else divided v f
+-- the terms with variable v, divided by its power e
+abbrev pub divided : ℕ → ℕ → List Term → List Term
+divided e v [] = []
+divided e v (t ∷ f) = if is_positive (exponent_of v t.exponents)
+    then record { exponents = less e v t.exponents; factor = t.factor } ∷ divided e v f else divided e v f
 
 -- the terms without variable v
 abbrev pub free_of : ℕ → List Term → List Term
@@ -44,20 +44,39 @@ is_number z (Sub e f) = false
 is_number z (Mul e f) = false
 is_number z (Pow e n) = false
 
--- variable v times h: where h is 1 or -1 the variable or its opposite
-abbrev pub scaled : ℕ → Tree → Tree
-scaled v h = if is_number (pos 1) h then Input v else (if is_number (negsuc 0) h then Neg (Input v) else Mul (Input v) h)
+-- x times h: where h is 1 or -1, x or its opposite
+abbrev pub scaled : Tree → Tree → Tree
+scaled x h = if is_number (pos 1) h then x else (if is_number (negsuc 0) h then Neg x else Mul x h)
 
--- variable v times h, and i, each where it has a term
-abbrev pub joined : ℕ → Tree → Tree → List Term → List Term → Tree
-joined v h i [] g = i
-joined v h i (t ∷ f) [] = scaled v h
-joined v h i (t ∷ f) (s ∷ g) = Add (scaled v h) i
+-- x times h, and i, each where it has a term
+abbrev pub joined : Tree → Tree → Tree → List Term → List Term → Tree
+joined x h i [] g = i
+joined x h i (t ∷ f) [] = scaled x h
+joined x h i (t ∷ f) (s ∷ g) = Add (scaled x h) i
 
--- by powers of variable v, of which there are at most d; inner has the variables after it
+-- the least exponent of variable v in the terms that have it, or b where that is less
+abbrev pub least_power : ℕ → ℕ → List Term → ℕ
+least_power v b [] = b
+least_power v b (t ∷ f) = least_power v (if is_positive (exponent_of v t.exponents) then min b (exponent_of v t.exponents) else b) f
+
+-- the power of variable v by which the terms that have it are divided at once: their least one from 8 on, else the first
+abbrev pub at_once : ℕ → List Term → ℕ
+at_once v f = if nat_le 8 (least_power v 126 f) then least_power v 126 f else 1
+
+-- is a power the square of its half, and not a product with the variable?
+abbrev pub is_square : ℕ → Bool
+is_square e = nat_le 4 e && nat_eq (e % 2) 0
+
+-- the power e of variable v, from 1 on, in at most k steps
+abbrev pub power : ℕ → ℕ → ℕ → Tree
+power zero v e = Input v
+power (suc k) v e = if nat_le e 1 then Input v else (if is_square e then Pow (power k v (e / 2)) 2 else Mul (power k v (e - 1)) (Input v))
+
+-- by powers of variable v, in at most d steps; inner has the variables after it
 abbrev pub horner : (List Term → Tree) → ℕ → ℕ → List Term → Tree
 horner inner v zero f = inner f
-horner inner v (suc d) f = joined v (horner inner v d (divided v f)) (inner (free_of v f)) (divided v f) (free_of v f)
+horner inner v (suc d) f = joined (power (at_once v f) v (at_once v f)) (horner inner v d (divided (at_once v f) v f)) (inner (free_of v f))
+    (divided (at_once v f) v f) (free_of v f)
 
 -- the variables from v on, of which there are k, with exponents of at most d
 abbrev pub nested : ℕ → ℕ → ℕ → List Term → Tree

@@ -1,8 +1,9 @@
-//! The nested form of a polynomial: with the terms that have variable v divided by it, it is v times these, and the others.
-ghost use Rattle.std.specs.Prelude.{◌≡◌, ℕ, List, ◌+◌, ◌-◌, ◌*◌, ◌<◌, ◌≤◌, max, [], All, IfOk, length};
+//! The nested form of a polynomial: with the terms that have variable v divided by a power of it, it is that power times these, and the others.
+ghost use Rattle.std.specs.Prelude.{◌≡◌, ℕ, List, ◌+◌, ◌-◌, ◌*◌, ◌^◌, ◌<◌, ◌≤◌, max, [], All, IfOk, length};
 ghost use Rattle.ln_algebra.specs.Vector.{degree};
 ghost use Rattle.ln_algebra.specs.Weights.{weighted_sum};
-ghost use Rattle.ln_interval.specs.Range.{IsOrdered, magnitude, product};
+ghost use Rattle.ln_interval.specs.Range.{IsOrdered, magnitude, power, product};
+ghost use Rattle.ln_interval.specs.View.{range};
 ghost use Rattle.ln_tree.specs.Exps.{vector};
 ghost use Rattle.ln_bound.specs.Light.{most};
 ghost use Rattle.ln_bound.specs.Exact.{AreWithinPairs, IsExact};
@@ -11,15 +12,17 @@ ghost use Rattle.ln_bound.specs.Typed.{cost, pair, polynomial, untyped};
 ghost use Rattle.ln_bound.specs.View.{typed};
 ghost use Rattle.ln_bound.specs.Ranges.{ranges};
 ghost use Rattle.ln_bound.specs.Value.{sizes};
+ghost use Rattle.ln_bound.specs.Widths.{least};
 ghost use Rattle.ln_poly.specs.Sparse.{AreBelow, coefficient_at, terms_of};
-ghost use Rattle.ln_nest.specs.Lean.{AreLean, largest};
-ghost use Rattle.ln_nest.specs.Nested.{horner, is_number, nested, nested_form};
-ghost use Rattle.ln_nest.specs.View.{Has, product_of, scale, terms_in};
+ghost use Rattle.ln_nest.specs.Lean.{AreLean, HasNoZero, largest};
+ghost use Rattle.ln_nest.specs.Nested.{horner, is_number, is_square, nested, nested_form, power as variable_power};
+ghost use Rattle.ln_nest.specs.View.{Has, IsScaled, product_of, scale, square_of, terms_in};
 
-use crate::work::{Work, constant, parted, work_of};
+use crate::work::{Work, at_once, constant, parted, work_of};
 use ln_base::NoMemory;
 use ln_bound::size::{input, negated, number, two};
-use ln_bound::{FitOp, Fitted, Two};
+use ln_bound::{FitOp, Fitted, Two, Width};
+use ln_interval::Pair;
 use ln_poly::Poly;
 use ln_tree::{Shape, VarInfo};
 use std::alloc::Global;
@@ -34,7 +37,7 @@ fn is_number(t: &Fitted, z: i128) -> bool
     }
 }
 
-// The product of a variable and a tree: where that is 1 or -1, the variable or its opposite.
+// The product of two trees: where the second is 1 or -1, the first or its opposite.
 fn times(alloc: Global, x: Fitted, y: Fitted) -> Result<Fitted, NoMemory>
     requires { magnitude (product (pair (typed x)) (pair (typed y))) ≤ most }
     ensures { IfOk result (λ t. typed t ≡ product_of (typed x) (typed y)) }
@@ -48,7 +51,80 @@ fn times(alloc: Global, x: Fitted, y: Fitted) -> Result<Fitted, NoMemory>
     two(alloc, Two::Times, x, y)
 }
 
-// The tree of terms in the variables from v on, by powers up to d.
+// The least width that fits a pair.
+fn least_for(p: Pair) -> Width
+    ensures { result ≡ least (magnitude (range p)) }
+{
+    Width::least(p.magnitude())
+}
+
+// The pair of a power, where it is within the limit.
+fn pair_of_power(p: Pair, n: u8) -> Pair
+    requires { magnitude (power (range p) n) ≤ most }
+    ensures { range result ≡ power (range p) n }
+{
+    p.power(n).unwrap()
+}
+
+// The square of a tree.
+fn squared(alloc: Global, x: Fitted) -> Result<Fitted, NoMemory>
+    requires { magnitude (power (pair (typed x)) 2) ≤ most }
+    ensures { IfOk result (λ t. typed t ≡ square_of (typed x)) }
+{
+    let pair = pair_of_power(x.pair, 2);
+    let width = x.width.wider(least_for(pair));
+    let x = Box::new(alloc, x)?;
+    Ok(Fitted {
+        op: FitOp::Pow(x, 2),
+        pair,
+        width,
+    })
+}
+
+// Is a power the square of its half, and not a product with the variable?
+fn is_square(e: u8) -> bool
+    ensures { result ≡ is_square e }
+{
+    e >= 4 && e % 2 == 0
+}
+
+// The power e of variable v in at most k steps.
+fn powered(alloc: Global, vars: &[VarInfo], v: usize, k: u8, e: u8) -> Result<Fitted, NoMemory>
+    requires variable { v < length vars.now }
+    requires few { length vars.now ≤ 168 }
+    requires ordered { (k : ℕ) → IsOrdered (ranges vars.now k) }
+    requires some { 1 ≤ e }
+    requires steps { e ≤ k + 1 }
+    requires small { scale vars.now v ^ e ≤ most }
+    ensures { IfOk result (λ t. Has vars.now (typed t) (variable_power k v e) (scale vars.now v ^ e)) }
+{
+    if e < 2 {
+        return Ok(input(vars, v));
+    }
+    if is_square(e) {
+        let half = powered(alloc, vars, v, k - 1, e / 2)?;
+        return squared(alloc, half);
+    }
+    let lower = powered(alloc, vars, v, k - 1, e - 1)?;
+    two(alloc, Two::Times, lower, input(vars, v))
+}
+
+// The power e of variable v times h.
+fn scaled(alloc: Global, vars: &[VarInfo], v: usize, e: u8, h: Fitted) -> Result<Fitted, NoMemory>
+    requires variable { v < length vars.now }
+    requires few { length vars.now ≤ 168 }
+    requires ordered { (k : ℕ) → IsOrdered (ranges vars.now k) }
+    requires power { (1 ≤ e) × (e ≤ 126) }
+    requires small { scale vars.now v ^ e ≤ most }
+    requires product { scale vars.now v ^ e * magnitude (pair (typed h)) ≤ most }
+    ensures { IfOk result (λ t. IsScaled vars.now v e (typed h) (typed t)) }
+{
+    let x = powered(alloc, vars, v, e, e)?;
+    let t = times(alloc, x, h)?;
+    Ok(t)
+}
+
+// The tree of terms in the variables from v on, by powers in up to d steps.
 #[cycle(powers)]
 fn nest_from(
     alloc: Global,
@@ -60,6 +136,7 @@ fn nest_from(
     requires variable { v ≤ length vars.now }
     requires few { length vars.now ≤ 168 }
     requires ordered { (k : ℕ) → IsOrdered (ranges vars.now k) }
+    requires some { HasNoZero (terms_in terms.items) }
     requires weight { weighted_sum (scale vars.now) (terms_in terms.items) ≤ most }
     ensures { IfOk result (λ t. Has vars.now (typed t) (nested d (length vars.now - v) v (terms_in terms.items))
         (weighted_sum (scale vars.now) (terms_in terms.items))) }
@@ -70,7 +147,7 @@ fn nest_from(
     by_powers(alloc, vars, d, v, d, terms)
 }
 
-// The tree of terms by powers of v, of which there are at most b.
+// The tree of terms by powers of v, in at most b steps.
 #[cycle(powers)]
 fn by_powers(
     alloc: Global,
@@ -83,6 +160,7 @@ fn by_powers(
     requires variable { v < length vars.now }
     requires few { length vars.now ≤ 168 }
     requires ordered { (k : ℕ) → IsOrdered (ranges vars.now k) }
+    requires some { HasNoZero (terms_in terms.items) }
     requires weight { weighted_sum (scale vars.now) (terms_in terms.items) ≤ most }
     ensures { IfOk result (λ t. Has vars.now (typed t)
         (horner (nested d (length vars.now - (v + 1)) (v + 1)) v b (terms_in terms.items))
@@ -91,12 +169,13 @@ fn by_powers(
     if b == 0 {
         return nest_from(alloc, vars, d, v + 1, terms);
     }
-    let (with, without) = parted(alloc, v, terms)?;
+    let e = at_once(terms.as_slice(), v);
+    let (with, without) = parted(alloc, v, e, terms)?;
     if with.is_empty() {
         return nest_from(alloc, vars, d, v + 1, without);
     }
     let h = by_powers(alloc, vars, d, v, b - 1, with)?;
-    let product = times(alloc, input(vars, v), h)?;
+    let product = scaled(alloc, vars, v, e, h)?;
     if without.is_empty() {
         return Ok(product);
     }
@@ -105,7 +184,8 @@ fn by_powers(
 }
 
 /// The nested form of the polynomial f, whose terms have a degree of at most 126, as a tree: by powers of the first variable,
-/// each factor of them by powers of the next. Each range is exactly its operation over the operands' ranges, of a variable
+/// each factor of them by powers of the next. A power of 8 and more by which all terms with the variable can be divided is taken at
+/// once, by squares. Each range is exactly its operation over the operands' ranges, of a variable
 /// the declared one; each width is the least that fits it and is no narrower than an operand. Each range is within `-W .. W`,
 /// W being the sum of f's absolute factors, each times its monomial at the largest absolute values of the variables, and at
 /// least 1 of each; W has to be at most `2^127 - 1`. No node has more terms than f, or than one where f has none, or a larger

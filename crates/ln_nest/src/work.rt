@@ -1,9 +1,9 @@
 //! Terms with an exponent for each variable, divided by one variable after the other.
-ghost use Rattle.std.specs.Prelude.{◌≡◌, ◌≤◌, true, IfOk};
+ghost use Rattle.std.specs.Prelude.{◌≡◌, ◌≤◌, min, nat_lt, true, IfOk, if◌then◌else◌};
 ghost use Rattle.ln_bound.specs.Light.{most};
 ghost use Rattle.ln_tree.specs.Exps.{IsRising, vector};
 ghost use Rattle.ln_poly.specs.Sparse.{AreRising, terms_of};
-ghost use Rattle.ln_nest.specs.Nested.{divided, free_of, total, one_less, exponent_of, is_positive};
+ghost use Rattle.ln_nest.specs.Nested.{at_once, divided, exponent_of, free_of, is_positive, least_power, less, total};
 ghost use Rattle.ln_nest.specs.View.{terms_in, abs_total};
 
 use ln_base::NoMemory;
@@ -57,18 +57,58 @@ fn has(term: &Work, v: usize) -> bool
     }
 }
 
-// Divides the term by variable v.
-fn lower(term: &mut Work, v: usize)
+// Divides a term that has variable v by its power e.
+fn lower(term: &mut Work, v: usize, e: u8)
     requires { is_positive (exponent_of v term.old.exponents.items) ≡ true }
-    ensures exponents { term.new.exponents.items ≡ one_less v term.old.exponents.items }
+    ensures exponents { term.new.exponents.items ≡ less e v term.old.exponents.items }
     ensures factor { term.new.factor ≡ term.old.factor }
 {
-    term.exponents[v] -= 1;
+    term.exponents[v] = term.exponents[v].saturating_sub(e);
 }
 
-/// The terms with variable v, divided by it, and the others.
-pub fn parted(alloc: Global, v: usize, terms: Vec<Work>) -> Result<(Vec<Work>, Vec<Work>), NoMemory>
-    ensures with { IfOk result (λ r. terms_in r.0.items ≡ divided v (terms_in terms.items)) }
+// The lesser of b and an exponent above 0.
+fn lesser(e: u8, b: u8) -> u8
+    ensures { result ≡ (if nat_lt 0 e then min b e else b) }
+{
+    if e > 0 && e < b { e } else { b }
+}
+
+// The lesser of b and the exponent of variable v in the term, where it has v.
+fn next(term: &Work, v: usize, b: u8) -> u8
+    ensures { result ≡ (if is_positive (exponent_of v term.now.exponents.items) then min b (exponent_of v term.now.exponents.items) else b) }
+{
+    match term.exponents.get(v) {
+        None => b,
+        Some(e) => lesser(*e, b),
+    }
+}
+
+// The least exponent of variable v in the terms that have it, or b where that is less.
+fn least(terms: &[Work], v: usize, b: u8) -> u8
+    ensures { result ≡ least_power v b (terms_in terms.now) }
+{
+    match terms {
+        [] => b,
+        [term, rest @ ..] => least(rest, v, next(term, v, b)),
+    }
+}
+
+/// The power of variable v by which the terms that have it are divided at once.
+pub fn at_once(terms: &[Work], v: usize) -> u8
+    ensures { result ≡ at_once v (terms_in terms.now) }
+{
+    let e = least(terms, v, 126);
+    if 8 <= e { e } else { 1 }
+}
+
+/// The terms with variable v, divided by its power e, and the others.
+pub fn parted(
+    alloc: Global,
+    v: usize,
+    e: u8,
+    terms: Vec<Work>,
+) -> Result<(Vec<Work>, Vec<Work>), NoMemory>
+    ensures with { IfOk result (λ r. terms_in r.0.items ≡ divided e v (terms_in terms.items)) }
     ensures without { IfOk result (λ r. terms_in r.1.items ≡ free_of v (terms_in terms.items)) }
 {
     let mut with = Vec::new(alloc);
@@ -76,7 +116,7 @@ pub fn parted(alloc: Global, v: usize, terms: Vec<Work>) -> Result<(Vec<Work>, V
     for term in terms {
         let mut term = term;
         if has(&term, v) {
-            lower(&mut term, v);
+            lower(&mut term, v, e);
             with.push(term)?;
         } else {
             without.push(term)?;

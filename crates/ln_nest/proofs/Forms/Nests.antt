@@ -1,18 +1,19 @@
 -- No node of the nested form weighs more than the terms, whatever the weights from 1 on: so its ranges are within the M-weighted sum, and
 -- its running sizes within the sum of the absolute factors.
-use Rattle.std.proofs.Common.{◌≡◌, ◌≢◌, ℕ, ℤ, ◌+◌, ◌*◌, ◌≤◌, length, List, [], ◌∷◌, refl, zero, suc, ap, arith, pos, negsuc, unsigned_abs}
-use Rattle.std.proofs.Math.Nat.{mul-le-mul_left}
+use Rattle.std.proofs.Common.{◌≡◌, ℕ, ◌+◌, ◌*◌, ◌^◌, ◌≤◌, length, List, [], ◌∷◌, refl, ap, arith, ◌∙◌, sym}
+use Rattle.std.proofs.Math.Nat.{mul-le-mul_left, one-le-pow}
 use Rattle.ln_algebra.specs.Terms.{Term}
 use Rattle.ln_algebra.specs.Tree.{Tree, Num, Input, Name, Neg, Add, Sub, Mul, Pow, InputsBelow}
-use Rattle.ln_algebra.specs.Weights.{monomial_weight, weighted_sum}
+use Rattle.ln_algebra.specs.Weights.{weighted_sum}
 use Rattle.ln_bound.specs.Light.{most}
 use Rattle.ln_bound.specs.Room.{HasRoom}
 use Rattle.ln_tree.specs.declared.shape.VarInfo.{VarInfo}
 use Rattle.ln_bound.proofs.Measures.RoomLaws.{weight_grows}
 use Rattle.ln_nest.specs.Lean.{HasNoZero}
-use Rattle.ln_nest.specs.Nested.{divided, free_of, joined, nested, scaled}
-use Rattle.ln_nest.proofs.Forms.Bounds.{parts_weight, at_least, sum_weight}
-use Rattle.ln_nest.proofs.Terms.Parts.{by_parts, nested_has}
+use Rattle.ln_nest.specs.Nested.{divided, free_of, joined, nested, power, scaled}
+use Rattle.ln_nest.proofs.Forms.Bounds.{parts_some, parts_weight, some_weight, sum_weight}
+use Rattle.ln_nest.proofs.Terms.Parts.{nested_has}
+use Rattle.ln_nest.proofs.Terms.Powers.{power_has, power_one, power_sum, power_two, weight_power}
 use Rattle.ln_nest.proofs.Terms.Scaled.{scaled_cases}
 use Rattle.ln_nest.proofs.Forms.Steps.{range_scale, scale_some}
 use Rattle.ln_nest.proofs.Forms.Leans.{nested_inputs}
@@ -73,67 +74,76 @@ up_more by c n m h l (Sub e f) a = (up_more by c n m h l e a.0, up_more by c n m
 up_more by c n m h l (Mul e f) a = (up_more by c n m h l e a.0, up_more by c n m h l f a.1, let g = h (Mul e f) in omega (arith, g, a.2, l))
 up_more by c n m h l (Pow e k) a = (up_more by c n m h l e a.0, let g = h (Pow e k) in omega (arith, g, a.1, l))
 
--- ---- zero factors
--- neither the divided terms nor those without v have a zero factor where the terms have none
-parts_some : (v : ℕ) (f : List Term) → HasNoZero f → HasNoZero (divided v f) × HasNoZero (free_of v f)
-parts_some v f =
-    by_parts v (λ f g h. HasNoZero f → HasNoZero g × HasNoZero h) (λ a. (tt, tt)) (λ t f g h e ih a. ((a.0, (ih a.1).0), (ih a.1).1))
-    (λ t f g h e ih a. ((ih a.1).0, (a.0, (ih a.1).1))) f
+-- ---- weights
+module _ (w : ℕ → ℕ) (one_each : (v : ℕ) → 1 ≤ w v) where
+  -- each node of a power of v weighs no more than the power
+  power_up : (v k e : ℕ) → 1 ≤ e → e ≤ k + 1 → (n : ℕ) → w v ^ e ≤ n → AreUpTo (weighs w) n (power k v e)
+  power_up v k e l h = (power_has v Rises (power_one (w v), λ n l. rw (power_one (w v)) at l) again twice k e l h).1
+    where
+      Rises : ℕ → Tree → Type 0
+      Rises e t = (w v ^ e ≡ weighs w t) × ((n : ℕ) → w v ^ e ≤ n → AreUpTo (weighs w) n t)
 
-nonzero : (z : ℤ) → z ≢ pos 0 → 1 ≤ unsigned_abs z
-nonzero (pos zero) h = absurd (h refl)
-nonzero (pos (suc n)) h = omega arith
-nonzero (negsuc n) h = omega arith
+      again : (e : ℕ) (t : Tree) → 1 ≤ e → Rises e t → Rises (e + 1) (Mul t (Input v))
+      again e t o h =
+          let s = power_sum (w v) e 1 in
+          let f = power_one (w v) in
+          let p : w v ^ (e + 1) ≡ w v ^ e * w v = s ∙ ap (λ x. w v ^ e * x) f in
+          let q : w v ^ (e + 1) ≡ weighs w (Mul t (Input v)) = p ∙ ap (λ x. x * w v) h.0 in
+          let a : w v ^ e * 1 ≤ w v ^ e * w v = mul-le-mul_left (w v ^ e) (one_each v) in
+          let b : w v * 1 ≤ w v * w v ^ e = mul-le-mul_left (w v) (one-le-pow e (w v) (one_each v)) in
+          (q, λ n l. (h.1 n (omega (arith, l, p, a)), omega (arith, l, p, b), omega (arith, l, q)))
 
-module _ (w : ℕ → ℕ) (o : (v : ℕ) → 1 ≤ w v) where
-  -- some terms weigh at least 1
-  some_weight : (t : Term) (f : List Term) → HasNoZero (t ∷ f) → 1 ≤ weighted_sum w (t ∷ f)
-  some_weight t f z =
-      let a = nonzero t.factor z.0 in
-      let m : unsigned_abs t.factor * 1 ≤ unsigned_abs t.factor * monomial_weight w t.exponents =
-      mul-le-mul_left (unsigned_abs t.factor) (at_least w o t.exponents) in
-      omega (arith, a, m)
+      twice : (e : ℕ) (t : Tree) → 2 ≤ e → Rises e t → Rises (e + e) (Pow t 2)
+      twice e t o h =
+          let p : w v ^ (e + e) ≡ w v ^ e * w v ^ e = power_sum (w v) e e in
+          let q : w v ^ (e + e) ≡ weighs w (Pow t 2) = p ∙ sym (power_two (w v ^ e)) ∙ ap (λ x. x ^ 2) h.0 in
+          let a : w v ^ e * 1 ≤ w v ^ e * w v ^ e = mul-le-mul_left (w v ^ e) (one-le-pow e (w v) (one_each v)) in
+          (q, λ n l. (h.1 n (omega (arith, l, p, a)), omega (arith, l, q)))
 
-  -- v times a tree that is up to d, where d is at least 1
-  scaled_up : (v d n : ℕ) (h : Tree) → 1 ≤ d → w v * d ≤ n → AreUpTo (weighs w) d h → AreUpTo (weighs w) n (scaled v h)
-  scaled_up v d n h s l a =
-      let one : w v * 1 ≤ w v * d = mul-le-mul_left (w v) s in
-      let at : w v ≤ n = omega (arith, one, l) in
+  -- x times a tree that is up to d, where x weighs c, and both are at least 1
+  scaled_up : (x h : Tree) (c d n : ℕ) → 1 ≤ c → 1 ≤ d → c * d ≤ n → weighs w x ≡ c → ((m : ℕ) → c ≤ m → AreUpTo (weighs w) m x)
+      → AreUpTo (weighs w) d h → AreUpTo (weighs w) n (scaled x h)
+  scaled_up x h c d n o s l p u a =
+      let one : c * 1 ≤ c * d = mul-le-mul_left c s in
+      let at : c ≤ n = omega (arith, one, l) in
       let r = root_up (weighs w) d h a in
-      let m : w v * weighs w h ≤ w v * d = mul-le-mul_left (w v) r in
-      let k : d * 1 ≤ d * w v = mul-le-mul_left d (o v) in
-      scaled_cases v h (AreUpTo (weighs w) n)
-      (λ e. at)
-      (λ e. (at, at))
-      (at, up_more (weighs w) (weighs w) d n (λ e. omega arith) (omega (arith, k, l)) h a, omega (arith, m, l))
+      let m : c * weighs w h ≤ c * d = mul-le-mul_left c r in
+      let k : d * 1 ≤ d * c = mul-le-mul_left d o in
+      scaled_cases x h (AreUpTo (weighs w) n)
+      (λ e. u n at)
+      (λ e. (u n at, omega (arith, at, p)))
+      (u n at, up_more (weighs w) (weighs w) d n (λ e. omega arith) (omega (arith, k, l)) h a, rw p (omega (arith, m, l)))
 
-  -- the root of v times a tree
-  scaled_root : (v : ℕ) (h : Tree) → weighs w (scaled v h) ≤ w v * weighs w h
-  scaled_root v h = scaled_cases v h (λ e. weighs w e ≤ w v * weighs w h) (λ e. rw e (omega arith)) (λ e. rw e (omega arith)) (omega arith)
+  -- the root of x times a tree
+  scaled_root : (x h : Tree) → weighs w (scaled x h) ≤ weighs w x * weighs w h
+  scaled_root x h = scaled_cases x h (λ e. weighs w e ≤ weighs w x * weighs w h) (λ e. rw e (omega arith)) (λ e. rw e (omega arith)) (omega arith)
 
-  -- a step: v times a tree of the divided terms, and a tree of the others
-  joined_up : (v : ℕ) (h i : Tree) (ds fs : List Term) (n : ℕ) → HasNoZero ds → w v * weighted_sum w ds + weighted_sum w fs ≤ n
-      → AreUpTo (weighs w) (weighted_sum w ds) h → AreUpTo (weighs w) (weighted_sum w fs) i → AreUpTo (weighs w) n (joined v h i ds fs)
-  joined_up v h i [] fs n z l a b = up_more (weighs w) (weighs w) (weighted_sum w fs) n (λ e. omega arith) (omega (arith, l)) i b
-  joined_up v h i (t ∷ ds) [] n z l a b = scaled_up v (weighted_sum w (t ∷ ds)) n h (some_weight t ds z) (omega (arith, l)) a
-  joined_up v h i (t ∷ ds) (s ∷ fs) n z l a b =
+  -- a step: a tree of weight c times one of the divided terms, and a tree of the others
+  joined_up : (x h i : Tree) (ds fs : List Term) (c n : ℕ) → 1 ≤ c → weighs w x ≡ c → ((m : ℕ) → c ≤ m → AreUpTo (weighs w) m x) → HasNoZero ds
+      → c * weighted_sum w ds + weighted_sum w fs ≤ n → AreUpTo (weighs w) (weighted_sum w ds) h → AreUpTo (weighs w) (weighted_sum w fs) i
+      → AreUpTo (weighs w) n (joined x h i ds fs)
+  joined_up x h i [] fs c n o p u z l a b = up_more (weighs w) (weighs w) (weighted_sum w fs) n (λ e. omega arith) (omega (arith, l)) i b
+  joined_up x h i (t ∷ ds) [] c n o p u z l a b = scaled_up x h c (weighted_sum w (t ∷ ds)) n o (some_weight w one_each t ds z) (omega (arith, l)) p u a
+  joined_up x h i (t ∷ ds) (s ∷ fs) c n o p u z l a b =
       let d = weighted_sum w (t ∷ ds) in
       let g = weighted_sum w (s ∷ fs) in
-      let p = scaled_up v d n h (some_weight t ds z) (omega (arith, l)) a in
+      let y = scaled_up x h c d n o (some_weight w one_each t ds z) (omega (arith, l)) p u a in
       let q = up_more (weighs w) (weighs w) g n (λ e. omega arith) (omega (arith, l)) i b in
       let r = root_up (weighs w) d h a in
-      let c = root_up (weighs w) g i b in
-      let k = scaled_root v h in
-      let m : w v * weighs w h ≤ w v * d = mul-le-mul_left (w v) r in
-      (p, q, omega (arith, l, c, k, m))
+      let j = root_up (weighs w) g i b in
+      let k : weighs w (scaled x h) ≤ c * weighs w h = rw p at (scaled_root x h) in
+      let m : c * weighs w h ≤ c * d = mul-le-mul_left c r in
+      (y, q, omega (arith, l, j, k, m))
 
   -- no node of the nested form weighs more than the terms
   pub nested_up : (d k v : ℕ) (f : List Term) → HasNoZero f → AreUpTo (weighs w) (weighted_sum w f) (nested d k v f)
   nested_up d k v =
-      nested_has (k + v) (λ f e. HasNoZero f → AreUpTo (weighs w) (weighted_sum w f) e) (λ f z. sum_weight w o f)
-      (λ v f h i l a b z.
-      let s = parts_some v f z in
-      joined_up v h i (divided v f) (free_of v f) (weighted_sum w f) s.0 (omega (arith, parts_weight w v f)) (a s.0) (b s.1)) d k v refl
+      nested_has (k + v) (λ f e. HasNoZero f → AreUpTo (weighs w) (weighted_sum w f) e) (λ f z. sum_weight w one_each f)
+      (λ v e f h i l q a b z.
+      let s = parts_some e v f z in
+      let r : e ≤ e + 1 = omega (arith, q.1) in
+      joined_up (power e v e) h i (divided e v f) (free_of v f) (w v ^ e) (weighted_sum w f) (one-le-pow e (w v) (one_each v))
+      (weight_power w v e e q.0 r) (power_up v e e q.0 r) s.0 (omega (arith, parts_weight w e v f q.2)) (a s.0) (b s.1)) d k v refl
 
 -- so the range of each node is within the M-weighted sum
 pub nested_ranges : (r : ℕ → Range) (m : ℕ → ℕ) → ((v : ℕ) → 1 ≤ m v) → ((v : ℕ) → magnitude (r v) ≤ m v) → (d k v : ℕ) (f : List Term)

@@ -1,17 +1,19 @@
 -- The steps of the nested form, with their ranges.
-use Rattle.std.proofs.Common.{◌≡◌, ℕ, ℤ, ◌+◌, ◌-◌, ◌*◌, ◌^◌, ◌≤◌, ◌<◌, max, true, false, List, [], ◌∷◌, length, refl, zero, suc, ap, arith}
+use Rattle.std.proofs.Common.{◌≡◌, ℕ, ℤ, ◌+◌, ◌-◌, ◌*◌, ◌/◌, ◌^◌, ◌≤◌, ◌<◌, max, true, false, List, [], ◌∷◌, length, refl, zero, suc, ap, arith}
 use Rattle.std.proofs.Common.{pos, ◌+ℤ◌, ◌∙◌, sym, subst, unsigned_abs, slice_index_or, take}
 use Rattle.std.specs.Prelude.{FitsSigned, Option, Some, None, negsuc, slice_get, ◌==◌}
 use mir.Syntax.{w128}
-use Rattle.std.proofs.Math.Nat.{mul-le-mul_left}
+use Rattle.std.proofs.Math.Nat.{mul-le-mul_left, one-le-pow}
+use Rattle.std.proofs.lemmas.Nat.{mul-le}
 use Rattle.std.proofs.lemmas.Bool.{eqb-false, eqb-true}
 use Rattle.std.proofs.lemmas.Int.{ints, fits_signed_from_abs}
 use Rattle.std.proofs.lemmas.List.{nil_from_length}
 use Rattle.ln_algebra.specs.Terms.{Term}
-use Rattle.ln_algebra.specs.Tree.{Tree, Num, Input, Neg, Add, Mul}
+use Rattle.ln_algebra.specs.Tree.{Tree, Num, Input, Neg, Add, Mul, Pow}
 use Rattle.ln_algebra.specs.Weights.{weighted_sum}
 use Rattle.ln_interval.specs.Range.{Range, point, magnitude, product, sum}
-use Rattle.ln_interval.proofs.Magnitudes.{sum_magnitude, opposite_magnitude, product_magnitude}
+use Rattle.ln_interval.specs.Range as ranged
+use Rattle.ln_interval.proofs.Magnitudes.{sum_magnitude, opposite_magnitude, power_magnitude, product_magnitude}
 use Rattle.ln_tree.specs.declared.shape.VarInfo.{VarInfo}
 use Rattle.ln_bound.specs.Light.{most}
 use Rattle.ln_bound.specs.Exact.{IsExact}
@@ -22,10 +24,13 @@ use Rattle.ln_bound.specs.Widths.{least}
 use Rattle.ln_bound.proofs.Soundness.ExactLaws.{exact_range}
 use Rattle.ln_poly.proofs.Loads.Weighing.{size-some}
 use Rattle.ln_nest.specs.declared.work.Work.{Work}
-use Rattle.ln_nest.specs.Nested.{divided, free_of, total, joined, horner, nested, scaled}
-use Rattle.ln_nest.specs.View.{Has, terms_in, scale, abs_total, opposite_of, times_of, plus_of, product_of}
+use Rattle.ln_nest.specs.Nested.{at_once, divided, free_of, is_square, joined, horner, nested, power, scaled, total}
+use Rattle.ln_nest.specs.View.{Has, IsScaled, abs_total, opposite_of, plus_of, product_of, scale, square_of, term_in, terms_in, times_of}
 use Rattle.ln_nest.proofs.Terms.Scaled.{product_cases}
-use Rattle.ln_nest.proofs.Forms.Bounds.{parts_weight, sum_weight}
+use Rattle.ln_nest.specs.Lean.{HasNoZero}
+use Rattle.ln_nest.proofs.Forms.Bounds.{parts_some, parts_weight, some_weight, sum_weight}
+use Rattle.ln_nest.proofs.Terms.Parts.{HavePower, at_once_is}
+use Rattle.ln_nest.proofs.Terms.Powers.{halves, multiplies, power_one, power_sum, power_two, squares}
 
 -- M of a variable, and 1 past the last, is at least 1
 pub scale_some : (vars : List VarInfo) (v : ℕ) → 1 ≤ scale vars v
@@ -43,27 +48,6 @@ range_scale vars v = by_there (slice_get vars v)
     by_there None = omega arith
     by_there (Some i) = omega arith
 
--- the remaining terms at a step have no more weight
-pub free_weight : (w : ℕ → ℕ) (v n : ℕ) (f : List Term) (q : List Work) → terms_in q ≡ free_of v f → weighted_sum w f ≤ n → weighted_sum w (terms_in q) ≤ n
-free_weight w v n f q e h = let s = parts_weight w v f in rw e (omega (arith, s, h))
-
--- nor have the divided terms
-pub divided_weight : (w : ℕ → ℕ) (v n : ℕ) (f : List Term) (p : List Work) → 1 ≤ w v → terms_in p ≡ divided v f → weighted_sum w f ≤ n
-    → weighted_sum w (terms_in p) ≤ n
-divided_weight w v n f p o e h =
-    let s = parts_weight w v f in
-    let m : weighted_sum w (divided v f) * 1 ≤ weighted_sum w (divided v f) * w v = mul-le-mul_left (weighted_sum w (divided v f)) o in
-    rw e (omega (arith, s, h, m))
-
--- v times a tree of the divided terms, and a tree of the others, weigh no more than the terms
-pub product_bound : (w : ℕ → ℕ) (v : ℕ) (f : List Term) (p : List Work) (b : ℕ) → terms_in p ≡ divided v f → b ≤ weighted_sum w (terms_in p)
-    → w v * b + weighted_sum w (free_of v f) ≤ weighted_sum w f
-product_bound w v f p b e h =
-    let s = parts_weight w v f in
-    let g : b ≤ weighted_sum w (divided v f) = rw e at h in
-    let m : w v * b ≤ w v * weighted_sum w (divided v f) = mul-le-mul_left (w v) g in
-    omega (arith, s, m)
-
 -- ---- nodes with their ranges and widths
 -- a number
 pub number_has : (vars : List VarInfo) (c : ℤ) (t : Typed) → t ≡ TNum c (point c) (least (magnitude (point c))) → Has vars t (Num c) (unsigned_abs c)
@@ -78,11 +62,10 @@ pub input_has : (vars : List VarInfo) (v : ℕ) (t : Typed) → t ≡ input_of v
 input_has vars v t e = rw e (record { same = refl; exact = (refl, refl); small = omega arith })
 
 -- its opposite
-pub opposite_has : (vars : List VarInfo) (v : ℕ) (x : Typed) (b : ℕ) → x ≡ input_of vars v → magnitude (pair x) ≤ b → Has vars (opposite_of x) (Neg (Input v)) b
-opposite_has vars v x b e k =
-    let i = input_has vars v x e in
+pub opposite_has : (vars : List VarInfo) (x : Typed) (e : Tree) (a b : ℕ) → Has vars x e a → magnitude (pair x) ≤ b → Has vars (opposite_of x) (Neg e) b
+opposite_has vars x e a b h k =
     let m = opposite_magnitude (pair x) in
-    record { same = ap Neg i.same; exact = (i.exact, refl, refl); small = omega (arith, m, k) }
+    record { same = ap Neg h.same; exact = (h.exact, refl, refl); small = omega (arith, m, k) }
 
 -- a product
 pub times_has : (vars : List VarInfo) (x y : Typed) (e g : Tree) (a b : ℕ) → Has vars x e a → Has vars y g b
@@ -122,20 +105,157 @@ unit_magnitude vars y z h e u =
     magnitude_of : Range → ℕ
     magnitude_of p = magnitude p
 
--- variable v times a tree
-pub product_has : (vars : List VarInfo) (v : ℕ) (x y : Typed) (e : Tree) (b : ℕ) → x ≡ input_of vars v → Has vars y e b
-    → Has vars (product_of x y) (scaled v e) (magnitude (pair x) * magnitude (pair y))
-product_has vars v x y e b i h =
-    let input = input_has vars v x i in
-    let own : Has vars x (Input v) (magnitude (pair x)) = record { same = input.same; exact = input.exact; small = omega arith } in
+-- a tree times another
+pub product_has : (vars : List VarInfo) (x y : Typed) (g e : Tree) (a b : ℕ) → Has vars x g a → Has vars y e b
+    → Has vars (product_of x y) (scaled g e) (magnitude (pair x) * magnitude (pair y))
+product_has vars x y g e a b k h =
+    let own : Has vars x (untyped x) (magnitude (pair x)) = record { same = refl; exact = k.exact; small = omega arith } in
     let one = λ (z : ℤ) (q : untyped y ≡ Num z) (u : unsigned_abs z ≡ 1). within (magnitude (pair y)) (unit_magnitude vars y z h.exact q u) in
-    rw (← h.same) (product_cases v x y (λ t g. Has vars t g (magnitude (pair x) * magnitude (pair y)))
-    (λ q. has_as vars x (Input v) (Input v) (magnitude (pair x)) (magnitude (pair x) * magnitude (pair y)) refl (one (pos 1) q refl) own)
-    (λ q. opposite_has vars v x (magnitude (pair x) * magnitude (pair y)) i (one (negsuc 0) q refl))
-    (times_has vars x y (Input v) (untyped y) (magnitude (ranges vars v)) b input (record { same = refl; exact = h.exact; small = h.small })))
+    rw (← k.same, ← h.same) (product_cases x y (λ t g. Has vars t g (magnitude (pair x) * magnitude (pair y)))
+    (λ q. has_as vars x (untyped x) (untyped x) (magnitude (pair x)) (magnitude (pair x) * magnitude (pair y)) refl (one (pos 1) q refl) own)
+    (λ q. opposite_has vars x (untyped x) (magnitude (pair x)) (magnitude (pair x) * magnitude (pair y)) own (one (negsuc 0) q refl))
+    (times_has vars x y (untyped x) (untyped y) (magnitude (pair x)) (magnitude (pair y)) own (record { same = refl; exact = h.exact; small = omega arith })))
   where
     within : (n : ℕ) → n ≡ 1 → magnitude (pair x) ≤ magnitude (pair x) * n
     within n e = rw e (omega arith)
+
+-- a product of trees within a and b is within their product
+pub times_fits : (x y : Typed) (a : ℕ) → magnitude (pair x) ≤ a → a * magnitude (pair y) ≤ most → magnitude (product (pair x) (pair y)) ≤ most
+times_fits x y a h l =
+    let q = product_magnitude (pair x) (pair y) in
+    let m : magnitude (pair y) * magnitude (pair x) ≤ magnitude (pair y) * a = mul-le-mul_left (magnitude (pair y)) h in
+    omega (arith, q, m, l)
+
+-- ---- powers of a variable
+module _ (vars : List VarInfo) (v : ℕ) where
+  -- the variable
+  pub variable_has : (k e : ℕ) (t : Typed) → t ≡ input_of vars v → 1 ≤ e → e ≤ k + 1 → (1 ≤ k → e ≤ 1) → Has vars t (power k v e) (scale vars v ^ e)
+  variable_has k e t q l h s =
+      let r : 1 ≡ e = first k e l h s in
+      let i = has_as vars t (Input v) (Input v) (magnitude (ranges vars v)) (scale vars v ^ 1) refl (rw (power_one (scale vars v)) (range_scale vars v))
+      (input_has vars v t q) in
+      subst (λ n. Has vars t (power k v n) (scale vars v ^ n)) r (rw (is_input k) i)
+    where
+      first : (k e : ℕ) → 1 ≤ e → e ≤ k + 1 → (1 ≤ k → e ≤ 1) → 1 ≡ e
+      first zero e l h s = omega (arith, l, h)
+      first (suc k) e l h s = let g = s (omega arith) in omega (arith, l, g)
+
+      is_input : (k : ℕ) → power k v 1 ≡ Input v
+      is_input zero = refl
+      is_input (suc k) = refl
+
+  -- the square of the half
+  pub square_has : (k e : ℕ) (h t : Typed) → 1 ≤ k → 2 ≤ e → is_square e ≡ true → Has vars h (power (k - 1) v (e / 2)) (scale vars v ^ (e / 2))
+      → t ≡ square_of h → Has vars t (power k v e) (scale vars v ^ e)
+  square_has zero e h t l g q i r = absurd (omega (arith, l))
+  square_has (suc k) e h t l g q i r =
+      let s : scale vars v ^ e ≡ scale vars v ^ (e / 2) * scale vars v ^ (e / 2) =
+      ap (λ n. scale vars v ^ n) (sym (halves e q).1) ∙ power_sum (scale vars v) (e / 2) (e / 2) in
+      let m = power_magnitude (pair h) 2 ∙ power_two (magnitude (pair h)) in
+      let b : magnitude (pair h) * magnitude (pair h) ≤ scale vars v ^ (e / 2) * scale vars v ^ (e / 2) = mul-le _ _ _ _ i.small i.small in
+      let z : suc k - 1 ≡ k = omega arith in
+      let y : untyped h ≡ power k v (e / 2) = i.same ∙ ap (λ n. power n v (e / 2)) z in
+      rw r (record {
+        same = ap (λ x. Pow x 2) y ∙ sym (squares k v e g q);
+        exact = (i.exact, refl, refl);
+        small = omega (arith, s, m, b);
+      })
+
+  -- the product with the variable
+  pub again_has : (k e : ℕ) (h i t : Typed) → 1 ≤ k → 2 ≤ e → is_square e ≡ false → Has vars h (power (k - 1) v (e - 1)) (scale vars v ^ (e - 1))
+      → i ≡ input_of vars v → t ≡ times_of h i → Has vars t (power k v e) (scale vars v ^ e)
+  again_has zero e h i t l g q j r s = absurd (omega (arith, l))
+  again_has (suc k) e h i t l g q j r s =
+      let n : e - 1 + 1 ≡ e = omega (arith, g) in
+      let p : scale vars v ^ e ≡ scale vars v ^ (e - 1) * scale vars v =
+      ap (λ n. scale vars v ^ n) (sym n) ∙ power_sum (scale vars v) (e - 1) 1 ∙ ap (λ x. scale vars v ^ (e - 1) * x) (power_one (scale vars v)) in
+      let u = input_has vars v i r in
+      let w : magnitude (pair i) ≤ scale vars v = omega (arith, u.small, range_scale vars v) in
+      let b : magnitude (pair h) * magnitude (pair i) ≤ scale vars v ^ (e - 1) * scale vars v = mul-le _ _ _ _ j.small w in
+      let z : suc k - 1 ≡ k = omega arith in
+      let y : Mul (power (suc k - 1) v (e - 1)) (Input v) ≡ power (suc k) v e = ap (λ n. Mul (power n v (e - 1)) (Input v)) z ∙ sym (multiplies k v e g q) in
+      rw s (has_as vars (times_of h i) _ _ _ _ y (omega (arith, p, b)) (times_has vars h i _ _ _ _ j u))
+
+  -- what they are made of is within the limit
+  pub half_fits : (e : ℕ) (h : Typed) (t : Tree) → is_square e ≡ true → Has vars h t (scale vars v ^ (e / 2)) → scale vars v ^ e ≤ most
+      → magnitude (ranged.power (pair h) 2) ≤ most
+  half_fits e h t q i l =
+      let s : scale vars v ^ e ≡ scale vars v ^ (e / 2) * scale vars v ^ (e / 2) =
+      ap (λ n. scale vars v ^ n) (sym (halves e q).1) ∙ power_sum (scale vars v) (e / 2) (e / 2) in
+      let m = power_magnitude (pair h) 2 ∙ power_two (magnitude (pair h)) in
+      let b : magnitude (pair h) * magnitude (pair h) ≤ scale vars v ^ (e / 2) * scale vars v ^ (e / 2) = mul-le _ _ _ _ i.small i.small in
+      omega (arith, s, m, b, l)
+
+  -- a smaller power of M is no larger
+  pub lower_fits : (a e : ℕ) → a ≤ e → scale vars v ^ e ≤ most → scale vars v ^ a ≤ most
+  lower_fits a e h l =
+      let n : a + (e - a) ≡ e = omega (arith, h) in
+      let p : scale vars v ^ e ≡ scale vars v ^ a * scale vars v ^ (e - a) = ap (λ n. scale vars v ^ n) (sym n) ∙ power_sum (scale vars v) a (e - a) in
+      let m : scale vars v ^ a * 1 ≤ scale vars v ^ a * scale vars v ^ (e - a) =
+      mul-le-mul_left (scale vars v ^ a) (one-le-pow (e - a) (scale vars v) (scale_some vars v)) in
+      omega (arith, p, m, l)
+
+  -- the product with the variable is within the limit
+  pub again_fits : (e : ℕ) (h i : Typed) (t : Tree) → 2 ≤ e → Has vars h t (scale vars v ^ (e - 1)) → i ≡ input_of vars v → scale vars v ^ e ≤ most
+      → magnitude (product (pair h) (pair i)) ≤ most
+  again_fits e h i t g j r l =
+      let n : e - 1 + 1 ≡ e = omega (arith, g) in
+      let p : scale vars v ^ e ≡ scale vars v ^ (e - 1) * scale vars v =
+      ap (λ n. scale vars v ^ n) (sym n) ∙ power_sum (scale vars v) (e - 1) 1 ∙ ap (λ x. scale vars v ^ (e - 1) * x) (power_one (scale vars v)) in
+      let u = input_has vars v i r in
+      let w : magnitude (pair i) ≤ scale vars v = omega (arith, u.small, range_scale vars v) in
+      let b : scale vars v ^ (e - 1) * magnitude (pair i) ≤ scale vars v ^ (e - 1) * scale vars v = mul-le-mul_left (scale vars v ^ (e - 1)) w in
+      times_fits h i (scale vars v ^ (e - 1)) j.small (omega (arith, p, b, l))
+
+-- ---- the weight of the parts of a step
+module _ (vars : List VarInfo) (v e : ℕ) (f : List Term) (o : (1 ≤ e) × (e ≤ 126) × HavePower e v f) where
+  -- the remaining terms at a step have no more weight
+  pub free_weight : (n : ℕ) (q : List Work) → terms_in q ≡ free_of v f → weighted_sum (scale vars) f ≤ n → weighted_sum (scale vars) (terms_in q) ≤ n
+  free_weight n q r h = let s = parts_weight (scale vars) e v f o.2 in rw r (omega (arith, s, h))
+
+  -- a power of M weighs at least 1
+  some : 1 ≤ scale vars v ^ e
+  some = one-le-pow e (scale vars v) (scale_some vars v)
+
+  -- nor have the divided terms
+  pub divided_weight : (n : ℕ) (p : List Work) → terms_in p ≡ divided e v f → weighted_sum (scale vars) f ≤ n → weighted_sum (scale vars) (terms_in p) ≤ n
+  divided_weight n p r h =
+      let s = parts_weight (scale vars) e v f o.2 in
+      let m : weighted_sum (scale vars) (divided e v f) * 1 ≤ weighted_sum (scale vars) (divided e v f) * scale vars v ^ e =
+      mul-le-mul_left (weighted_sum (scale vars) (divided e v f)) some in
+      rw r (omega (arith, s, h, m))
+
+  -- v^e times a tree of the divided terms, and a tree of the others, weigh no more than the terms
+  product_bound : (p : List Work) (b : ℕ) → terms_in p ≡ divided e v f → b ≤ weighted_sum (scale vars) (terms_in p)
+      → scale vars v ^ e * b + weighted_sum (scale vars) (free_of v f) ≤ weighted_sum (scale vars) f
+  product_bound p b r h =
+      let s = parts_weight (scale vars) e v f o.2 in
+      let g : b ≤ weighted_sum (scale vars) (divided e v f) = rw r at h in
+      let m : scale vars v ^ e * b ≤ scale vars v ^ e * weighted_sum (scale vars) (divided e v f) = mul-le-mul_left (scale vars v ^ e) g in
+      omega (arith, s, m)
+
+  -- neither the divided terms nor those without v have a zero factor
+  pub divided_some : (p : List Work) → terms_in p ≡ divided e v f → HasNoZero f → HasNoZero (terms_in p)
+  divided_some p r z = rw r (parts_some e v f z).0
+
+  pub free_some : (q : List Work) → terms_in q ≡ free_of v f → HasNoZero f → HasNoZero (terms_in q)
+  free_some q r z = rw r (parts_some e v f z).1
+
+  -- where some terms have v, the power of M is within the weight
+  pub power_fits : (p : List Work) → (p ≡ [] → ⊥) → terms_in p ≡ divided e v f → HasNoZero f → weighted_sum (scale vars) f ≤ most → scale vars v ^ e ≤ most
+  power_fits p n r z h =
+      let k = weighs_some p n (divided_some p r z) in
+      let m = product_bound p 1 r k in
+      omega (arith, m, h)
+    where
+      weighs_some : (p : List Work) → (p ≡ [] → ⊥) → HasNoZero (terms_in p) → 1 ≤ weighted_sum (scale vars) (terms_in p)
+      weighs_some [] n z = absurd (n refl)
+      weighs_some (x ∷ p) n z = some_weight (scale vars) (scale_some vars) (term_in x) (terms_in p) z
+
+  -- so is the product with a tree of the divided terms
+  pub scaled_fits : (p : List Work) (h : Typed) (t : Tree) → terms_in p ≡ divided e v f → Has vars h t (weighted_sum (scale vars) (terms_in p))
+      → weighted_sum (scale vars) f ≤ most → scale vars v ^ e * magnitude (pair h) ≤ most
+  scaled_fits p h t r k l = let m = product_bound p (magnitude (pair h)) r k.small in omega (arith, m, l)
 
 -- ---- each way a step ends
 -- some working terms are some terms
@@ -144,102 +264,92 @@ not_empty [] y r = y refl
 not_empty (x ∷ p) y r = cc
 
 -- a step where no term has v
-joined_free : (v : ℕ) (ds fs : List Term) (x i : Tree) → ds ≡ [] → i ≡ joined v x i ds fs
-joined_free v [] fs x i r = refl
-joined_free v (y ∷ ds) fs x i r = cc
+joined_free : (y : Tree) (ds fs : List Term) (x i : Tree) → ds ≡ [] → i ≡ joined y x i ds fs
+joined_free y [] fs x i r = refl
+joined_free y (d ∷ ds) fs x i r = cc
 
 -- a step where each term has v
-joined_product : (v : ℕ) (ds fs : List Term) (x i : Tree) → (ds ≡ [] → ⊥) → fs ≡ [] → scaled v x ≡ joined v x i ds fs
-joined_product v [] fs x i n r = absurd (n refl)
-joined_product v (d ∷ ds) [] x i n r = refl
-joined_product v (d ∷ ds) (y ∷ fs) x i n r = cc
+joined_product : (y : Tree) (ds fs : List Term) (x i : Tree) → (ds ≡ [] → ⊥) → fs ≡ [] → scaled y x ≡ joined y x i ds fs
+joined_product y [] fs x i n r = absurd (n refl)
+joined_product y (d ∷ ds) [] x i n r = refl
+joined_product y (d ∷ ds) (z ∷ fs) x i n r = cc
 
 -- a step where some have v and some have not
-joined_sum : (v : ℕ) (ds fs : List Term) (x i : Tree) → (ds ≡ [] → ⊥) → (fs ≡ [] → ⊥) → Add (scaled v x) i ≡ joined v x i ds fs
-joined_sum v [] fs x i n r = absurd (n refl)
-joined_sum v (d ∷ ds) [] x i n r = absurd (r refl)
-joined_sum v (d ∷ ds) (y ∷ fs) x i n r = refl
+joined_sum : (y : Tree) (ds fs : List Term) (x i : Tree) → (ds ≡ [] → ⊥) → (fs ≡ [] → ⊥) → Add (scaled y x) i ≡ joined y x i ds fs
+joined_sum y [] fs x i n r = absurd (n refl)
+joined_sum y (d ∷ ds) [] x i n r = absurd (r refl)
+joined_sum y (d ∷ ds) (z ∷ fs) x i n r = refl
 
--- a step of the nested form: the tree of the divided terms by powers of v, of which there are b, and that of the others
-abbrev pub step : (List Term → Tree) → ℕ → ℕ → List Term → Tree
-step inner v b f = horner inner v (suc b) f
+-- a step of the nested form by the power e of v: the tree of the divided terms in b steps, and that of the others
+abbrev pub step : (List Term → Tree) → ℕ → ℕ → ℕ → List Term → Tree
+step inner v b e f = joined (power e v e) (horner inner v b (divided e v f)) (inner (free_of v f)) (divided e v f) (free_of v f)
 
--- the code ends a step with the tree of the others
-pub ends_free : (vars : List VarInfo) (inner : List Term → Tree) (v b : ℕ) (f : List Term) (p q : List Work) (t : Typed) → p ≡ []
-    → terms_in p ≡ divided v f → terms_in q ≡ free_of v f → Has vars t (inner (terms_in q)) (weighted_sum (scale vars) (terms_in q))
-    → Has vars t (step inner v b f) (weighted_sum (scale vars) f)
-ends_free vars inner v b f p q t z e g h =
-    let d : divided v f ≡ [] = sym e ∙ ap terms_in z in
-    let s = parts_weight (scale vars) v f in
-    let k : weighted_sum (scale vars) (terms_in q) ≡ weighted_sum (scale vars) (free_of v f) = ap (weighted_sum (scale vars)) g in
-    has_as vars t _ _ _ _ (ap inner g ∙ joined_free v (divided v f) (free_of v f) (horner inner v b (divided v f)) (inner (free_of v f)) d)
-    (omega (arith, k, s)) h
+module _ (vars : List VarInfo) (inner : List Term → Tree) (v b e : ℕ) (f : List Term) (o : (1 ≤ e) × (e ≤ 126) × HavePower e v f)
+    (p q : List Work) (d : terms_in p ≡ divided e v f) (g : terms_in q ≡ free_of v f) where
+  -- the code ends a step with the tree of the others
+  pub ends_free : (t : Typed) → p ≡ [] → Has vars t (inner (terms_in q)) (weighted_sum (scale vars) (terms_in q))
+      → Has vars t (step inner v b e f) (weighted_sum (scale vars) f)
+  ends_free t z h =
+      let n : divided e v f ≡ [] = sym d ∙ ap terms_in z in
+      has_as vars t _ _ _ _ (ap inner g ∙ joined_free (power e v e) (divided e v f) (free_of v f) (horner inner v b (divided e v f)) (inner (free_of v f)) n)
+      (free_weight vars v e f o (weighted_sum (scale vars) f) q g (omega arith)) h
 
--- the magnitude of v times a tree of the divided terms
-pub product_small : (vars : List VarInfo) (v : ℕ) (f : List Term) (p : List Work) (x h : Typed) (e : Tree)
-    → x ≡ input_of vars v → terms_in p ≡ divided v f → Has vars h e (weighted_sum (scale vars) (terms_in p))
-    → magnitude (pair x) * magnitude (pair h) + weighted_sum (scale vars) (free_of v f) ≤ weighted_sum (scale vars) f
-product_small vars v f p x h e i d k =
-    let m = product_bound (scale vars) v f p (magnitude (pair h)) d k.small in
-    let s : magnitude (pair x) ≤ scale vars v = rw i (range_scale vars v) in
-    let l = mul-le-mul_left (magnitude (pair h)) s in
-    omega (arith, m, l)
+  -- the magnitude of the product and of the others
+  product_small : (x h : Typed) (t u : Tree) → Has vars x u (scale vars v ^ e) → Has vars h t (weighted_sum (scale vars) (terms_in p))
+      → magnitude (pair x) * magnitude (pair h) + weighted_sum (scale vars) (free_of v f) ≤ weighted_sum (scale vars) f
+  product_small x h t u i k =
+      let m = product_bound vars v e f o p (magnitude (pair h)) d k.small in
+      let s = i.small in
+      let l : magnitude (pair h) * magnitude (pair x) ≤ magnitude (pair h) * scale vars v ^ e = mul-le-mul_left (magnitude (pair h)) s in
+      omega (arith, m, l)
 
--- the product that a step makes is within 2^127 - 1
-pub product_fits : (vars : List VarInfo) (v : ℕ) (f : List Term) (p : List Work) (x h : Typed) (e : Tree) → x ≡ input_of vars v → terms_in p ≡ divided v f
-    → Has vars h e (weighted_sum (scale vars) (terms_in p)) → weighted_sum (scale vars) f ≤ most → magnitude (product (pair x) (pair h)) ≤ most
-product_fits vars v f p x h e i d k o =
-    let m = product_small vars v f p x h e i d k in
-    let q = product_magnitude (pair x) (pair h) in
-    omega (arith, m, o, q)
+  -- the parts of the sum are within the weight of the terms
+  parts_small : (h s i : Typed) (t u : Tree) → Has vars h t (weighted_sum (scale vars) (terms_in p)) → IsScaled vars v e h s
+      → Has vars i u (weighted_sum (scale vars) (terms_in q)) → magnitude (pair s) + magnitude (pair i) ≤ weighted_sum (scale vars) f
+  parts_small h s i t u k z j =
+      let m = product_small z.by h t _ z.own k in
+      let w : weighted_sum (scale vars) (terms_in q) ≡ weighted_sum (scale vars) (free_of v f) = ap (weighted_sum (scale vars)) g in
+      let n = product_has vars z.by h _ t _ _ z.own k in
+      let r = z.is in
+      let b : magnitude (pair s) ≤ magnitude (pair z.by) * magnitude (pair h) = rw r n.small in
+      let c = j.small in
+      omega (arith, m, w, b, c)
 
--- the parts of the sum are within the weight of the terms
-parts_small : (vars : List VarInfo) (v : ℕ) (f : List Term) (p q : List Work) (x h s i : Typed) (e g : Tree) → x ≡ input_of vars v
-    → terms_in p ≡ divided v f → terms_in q ≡ free_of v f → Has vars h e (weighted_sum (scale vars) (terms_in p)) → s ≡ product_of x h
-    → Has vars i g (weighted_sum (scale vars) (terms_in q)) → magnitude (pair s) + magnitude (pair i) ≤ weighted_sum (scale vars) f
-parts_small vars v f p q x h s i e g y d r k z j =
-    let m = product_small vars v f p x h e y d k in
-    let w : weighted_sum (scale vars) (terms_in q) ≡ weighted_sum (scale vars) (free_of v f) = ap (weighted_sum (scale vars)) r in
-    let n = product_has vars v x h e (weighted_sum (scale vars) (terms_in p)) y k in
-    let b : magnitude (pair s) ≤ magnitude (pair x) * magnitude (pair h) = rw z n.small in
-    let c = j.small in
-    omega (arith, m, w, b, c)
+  -- so the sum is within 2^127 - 1
+  pub sum_fits_most : (h s i : Typed) (t u : Tree) → Has vars h t (weighted_sum (scale vars) (terms_in p)) → IsScaled vars v e h s
+      → Has vars i u (weighted_sum (scale vars) (terms_in q)) → weighted_sum (scale vars) f ≤ most → magnitude (sum (pair s) (pair i)) ≤ most
+  sum_fits_most h s i t u k z j l =
+      let m = parts_small h s i t u k z j in
+      let n = sum_magnitude (pair s) (pair i) in
+      omega (arith, m, n, l)
 
--- so the sum is within 2^127 - 1
-pub sum_fits_most : (vars : List VarInfo) (v : ℕ) (f : List Term) (p q : List Work) (x h s i : Typed) (e g : Tree) → x ≡ input_of vars v
-    → terms_in p ≡ divided v f → terms_in q ≡ free_of v f → Has vars h e (weighted_sum (scale vars) (terms_in p)) → s ≡ product_of x h
-    → Has vars i g (weighted_sum (scale vars) (terms_in q)) → weighted_sum (scale vars) f ≤ most → magnitude (sum (pair s) (pair i)) ≤ most
-sum_fits_most vars v f p q x h s i e g y d r k z j o =
-    let m = parts_small vars v f p q x h s i e g y d r k z j in
-    let n = sum_magnitude (pair s) (pair i) in
-    omega (arith, m, n, o)
+  -- with the product
+  pub ends_product : (h t : Typed) → (p ≡ [] → ⊥) → q ≡ [] → Has vars h (horner inner v b (terms_in p)) (weighted_sum (scale vars) (terms_in p))
+      → IsScaled vars v e h t → Has vars t (step inner v b e f) (weighted_sum (scale vars) f)
+  ends_product h t y z a j =
+      let m = product_small j.by h _ _ j.own a in
+      let r = j.is in
+      let n : Has vars t (scaled (power e v e) (horner inner v b (terms_in p))) (magnitude (pair j.by) * magnitude (pair h)) =
+      rw r (product_has vars j.by h _ _ _ _ j.own a) in
+      has_as vars t _ _ _ _ (ap (λ u. scaled (power e v e) (horner inner v b u)) d ∙ joined_product (power e v e) (divided e v f) (free_of v f)
+      (horner inner v b (divided e v f)) (inner (free_of v f)) (λ r. not_empty p y (d ∙ r)) (sym g ∙ ap terms_in z)) (omega (arith, m)) n
 
--- with the product
-pub ends_product : (vars : List VarInfo) (inner : List Term → Tree) (v b : ℕ) (f : List Term) (p q : List Work) (x h t : Typed)
-    → (p ≡ [] → ⊥) → q ≡ [] → terms_in p ≡ divided v f → terms_in q ≡ free_of v f → x ≡ input_of vars v
-    → Has vars h (horner inner v b (terms_in p)) (weighted_sum (scale vars) (terms_in p)) → t ≡ product_of x h
-    → Has vars t (step inner v b f) (weighted_sum (scale vars) f)
-ends_product vars inner v b f p q x h t y z e g i a j =
-    let m = product_small vars v f p x h _ i e a in
-    let n : Has vars t (scaled v (horner inner v b (terms_in p))) (magnitude (pair x) * magnitude (pair h)) = rw j (product_has vars v x h _ _ i a) in
-    has_as vars t _ _ _ _ (ap (λ u. scaled v (horner inner v b u)) e ∙ joined_product v (divided v f) (free_of v f)
-    (horner inner v b (divided v f)) (inner (free_of v f)) (λ r. not_empty p y (e ∙ r)) (sym g ∙ ap terms_in z)) (omega (arith, m)) n
-
--- with the sum
-pub ends_sum : (vars : List VarInfo) (inner : List Term → Tree) (v b : ℕ) (f : List Term) (p q : List Work) (x h i s t : Typed)
-    → (p ≡ [] → ⊥) → (q ≡ [] → ⊥) → terms_in p ≡ divided v f → terms_in q ≡ free_of v f → x ≡ input_of vars v
-    → Has vars h (horner inner v b (terms_in p)) (weighted_sum (scale vars) (terms_in p)) → s ≡ product_of x h
-    → Has vars i (inner (terms_in q)) (weighted_sum (scale vars) (terms_in q)) → t ≡ plus_of s i → Has vars t (step inner v b f) (weighted_sum (scale vars) f)
-ends_sum vars inner v b f p q x h i s t y z e g u a j c r =
-    let m = parts_small vars v f p q x h s i _ _ u e g a j c in
-    let n : Has vars s (scaled v (horner inner v b (terms_in p))) (magnitude (pair x) * magnitude (pair h)) = rw j (product_has vars v x h _ _ u a) in
-    let d : Has vars t (Add (scaled v (horner inner v b (terms_in p))) (inner (terms_in q))) (magnitude (pair s) + magnitude (pair i)) =
-    rw r (plus_has vars s i _ _ _ _ n c) in
-    has_as vars t _ _ _ _ (both (ap (horner inner v b) e) (ap inner g) ∙ joined_sum v (divided v f) (free_of v f)
-    (horner inner v b (divided v f)) (inner (free_of v f)) (λ a. not_empty p y (e ∙ a)) (λ a. not_empty q z (g ∙ a))) m d
-  where
-    both : {a c d g : Tree} → a ≡ c → d ≡ g → Add (scaled v a) d ≡ Add (scaled v c) g
-    both p q = rw (p, q) refl
+  -- with the sum
+  pub ends_sum : (h i s t : Typed) → (p ≡ [] → ⊥) → (q ≡ [] → ⊥) → Has vars h (horner inner v b (terms_in p)) (weighted_sum (scale vars) (terms_in p))
+      → IsScaled vars v e h s → Has vars i (inner (terms_in q)) (weighted_sum (scale vars) (terms_in q)) → t ≡ plus_of s i
+      → Has vars t (step inner v b e f) (weighted_sum (scale vars) f)
+  ends_sum h i s t y z a j c r =
+      let m = parts_small h s i _ _ a j c in
+      let u = j.is in
+      let n : Has vars s (scaled (power e v e) (horner inner v b (terms_in p))) (magnitude (pair j.by) * magnitude (pair h)) =
+      rw u (product_has vars j.by h _ _ _ _ j.own a) in
+      let k : Has vars t (Add (scaled (power e v e) (horner inner v b (terms_in p))) (inner (terms_in q))) (magnitude (pair s) + magnitude (pair i)) =
+      rw r (plus_has vars s i _ _ _ _ n c) in
+      has_as vars t _ _ _ _ (both (ap (horner inner v b) d) (ap inner g) ∙ joined_sum (power e v e) (divided e v f) (free_of v f)
+      (horner inner v b (divided e v f)) (inner (free_of v f)) (λ a. not_empty p y (d ∙ a)) (λ a. not_empty q z (g ∙ a))) m k
+    where
+      both : {a c d g : Tree} → a ≡ c → d ≡ g → Add (scaled (power e v e) a) d ≡ Add (scaled (power e v e) c) g
+      both p q = rw (p, q) refl
 
 -- ---- lists that are empty or not
 -- the test of an empty vector
@@ -251,10 +361,14 @@ pub is_some : (n : ℕ) (ws : List Work) → false ≡ (n == 0) → n ≡ length
 is_some n ws e l r = eqb-false n 0 (sym e) (l ∙ ap length r)
 
 -- ---- where the forms of the code and of the definition meet
--- powers up to b + 1 are a step
-pub at_count : (vars : List VarInfo) (inner : List Term → Tree) (v b c n : ℕ) (f : List Term) (t : Typed) → c ≡ suc b
-    → Has vars t (step inner v b f) n → Has vars t (horner inner v c f) n
-at_count vars inner v b c n f t e h = rw e h
+-- b + 1 steps are a step, by the power at once
+pub at_count : (vars : List VarInfo) (inner : List Term → Tree) (v b e c n : ℕ) (f : List Term) (t : Typed) → c ≡ suc b → e ≡ at_once v f
+    → Has vars t (step inner v b e f) n → Has vars t (horner inner v c f) n
+at_count vars inner v b e c n f t q r h = rw q (subst (λ k. Has vars t (step inner v b k f) n) r h)
+
+-- the code's power is one that the terms have
+pub code_power : (v e : ℕ) (f : List Term) → e ≡ at_once v f → (1 ≤ e) × (e ≤ 126) × HavePower e v f
+code_power v e f r = rw r (at_once_is v f)
 
 -- the sum of the factors is within 2^127 - 1
 pub total_fits : (vars : List VarInfo) (f : List Term) (c : ℤ) → c ≡ total f → weighted_sum (scale vars) f ≤ most → unsigned_abs c ≤ most

@@ -21,10 +21,11 @@ use Rattle.ln_poly.specs.Sparse.{IsFactor, IsPoly, Sparse, coefficient_at, term_
 use Rattle.ln_poly.proofs.TermLists.Products.{over-terms}
 use Rattle.ln_poly.proofs.Derivations.Deriving.{same-monomial}
 use Rattle.ln_nest.specs.Lean.{AreLean, AreUnder, HasNoZero, largest}
-use Rattle.ln_nest.specs.Nested.{exponent_of, divided, free_of, joined, nested, nested_form}
+use Rattle.ln_nest.specs.Nested.{exponent_of, divided, free_of, joined, nested, nested_form, power}
 use Rattle.ln_nest.specs.declared.work.Work.{Work}
 use Rattle.ln_nest.specs.View.{Has, scale, terms_in}
 use Rattle.ln_nest.proofs.Terms.Parts.{AllFit, nested_has}
+use Rattle.ln_nest.proofs.Terms.Powers.{closed_power}
 use Rattle.ln_nest.proofs.Terms.Scaled.{closed_scaled}
 use Rattle.ln_nest.proofs.Forms.Same.{nested_is}
 use Rattle.ln_nest.proofs.Forms.Costs.{AllDegrees, allowance, cost_of, cost_same, need_of, need_same, nested_cheap, nested_need}
@@ -82,15 +83,16 @@ scaled_sum vars f = sum_same (scale vars) (sizes vars) (length vars) (terms_of (
 
 -- ---- a nested tree has no lets
 -- a step
-joined_closed : (v : ℕ) (h i : Tree) (p q : List Term) → inlined [] h ≡ h → inlined [] i ≡ i → inlined [] (joined v h i p q) ≡ joined v h i p q
-joined_closed v h i [] q a b = b
-joined_closed v h i (x ∷ p) [] a b = closed_scaled v h a
-joined_closed v h i (x ∷ p) (y ∷ q) a b = rw (closed_scaled v h a, b) refl
+joined_closed : (x h i : Tree) (p q : List Term) → inlined [] x ≡ x → inlined [] h ≡ h → inlined [] i ≡ i → inlined [] (joined x h i p q) ≡ joined x h i p q
+joined_closed x h i [] q c a b = b
+joined_closed x h i (t ∷ p) [] c a b = closed_scaled x h c a
+joined_closed x h i (t ∷ p) (y ∷ q) c a b = rw (closed_scaled x h c a, b) refl
 
 -- the whole
 nested_closed : (d k v : ℕ) (f : List Term) → inlined [] (nested d k v f) ≡ nested d k v f
 nested_closed d k v =
-    nested_has (k + v) (λ f e. inlined [] e ≡ e) (λ f. refl) (λ v f h i l a b. joined_closed v h i (divided v f) (free_of v f) a b) d k v refl
+    nested_has (k + v) (λ f e. inlined [] e ≡ e) (λ f. refl)
+    (λ v e f h i l o a b. joined_closed (power e v e) h i (divided e v f) (free_of v f) (closed_power v e e o.0 (omega (arith, o.1))) a b) d k v refl
 
 -- ---- the whole
 -- the coefficient of a polynomial is that of its terms
@@ -146,8 +148,8 @@ whole_lean d n f t e =
     (terms_under n (largest f) f (λ w. omega arith)) (omega (arith, z)) in
     rw e s.nodes
 
--- 254 operations for each term, where degrees are at most 126
-few_allowance : (d : ℕ) (f : List Term) → d ≤ 126 → AllDegrees d f → allowance f ≤ 254 * length f
+-- 380 operations for each term, where degrees are at most 126
+few_allowance : (d : ℕ) (f : List Term) → d ≤ 126 → AllDegrees d f → allowance f ≤ 380 * length f
 few_allowance d [] l a = omega arith
 few_allowance d (t ∷ f) l a = let ih = few_allowance d f l a.1 in omega (arith, ih, a.0, l)
 
@@ -166,6 +168,10 @@ whole_cheap d n f t l a e =
 pub whole_weight : (vs vars : List VarInfo) (g f : Sparse) (ws : List Work) → vs ≡ vars → g ≡ f → terms_in ws ≡ terms_of (length vs) g
     → weighted_sum (sizes vars) (terms_of (length vars) f) ≤ most → weighted_sum (scale vs) (terms_in ws) ≤ most
 whole_weight vs vars g f ws p q e l = rw (e, p, q) (omega (arith, scaled_sum vars f, l))
+
+-- nor have they a zero factor
+pub whole_some : (vs : List VarInfo) (g f : Sparse) (ws : List Work) → g ≡ f → terms_in ws ≡ terms_of (length vs) g → IsPoly f → HasNoZero (terms_in ws)
+whole_some vs g f ws q e p = rw (e, q) (terms_some (length vs) f p.factors)
 
 -- the tree that the code built is that of the polynomial
 pub whole_has : (vs vars : List VarInfo) (g f : Sparse) (ws : List Work) (t : Typed) → vs ≡ vars → g ≡ f

@@ -5,7 +5,7 @@ use Rattle.std.proofs.lemmas.Bool.Decides.{nat_tests}
 use Rattle.std.proofs.lemmas.List.{map-append}
 use Rattle.ln_algebra.specs.Terms.{Term}
 use Rattle.ln_nest.specs.declared.work.Work.{Work}
-use Rattle.ln_nest.specs.Nested.{exponent_of, is_positive, one_less, divided, free_of}
+use Rattle.ln_nest.specs.Nested.{exponent_of, is_positive, less, divided, free_of}
 use Rattle.ln_tree.specs.Exps.{Pairs, exponent, exponents_from, vector}
 use Rattle.ln_nest.specs.View.{term_in, terms_in}
 use Rattle.ln_nest.proofs.Terms.Parts.{by_parts, less_term}
@@ -33,33 +33,26 @@ within v [] h = cc
 within zero (n ∷ m) h = omega arith
 within (suc v) (n ∷ m) h = let r = within v m h in omega (arith, r)
 
--- and is at least 1 there
-pub positive : (v : ℕ) (m : List ℕ) (d : ℕ) → is_positive (exponent_of v m) ≡ true → 1 ≤ slice_index_or m v d
-positive v [] d h = cc
-positive zero (zero ∷ m) d h = cc
-positive zero (suc n ∷ m) d h = omega arith
-positive (suc v) (n ∷ m) d h = positive v m d h
-
--- where the exponent is written as one less, the vector has one less
-pub set_is : (v : ℕ) (m : List ℕ) (x : ℕ) → x ≡ slice_index_or m v x → v < length m → slice_set m v (x - 1) ≡ one_less v m
-set_is v [] x e h = absurd (omega arith)
-set_is zero (n ∷ m) x e h = let f : x ≡ n = e in rw f refl
-set_is (suc v) (n ∷ m) x e h = ap (λ t. n ∷ t) (set_is v m x e (omega arith))
+-- where the exponent is written as e less, the vector has e less
+pub set_is : (e v : ℕ) (m : List ℕ) (x : ℕ) → x ≡ slice_index_or m v x → v < length m → slice_set m v (x - e) ≡ less e v m
+set_is e v [] x q h = absurd (omega arith)
+set_is e zero (n ∷ m) x q h = let f : x ≡ n = q in rw f refl
+set_is e (suc v) (n ∷ m) x q h = ap (λ t. n ∷ t) (set_is e v m x q (omega arith))
 
 -- the divided terms of two lists one after the other
-divided_both : (v : ℕ) (f g : List Term) → divided v (f ++ g) ≡ divided v f ++ divided v g
-divided_both v f g =
-    by_parts v (λ f d h. divided v (f ++ g) ≡ d ++ divided v g) refl (λ t f d h e ih. rw e (ap (λ z. less_term v t ∷ z) ih)) (λ t f d h e ih. rw e ih) f
+divided_both : (e v : ℕ) (f g : List Term) → divided e v (f ++ g) ≡ divided e v f ++ divided e v g
+divided_both e v f g =
+    by_parts e v (λ f d h. divided e v (f ++ g) ≡ d ++ divided e v g) refl (λ t f d h q ih. rw q (ap (λ z. less_term e v t ∷ z) ih)) (λ t f d h q ih. rw q ih) f
 
 -- and the terms without v
 free_both : (v : ℕ) (f g : List Term) → free_of v (f ++ g) ≡ free_of v f ++ free_of v g
-free_both v f g = by_parts v (λ f d h. free_of v (f ++ g) ≡ h ++ free_of v g) refl (λ t f d h e ih. rw e ih) (λ t f d h e ih. rw e (ap (λ z. t ∷ z) ih)) f
+free_both v f g = by_parts 1 v (λ f d h. free_of v (f ++ g) ≡ h ++ free_of v g) refl (λ t f d h e ih. rw e ih) (λ t f d h e ih. rw e (ap (λ z. t ∷ z) ih)) f
 
 -- the divided terms with one term more
-divided_one : (v : ℕ) (ws : List Work) (w : Work) (x : List Term) → divided v (term_in w ∷ []) ≡ x
-    → divided v (terms_in (ws ++ (w ∷ []))) ≡ divided v (terms_in ws) ++ x
-divided_one v ws w x e =
-    ap (divided v) (map-append term_in ws (w ∷ [])) ∙ divided_both v (terms_in ws) (term_in w ∷ []) ∙ ap (λ z. divided v (terms_in ws) ++ z) e
+divided_one : (e v : ℕ) (ws : List Work) (w : Work) (x : List Term) → divided e v (term_in w ∷ []) ≡ x
+    → divided e v (terms_in (ws ++ (w ∷ []))) ≡ divided e v (terms_in ws) ++ x
+divided_one e v ws w x q =
+    ap (divided e v) (map-append term_in ws (w ∷ [])) ∙ divided_both e v (terms_in ws) (term_in w ∷ []) ∙ ap (λ z. divided e v (terms_in ws) ++ z) q
 
 -- the others with one term more
 free_one : (v : ℕ) (ws : List Work) (w : Work) (x : List Term) → free_of v (term_in w ∷ []) ≡ x
@@ -67,16 +60,16 @@ free_one : (v : ℕ) (ws : List Work) (w : Work) (x : List Term) → free_of v (
 free_one v ws w x e = ap (free_of v) (map-append term_in ws (w ∷ [])) ∙ free_both v (terms_in ws) (term_in w ∷ []) ∙ ap (λ z. free_of v (terms_in ws) ++ z) e
 
 -- a term with v goes to the divided ones
-pub with_step : (v : ℕ) (items news : List Work) (lower : Work) (seen : List Work) (term : Work) → news ≡ items ++ (lower ∷ [])
-    → lower.exponents.items ≡ one_less v term.exponents.items → lower.factor ≡ term.factor → terms_in items ≡ divided v (terms_in seen)
-    → is_positive (exponent_of v term.exponents.items) ≡ true → terms_in news ≡ divided v (terms_in (seen ++ (term ∷ [])))
-with_step v items news lower seen term e p q i h =
-    ap terms_in e ∙ map-append term_in items (lower ∷ []) ∙ rw (i, p, q) (sym (divided_one v seen term (less_term v (term_in term) ∷ []) (rw h refl)))
+pub with_step : (e v : ℕ) (items news : List Work) (lower : Work) (seen : List Work) (term : Work) → news ≡ items ++ (lower ∷ [])
+    → lower.exponents.items ≡ less e v term.exponents.items → lower.factor ≡ term.factor → terms_in items ≡ divided e v (terms_in seen)
+    → is_positive (exponent_of v term.exponents.items) ≡ true → terms_in news ≡ divided e v (terms_in (seen ++ (term ∷ [])))
+with_step e v items news lower seen term r p q i h =
+    ap terms_in r ∙ map-append term_in items (lower ∷ []) ∙ rw (i, p, q) (sym (divided_one e v seen term (less_term e v (term_in term) ∷ []) (rw h refl)))
 
 -- a term without v leaves them
-pub with_same : (v : ℕ) (items seen : List Work) (term : Work) → terms_in items ≡ divided v (terms_in seen)
-    → is_positive (exponent_of v term.exponents.items) ≡ false → terms_in items ≡ divided v (terms_in (seen ++ (term ∷ [])))
-with_same v items seen term i h = i ∙ sym (divided_one v seen term [] (rw h refl) ∙ append-nil _)
+pub with_same : (e v : ℕ) (items seen : List Work) (term : Work) → terms_in items ≡ divided e v (terms_in seen)
+    → is_positive (exponent_of v term.exponents.items) ≡ false → terms_in items ≡ divided e v (terms_in (seen ++ (term ∷ [])))
+with_same e v items seen term i h = i ∙ sym (divided_one e v seen term [] (rw h refl) ∙ append-nil _)
 
 -- and goes to the others
 pub without_step : (v : ℕ) (items news seen : List Work) (term : Work) → news ≡ items ++ (term ∷ []) → terms_in items ≡ free_of v (terms_in seen)

@@ -2,7 +2,7 @@ use Rattle.std.proofs.Common.{length, arith, refl}
 use Rattle.ln_tree.proofs.KeptLemmas.{few_vars}
 use Rattle.ln_bound.proofs.Measures.Measuring.{ordered}
 use Rattle.ln_bound.specs.View.{typed}
-use Rattle.ln_nest.proofs.Forms.Whole.{whole_form, whole_weight, whole_has, whole_same, whole_sound, whole_lean, whole_cheap}
+use Rattle.ln_nest.proofs.Forms.Whole.{whole_form, whole_some, whole_weight, whole_has, whole_same, whole_sound, whole_lean, whole_cheap}
 use Rattle.ln_nest.proofs.horner.nest.Goals as goal
 
 pub nest_from-requires-clause-few : goal.nest_from-requires-clause-few
@@ -14,6 +14,10 @@ nest_from-requires-clause-ordered c = ordered c.args.s.now.sites c.args.s.now.va
 pub nest_from-requires-clause-weight : goal.nest_from-requires-clause-weight
 nest_from-requires-clause-weight c = whole_weight c.as_slice-vars.result.now c.args.s.now.vars c.terms.result.now c.args.f.now
     c.in_ok-terms.terms.items c.as_slice-vars.ensures c.terms.ensures.value c.in_ok-terms.ensures c.requires.small
+
+pub nest_from-requires-clause-some : goal.nest_from-requires-clause-some
+nest_from-requires-clause-some c = whole_some c.as_slice-vars.result.now c.terms.result.now c.args.f.now c.in_ok-terms.terms.items
+    c.terms.ensures.value c.in_ok-terms.ensures c.terms.ensures.form
 
 pub returns : goal.returns
 returns c =

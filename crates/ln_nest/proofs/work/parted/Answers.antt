@@ -9,7 +9,7 @@ loop-term-preserved-in-Continue-1 c =
     let j = c.loop-term.invariant in
     let k = c.lower.ensures in
     record {
-      with_it = with_step c.args.v c.loop-term.with.items c.push.new.self.items c.lower.new.term c.loop-term.yielded c.in-Some.term
+      with_it = with_step c.args.e c.args.v c.loop-term.with.items c.push.new.self.items c.lower.new.term c.loop-term.yielded c.in-Some.term
           c.in_ok-push.ensures.items k.exponents k.factor j.with_it e;
       without_it = without_same c.args.v c.loop-term.without.items c.loop-term.yielded c.in-Some.term j.without_it e;
     }
@@ -19,7 +19,7 @@ loop-term-preserved c =
     let e : is_positive (exponent_of c.args.v c.in-Some.term.exponents.items) ≡ false = sym c.has.ensures ∙ c.if-has.false in
     let j = c.loop-term.invariant in
     record {
-      with_it = with_same c.args.v c.loop-term.with.items c.loop-term.yielded c.in-Some.term j.with_it e;
+      with_it = with_same c.args.e c.args.v c.loop-term.with.items c.loop-term.yielded c.in-Some.term j.with_it e;
       without_it = without_step c.args.v c.loop-term.without.items c.push-else-has.new.self.items c.loop-term.yielded c.in-Some.term
           c.in_ok-push-2.ensures.items j.without_it e;
     }
