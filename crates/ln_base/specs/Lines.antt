@@ -13,8 +13,8 @@ abbrev pub lines : List ℕ → List (List ℕ)
 lines [] = []
 lines (b ∷ bs) = if b == 10 then (b ∷ []) ∷ lines bs else onto b (lines bs)
 
--- one text after the other
-abbrev pub joined : List (List ℕ) → List ℕ
+-- one list after the other
+abbrev pub joined : {A : Type 0} → List (List A) → List A
 joined [] = []
 joined (t ∷ ts) = t ++ joined ts
 
@@ -46,12 +46,21 @@ abbrev pub is_plain : List ℕ → Bool
 is_plain [] = true
 is_plain (b ∷ bs) = if b == 32 then false else if b == 10 then false else is_plain bs
 
--- ---- words appended
+-- ---- what is appended
+-- Things of any kind are written by `text`. A text before and after some were appended: where things of which g puts more before any rest
+-- were to be appended to the old text, those that f puts before it are to be appended to the new one.
+pub record Leaves {A : Type 0} (text : List A → List ℕ) (old new : List ℕ) (f g : List A → List A) : Type 0 where
+  pub is : (rest : List A) → new ++ text (f rest) ≡ old ++ text (g rest)
+
+-- the things that f puts before any rest were appended
+abbrev pub Appends : {A : Type 0} → (List A → List ℕ) → List ℕ → List ℕ → (List A → List A) → Type 0
+Appends text old new f = Leaves text old new (λ rest. rest) f
+
 -- words with a space before each
 abbrev pub spaced : List (List ℕ) → List ℕ
 spaced [] = []
 spaced (w ∷ ws) = 32 ∷ (w ++ spaced ws)
 
--- a text before and after words were appended, each followed by a rest of words: between them these words were appended
-pub record Puts (old new : List ℕ) (f : List (List ℕ) → List (List ℕ)) : Type 0 where
-  pub is : (r : List (List ℕ)) → new ++ spaced r ≡ old ++ spaced (f r)
+-- these words were appended
+abbrev pub Puts : List ℕ → List ℕ → (List (List ℕ) → List (List ℕ)) → Type 0
+Puts old new f = Appends spaced old new f

@@ -1,7 +1,7 @@
 -- What files and streams in memory hold, and when their calls fail.
 use Rattle.std.specs.Prelude.{◌≡◌, ◌⊎◌, ◌↔◌, ℕ, ◌-◌, ◌<◌, min, List, length, Bool, IsTrue, Option, None, Result, IfOk, IfSome, IsErr, OnErr, OnOk}
 use Rattle.std.specs.Io.{ReadsAtMost}
-use Rattle.ln_base.specs.Outside.{Gives, HasCause, Shelf, Shown, counted, counted_on, port_bytes}
+use Rattle.ln_base.specs.Outside.{Copies, HasCause, Shelf, Shown, counted, counted_on, port_bytes}
 use Rattle.ln_base.specs.declared.outside.Failed.{Failed}
 use Rattle.ln_base.specs.declared.outside.Port.{Port}
 
@@ -32,7 +32,7 @@ handed content at room = min room (length content - at)
 pub record HandedOver (content : Option (List ℕ)) (at : ℕ) (listed : Bool) (before count had has : ℕ) (r : Result ℕ Failed)
     (buf : List ℕ) : Type 0 where
   pub bound : ReadsAtMost r buf
-  pub bytes : IfOk r (λ n. IfSome content (λ bs. Gives bs at n buf))
+  pub bytes : IfOk r (λ n. IfSome content (λ bs. Copies bs at n buf))
   pub absent : content ≡ None → IsErr r × (count ≡ before)
   pub cause : HasCause before count r (content ≡ None)
   pub step : OnErr r ((count ≡ counted before) ⊎ (content ≡ None))

@@ -4,7 +4,8 @@ use Rattle.std.proofs.Common.{subst, arith, append_assoc, append-nil}
 use Rattle.ln_base.specs.Exponents.{Each}
 use Rattle.ln_base.specs.Lines.{lines}
 use Rattle.ln_base.proofs.Texts.Lists.{head, rest}
-use Rattle.ln_base.specs.Forms.Fault.{IsFaultOf, IsPrefixOf}
+use Rattle.ln_base.specs.Forms.Fault.{IsFaultOf}
+use Rattle.ln_base.specs.Prefixes.{IsPrefixOf}
 use Rattle.ln_base.specs.Forms.Form.{AreSound, IsWhole, RefusesText, Rules, goes, text_of, texts_of}
 use Rattle.ln_base.proofs.Forms.Walk.{each_append, goes_append, map_append, one_line, some_next}
 

@@ -2,7 +2,8 @@
 use Rattle.std.proofs.Common.{◌≡◌, ℕ, ◌≤◌, ◌<◌, suc, List, [], ◌∷◌, ◌++◌, length, take, drop, ◌⊎◌, inl, inr, refl, sym, ap, ◌∙◌, subst, arith, append_assoc}
 use Rattle.ln_base.specs.Lines.{lines}
 use Rattle.ln_base.proofs.Texts.Lines.{nat_split, shorter, take_drop, three}
-use Rattle.ln_base.specs.Forms.Fault.{IsFaultOf, IsPrefixOf}
+use Rattle.ln_base.specs.Forms.Fault.{IsFaultOf}
+use Rattle.ln_base.specs.Prefixes.{IsPrefixOf}
 
 module _ (P : List (List ℕ) → Type 0) where
   fewer : (m n : ℕ) (ts : List (List ℕ)) → m ≤ n → IsPrefixOf P (take n ts) → IsPrefixOf P (take m ts)

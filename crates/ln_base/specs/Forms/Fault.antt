@@ -1,10 +1,7 @@
 -- Defines the first line at which a text stops being of a form, where the form is told by all texts that are the lines of one.
-use Rattle.std.specs.Prelude.{◌≡◌, ℕ, ◌+◌, ◌<◌, ◌≤◌, List, ◌++◌, length, take}
+use Rattle.std.specs.Prelude.{◌≡◌, ℕ, ◌+◌, ◌<◌, ◌≤◌, List, length, take}
 use Rattle.ln_base.specs.Lines.{lines}
-
--- these lines are the first of a text of the form
-abbrev pub IsPrefixOf : (List (List ℕ) → Type 0) → List (List ℕ) → Type 0
-IsPrefixOf IsWhole texts = (more : List (List ℕ)) × IsWhole (texts ++ more)
+use Rattle.ln_base.specs.Prefixes.{IsPrefixOf}
 
 -- line `at`, from 1, is the first at which the lines so far are no prefix of a text of the form; where all lines are one and the bytes are
 -- no such text, it is one more than there are lines

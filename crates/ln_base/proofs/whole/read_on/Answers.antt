@@ -1,10 +1,22 @@
-use Rattle.std.proofs.Common.{arith, rules, ◌∙◌, refl, ◌≡◌, ◌<◌, ◌≤◌, true, false, length}
-use Rattle.ln_base.proofs.Kept.{came_more, front_grows, still_absent, still_caused, still_counted, all_read, longer, no_front, of_any, read_is_none}
+use Rattle.std.proofs.Common.{arith, ap, rules, ◌∙◌, refl, ◌≡◌, ◌<◌, ◌≤◌, true, false, length}
+use Rattle.ln_base.proofs.Kept.{came_more, front_grows, no_bytes, still_absent, still_caused, still_counted, all_read, longer, no_front, of_any, read_is_none}
 use Rattle.ln_base.proofs.Kept.{fault_is_none, long_is_none}
 use Rattle.ln_base.proofs.whole.read_on.Goals as goal
 use Rattle.std.specs.Prelude.{Err}
 use Rattle.ln_base.specs.Outside.{refused}
 use Rattle.ln_base.specs.declared.whole.ReadStop.TheVariants.{NoMemory}
+
+pub loop-buf-init : goal.loop-buf-init
+loop-buf-init g c = (
+  record {
+    told = refl;
+    front = rw c.requires.empty (no_bytes c.args.name.now (g.F.Files.told c.args.files.now));
+    came = omega (arith, ap length c.requires.empty);
+    later = omega arith;
+    fine = refl;
+  },
+  c.requires.fresh,
+)
 
 pub returns-then-n-eq0-clause-read : goal.returns-then-n-eq0-clause-read
 returns-then-n-eq0-clause-read g c =
@@ -77,7 +89,7 @@ loop-buf-preserved g c =
     let n_in : c.in-Ok.n ≤ length c.read_at.new.buf = search rules in (
       record {
         told = c.read_at.ensures.told ∙ c.loop-buf.invariant.0.told;
-        front = front_grows _ _ _ _ _ _ _ _ _ at c.loop-buf.invariant.0.told c.loop-buf.invariant.0.front c.in-Ok.ensures.bytes n_in
+        front = front_grows _ _ _ _ _ _ _ _ _ at c.loop-buf.invariant.0.told c.loop-buf.invariant.0.front c.in-Ok.ensures.bytes
             (λ a. let h : false ≡ true = (c.in-Ok.ensures.absent a).0 in cc) refl c.in_ok-add-in-Ok.ensures.items;
         came = came_more _ _ _ _ _ _ _ _ c.loop-buf.invariant.0.came c.in-Ok.ensures.given n_in refl c.in_ok-add-in-Ok.ensures.items;
         later = omega (arith, c.loop-buf.invariant.0.later, c.read_at.ensures.cause.later);
