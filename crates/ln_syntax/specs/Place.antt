@@ -1,5 +1,6 @@
 -- Where tokens stop being a prefix of a file, and where parentheses are nested too deep.
-use Rattle.std.specs.Prelude.{◌≡◌, ℕ, suc, ◌-◌, ◌<◌, ◌≤◌, ◌++◌, List, [], ◌∷◌, length, take}
+use Rattle.std.specs.Prelude.{◌≡◌, ℕ, suc, ◌-◌, ◌<◌, ◌≤◌, List, [], ◌∷◌, length, take}
+use Rattle.ln_base.specs.Prefixes.{IsPrefixOf}
 use Rattle.ln_lex.specs.declared.token.Token.{Token}
 use Rattle.ln_lex.specs.declared.token.Kind.{Kind}
 use Rattle.ln_lex.specs.declared.token.Kind.TheVariants.{ParL, ParR}
@@ -10,15 +11,11 @@ use Rattle.ln_syntax.specs.File.{Spelt}
 abbrev pub IsText : List Token → Type 0
 IsText ts = (xs : List Item) × Spelt ts xs
 
--- the tokens are a prefix of a file
-abbrev pub IsPrefix : List Token → Type 0
-IsPrefix ts = (us : List Token) × IsText (ts ++ us)
-
 -- the first token such that the tokens up to it and with it are no prefix of a file; the end, where all are a prefix and no file
 pub record IsSyntaxFault (ts : List Token) (at : ℕ) : Type 0 where
   pub within : at ≤ length ts
-  pub front : IsPrefix (take at ts)
-  pub refused : at < length ts → IsPrefix (take (suc at) ts) → ⊥
+  pub front : IsPrefixOf IsText (take at ts)
+  pub refused : at < length ts → IsPrefixOf IsText (take (suc at) ts) → ⊥
   pub unfinished : at ≡ length ts → IsText ts → ⊥
 
 -- ( adds one to the depth and ) takes one off, never below 0

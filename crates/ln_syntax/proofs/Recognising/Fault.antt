@@ -18,7 +18,8 @@ use Rattle.ln_syntax.specs.declared.place.State.TheVariants.{ParamColon, Low, Lo
 use Rattle.ln_syntax.specs.declared.place.State.TheVariants.{PredicateOpen, ArgName, ArgColon, ArgKind, ArgEnd, BodyOpen, Body, LetName}
 use Rattle.ln_syntax.specs.declared.place.State.TheVariants.{LetEquals, Operand, InputName, Exponent, After, BodyEnd}
 use Rattle.ln_syntax.specs.Raw.{Is}
-use Rattle.ln_syntax.specs.Place.{IsText, IsPrefix, IsSyntaxFault}
+use Rattle.ln_base.specs.Prefixes.{IsPrefixOf}
+use Rattle.ln_syntax.specs.Place.{IsText, IsSyntaxFault}
 use Rattle.ln_syntax.specs.Automaton.{Standing, next_of, next_at, goes, start, is_end}
 use Rattle.ln_syntax.proofs.Recognising.Walk.{goes_append, goes_none, whole}
 use Rattle.ln_syntax.proofs.Recognising.Builds.{text}
@@ -130,13 +131,13 @@ finished LetEquals d = record { depth = 0; comes = refl }
 finished BodyEnd d = record { depth = d; comes = refl }
 
 -- what takes the automaton to a state is a prefix of a file
-front : (xs : List Token) (s : State) (d : ℕ) → goes start xs ≡ Some (s, d) → IsPrefix xs
+front : (xs : List Token) (s : State) (d : ℕ) → goes start xs ≡ Some (s, d) → IsPrefixOf IsText xs
 front xs s d e =
     let f = finished s d in
     (finish s d, text (xs ++ finish s d) f.depth (goes_append start xs (finish s d) ∙ ap (λ (o : Standing). goes o (finish s d)) e ∙ f.comes))
 
 -- what takes it nowhere is not
-dead : (xs : List Token) → goes start xs ≡ None → IsPrefix xs → ⊥
+dead : (xs : List Token) → goes start xs ≡ None → IsPrefixOf IsText xs → ⊥
 dead xs e f =
     let b = whole f.1 in
     let a : goes start (xs ++ f.0) ≡ None = goes_append start xs f.0 ∙ ap (λ (o : Standing). goes o f.0) e ∙ goes_none f.0 in
@@ -204,7 +205,7 @@ shorter (t ∷ ts) (suc i) zero h us = absurd (omega arith)
 shorter (t ∷ ts) (suc i) (suc j) h us = let r = shorter ts i j (omega arith) us in (r.0, ap (λ (w : List Token). t ∷ w) r.1)
 
 -- a prefix of a prefix is a prefix
-front_of : (ts : List Token) (i j : ℕ) → i ≤ j → IsPrefix (take j ts) → IsPrefix (take i ts)
+front_of : (ts : List Token) (i j : ℕ) → i ≤ j → IsPrefixOf IsText (take j ts) → IsPrefixOf IsText (take i ts)
 front_of ts i j h f = let r = shorter ts i j h f.0 in (r.0, subst (λ (w : List Token). IsText w) r.1 f.1)
 
 earlier : (ts : List Token) (i j : ℕ) → IsSyntaxFault ts i → IsSyntaxFault ts j → i < j → ⊥
