@@ -45,10 +45,10 @@ inside (WMul e f) rest = wrap OfProduct e (inside e) (word Star (codes "*") ∷ 
 inside (WPow e n) rest = wrap OfAtom e (inside e) (word Caret (codes "^") ∷ number n rest)
 
 -- what stands between the operands of a sum, difference or product
-abbrev pub between : Formula → List ℕ
-between (FAdd at e f) = codes " + "
-between (FSub at e f) = codes " - "
-between e = codes "*"
+abbrev pub between : Formula → List Lexeme → List Lexeme
+between (FAdd at e f) rest = gap ∷ word Plus (codes "+") ∷ gap ∷ rest
+between (FSub at e f) rest = gap ∷ word Minus (codes "-") ∷ gap ∷ rest
+between e rest = word Star (codes "*") ∷ rest
 
 -- the room of its left operand
 abbrev pub left_room : Formula → Room

@@ -1,7 +1,8 @@
 -- Text as tokens with blanks between them.
-use Rattle.std.specs.Prelude.{◌≡◌, ℕ, ℤ, pos, Bool, true, false, List, [], ◌∷◌, ◌++◌, codes, decimal, int_lt, unsigned_abs}
+use Rattle.std.specs.Prelude.{ℕ, ◌==◌, ℤ, pos, Bool, true, false, if◌then◌else◌, List, [], ◌∷◌, ◌++◌, codes, decimal, int_lt, unsigned_abs, unwrap_or}
 use Rattle.ln_lex.specs.declared.token.Kind.{Kind}
-use Rattle.ln_lex.specs.declared.token.Kind.TheVariants.{Name, Number, Minus}
+use Rattle.ln_lex.specs.declared.token.Kind.TheVariants.{Name, Number, Minus, ParL, ParR}
+use Rattle.ln_lex.specs.Tokens.{kind_of}
 
 -- a space, a line feed, or a token of this kind with its text
 pub data Lexeme : Type 0 where
@@ -40,16 +41,25 @@ abbrev pub each : {A : Type 0} → (A → List Lexeme → List Lexeme) → List 
 each f [] rest = rest
 each f (x ∷ xs) rest = f x (each f xs rest)
 
--- the new bytes are the old ones and the lexemes that f returns, whatever follows
-pub record Puts (old new : List ℕ) (f : List Lexeme → List Lexeme) : Type 0 where
-  pub on : (rest : List Lexeme) → new ++ text_of rest ≡ old ++ text_of (f rest)
+-- the token with this text, a name where no token has it; nothing for no text
+abbrev pub token : List ℕ → List Lexeme → List Lexeme
+token [] rest = rest
+token (b ∷ bs) rest = word (unwrap_or (kind_of (b ∷ bs)) Name) (b ∷ bs) ∷ rest
+
+-- the lexemes of a text that parts its tokens by blanks, where these bytes of the first one were read already
+abbrev pub lexemes_in : List ℕ → List ℕ → List Lexeme → List Lexeme
+lexemes_in w [] rest = token w rest
+lexemes_in w (c ∷ cs) rest =
+    if c == 32 then token w (gap ∷ lexemes_in [] cs rest)
+    else if c == 10 then token w (line ∷ lexemes_in [] cs rest)
+    else lexemes_in (w ++ c ∷ []) cs rest
 
 -- the parenthesis before an expression that needs one
-abbrev pub opening : Bool → List ℕ
-opening true = []
-opening false = codes "("
+abbrev pub opening : Bool → List Lexeme → List Lexeme
+opening true rest = rest
+opening false rest = word ParL (codes "(") ∷ rest
 
 -- the parenthesis after it
-abbrev pub closing : Bool → List ℕ
-closing true = []
-closing false = codes ")"
+abbrev pub closing : Bool → List Lexeme → List Lexeme
+closing true rest = rest
+closing false rest = word ParR (codes ")") ∷ rest

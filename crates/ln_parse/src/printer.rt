@@ -1,9 +1,10 @@
 //! The canonical text of tables.
-ghost use Rattle.std.specs.Prelude.{◌≡◌, ◌++◌, [], ℕ, List, map, slice_get, unwrap_or, IfOk};
+ghost use Rattle.std.specs.Prelude.{◌≡◌, [], ℕ, List, map, slice_get, unwrap_or, IfOk};
 ghost use Rattle.ln_tree.specs.Names.{name_bytes};
 ghost use Rattle.ln_tree.specs.Formula.{formula};
 ghost use Rattle.ln_tree.specs.Table.{TableOf, table_of, site_of, coord_of, param_of, arg_of, pred_of};
-ghost use Rattle.ln_parse.specs.Lexemes.{Puts, opening, closing, signed, each};
+ghost use Rattle.ln_base.specs.Lines.{Appends};
+ghost use Rattle.ln_parse.specs.Lexemes.{text_of, lexemes_in, name as name_token, opening, closing, signed, each};
 ghost use Rattle.ln_parse.specs.Written.{Naming, naming, written, input, range_name, site_name, coord_name};
 ghost use Rattle.ln_parse.specs.Canonical.{fits, wrap, inside, between, left_room, right_room, ranged, coord, site, param, arg};
 ghost use Rattle.ln_parse.specs.Canonical.{further, args, let_of, lets, root, pred, canonical};
@@ -63,8 +64,21 @@ pub fn printed_text_has_one_table()
     ensures { (bytes : List ℕ) (t u : TableOf) → IsTextUpToSpans bytes t → TextOf bytes u → table_spanless u ≡ table_spanless t }
 {}
 
+// Appends the tokens of a text that parts them by blanks, and its blanks.
+fn put_tokens(out: &mut Vec<u8>, text: &[u8]) -> Result<(), NoMemory>
+    ensures { IfOk result (λ x. Appends text_of out.old.items out.new.items (lexemes_in [] text.now)) }
+{
+    put(out, text)
+}
+
+fn put_name(out: &mut Vec<u8>, n: &Name) -> Result<(), NoMemory>
+    ensures { IfOk result (λ x. Appends text_of out.old.items out.new.items (name_token (name_bytes n.now))) }
+{
+    put(out, n.bytes())
+}
+
 fn put_signed(out: &mut Vec<u8>, z: i64) -> Result<(), NoMemory>
-    ensures { IfOk result (λ x. Puts out.old.items out.new.items (signed z)) }
+    ensures { IfOk result (λ x. Appends text_of out.old.items out.new.items (signed z)) }
 {
     if z < 0 {
         put(out, b"-")?;
@@ -73,7 +87,7 @@ fn put_signed(out: &mut Vec<u8>, z: i64) -> Result<(), NoMemory>
 }
 
 fn put_sites(out: &mut Vec<u8>, sites: &[Site]) -> Result<(), NoMemory>
-    ensures { IfOk result (λ x. Puts out.old.items out.new.items (each site (map site_of sites.now))) }
+    ensures { IfOk result (λ x. Appends text_of out.old.items out.new.items (each site (map site_of sites.now))) }
 {
     'sites: for s in sites {
         put_site(out, s)?;
@@ -82,17 +96,17 @@ fn put_sites(out: &mut Vec<u8>, sites: &[Site]) -> Result<(), NoMemory>
 }
 
 fn put_site(out: &mut Vec<u8>, s: &Site) -> Result<(), NoMemory>
-    ensures { IfOk result (λ x. Puts out.old.items out.new.items (site (site_of s.now))) }
+    ensures { IfOk result (λ x. Appends text_of out.old.items out.new.items (site (site_of s.now))) }
 {
-    put(out, b"site ")?;
-    put(out, s.name.bytes())?;
-    put(out, b" { ")?;
+    put_tokens(out, b"site ")?;
+    put_name(out, &s.name)?;
+    put_tokens(out, b" { ")?;
     put_coords(out, s.coords.as_slice())?;
-    put(out, b"}\n")
+    put_tokens(out, b"}\n")
 }
 
 fn put_coords(out: &mut Vec<u8>, coords: &[Coord]) -> Result<(), NoMemory>
-    ensures { IfOk result (λ x. Puts out.old.items out.new.items (each coord (map coord_of coords.now))) }
+    ensures { IfOk result (λ x. Appends text_of out.old.items out.new.items (each coord (map coord_of coords.now))) }
 {
     'coords: for c in coords {
         put_coord(out, c)?;
@@ -101,25 +115,25 @@ fn put_coords(out: &mut Vec<u8>, coords: &[Coord]) -> Result<(), NoMemory>
 }
 
 fn put_coord(out: &mut Vec<u8>, c: &Coord) -> Result<(), NoMemory>
-    ensures { IfOk result (λ x. Puts out.old.items out.new.items (coord (coord_of c.now))) }
+    ensures { IfOk result (λ x. Appends text_of out.old.items out.new.items (coord (coord_of c.now))) }
 {
     put_range(out, &c.name, c.lo, c.hi)?;
-    put(out, b" ")
+    put_tokens(out, b" ")
 }
 
 fn put_range(out: &mut Vec<u8>, name: &Name, lo: i64, hi: i64) -> Result<(), NoMemory>
-    ensures { IfOk result (λ x. Puts out.old.items out.new.items (ranged (record { name = name_bytes name.now; lo = lo; hi = hi }))) }
+    ensures { IfOk result (λ x. Appends text_of out.old.items out.new.items (ranged (record { name = name_bytes name.now; lo = lo; hi = hi }))) }
 {
-    put(out, name.bytes())?;
-    put(out, b": ")?;
+    put_name(out, name)?;
+    put_tokens(out, b": ")?;
     put_signed(out, lo)?;
-    put(out, b" .. ")?;
+    put_tokens(out, b" .. ")?;
     put_signed(out, hi)?;
-    put(out, b";")
+    put_tokens(out, b";")
 }
 
 fn put_params(out: &mut Vec<u8>, params: &[Param]) -> Result<(), NoMemory>
-    ensures { IfOk result (λ x. Puts out.old.items out.new.items (each param (map param_of params.now))) }
+    ensures { IfOk result (λ x. Appends text_of out.old.items out.new.items (each param (map param_of params.now))) }
 {
     'params: for p in params {
         put_param(out, p)?;
@@ -128,15 +142,15 @@ fn put_params(out: &mut Vec<u8>, params: &[Param]) -> Result<(), NoMemory>
 }
 
 fn put_param(out: &mut Vec<u8>, p: &Param) -> Result<(), NoMemory>
-    ensures { IfOk result (λ x. Puts out.old.items out.new.items (param (param_of p.now))) }
+    ensures { IfOk result (λ x. Appends text_of out.old.items out.new.items (param (param_of p.now))) }
 {
-    put(out, b"param ")?;
+    put_tokens(out, b"param ")?;
     put_range(out, &p.name, p.lo, p.hi)?;
-    put(out, b"\n")
+    put_tokens(out, b"\n")
 }
 
 fn put_preds(out: &mut Vec<u8>, t: &Table) -> Result<(), NoMemory>
-    ensures { IfOk result (λ x. Puts out.old.items out.new.items (each (pred (table_of t.now.sites t.now.params t.now.preds))
+    ensures { IfOk result (λ x. Appends text_of out.old.items out.new.items (each (pred (table_of t.now.sites t.now.params t.now.preds))
         (map pred_of t.now.preds))) }
 {
     let preds = t.preds.as_slice();
@@ -147,19 +161,19 @@ fn put_preds(out: &mut Vec<u8>, t: &Table) -> Result<(), NoMemory>
 }
 
 fn put_pred(out: &mut Vec<u8>, t: &Table, p: &Pred) -> Result<(), NoMemory>
-    ensures { IfOk result (λ x. Puts out.old.items out.new.items (pred (table_of t.now.sites t.now.params t.now.preds) (pred_of p.now))) }
+    ensures { IfOk result (λ x. Appends text_of out.old.items out.new.items (pred (table_of t.now.sites t.now.params t.now.preds) (pred_of p.now))) }
 {
-    put(out, b"predicate ")?;
-    put(out, p.name.bytes())?;
-    put(out, b"(")?;
+    put_tokens(out, b"predicate ")?;
+    put_name(out, &p.name)?;
+    put_tokens(out, b"(")?;
     put_args(out, t, p.args.as_slice())?;
-    put(out, b") { ")?;
+    put_tokens(out, b") { ")?;
     put_lets(out, t, p)?;
     put_root(out, t, p)
 }
 
 fn put_args(out: &mut Vec<u8>, t: &Table, list: &[Arg]) -> Result<(), NoMemory>
-    ensures { IfOk result (λ x. Puts out.old.items out.new.items (args (table_of t.now.sites t.now.params t.now.preds)
+    ensures { IfOk result (λ x. Appends text_of out.old.items out.new.items (args (table_of t.now.sites t.now.params t.now.preds)
         (map arg_of list.now))) }
 {
     match list {
@@ -172,28 +186,35 @@ fn put_args(out: &mut Vec<u8>, t: &Table, list: &[Arg]) -> Result<(), NoMemory>
 }
 
 fn put_further(out: &mut Vec<u8>, t: &Table, list: &[Arg]) -> Result<(), NoMemory>
-    ensures { IfOk result (λ x. Puts out.old.items out.new.items (each (further (table_of t.now.sites t.now.params t.now.preds))
+    ensures { IfOk result (λ x. Appends text_of out.old.items out.new.items (each (further (table_of t.now.sites t.now.params t.now.preds))
         (map arg_of list.now))) }
 {
     'args: for a in list {
-        put(out, b", ")?;
-        put_arg(out, t, a)?;
+        put_next(out, t, a)?;
     }
     Ok(())
 }
 
+fn put_next(out: &mut Vec<u8>, t: &Table, a: &Arg) -> Result<(), NoMemory>
+    ensures { IfOk result (λ x. Appends text_of out.old.items out.new.items (further (table_of t.now.sites t.now.params t.now.preds)
+        (arg_of a.now))) }
+{
+    put_tokens(out, b", ")?;
+    put_arg(out, t, a)
+}
+
 fn put_arg(out: &mut Vec<u8>, t: &Table, a: &Arg) -> Result<(), NoMemory>
-    ensures { IfOk result (λ x. Puts out.old.items out.new.items (arg (table_of t.now.sites t.now.params t.now.preds) (arg_of a.now))) }
+    ensures { IfOk result (λ x. Appends text_of out.old.items out.new.items (arg (table_of t.now.sites t.now.params t.now.preds) (arg_of a.now))) }
 {
     match a {
         Arg::Site(name, s) => {
-            put(out, name.bytes())?;
-            put(out, b": ")?;
+            put_name(out, name)?;
+            put_tokens(out, b": ")?;
             put(out, site_name(t, *s))
         }
         Arg::Param(p) => {
             put(out, param_name(t, *p))?;
-            put(out, b": param")
+            put_tokens(out, b": param")
         }
     }
 }
@@ -252,7 +273,7 @@ fn let_name(p: &Pred, j: u8) -> &[u8]
 }
 
 fn put_lets(out: &mut Vec<u8>, t: &Table, p: &Pred) -> Result<(), NoMemory>
-    ensures { IfOk result (λ x. Puts out.old.items out.new.items
+    ensures { IfOk result (λ x. Appends text_of out.old.items out.new.items
         (lets (naming (table_of t.now.sites t.now.params t.now.preds) (pred_of p.now)) (map name_bytes p.now.let_names)
         (map formula p.now.lets))) }
 {
@@ -265,34 +286,34 @@ fn put_lets(out: &mut Vec<u8>, t: &Table, p: &Pred) -> Result<(), NoMemory>
 }
 
 fn put_let(out: &mut Vec<u8>, t: &Table, p: &Pred, named: &Name, e: &Expr) -> Result<(), NoMemory>
-    ensures { IfOk result (λ x. Puts out.old.items out.new.items
+    ensures { IfOk result (λ x. Appends text_of out.old.items out.new.items
         (let_of (naming (table_of t.now.sites t.now.params t.now.preds) (pred_of p.now)) (name_bytes named.now) (formula e.now))) }
 {
-    put(out, b"let ")?;
-    put(out, named.bytes())?;
-    put(out, b" = ")?;
+    put_tokens(out, b"let ")?;
+    put_name(out, named)?;
+    put_tokens(out, b" = ")?;
     put_expr(out, t, p, Room::OfSum, e)?;
-    put(out, b"; ")
+    put_tokens(out, b"; ")
 }
 
 fn put_root(out: &mut Vec<u8>, t: &Table, p: &Pred) -> Result<(), NoMemory>
-    ensures { IfOk result (λ x. Puts out.old.items out.new.items
+    ensures { IfOk result (λ x. Appends text_of out.old.items out.new.items
         (root (naming (table_of t.now.sites t.now.params t.now.preds) (pred_of p.now)) (formula p.now.root))) }
 {
-    put(out, b"sign ")?;
+    put_tokens(out, b"sign ")?;
     put_expr(out, t, p, Room::OfSum, &p.root)?;
-    put(out, b"; }\n")
+    put_tokens(out, b"; }\n")
 }
 
 fn put_input(out: &mut Vec<u8>, t: &Table, p: &Pred, v: Var) -> Result<(), NoMemory>
-    ensures { IfOk result (λ x. Puts out.old.items out.new.items
+    ensures { IfOk result (λ x. Appends text_of out.old.items out.new.items
         (inside (input (naming (table_of t.now.sites t.now.params t.now.preds) (pred_of p.now))
         (slice_get (map arg_of p.now.args) v.arg) v.coord))) }
 {
     match p.args.get(usize::from(v.arg)) {
         Some(Arg::Site(name, s)) => {
-            put(out, name.bytes())?;
-            put(out, b".")?;
+            put_name(out, name)?;
+            put_tokens(out, b".")?;
             put(out, coord_name(t, *s, v.coord))
         }
         Some(Arg::Param(k)) => put(out, param_name(t, *k)),
@@ -313,13 +334,13 @@ fn stands(room: Room, e: &Expr) -> bool
 }
 
 fn open(out: &mut Vec<u8>, plain: bool) -> Result<(), NoMemory>
-    ensures { IfOk result (λ x. out.new.items ≡ out.old.items ++ opening plain) }
+    ensures { IfOk result (λ x. Appends text_of out.old.items out.new.items (opening plain)) }
 {
     if plain { Ok(()) } else { put(out, b"(") }
 }
 
 fn close(out: &mut Vec<u8>, plain: bool) -> Result<(), NoMemory>
-    ensures { IfOk result (λ x. out.new.items ≡ out.old.items ++ closing plain) }
+    ensures { IfOk result (λ x. Appends text_of out.old.items out.new.items (closing plain)) }
 {
     if plain { Ok(()) } else { put(out, b")") }
 }
@@ -346,7 +367,7 @@ fn right_room(e: &Expr) -> Room
 
 // Appends what stands between the two.
 fn put_between(out: &mut Vec<u8>, e: &Expr) -> Result<(), NoMemory>
-    ensures { IfOk result (λ x. out.new.items ≡ out.old.items ++ between (formula e.now)) }
+    ensures { IfOk result (λ x. Appends text_of out.old.items out.new.items (between (formula e.now))) }
 {
     match &e.node {
         Node::Add(_, _) => put(out, b" + "),
@@ -356,7 +377,7 @@ fn put_between(out: &mut Vec<u8>, e: &Expr) -> Result<(), NoMemory>
 }
 
 fn put_expr(out: &mut Vec<u8>, t: &Table, p: &Pred, room: Room, e: &Expr) -> Result<(), NoMemory>
-    ensures { IfOk result (λ x. Puts out.old.items out.new.items
+    ensures { IfOk result (λ x. Appends text_of out.old.items out.new.items
         (wrap room (written (naming (table_of t.now.sites t.now.params t.now.preds) (pred_of p.now)) (formula e.now))
         (inside (written (naming (table_of t.now.sites t.now.params t.now.preds) (pred_of p.now)) (formula e.now))))) }
 {
@@ -367,7 +388,7 @@ fn put_expr(out: &mut Vec<u8>, t: &Table, p: &Pred, room: Room, e: &Expr) -> Res
         Node::Input(v) => put_input(out, t, p, *v),
         Node::Name(j) => put(out, let_name(p, *j)),
         Node::Neg(x) => {
-            put(out, b"-")?;
+            put_tokens(out, b"-")?;
             put_expr(out, t, p, Room::OfUnary, x)
         }
         Node::Add(x, y) | Node::Sub(x, y) | Node::Mul(x, y) => {
@@ -377,7 +398,7 @@ fn put_expr(out: &mut Vec<u8>, t: &Table, p: &Pred, room: Room, e: &Expr) -> Res
         }
         Node::Pow(x, n) => {
             put_expr(out, t, p, Room::OfAtom, x)?;
-            put(out, b"^")?;
+            put_tokens(out, b"^")?;
             put_digits(out, u128::from(*n))
         }
     };

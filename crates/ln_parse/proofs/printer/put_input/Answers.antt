@@ -1,23 +1,20 @@
-use Rattle.std.proofs.Common.{◌≡◌, List, ◌∷◌, ℕ, refl, codes, ap, sym, ◌∙◌, None, map}
+use Rattle.std.proofs.Common.{◌≡◌, ℕ, refl, ap, sym, ◌∙◌, None, map}
 use Rattle.std.specs.Prelude.{slice_get, option_map}
 use Rattle.std.proofs.lemmas.Option.{slice_get-map}
 use Rattle.std.proofs.lemmas.Result.{IfOk-weaker}
-use Rattle.ln_lex.specs.declared.token.Kind.TheVariants.{Dot}
-use Rattle.ln_tree.specs.Names.{name_bytes}
 use Rattle.ln_tree.specs.Table.{arg_of, site_of, param_of}
-use Rattle.ln_parse.specs.Lexemes.{Lexeme, word}
 use Rattle.ln_parse.specs.Written.{coord_name, range_name}
-use Rattle.ln_parse.proofs.Texts.Putting.{then, puts_name, puts_fixed, puts_empty, found}
+use Rattle.ln_base.proofs.Texts.Putting.{puts_then}
+use Rattle.ln_parse.proofs.Texts.Putting.{puts_name, found}
 use Rattle.ln_parse.proofs.printer.put_input.Goals as goal
 
-pub returns-in_ok-put-in-Some-Site-2 : goal.returns-in_ok-put-in-Some-Site-2
-returns-in_ok-put-in-Some-Site-2 c =
+pub returns-in_ok-put_tokens-in-Some-Site : goal.returns-in_ok-put_tokens-in-Some-Site
+returns-in_ok-put_tokens-in-Some-Site c =
     let e = found arg_of c.args.p.now.args c.args.v.arg c.from.result c.from.ensures c.in-Some-Site.ensures.value in
     rw (e, c.in-Some-Site.field-0-is)
-    (IfOk-weaker c.put-in-Some-Site-2.result _ _ (λ x h.
-    then (puts_name (name_bytes c.in-Some-Site.name) c.bytes.ensures c.in_ok-put-in-Some-Site.ensures)
-    (then (puts_fixed (codes ".") (λ (rest : List Lexeme). word Dot (codes ".") ∷ rest) (λ rest. refl) c.in_ok-put-in-Some-Site-2.ensures)
-    (puts_name (coord_name (slice_get (map site_of c.args.t.now.sites) c.in-Some-Site.s) c.args.v.coord) c.coord_name.ensures h))) c.put-in-Some-Site-2.ensures)
+    (IfOk-weaker c.put.result _ _ (λ x h.
+    puts_then c.in_ok-put_name-in-Some-Site.ensures (puts_then c.in_ok-put_tokens-in-Some-Site.ensures
+    (puts_name (coord_name (slice_get (map site_of c.args.t.now.sites) c.in-Some-Site.s) c.args.v.coord) c.coord_name.ensures h))) c.put.ensures)
 
 pub returns-in-Some-Param : goal.returns-in-Some-Param
 returns-in-Some-Param c =
@@ -30,4 +27,4 @@ pub returns-in-None : goal.returns-in-None
 returns-in-None c =
     let e : slice_get (map arg_of c.args.p.now.args) c.args.v.arg ≡ None = slice_get-map arg_of c.args.p.now.args c.args.v.arg
     ∙ ap (λ o. option_map arg_of o) (sym (c.in-None.ensures.value ∙ ap (λ (k : ℕ). slice_get c.args.p.now.args k) c.from.ensures)) in
-    rw e (puts_empty c.args.out.now.items)
+    rw e (record { is = λ rest. refl })

@@ -1,7 +1,9 @@
+use Rattle.std.proofs.Common.{drop, map}
+use Rattle.ln_base.specs.Lines.{Leaves}
 use Rattle.ln_tree.specs.Table.{param_of}
 use Rattle.ln_parse.specs.Canonical.{param}
-use Rattle.ln_parse.proofs.Texts.Putting.{EachPut}
+use Rattle.ln_parse.specs.Lexemes.{each, text_of}
 use Rattle.ln_parse.proofs.printer.put_params.Given as goal
 
 abbrev pub invariant-params : goal.invariant-params
-invariant-params l = EachPut l.initial.out.items l.out.items param param_of l.params l.p-index
+invariant-params l = Leaves text_of l.initial.out.items l.out.items (each param (map param_of (drop l.p-index l.params))) (each param (map param_of l.params))
