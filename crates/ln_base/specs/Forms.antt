@@ -3,3 +3,4 @@ pub mod Form
 pub mod Fault
 pub mod Unread
 pub mod Judge
+pub mod Source

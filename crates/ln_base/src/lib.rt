@@ -10,6 +10,7 @@
 pub mod calls;
 pub mod decimal;
 mod gather;
+pub mod items;
 pub mod limits;
 pub mod lines;
 pub mod memory;

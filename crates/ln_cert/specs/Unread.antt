@@ -4,7 +4,7 @@ use Rattle.ln_base.specs.Forms.Unread as rest
 use Rattle.ln_cert.specs.declared.part.Entry.{Entry}
 use Rattle.ln_cert.specs.declared.part.Part.{Part}
 use Rattle.ln_cert.specs.declared.part.State.{State}
-use Rattle.ln_cert.specs.Listing.{ListText}
+use Rattle.ln_cert.specs.Listing.{AreNumbered, ListText, parts_of}
 use Rattle.ln_cert.specs.Reading.{list_rules}
 
 -- a listing after some of its lines: its version, what those lines end in, the number of the next line, and the text from there on
@@ -49,3 +49,7 @@ pub record IsTaken (u : Unread) (e : Entry) (w : Unread) : Type 0 where
 abbrev pub Takes : Unread → Option Entry → Unread → Type 0
 Takes u None w = ((ps : List Part) → AreLeft u ps → ps ≡ []) × (w ≡ u)
 Takes u (Some e) w = IsTaken u e w
+
+-- the text is the lines of these entries, which have their numbers, and with them the listing ends
+abbrev pub HaveEntries : Unread → List Entry → Type 0
+HaveEntries u es = AreLeft u (parts_of es) × AreNumbered u.line es

@@ -1,15 +1,16 @@
 //! Reads one line of a listing, from the state in which the lines before it end.
-ghost use Rattle.std.specs.Prelude.{◌≡◌, true, ◌<◌, ℕ, ◌∷◌, ◌++◌, List, IfOk, MatchOption, decimal, codes, map};
+ghost use Rattle.std.specs.Prelude.{◌≡◌, true, IfOk, MatchOption};
 ghost use Rattle.ln_cert.specs.declared.part.Kind.TheVariants as kind;
 ghost use Rattle.ln_base.specs.Lines.{words, words_from};
-ghost use Rattle.ln_cert.specs.Text.{Each, IsExponent, IsNumber, IsPlace, exponent_word, of_block, of_filter};
+ghost use Rattle.ln_cert.specs.Text.{of_block, of_filter};
 ghost use Rattle.ln_cert.specs.Reading.{HasArgs, IsRead, NoArgs, Refuses, good};
 
 use crate::args::{bound, ends, triple};
 use crate::kinds::{after, kind};
 use crate::operation::operation;
 use crate::part::{Kind, Part, State, Verb};
-use ln_base::numeral::{exponent, field, number};
+use ln_base::items::{items, items_to_colon};
+use ln_base::numeral::field;
 use ln_base::scan::{ended, next_word, word};
 use ln_base::word::is_name;
 use ln_base::{NoMemory, Seq};
@@ -78,25 +79,6 @@ fn range_op(verb: Verb, bytes: &[u8], at: usize) -> Option<Part>
     Some(Part::RangeOp(op, low, high))
 }
 
-// The exponents from the place on, up to the last word.
-fn exponents(alloc: Global, bytes: &[u8], at: usize) -> Result<Option<Seq<(u8, u8)>>, NoMemory>
-    ensures { IfOk result (λ o. MatchOption o
-        ((ps : List (ℕ × ℕ)) → Each IsExponent ps → words_from at bytes.now ≡ map exponent_word ps → ⊥)
-        (λ ps. Each IsExponent ps × (words_from at bytes.now ≡ map exponent_word ps))) }
-{
-    let mut exps = Vec::new(alloc);
-    let mut here = at;
-    'words: while here <= bytes.len() {
-        let (w, next) = word(bytes, here);
-        let Some(pair) = exponent(w) else {
-            return Ok(None);
-        };
-        exps.push(pair)?;
-        here = next;
-    }
-    Ok(Some(Seq::from_vec(exps)))
-}
-
 fn block(alloc: Global, bytes: &[u8], at: usize) -> Result<Option<Part>, NoMemory>
     ensures { IfOk result (λ o. MatchOption o (NoArgs kind.Block (words_from at bytes.now))
         (λ p. HasArgs kind.Block (words_from at bytes.now) p)) }
@@ -104,64 +86,23 @@ fn block(alloc: Global, bytes: &[u8], at: usize) -> Result<Option<Part>, NoMemor
     let Some((n, next)) = field(bytes, at, 65535) else {
         return Ok(None);
     };
-    let Some(exps) = exponents(alloc, bytes, next)? else {
+    let Some(exps) = items(alloc, bytes, next)? else {
         return Ok(None);
     };
     Ok(Some(Part::Block(n as u32, exps)))
-}
-
-// The numbers of blocks from the place on, up to the last word.
-fn numbers(alloc: Global, bytes: &[u8], at: usize) -> Result<Option<Seq<u32>>, NoMemory>
-    ensures { IfOk result (λ o. MatchOption o
-        ((ns : List ℕ) → Each IsNumber ns → words_from at bytes.now ≡ map decimal ns → ⊥)
-        (λ ns. Each IsNumber ns × (words_from at bytes.now ≡ map decimal ns))) }
-{
-    let mut list = Vec::new(alloc);
-    let mut here = at;
-    'words: while here <= bytes.len() {
-        let (w, next) = word(bytes, here);
-        let Some(n) = number(w, 65535) else {
-            return Ok(None);
-        };
-        list.push(n as u32)?;
-        here = next;
-    }
-    Ok(Some(Seq::from_vec(list)))
-}
-
-// The places from this place on, up to a colon, and the place after it.
-fn places(alloc: Global, bytes: &[u8], at: usize) -> Result<Option<(Seq<u8>, usize)>, NoMemory>
-    ensures { IfOk result (λ o. MatchOption o
-        ((ps : List ℕ) (rest : List (List ℕ)) → Each IsPlace ps → words_from at bytes.now ≡ map decimal ps ++ codes ":" ∷ rest → ⊥)
-        (λ x. Each IsPlace x.0 × (words_from at bytes.now ≡ map decimal x.0 ++ codes ":" ∷ words_from x.1 bytes.now))) }
-{
-    let mut all = Vec::new(alloc);
-    let mut here = at;
-    'words: while here <= bytes.len() {
-        let (w, next) = word(bytes, here);
-        if w == b":".as_slice() {
-            return Ok(Some((Seq::from_vec(all), next)));
-        }
-        let Some(s) = number(w, 4) else {
-            return Ok(None);
-        };
-        all.push(s as u8)?;
-        here = next;
-    }
-    Ok(None)
 }
 
 fn order(alloc: Global, bytes: &[u8], at: usize) -> Result<Option<Part>, NoMemory>
     ensures { IfOk result (λ o. MatchOption o (NoArgs kind.Order (words_from at bytes.now))
         (λ p. HasArgs kind.Order (words_from at bytes.now) p)) }
 {
-    let Some((sites, next)) = places(alloc, bytes, at)? else {
+    let Some((sites, next)) = items_to_colon(alloc, bytes, at)? else {
         return Ok(None);
     };
     if ended(bytes, next) {
         return Ok(None);
     }
-    let Some(list) = numbers(alloc, bytes, next)? else {
+    let Some(list) = items(alloc, bytes, next)? else {
         return Ok(None);
     };
     Ok(Some(Part::Order(sites, list)))

@@ -6,7 +6,7 @@ use crate::kinds::is_end;
 use crate::line::line;
 use crate::part::{Entry, Part, State};
 use ln_base::NoMemory;
-use ln_base::lines::{Grammar, Rest, next};
+use ln_base::lines::{Grammar, Rest, Source, next};
 use std::alloc::Global;
 use std::marker::Model;
 
@@ -84,5 +84,32 @@ impl<'a> Lines<'a> {
             return Ok(None);
         };
         Ok(Some(Entry { line, part }))
+    }
+}
+
+impl<'a> Source<Entry> for Lines<'a> {
+    type Taken = Entry;
+
+    ghost use Rattle.std.specs.Prelude.{length};
+    ghost use Rattle.ln_cert.specs.Unread.{HaveEntries};
+
+    ghost line = { λ e. e };
+
+    ghost left = { HaveEntries };
+
+    ghost next = { λ u. u.line };
+
+    ghost size = { λ u. length u.text };
+
+    fn number(&self) -> u32 {
+        self.number()
+    }
+
+    fn take(&mut self, alloc: Global) -> Result<Option<Entry>, NoMemory> {
+        self.next(alloc)
+    }
+
+    fn lent(taken: &Entry) -> &Entry {
+        taken
     }
 }

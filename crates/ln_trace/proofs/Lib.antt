@@ -15,4 +15,3 @@ pub mod Following
 pub mod Steps
 pub mod Telling
 pub mod Walking
-pub mod Whole

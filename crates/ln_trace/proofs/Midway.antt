@@ -1,7 +1,11 @@
 -- Lines that are judged one after the other, and what the result means.
-use Rattle.std.proofs.Common.{◌≡◌, ℕ, false, List, [], length, sym, ◌∙◌, subst, true≢false}
+use Rattle.std.proofs.Common.{◌≡◌, ℕ, ◌≤◌, false, List, [], length, ap, arith, refl, sym, ◌∙◌, subst, true≢false}
+use Rattle.std.specs.Prelude.{None, Option, Some}
 use Rattle.ln_algebra.specs.Tree.{Tree}
+use Rattle.ln_base.specs.Limits.{most_file}
+use Rattle.ln_base.specs.Forms.Source as source
 use Rattle.ln_base.proofs.Forms.Judging.{Reached, reached_all}
+use Rattle.ln_base.proofs.Forms.Walk.{few_lines}
 use Rattle.ln_tree.specs.declared.shape.Shape.{Shape}
 use Rattle.ln_order.proofs.Signs.RowSigns.{rows-differ}
 use Rattle.ln_poly.specs.Sparse.{Sparse}
@@ -12,11 +16,14 @@ use Rattle.ln_trace.specs.declared.progress.Progress.{Progress}
 use Rattle.ln_trace.specs.declared.judged.Judged.{Judged}
 use Rattle.ln_trace.specs.declared.judged.Judged.TheVariants.{Agreed, Wrong}
 use Rattle.ln_trace.specs.declared.line.TraceLine.{TraceLine}
+use Rattle.ln_trace.specs.Form.{IsKept}
 use Rattle.ln_trace.specs.Here.{HasPoly, IsHere, subject_of}
 use Rattle.ln_trace.specs.Judge.{Go, IsAnswer, Lacks, judge_of}
 use Rattle.ln_trace.specs.Judged.{IsJudged, fault_of}
+use Rattle.ln_trace.specs.Reading.{trace_rules}
 use Rattle.ln_trace.specs.Signs.{AreRight, signs_in}
 use Rattle.ln_trace.specs.Trace.{Between, Place, Subject, Within}
+use Rattle.ln_trace.specs.Unread.{AreLeft, Takes, Unread}
 use Rattle.ln_trace.proofs.Agreeing.{agreed-right}
 use Rattle.ln_trace.proofs.Walking.{counts, ends}
 
@@ -41,6 +48,13 @@ module _ (s : Shape) (e : Tree) (st : Staged) (rows : Records) (d : Progress) wh
           subst (λ (x : Records). Go (subject_of s e) (Between 0 records) ls (Between seen x)) (sym i.2 ∙ o.1) g in
           (ends (subject_of s e) records ls seen h, q ∙ i.1 ∙ counts (subject_of s e) records ls seen h)
 
+-- the next line is taken where the reader takes one
+pub takes-line : (u w : Unread) (o : Option TraceLine) → Takes u o w
+    → source.Takes (λ (l : TraceLine). l) AreLeft (λ (x : Unread). x.line) (λ (x : Unread). length x.text) u o w
+takes-line u w None t = (t.0, ap (λ (x : Unread). x.line) t.1)
+takes-line u w (Some l) t =
+    record { goes_on = λ ls h. let k = t.goes_on ls h in (k.behind, k.first, k.left); number = t.next; smaller = t.shorter }
+
 -- ---- what the result means
 -- what was judged of a trace, without the number of records, is its result
 pub judged-answer : (s : Subject) (records : Records) (ls : List TraceLine) (j : Judged) → IsJudged s records ls j → IsAnswer s records ls (fault_of j)
@@ -61,3 +75,18 @@ pub judged-signs : (s : Shape) (e : Tree) (f : Sparse) (records : Records) (ls :
 judged-signs s e f records ls (Agreed m) n p h q =
     agreed-right (subject_of s e) records ls p.inputs (λ fields row read. rows-differ s row (row_in_range s.sites s.vars fields row s.kept read)) h.0
 judged-signs s e f records ls (Wrong m) n p h q = cc
+
+-- the first line that fails is the result
+pub fault-answer : (s : Subject) (records : Records) (ls : List TraceLine) (j : Judged) (o : Option ℕ) → o ≡ fault_of j → IsJudged s records ls j
+    → IsAnswer s records ls o
+fault-answer s records ls j o r h = subst (IsAnswer s records ls) (sym r) (judged-answer s records ls j h)
+
+-- and where there is none, what the trace says of each record is right
+pub fault-signs : (s : Shape) (e : Tree) (f : Sparse) (records : Records) (ls : List TraceLine) (j : Judged) (o : Option ℕ) → HasPoly s e f
+    → o ≡ fault_of j → IsJudged (subject_of s e) records ls j → o ≡ None → AreRight (subject_of s e) records (signs_in ls)
+fault-signs s e f records ls (Agreed n) o p r h q = judged-signs s e f records ls (Agreed n) n p h refl
+fault-signs s e f records ls (Wrong n) o p r h q = let k : Some n ≡ None = sym r ∙ q in cc
+
+-- a trace of at most 67,108,864 bytes has at most as many lines
+pub few-lines : (ls : List TraceLine) → IsKept ls → length ls ≤ most_file
+few-lines ls h = omega (arith, h.short, few_lines trace_rules h.bytes ls h.text.text)

@@ -1,5 +1,5 @@
 //! The judge: a line at its place, and the loop over the lines.
-ghost use Rattle.std.specs.Prelude.{◌≡◌, ◌↔◌, ◌<◌, [], ℕ, List, None, Ok, false, length, IfOk, IsTrue};
+ghost use Rattle.std.specs.Prelude.{◌≡◌, ◌↔◌, [], ℕ, List, None, Ok, false, length, IfOk, IsTrue};
 ghost use Rattle.ln_algebra.specs.Tree.{Tree};
 ghost use Rattle.ln_trace.specs.declared.judged.Judged.{Judged as AnyJudged};
 ghost use Rattle.ln_trace.specs.declared.judged.Judged.TheVariants.{Agreed};
@@ -18,6 +18,7 @@ use crate::progress::{Next, Progress, fresh_progress, is, taken};
 use crate::rules::{at, refused, row, sign};
 use crate::trace::Trace;
 use ln_base::NoMemory;
+use ln_base::lines::{Held, Source};
 use ln_poly::{Binomials, Poly};
 use ln_rows::Rows;
 use ln_stage::Stages;
@@ -57,32 +58,57 @@ fn is_over(p: &Pred, rows: &mut Rows<'_>, state: &mut Progress) -> Result<bool, 
     Ok(is(next, Next::Nothing))
 }
 
-// Returns what the remaining lines are judged, where none has stood.
-fn over_lines(
+// Returns what the lines that are left are judged, where none has stood.
+fn over<S: Source<TraceLine>>(
     alloc: Global,
     case: &Case,
     rows: &mut Rows<'_>,
-    lines: &mut TraceLines<'_>,
+    source: &mut S,
     state: &mut Progress,
 ) -> Result<Judged, NoMemory>
     requires case { IsCase case.now.pred.now.shape case.now.poly.now case.now.stages.now }
-    requires second { lines.old.line ≡ 2 }
+    requires second { S.next source.old ≡ 2 }
     requires inside { state.old.inside ≡ false }
     requires none { state.old.seen ≡ 0 }
-    ensures { IfOk result (λ j. (e : Tree) (ls : List AnyLine) → HasPoly case.now.pred.now.shape e case.now.poly.now → AreLeft lines.old ls →
+    ensures { IfOk result (λ j. (e : Tree) (ls : List AnyLine) → HasPoly case.now.pred.now.shape e case.now.poly.now → S.left source.old ls →
         IsJudged (subject_of case.now.pred.now.shape e) rows.old ls j) }
 {
-    'lines: while let Some(l) = lines.next(alloc)? {
-        let good = line(alloc, case, rows, state, &l);
-        drop(l);
+    'lines: while let Some(taken) = source.take(alloc)? {
+        let good = line(alloc, case, rows, state, S::lent(&taken));
+        drop(taken);
         if !good? {
-            return Ok(Judged::Wrong(lines.number() - 1));
+            return Ok(Judged::Wrong(source.number() - 1));
         }
     }
     if !is_over(case.pred, rows, state)? {
-        return Ok(Judged::Wrong(lines.number()));
+        return Ok(Judged::Wrong(source.number()));
     }
     Ok(Judged::Agreed(state.seen))
+}
+
+// Returns what the lines are judged by the polynomial of a predicate and the stages of that.
+fn judged<S: Source<TraceLine>>(
+    alloc: Global,
+    p: &Pred,
+    f: &Poly,
+    st: &Stages,
+    rows: &mut Rows<'_>,
+    source: &mut S,
+) -> Result<Judged, NoMemory>
+    requires case { IsCase p.now.shape f.now st.now }
+    requires second { S.next source.old ≡ 2 }
+    ensures { IfOk result (λ j. (e : Tree) (ls : List AnyLine) → HasPoly p.now.shape e f.now → S.left source.old ls →
+        IsJudged (subject_of p.now.shape e) rows.old ls j) }
+{
+    let b = Binomials::new(alloc)?;
+    let case = Case {
+        pred: p,
+        poly: f,
+        stages: st,
+        binomials: &b,
+    };
+    let mut state = fresh_progress();
+    over(alloc, &case, rows, source, &mut state)
 }
 
 /// Judges the remaining lines of a trace by the polynomial of a predicate and the stages of that, over the remaining records: returns that they are
@@ -105,41 +131,7 @@ pub fn judge_lines(
     ensures signs { IfOk result (λ j. (e : Tree) (ls : List AnyLine) (n : ℕ) → HasPoly p.now.shape e f.now → AreLeft lines.old ls →
         j ≡ Agreed n → AreRight (subject_of p.now.shape e) rows.old (signs_in ls)) }
 {
-    let b = Binomials::new(alloc)?;
-    let case = Case {
-        pred: p,
-        poly: f,
-        stages: st,
-        binomials: &b,
-    };
-    let mut state = fresh_progress();
-    over_lines(alloc, &case, rows, lines, &mut state)
-}
-
-// Returns what these lines are judged, where none has stood.
-fn over_trace(
-    alloc: Global,
-    case: &Case,
-    rows: &mut Rows<'_>,
-    read: &[TraceLine],
-    state: &mut Progress,
-) -> Result<Judged, NoMemory>
-    requires case { IsCase case.now.pred.now.shape case.now.poly.now case.now.stages.now }
-    requires few { length read.now < 4294967294 }
-    requires inside { state.old.inside ≡ false }
-    requires none { state.old.seen ≡ 0 }
-    ensures { IfOk result (λ j. (e : Tree) → HasPoly case.now.pred.now.shape e case.now.poly.now →
-        IsJudged (subject_of case.now.pred.now.shape e) rows.old read.now j) }
-{
-    'lines: for (i, l) in read.iter().enumerate() {
-        if !line(alloc, case, rows, state, l)? {
-            return Ok(Judged::Wrong(i as u32 + 2));
-        }
-    }
-    if !is_over(case.pred, rows, state)? {
-        return Ok(Judged::Wrong(read.len() as u32 + 2));
-    }
-    Ok(Judged::Agreed(state.seen))
+    judged(alloc, p, f, st, rows, lines)
 }
 
 // The first line that fails, if there is one.
@@ -168,13 +160,6 @@ pub fn judge(
     ensures signs { IfOk result (λ o. (e : Tree) → HasPoly p.now.shape e f.now → o ≡ None →
         AreRight (subject_of p.now.shape e) rows.old (signs_in t.now)) }
 {
-    let b = Binomials::new(alloc)?;
-    let case = Case {
-        pred: p,
-        poly: f,
-        stages: st,
-        binomials: &b,
-    };
-    let mut state = fresh_progress();
-    fault_of(over_trace(alloc, &case, rows, t.lines(), &mut state))
+    let mut lines = Held::of(t.lines());
+    fault_of(judged(alloc, p, f, st, rows, &mut lines))
 }

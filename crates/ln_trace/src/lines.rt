@@ -7,7 +7,7 @@ use crate::line::TraceLine;
 use crate::state::State;
 use crate::words::line;
 use ln_base::NoMemory;
-use ln_base::lines::{Grammar, Rest, next};
+use ln_base::lines::{Grammar, Rest, Source, next};
 use std::alloc::Global;
 use std::marker::Model;
 
@@ -69,5 +69,32 @@ impl<'a> TraceLines<'a> {
         ensures err { OnErr result (self.new ≡ self.old) }
     {
         next(alloc, &Traces {}, &mut self.rest)
+    }
+}
+
+impl<'a> Source<TraceLine> for TraceLines<'a> {
+    type Taken = TraceLine;
+
+    ghost use Rattle.std.specs.Prelude.{length};
+    ghost use Rattle.ln_trace.specs.Unread.{AreLeft};
+
+    ghost line = { λ l. l };
+
+    ghost left = { AreLeft };
+
+    ghost next = { λ u. u.line };
+
+    ghost size = { λ u. length u.text };
+
+    fn number(&self) -> u32 {
+        self.number()
+    }
+
+    fn take(&mut self, alloc: Global) -> Result<Option<TraceLine>, NoMemory> {
+        self.next(alloc)
+    }
+
+    fn lent(taken: &TraceLine) -> &TraceLine {
+        taken
     }
 }

@@ -1,6 +1,5 @@
 //! One line of a trace, from its words.
-ghost use Rattle.std.specs.Prelude.{◌≡◌, ◌<◌, ◌≤◌, ◌^◌, ◌∷◌, ◌++◌, [], ℕ, List, IfOk, IsTrue, MatchOption, codes, decimal, map, ◌↔◌};
-ghost use Rattle.ln_base.specs.Exponents.{Each, IsExponent, exponent_word};
+ghost use Rattle.std.specs.Prelude.{◌≡◌, ◌<◌, ◌≤◌, ◌^◌, ◌∷◌, [], ℕ, IfOk, IsTrue, MatchOption, decimal, ◌↔◌};
 ghost use Rattle.ln_base.specs.Lines.{words, words_from};
 ghost use Rattle.ln_base.specs.declared.sign.Sign.{Sign as AnySign};
 ghost use Rattle.ln_trace.specs.declared.state.Kind.TheVariants as kind;
@@ -10,9 +9,10 @@ ghost use Rattle.ln_trace.specs.Text.{sign_word};
 use crate::kinds::{after, kind};
 use crate::line::TraceLine;
 use crate::state::{Kind, State};
-use ln_base::numeral::{exponent, field, signed_field};
+use ln_base::items::items_to_colon;
+use ln_base::numeral::{field, signed_field};
 use ln_base::scan::{ended, next_word, word};
-use ln_base::{NoMemory, Seq, Sign};
+use ln_base::{NoMemory, Sign};
 use std::alloc::Global;
 
 // Whether a record may have this number: they count from 1.
@@ -59,38 +59,11 @@ fn row(bytes: &[u8], at: usize) -> Option<TraceLine>
     Some(TraceLine::Row(n))
 }
 
-// The exponents from the place on, up to a colon, and the place after the colon.
-fn exponents(
-    alloc: Global,
-    bytes: &[u8],
-    at: usize,
-) -> Result<Option<(Seq<(u8, u8)>, usize)>, NoMemory>
-    ensures { IfOk result (λ o. MatchOption o
-        ((ps : List (ℕ × ℕ)) (ws : List (List ℕ)) → Each IsExponent ps
-        → words_from at bytes.now ≡ map exponent_word ps ++ codes ":" ∷ ws → ⊥)
-        (λ x. Each IsExponent x.0 × (words_from at bytes.now ≡ map exponent_word x.0 ++ codes ":" ∷ words_from x.1 bytes.now))) }
-{
-    let mut exps = Vec::new(alloc);
-    let mut here = at;
-    'words: while here <= bytes.len() {
-        let (w, next) = word(bytes, here);
-        if w == b":".as_slice() {
-            return Ok(Some((Seq::from_vec(exps), next)));
-        }
-        let Some(pair) = exponent(w) else {
-            return Ok(None);
-        };
-        exps.push(pair)?;
-        here = next;
-    }
-    Ok(None)
-}
-
 fn at_line(alloc: Global, bytes: &[u8], at: usize) -> Result<Option<TraceLine>, NoMemory>
     ensures { IfOk result (λ o. MatchOption o (NoArgs kind.At (words_from at bytes.now))
         (λ l. HasArgs kind.At (words_from at bytes.now) l)) }
 {
-    let Some((exps, next)) = exponents(alloc, bytes, at)? else {
+    let Some((exps, next)) = items_to_colon(alloc, bytes, at)? else {
         return Ok(None);
     };
     let Some((value, end)) = signed_field(bytes, next) else {

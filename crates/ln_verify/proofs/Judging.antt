@@ -3,6 +3,5 @@ pub mod OrderLines
 pub mod Places
 pub mod Put
 pub mod Wholes
-pub mod Entries
 pub mod Subjects
 pub mod Texts

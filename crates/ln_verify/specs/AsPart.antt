@@ -18,7 +18,7 @@ use Rattle.ln_verify.specs.BlockRules.{deepest}
 use Rattle.ln_verify.specs.Judge.{IsValid}
 use Rattle.ln_verify.specs.Line.{Piece, Subject, Written}
 use Rattle.ln_verify.specs.Versions.{version_of}
-use Rattle.ln_verify.specs.declared.form.Form.{Form}
+use Rattle.ln_verify.specs.declared.version.Version.{Version as InCode}
 use Rattle.ln_cert.specs.declared.part.Part as listing
 
 -- ---- the machine's part
@@ -66,6 +66,6 @@ pub record GivesSign (s : Shape) (e : Tree) (w : Written) (row : Row) : Type 0 w
 -- the parts of a valid listing of either version, whoever made it, return the perturbed sign: for each subject, on each row in range
 abbrev pub ValidPartsGiveSigns : Type 0
 ValidPartsGiveSigns =
-    (f : Form) (ps : List Subject) (lines : List listing.Part) (h : IsValid (version_of f) ps lines) (k : ℕ) (p : Subject)
+    (f : InCode) (ps : List Subject) (lines : List listing.Part) (h : IsValid (version_of f) ps lines) (k : ℕ) (p : Subject)
     (w : Written) (s : Shape) (e : Tree) (row : Row) →
     slice_get ps k ≡ Some p → slice_get h.parts k ≡ Some w → IsSubject s e p → InRange s.sites s.vars row → GivesSign s e w row

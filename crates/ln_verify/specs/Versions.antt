@@ -3,11 +3,11 @@ use Rattle.ln_interval.specs.Range.{Covers, Range}
 use Rattle.ln_bound.specs.declared.fitted.Width.{Width}
 use Rattle.ln_bound.specs.Sound.{IsIn}
 use Rattle.ln_verify.specs.BlockRules.{Version, version_1, version_2}
-use Rattle.ln_verify.specs.declared.form.Form.{Form}
-use Rattle.ln_verify.specs.declared.form.Form.TheVariants.{One, Two}
+use Rattle.ln_verify.specs.declared.version.Version.{Version as InCode}
+use Rattle.ln_verify.specs.declared.version.Version.TheVariants.{One, Two}
 
--- the version of listings, with its rules, that a form in code stands for
-abbrev pub version_of : Form → Version
+-- the version of listings, with its rules, that a version in code stands for
+abbrev pub version_of : InCode → Version
 version_of One = version_1
 version_of Two = version_2
 

@@ -8,7 +8,7 @@ ghost use Rattle.ln_code.specs.Rules.{declared};
 ghost use Rattle.ln_verify.specs.BlockRules.{balanced};
 ghost use Rattle.ln_verify.specs.Versions.{Allows, version_of};
 
-use crate::form::Form;
+use crate::version::Version;
 use ln_bound::{Two, Width};
 use ln_interval::Pair;
 use ln_tree::VarInfo;
@@ -106,22 +106,22 @@ fn covers_declared(i: VarInfo, b: Pair) -> bool
 }
 
 /// Does the pair cover what that of an input has to cover?
-pub fn covers_input(form: Form, i: VarInfo, b: Pair) -> bool
-    ensures { IsTrue result ↔ Covers (range b) ((version_of form).range i) }
+pub fn covers_input(version: Version, i: VarInfo, b: Pair) -> bool
+    ensures { IsTrue result ↔ Covers (range b) ((version_of version).range i) }
 {
-    match form {
-        Form::One => covers_balanced(largest(i), b),
-        Form::Two => covers_declared(i, b),
+    match version {
+        Version::One => covers_balanced(largest(i), b),
+        Version::Two => covers_declared(i, b),
     }
 }
 
 /// The running size of an input.
-pub fn input_size(form: Form, i: VarInfo) -> u128
-    ensures value { result ≡ (version_of form).size i }
+pub fn input_size(version: Version, i: VarInfo) -> u128
+    ensures value { result ≡ (version_of version).size i }
     ensures some { 1 ≤ result }
 {
-    match form {
-        Form::One => u128::from(largest(i)),
-        Form::Two => 1,
+    match version {
+        Version::One => u128::from(largest(i)),
+        Version::Two => 1,
     }
 }

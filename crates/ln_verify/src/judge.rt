@@ -1,52 +1,52 @@
 //! The judge: a line at its place, and the loop over the lines.
 ghost use Rattle.std.specs.Prelude.{◌≡◌, ◌↔◌, ◌<◌, All, IfOk, IsTrue, List, OnSome, length, slice_get};
 ghost use Rattle.std.specs.Option.{option_copied};
-ghost use Rattle.ln_verify.specs.BlockRules.{Version};
+ghost use Rattle.ln_verify.specs.BlockRules.{Version as AnyVersion};
 ghost use Rattle.ln_verify.specs.Line.{Place};
-ghost use Rattle.ln_cert.specs.declared.part.Part.{Part as AnyPart};
+ghost use Rattle.ln_cert.specs.declared.part.Entry.{Entry as AnyEntry};
 ghost use Rattle.ln_cert.specs.declared.part.Part.TheVariants.{Done, Predicate};
 ghost use Rattle.ln_verify.specs.declared.progress.At.TheVariants.{Away};
 ghost use Rattle.ln_verify.specs.Here.{Finished, PlaceStep, IsAnswer, IsHere, IsCase, Leads, subject_of, subjects_of};
 ghost use Rattle.ln_verify.specs.Versions.{version_of};
 ghost use Rattle.ln_tree.specs.Names.{name_bytes};
-ghost use Rattle.ln_cert.specs.Listing.{AreNumbered, parts_of};
-ghost use Rattle.ln_cert.specs.Unread.{AreLeft};
+ghost use Rattle.ln_cert.specs.Listing.{parts_of};
 
 use crate::case::Case;
-use crate::form::Form;
+use crate::version::Version;
 use crate::kinds::{block, block_op, decide, end, filter, filter_op, no_filter, order, range_op};
 use crate::progress::{At, Progress, is_at};
 use crate::ranged::Ends;
 use crate::stacks::empty;
+use ln_base::lines::Source;
 use ln_base::{NoMemory, Seq};
-use ln_cert::{Entry, Lines, Part};
+use ln_cert::{Entry, Part};
 use std::alloc::Global;
 
 // A line within the part of a predicate, but for the last.
 fn within(
     alloc: Global,
     case: &Case,
-    form: Form,
+    version: Version,
     state: &mut Progress,
     line: &Part,
 ) -> Result<bool, NoMemory>
     requires { IsCase case.now }
-    ensures { IfOk result (λ ok. Leads (version_of form) (subject_of case.now) state.old line.now ok state.new) }
+    ensures { IfOk result (λ ok. Leads (version_of version) (subject_of case.now) state.old line.now ok state.new) }
 {
     match line {
         Part::Predicate(_name) => Ok(false),
         Part::NoFilter => Ok(no_filter(alloc, state)),
         Part::Filter => filter(alloc, state),
-        Part::FilterOp(op, a) => filter_op(alloc, case, form, state, *op, *a),
+        Part::FilterOp(op, a) => filter_op(alloc, case, version, state, *op, *a),
         Part::Decide => decide(alloc, case, state),
         Part::Block(k, a) => block(alloc, case, state, *k, a.as_slice()),
-        Part::BlockOp(op, b) => block_op(alloc, case, form, state, *op, *b),
+        Part::BlockOp(op, b) => block_op(alloc, case, version, state, *op, *b),
         Part::RangeOp(op, low, high) => {
             let ends = Ends {
                 low: *low,
                 high: *high,
             };
-            range_op(alloc, case, form, state, *op, ends)
+            range_op(alloc, case, version, state, *op, ends)
         }
         Part::End => end(alloc, case, state),
         Part::Order(places, list) => {
@@ -78,7 +78,7 @@ fn is_done(line: &Part) -> bool
 // `predicate`.
 fn predicate(cases: &[Case], state: &mut Progress, name: &[u8]) -> bool
     requires { state.old.at ≡ Away }
-    ensures { (v : Version) (here : Place) → IsHere (subjects_of cases.now) state.old here →
+    ensures { (v : AnyVersion) (here : Place) → IsHere (subjects_of cases.now) state.old here →
         PlaceStep v (subjects_of cases.now) here (Predicate name.now) result state.new }
 {
     let Some(case) = case_at(cases, state.parts) else {
@@ -94,7 +94,7 @@ fn predicate(cases: &[Case], state: &mut Progress, name: &[u8]) -> bool
 // A line outside the parts.
 fn outside(cases: &[Case], state: &mut Progress, line: &Part) -> bool
     requires { state.old.at ≡ Away }
-    ensures { (v : Version) (here : Place) → IsHere (subjects_of cases.now) state.old here →
+    ensures { (v : AnyVersion) (here : Place) → IsHere (subjects_of cases.now) state.old here →
         PlaceStep v (subjects_of cases.now) here line.now result state.new }
 {
     match line {
@@ -133,13 +133,13 @@ fn done(case: &Case, state: &mut Progress) -> bool
 fn line(
     alloc: Global,
     cases: &[Case],
-    form: Form,
+    version: Version,
     state: &mut Progress,
     line: &Part,
 ) -> Result<bool, NoMemory>
     requires { All IsCase cases.now }
     ensures { IfOk result (λ ok. (here : Place) → IsHere (subjects_of cases.now) state.old here →
-        PlaceStep (version_of form) (subjects_of cases.now) here line.now ok state.new) }
+        PlaceStep (version_of version) (subjects_of cases.now) here line.now ok state.new) }
 {
     if is_at(state.at, At::Away) {
         return Ok(outside(cases, state, line));
@@ -150,7 +150,7 @@ fn line(
     if is_done(line) {
         return Ok(done(case, state));
     }
-    within(alloc, case, form, state, line)
+    within(alloc, case, version, state, line)
 }
 
 fn fresh_progress(alloc: Global) -> Result<Progress, NoMemory>
@@ -178,87 +178,46 @@ fn is_over(cases: &[Case], state: &Progress) -> bool
     state.parts == cases.len()
 }
 
-// The first line that fails, or none fails, where the reader is before the first part.
-fn over_entries(
+// The first of the lines that are left that fails, or none fails, where the reader is before the first part.
+fn over<S: Source<Entry>>(
     alloc: Global,
     cases: &[Case],
-    form: Form,
-    entries: &[Entry],
+    version: Version,
+    source: &mut S,
     state: &mut Progress,
 ) -> Result<Option<u32>, NoMemory>
     requires cases { All IsCase cases.now }
-    requires numbered { AreNumbered 2 entries.now }
-    requires few { length entries.now < 4294967294 }
+    requires second { S.next source.old ≡ 2 }
     requires away { state.old.at ≡ Away }
     requires none { state.old.parts ≡ 0 }
-    ensures { IfOk result (λ o. IsAnswer (version_of form) (subjects_of cases.now) (parts_of entries.now) o) }
+    ensures { IfOk result (λ o. (es : List AnyEntry) → S.left source.old es →
+        IsAnswer (version_of version) (subjects_of cases.now) (parts_of es) o) }
 {
-    'lines: for (i, e) in entries.iter().enumerate() {
-        if !line(alloc, cases, form, state, &e.part)? {
-            return Ok(Some(e.line));
-        }
-    }
-    if is_over(cases, state) {
-        return Ok(None);
-    }
-    Ok(Some(entries.len() as u32 + 2))
-}
-
-/// The first line that fails, or none fails.
-pub fn judge(
-    alloc: Global,
-    cases: &[Case],
-    form: Form,
-    entries: &[Entry],
-) -> Result<Option<u32>, NoMemory>
-    requires cases { All IsCase cases.now }
-    requires numbered { AreNumbered 2 entries.now }
-    requires few { length entries.now < 4294967294 }
-    ensures { IfOk result (λ o. IsAnswer (version_of form) (subjects_of cases.now) (parts_of entries.now) o) }
-{
-    let mut state = fresh_progress(alloc)?;
-    over_entries(alloc, cases, form, entries, &mut state)
-}
-
-// The first of the remaining lines that fails, or none fails, where the reader is before the first part.
-fn over_lines(
-    alloc: Global,
-    cases: &[Case],
-    form: Form,
-    lines: &mut Lines<'_>,
-    state: &mut Progress,
-) -> Result<Option<u32>, NoMemory>
-    requires cases { All IsCase cases.now }
-    requires second { lines.old.line ≡ 2 }
-    requires away { state.old.at ≡ Away }
-    requires none { state.old.parts ≡ 0 }
-    ensures { IfOk result (λ o. (ps : List AnyPart) → AreLeft lines.old ps → IsAnswer (version_of form) (subjects_of cases.now) ps o) }
-{
-    'lines: while let Some(e) = lines.next(alloc)? {
-        let number = e.line;
-        let good = line(alloc, cases, form, state, &e.part);
-        drop(e);
+    'lines: while let Some(taken) = source.take(alloc)? {
+        let good = line(alloc, cases, version, state, &S::lent(&taken).part);
+        drop(taken);
         if !good? {
-            return Ok(Some(number));
+            return Ok(Some(source.number() - 1));
         }
     }
     if is_over(cases, state) {
         return Ok(None);
     }
-    Ok(Some(lines.number()))
+    Ok(Some(source.number()))
 }
 
-/// The first line that fails, or none fails, of the remaining lines of a listing. Each is judged as it is read, and none is kept.
-pub fn judge_lines(
+/// The first line that fails, or none fails, of the lines of a listing after the first one. Each is judged as it is taken.
+pub fn judge<S: Source<Entry>>(
     alloc: Global,
     cases: &[Case],
-    form: Form,
-    lines: &mut Lines<'_>,
+    version: Version,
+    source: &mut S,
 ) -> Result<Option<u32>, NoMemory>
     requires cases { All IsCase cases.now }
-    requires second { lines.old.line ≡ 2 }
-    ensures { IfOk result (λ o. (ps : List AnyPart) → AreLeft lines.old ps → IsAnswer (version_of form) (subjects_of cases.now) ps o) }
+    requires second { S.next source.old ≡ 2 }
+    ensures { IfOk result (λ o. (es : List AnyEntry) → S.left source.old es →
+        IsAnswer (version_of version) (subjects_of cases.now) (parts_of es) o) }
 {
     let mut state = fresh_progress(alloc)?;
-    over_lines(alloc, cases, form, lines, &mut state)
+    over(alloc, cases, version, source, &mut state)
 }

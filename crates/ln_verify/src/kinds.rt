@@ -4,7 +4,7 @@ ghost use Rattle.ln_tree.specs.Exps.{Pairs};
 ghost use Rattle.ln_code.specs.Engine.{State};
 ghost use Rattle.ln_code.specs.FilterRules.{FilterKnown};
 ghost use Rattle.ln_code.specs.Rules.{Known};
-ghost use Rattle.ln_verify.specs.BlockRules.{Version};
+ghost use Rattle.ln_verify.specs.BlockRules.{Version as AnyVersion};
 ghost use Rattle.ln_verify.specs.Here.{AreAbove, BlockEnds, IsCase, Leads, FilterDecides, subject_of};
 ghost use Rattle.ln_verify.specs.Line.{Subject};
 ghost use Rattle.ln_verify.specs.Versions.{version_of};
@@ -13,7 +13,7 @@ ghost use Rattle.ln_cert.specs.declared.part.Part.TheVariants.{NoFilter, Filter,
 
 use crate::case::Case;
 use crate::derived::{is_derivative, is_whole};
-use crate::form::{Form, is_form};
+use crate::version::{Version, is_version};
 use crate::orders::is_next;
 use crate::progress::{At, Progress, before, is_at};
 use crate::ranged::{BlockStack, Ends, pair_of_bound, pair_of_ends};
@@ -27,7 +27,7 @@ use std::alloc::Global;
 
 /// `nofilter`.
 pub fn no_filter(alloc: Global, state: &mut Progress) -> bool
-    ensures { (v : Version) (p : Subject) → Leads v p state.old NoFilter result state.new }
+    ensures { (v : AnyVersion) (p : Subject) → Leads v p state.old NoFilter result state.new }
 {
     if !is_at(state.at, At::AtName) {
         return false;
@@ -39,7 +39,7 @@ pub fn no_filter(alloc: Global, state: &mut Progress) -> bool
 
 /// `filter`.
 pub fn filter(alloc: Global, state: &mut Progress) -> Result<bool, NoMemory>
-    ensures { IfOk result (λ ok. (v : Version) (p : Subject) → Leads v p state.old Filter ok state.new) }
+    ensures { IfOk result (λ ok. (v : AnyVersion) (p : Subject) → Leads v p state.old Filter ok state.new) }
 {
     if !is_at(state.at, At::AtName) {
         return Ok(false);
@@ -53,59 +53,59 @@ pub fn filter(alloc: Global, state: &mut Progress) -> Result<bool, NoMemory>
 pub fn filter_op(
     alloc: Global,
     case: &Case,
-    form: Form,
+    version: Version,
     state: &mut Progress,
     op: Op,
     a: Triple,
 ) -> Result<bool, NoMemory>
-    ensures { IfOk result (λ ok. Leads (version_of form) (subject_of case.now) state.old (FilterOp op a) ok state.new) }
+    ensures { IfOk result (λ ok. Leads (version_of version) (subject_of case.now) state.old (FilterOp op a) ok state.new) }
 {
     if !is_at(state.at, At::AtFilter) {
         return Ok(false);
     }
-    operate(alloc, case, form, &mut state.filter_stack, op, a)
+    operate(alloc, case, version, &mut state.filter_stack, op, a)
 }
 
 /// A line of a block, in version 1.
 pub fn block_op(
     alloc: Global,
     case: &Case,
-    form: Form,
+    version: Version,
     state: &mut Progress,
     op: Op,
     b: u128,
 ) -> Result<bool, NoMemory>
-    ensures { IfOk result (λ ok. Leads (version_of form) (subject_of case.now) state.old (BlockOp op b) ok state.new) }
+    ensures { IfOk result (λ ok. Leads (version_of version) (subject_of case.now) state.old (BlockOp op b) ok state.new) }
 {
-    if !is_form(form, Form::One) {
+    if !is_version(version, Version::One) {
         return Ok(false);
     }
     if !is_at(state.at, At::AtBlock) {
         return Ok(false);
     }
     let said = pair_of_bound(b);
-    operate(alloc, case, form, &mut state.block_stack, op, said)
+    operate(alloc, case, version, &mut state.block_stack, op, said)
 }
 
 /// A line of a block, in version 2.
 pub fn range_op(
     alloc: Global,
     case: &Case,
-    form: Form,
+    version: Version,
     state: &mut Progress,
     op: Op,
     ends: Ends,
 ) -> Result<bool, NoMemory>
-    ensures { IfOk result (λ ok. Leads (version_of form) (subject_of case.now) state.old (RangeOp op ends.low ends.high) ok state.new) }
+    ensures { IfOk result (λ ok. Leads (version_of version) (subject_of case.now) state.old (RangeOp op ends.low ends.high) ok state.new) }
 {
-    if !is_form(form, Form::Two) {
+    if !is_version(version, Version::Two) {
         return Ok(false);
     }
     if !is_at(state.at, At::AtBlock) {
         return Ok(false);
     }
     let said = pair_of_ends(ends);
-    operate(alloc, case, form, &mut state.block_stack, op, said)
+    operate(alloc, case, version, &mut state.block_stack, op, said)
 }
 
 /// `order`.
@@ -117,7 +117,7 @@ pub fn order(
     list: &[u32],
 ) -> Result<bool, NoMemory>
     requires { IsCase case.now }
-    ensures { IfOk result (λ ok. (v : Version) → Leads v (subject_of case.now) state.old (Order places.now list.now) ok state.new) }
+    ensures { IfOk result (λ ok. (v : AnyVersion) → Leads v (subject_of case.now) state.old (Order places.now list.now) ok state.new) }
 {
     let Some(n) = before(state.at, state.lists) else {
         return Ok(false);
@@ -153,7 +153,7 @@ fn decides(alloc: Global, case: &Case, filter_stack: &FilterStack) -> Result<boo
 /// `decide`.
 pub fn decide(alloc: Global, case: &Case, state: &mut Progress) -> Result<bool, NoMemory>
     requires { IsCase case.now }
-    ensures { IfOk result (λ ok. (v : Version) → Leads v (subject_of case.now) state.old Decide ok state.new) }
+    ensures { IfOk result (λ ok. (v : AnyVersion) → Leads v (subject_of case.now) state.old Decide ok state.new) }
 {
     if !is_at(state.at, At::AtFilter) {
         return Ok(false);
@@ -191,7 +191,7 @@ fn ends(
 /// `end`.
 pub fn end(alloc: Global, case: &Case, state: &mut Progress) -> Result<bool, NoMemory>
     requires { IsCase case.now }
-    ensures { IfOk result (λ ok. (v : Version) → Leads v (subject_of case.now) state.old End ok state.new) }
+    ensures { IfOk result (λ ok. (v : AnyVersion) → Leads v (subject_of case.now) state.old End ok state.new) }
 {
     if !is_at(state.at, At::AtBlock) {
         return Ok(false);
@@ -211,7 +211,7 @@ pub fn block(
     k: u32,
     a: &[(u8, u8)],
 ) -> Result<bool, NoMemory>
-    ensures { IfOk result (λ ok. (v : Version) → Leads v (subject_of case.now) state.old (Block k a.now) ok state.new) }
+    ensures { IfOk result (λ ok. (v : AnyVersion) → Leads v (subject_of case.now) state.old (Block k a.now) ok state.new) }
 {
     if !is_at(state.at, At::AtGap) {
         return Ok(false);

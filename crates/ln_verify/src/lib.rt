@@ -9,7 +9,6 @@ pub mod case;
 pub mod cases;
 pub mod derived;
 pub mod fits;
-pub mod form;
 pub mod joined;
 pub mod judge;
 pub mod kinds;
@@ -25,5 +24,6 @@ pub mod stacks;
 pub mod steps;
 pub mod triple;
 pub mod value;
+pub mod version;
 
 pub use listings::{Judged, VerifyStop, verify, verify_text};

@@ -4,11 +4,11 @@ ghost use Rattle.ln_algebra.specs.Tree.{Tree, Num, Input, Neg};
 ghost use Rattle.ln_tree.specs.declared.shape.VarInfo.{VarInfo as Info};
 ghost use Rattle.ln_bound.specs.Typed.{bound_of, two_of};
 ghost use Rattle.ln_code.specs.Engine.{Engine};
-ghost use Rattle.ln_verify.specs.BlockRules.{Version};
+ghost use Rattle.ln_verify.specs.BlockRules.{Version as AnyVersion};
 ghost use Rattle.ln_verify.specs.Rules.{HasStack, IsRule};
 ghost use Rattle.ln_verify.specs.Versions.{version_of};
 
-use crate::form::Form;
+use crate::version::Version;
 use ln_bound::{Two, Width};
 use ln_tree::VarInfo;
 
@@ -29,46 +29,46 @@ pub trait Limits: Copy {
     ghost tree: { Known → Tree };
 
     // The rules, and what they are told by a line that says this.
-    ghost rules: { Version → List Info → Engine Bound Known (ℕ → Option Known) };
+    ghost rules: { AnyVersion → List Info → Engine Bound Known (ℕ → Option Known) };
 
     ghost tells: { Self.Said → Bound → Type 0 };
 
     /// Of a number.
     fn of_number(c: i128, s: Self::Said) -> Option<Self>
-        ensures { (v : Version) (vars : List Info) (b : Bound) → tells s b →
+        ensures { (v : AnyVersion) (vars : List Info) (b : Bound) → tells s b →
             IsRule known result (Num c) (unsigned_abs c) ((rules v vars).push c b) };
 
     /// Of a variable.
-    fn of_input(form: Form, i: VarInfo, s: Self::Said) -> Option<Self>
+    fn of_input(version: Version, i: VarInfo, s: Self::Said) -> Option<Self>
         ensures { (vars : List Info) (k : ℕ) (b : Bound) → tells s b → slice_get vars k ≡ Some i →
-            IsRule known result (Input k) ((version_of form).size i) ((rules (version_of form) vars).input k b) };
+            IsRule known result (Input k) ((version_of version).size i) ((rules (version_of version) vars).input k b) };
 
     /// Of a local with these limits.
     fn of_local(x: Self, s: Self::Said) -> Option<Self>
-        ensures { (v : Version) (vars : List Info) (b : Bound) (t : Tree) (n : ℕ) → tells s b →
+        ensures { (v : AnyVersion) (vars : List Info) (b : Bound) (t : Tree) (n : ℕ) → tells s b →
             IsRule known result t n ((rules v vars).again (known x t n) b) };
 
     /// Of two values with these limits.
     fn of_two(t: Two, w: Width, s: Self::Said, x: Self, y: Self) -> Option<Self>
-        ensures { (v : Version) (vars : List Info) (b : Bound) (d e : Tree) (m n : ℕ) → tells s b →
+        ensures { (v : AnyVersion) (vars : List Info) (b : Bound) (d e : Tree) (m n : ℕ) → tells s b →
             IsRule known result (two_of t d e) (bound_of t m n) ((rules v vars).two t w b (known x d m) (known y e n)) };
 
     /// Of minus a value with these limits.
     fn of_minus(w: Width, s: Self::Said, x: Self) -> Option<Self>
-        ensures { (v : Version) (vars : List Info) (b : Bound) (t : Tree) (n : ℕ) → tells s b →
+        ensures { (v : AnyVersion) (vars : List Info) (b : Bound) (t : Tree) (n : ℕ) → tells s b →
             IsRule known result (Neg t) n ((rules v vars).minus w b (known x t n)) };
 
     /// Of a value with these limits that is divided by 2^n.
     fn of_cut(n: u8, s: Self::Said, x: Self) -> Option<Self>
-        ensures { (v : Version) (vars : List Info) (b : Bound) (t : Tree) (m : ℕ) → tells s b →
+        ensures { (v : AnyVersion) (vars : List Info) (b : Bound) (t : Tree) (m : ℕ) → tells s b →
             IsRule known result t m ((rules v vars).cut n b (known x t m)) };
 
     // What is known of a value has its expression.
     ghost tree_known: { (x : Self) (t : Tree) (n : ℕ) → tree (known x t n) ≡ t };
 
     // There is nothing to be said of a variable that isn't there.
-    ghost missing: { (v : Version) (vars : List Info) (k : ℕ) (b : Bound) → None ≡ slice_get vars k → (rules v vars).input k b ≡ None };
+    ghost missing: { (v : AnyVersion) (vars : List Info) (k : ℕ) (b : Bound) → None ≡ slice_get vars k → (rules v vars).input k b ≡ None };
 
     // The stack and the locals are as in any engine.
-    ghost stacked: { (v : Version) (vars : List Info) → HasStack (rules v vars) };
+    ghost stacked: { (v : AnyVersion) (vars : List Info) → HasStack (rules v vars) };
 }

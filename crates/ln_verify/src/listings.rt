@@ -3,7 +3,6 @@ ghost use Rattle.std.specs.Prelude.{◌≡◌, ◌↔◌, ◌<◌, ◌≤◌, �
 ghost use Rattle.ln_base.specs.Limits.{most_file};
 ghost use Rattle.ln_tree.specs.Table.{pred_of};
 ghost use Rattle.ln_stage.specs.Sound.{AreSound};
-ghost use Rattle.ln_cert.specs.Listing.{AreNumbered};
 ghost use Rattle.ln_verify.specs.Here.{IsCase, subjects_of};
 ghost use Rattle.ln_verify.specs.Verified.{AreSubjectsOf, IsFaultFor, IsTextFaultFor, IsValidFor, IsValidTextFor, judged_of, rules_of};
 ghost use Rattle.ln_verify.specs.Versions.{version_of};
@@ -11,9 +10,10 @@ ghost use Rattle.ln_verify.specs.declared.listings.Judged.TheVariants.{Valid, In
 
 use crate::case::Case;
 use crate::cases::case_of;
-use crate::form::Form;
-use crate::judge::{judge, judge_lines};
+use crate::version::Version;
+use crate::judge::judge;
 use ln_base::NoMemory;
+use ln_base::lines::Held;
 use ln_cert::{Entry, ListStop, Listing, listing_lines};
 use ln_tree::{Pred, Table};
 use std::alloc::Global;
@@ -58,20 +58,19 @@ fn cases_of(alloc: Global, preds: &[Pred]) -> Result<Vec<Case>, NoMemory>
     Ok(cases)
 }
 
-// The form of the listings of a version.
-fn form_of(version: u8) -> Form
-    ensures { version_of result ≡ rules_of version }
+// The version with this number.
+fn of_number(number: u8) -> Version
+    ensures { version_of result ≡ rules_of number }
 {
-    if version == 1 {
-        return Form::One;
+    if number == 1 {
+        return Version::One;
     }
-    Form::Two
+    Version::Two
 }
 
-// The lines of a listing: they have their numbers, and few enough that one more has a number too.
+// The lines of a listing, few enough that one more has a number.
 fn lines_of(l: &Listing) -> &[Entry]
     ensures value { result.now ≡ l.now.entries }
-    ensures numbered { AreNumbered 2 result.now }
     ensures few { length result.now < 4294967294 }
 {
     l.entries()
@@ -98,8 +97,9 @@ pub fn verify(alloc: Global, t: &Table, l: &Listing) -> Result<Judged, VerifySto
     ensures invalid { IfOk result (λ j. (line : ℕ) → (j ≡ Invalid line) ↔ IsFaultFor (map pred_of t.now.preds) l.now line) }
 {
     let cases = cases_of(alloc, t.preds.as_slice())?;
-    let form = form_of(l.version());
-    let first = judge(alloc, cases.as_slice(), form, lines_of(l))?;
+    let version = of_number(l.version());
+    let mut lines = Held::of(lines_of(l));
+    let first = judge(alloc, cases.as_slice(), version, &mut lines)?;
     Ok(judged_of(first))
 }
 
@@ -120,7 +120,7 @@ pub fn verify_text(alloc: Global, t: &Table, bytes: &[u8]) -> Result<Judged, NoM
         Err(ListStop::NoMemory(e)) => return Err(e),
     };
     let cases = cases_of(alloc, t.preds.as_slice())?;
-    let form = form_of(lines.version());
-    let first = judge_lines(alloc, cases.as_slice(), form, &mut lines)?;
+    let version = of_number(lines.version());
+    let first = judge(alloc, cases.as_slice(), version, &mut lines)?;
     Ok(judged_of(first))
 }

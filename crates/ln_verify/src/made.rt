@@ -7,13 +7,13 @@ ghost use Rattle.ln_interval.specs.Range.{most};
 ghost use Rattle.ln_tree.specs.declared.shape.VarInfo.{VarInfo as Info};
 ghost use Rattle.ln_poly.specs.Expansion.{IsNormal};
 ghost use Rattle.ln_poly.specs.Sparse.{size_of};
-ghost use Rattle.ln_verify.specs.BlockRules.{Version};
+ghost use Rattle.ln_verify.specs.BlockRules.{Version as AnyVersion};
 ghost use Rattle.ln_verify.specs.Rules.{IsKnown, IsRule, IsSize};
 ghost use Rattle.ln_verify.specs.Values.{IsFor, IsMade};
 ghost use Rattle.ln_verify.specs.Versions.{version_of};
 
 use crate::allowed::{input_size, joined_size, variable};
-use crate::form::Form;
+use crate::version::Version;
 use crate::joined::joined;
 use crate::limits::Limits;
 use crate::shared_poly;
@@ -50,7 +50,7 @@ fn kept<L: Limits>(limits: L, size: u128, poly: SharedPoly) -> Option<Value<L>>
 
 /// Of a number.
 pub fn number<L: Limits>(alloc: Global, c: i128, s: L::Said) -> Result<Option<Value<L>>, NoMemory>
-    ensures { IfOk result (λ o. (v : Version) (vars : List Info) (n : ℕ) (b : L.Bound) → L.tells s b →
+    ensures { IfOk result (λ o. (v : AnyVersion) (vars : List Info) (n : ℕ) (b : L.Bound) → L.tells s b →
         IsMade (IsFor L.known n) L.tree n o ((L.rules v vars).push c b)) }
 {
     let size = c.unsigned_abs();
@@ -64,19 +64,19 @@ pub fn number<L: Limits>(alloc: Global, c: i128, s: L::Said) -> Result<Option<Va
 /// Of a variable.
 pub fn input<L: Limits>(
     alloc: Global,
-    form: Form,
+    version: Version,
     vars: &[VarInfo],
     k: u8,
     s: L::Said,
 ) -> Result<Option<Value<L>>, NoMemory>
     ensures { IfOk result (λ o. (b : L.Bound) → L.tells s b →
-        IsMade (IsFor L.known (length vars.now)) L.tree (length vars.now) o ((L.rules (version_of form) vars.now).input k b)) }
+        IsMade (IsFor L.known (length vars.now)) L.tree (length vars.now) o ((L.rules (version_of version) vars.now).input k b)) }
 {
     let Some(i) = variable(vars, k) else {
         return Ok(None);
     };
-    let size = input_size(form, i);
-    let Some(limits) = within(L::of_input(form, i, s), size) else {
+    let size = input_size(version, i);
+    let Some(limits) = within(L::of_input(version, i, s), size) else {
         return Ok(None);
     };
     let h = power(alloc, k, 1, 1)?;
@@ -85,7 +85,7 @@ pub fn input<L: Limits>(
 
 /// Of a local, which gets one more owner.
 pub fn again<L: Limits>(x: &Value<L>, s: L::Said) -> Result<Option<Value<L>>, NoMemory>
-    ensures { IfOk result (λ o. (v : Version) (vars : List Info) (n : ℕ) (b : L.Bound) (k : L.Known) → L.tells s b → IsFor L.known n x.now k →
+    ensures { IfOk result (λ o. (v : AnyVersion) (vars : List Info) (n : ℕ) (b : L.Bound) (k : L.Known) → L.tells s b → IsFor L.known n x.now k →
         IsMade (IsFor L.known n) L.tree n o ((L.rules v vars).again k b)) }
 {
     let Some(limits) = within(L::of_local(x.limits, s), x.size) else {
@@ -104,7 +104,7 @@ pub fn two<L: Limits>(
     x: Value<L>,
     y: Value<L>,
 ) -> Result<Option<Value<L>>, NoMemory>
-    ensures { IfOk result (λ o. (v : Version) (vars : List Info) (n : ℕ) (b : L.Bound) (j k : L.Known) → L.tells s b →
+    ensures { IfOk result (λ o. (v : AnyVersion) (vars : List Info) (n : ℕ) (b : L.Bound) (j k : L.Known) → L.tells s b →
         IsFor L.known n x j → IsFor L.known n y k → IsMade (IsFor L.known n) L.tree n o ((L.rules v vars).two t w b j k)) }
 {
     let size = joined_size(t, x.size, y.size);
@@ -120,7 +120,7 @@ pub fn two<L: Limits>(
 
 /// Of one value.
 pub fn minus<L: Limits>(w: Width, s: L::Said, x: Value<L>) -> Option<Value<L>>
-    ensures { (v : Version) (vars : List Info) (n : ℕ) (b : L.Bound) (k : L.Known) → L.tells s b → IsFor L.known n x k →
+    ensures { (v : AnyVersion) (vars : List Info) (n : ℕ) (b : L.Bound) (k : L.Known) → L.tells s b → IsFor L.known n x k →
         IsMade (IsFor L.known n) L.tree n result ((L.rules v vars).minus w b k) }
 {
     let Some(limits) = within(L::of_minus(w, s, x.limits), x.size) else {
@@ -131,7 +131,7 @@ pub fn minus<L: Limits>(w: Width, s: L::Said, x: Value<L>) -> Option<Value<L>>
 
 /// Of one value that is divided by 2^n.
 pub fn cut<L: Limits>(n: u8, s: L::Said, x: Value<L>) -> Option<Value<L>>
-    ensures { (v : Version) (vars : List Info) (m : ℕ) (b : L.Bound) (k : L.Known) → L.tells s b → IsFor L.known m x k →
+    ensures { (v : AnyVersion) (vars : List Info) (m : ℕ) (b : L.Bound) (k : L.Known) → L.tells s b → IsFor L.known m x k →
         IsMade (IsFor L.known m) L.tree m result ((L.rules v vars).cut n b k) }
 {
     let Some(limits) = within(L::of_cut(n, s, x.limits), x.size) else {

@@ -9,7 +9,7 @@ ghost use Rattle.ln_verify.specs.BlockRules.{balanced};
 ghost use Rattle.ln_verify.specs.Rules.{AreEnds, IsRule, in_range};
 
 use crate::allowed::{covers_input, covers_number, is_allowed, is_covered, joined_pair};
-use crate::form::Form;
+use crate::version::Version;
 use crate::limits::Limits;
 use crate::stacks::Stack;
 use crate::value::Value;
@@ -77,11 +77,11 @@ impl Limits for Ranged {
         ruled(covers_number(b, c), b, Width::least(b.magnitude()))
     }
 
-    fn of_input(form: Form, i: VarInfo, ends: Option<Pair>) -> Option<Ranged> {
+    fn of_input(version: Version, i: VarInfo, ends: Option<Pair>) -> Option<Ranged> {
         let Some(b) = ends else {
             return None;
         };
-        ruled(covers_input(form, i, b), b, Width::least(b.magnitude()))
+        ruled(covers_input(version, i, b), b, Width::least(b.magnitude()))
     }
 
     fn of_local(x: Ranged, ends: Option<Pair>) -> Option<Ranged> {

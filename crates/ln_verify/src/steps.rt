@@ -4,13 +4,13 @@ ghost use Rattle.std.specs.Prelude.{◌≡◌, List, IfOk, MatchOption, None, So
 ghost use Rattle.ln_bound.specs.declared.fitted.Two.TheVariants.{Plus, Minus, Times};
 ghost use Rattle.ln_tree.specs.declared.shape.VarInfo.{VarInfo as Info};
 ghost use Rattle.ln_code.specs.declared.op.Op.TheVariants.{Push, Input, Get, Set, Neg, Cut};
-ghost use Rattle.ln_verify.specs.BlockRules.{Version};
+ghost use Rattle.ln_verify.specs.BlockRules.{Version as AnyVersion};
 ghost use Rattle.ln_verify.specs.Versions.{version_of};
 ghost use Rattle.ln_verify.specs.Works.{StackStep};
 ghost use Rattle.ln_code.specs.Engine.{op_of};
 
 use crate::case::Case;
-use crate::form::Form;
+use crate::version::Version;
 use crate::limits::Limits;
 use crate::made::{again, cut, input, minus, number, two};
 use crate::stacks::{Stack, local, pop, push, put};
@@ -27,7 +27,7 @@ fn push_number<L: Limits>(
     c: i128,
     s: L::Said,
 ) -> Result<bool, NoMemory>
-    ensures { IfOk result (λ ok. (v : Version) (vars : List Info) (b : L.Bound) → L.tells s b →
+    ensures { IfOk result (λ ok. (v : AnyVersion) (vars : List Info) (b : L.Bound) → L.tells s b →
         StackStep L.known L.tree L.rules v vars on.old (Push c) b ok on.new) }
 {
     let v = number(alloc, c, s)?;
@@ -38,15 +38,15 @@ fn push_number<L: Limits>(
 fn push_input<L: Limits>(
     alloc: Global,
     case: &Case,
-    form: Form,
+    version: Version,
     on: &mut Stack<Value<L>>,
     k: u8,
     s: L::Said,
 ) -> Result<bool, NoMemory>
     ensures { IfOk result (λ ok. (b : L.Bound) → L.tells s b →
-        StackStep L.known L.tree L.rules (version_of form) case.now.shape.vars on.old (Input k) b ok on.new) }
+        StackStep L.known L.tree L.rules (version_of version) case.now.shape.vars on.old (Input k) b ok on.new) }
 {
-    let v = input(alloc, form, case.shape.vars.as_slice(), k, s)?;
+    let v = input(alloc, version, case.shape.vars.as_slice(), k, s)?;
     push(&mut on.values, v)
 }
 
@@ -58,7 +58,7 @@ fn with_two<L: Limits>(
     w: Width,
     s: L::Said,
 ) -> Result<bool, NoMemory>
-    ensures { IfOk result (λ ok. (v : Version) (vars : List Info) (b : L.Bound) → L.tells s b →
+    ensures { IfOk result (λ ok. (v : AnyVersion) (vars : List Info) (b : L.Bound) → L.tells s b →
         StackStep L.known L.tree L.rules v vars on.old (op_of t w) b ok on.new) }
 {
     let Some(y) = pop(&mut on.values) else {
@@ -73,7 +73,7 @@ fn with_two<L: Limits>(
 
 // One value off the stack, and minus it onto it.
 fn with_one<L: Limits>(on: &mut Stack<Value<L>>, w: Width, s: L::Said) -> Result<bool, NoMemory>
-    ensures { IfOk result (λ ok. (v : Version) (vars : List Info) (b : L.Bound) → L.tells s b →
+    ensures { IfOk result (λ ok. (v : AnyVersion) (vars : List Info) (b : L.Bound) → L.tells s b →
         StackStep L.known L.tree L.rules v vars on.old (Neg w) b ok on.new) }
 {
     let Some(x) = pop(&mut on.values) else {
@@ -85,7 +85,7 @@ fn with_one<L: Limits>(on: &mut Stack<Value<L>>, w: Width, s: L::Said) -> Result
 
 // One value off the stack, and it, divided by 2^n, onto it.
 fn with_cut<L: Limits>(on: &mut Stack<Value<L>>, n: u8, s: L::Said) -> Result<bool, NoMemory>
-    ensures { IfOk result (λ ok. (v : Version) (vars : List Info) (b : L.Bound) → L.tells s b →
+    ensures { IfOk result (λ ok. (v : AnyVersion) (vars : List Info) (b : L.Bound) → L.tells s b →
         StackStep L.known L.tree L.rules v vars on.old (Cut n) b ok on.new) }
 {
     let Some(x) = pop(&mut on.values) else {
@@ -97,7 +97,7 @@ fn with_cut<L: Limits>(on: &mut Stack<Value<L>>, n: u8, s: L::Said) -> Result<bo
 
 // A value off the stack into a local.
 fn set<L: Limits>(on: &mut Stack<Value<L>>, j: u8) -> bool
-    ensures { (v : Version) (vars : List Info) (b : L.Bound) → StackStep L.known L.tree L.rules v vars on.old (Set j) b result on.new }
+    ensures { (v : AnyVersion) (vars : List Info) (b : L.Bound) → StackStep L.known L.tree L.rules v vars on.old (Set j) b result on.new }
 {
     let j = usize::from(j);
     if j >= on.locals.len() {
@@ -122,7 +122,7 @@ fn local_at<T>(locals: &[Option<T>], j: usize) -> Option<&T>
 
 // A local, onto the stack once more.
 fn get<L: Limits>(on: &mut Stack<Value<L>>, j: u8, s: L::Said) -> Result<bool, NoMemory>
-    ensures { IfOk result (λ ok. (v : Version) (vars : List Info) (b : L.Bound) → L.tells s b →
+    ensures { IfOk result (λ ok. (v : AnyVersion) (vars : List Info) (b : L.Bound) → L.tells s b →
         StackStep L.known L.tree L.rules v vars on.old (Get j) b ok on.new) }
 {
     let j = usize::from(j);
@@ -137,17 +137,17 @@ fn get<L: Limits>(on: &mut Stack<Value<L>>, j: u8, s: L::Said) -> Result<bool, N
 pub fn operate<L: Limits>(
     alloc: Global,
     case: &Case,
-    form: Form,
+    version: Version,
     on: &mut Stack<Value<L>>,
     op: Op,
     s: L::Said,
 ) -> Result<bool, NoMemory>
     ensures { IfOk result (λ ok. (b : L.Bound) → L.tells s b →
-        StackStep L.known L.tree L.rules (version_of form) case.now.shape.vars on.old op b ok on.new) }
+        StackStep L.known L.tree L.rules (version_of version) case.now.shape.vars on.old op b ok on.new) }
 {
     match op {
         Op::Push(c) => push_number(alloc, on, c, s),
-        Op::Input(k) => push_input(alloc, case, form, on, k, s),
+        Op::Input(k) => push_input(alloc, case, version, on, k, s),
         Op::Get(j) => get(on, j, s),
         Op::Set(j) => Ok(set(on, j)),
         Op::Add(w) => with_two(alloc, on, Two::Plus, w, s),

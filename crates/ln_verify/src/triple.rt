@@ -7,7 +7,7 @@ ghost use Rattle.ln_bound.specs.Widths.{no_wider};
 ghost use Rattle.ln_code.specs.FilterRules.{covers, error_after, push_error};
 ghost use Rattle.ln_verify.specs.Joined.{two_covers};
 
-use crate::form::Form;
+use crate::version::Version;
 use crate::limits::Limits;
 use crate::stacks::Stack;
 use crate::value::Value;
@@ -166,7 +166,7 @@ impl Limits for Triple {
         covering(number_covered(c, a), a)
     }
 
-    fn of_input(_form: Form, i: VarInfo, a: Triple) -> Option<Triple> {
+    fn of_input(_version: Version, i: VarInfo, a: Triple) -> Option<Triple> {
         covering(input_covered(i, a), a)
     }
 

@@ -1,24 +1,16 @@
 -- Lines that are judged one after the other, and the first that fails.
 use Rattle.std.proofs.Common.{◌≡◌, ℕ, ◌+◌, ◌<◌, ◌≤◌, zero, suc, List, [], ◌∷◌, ◌++◌, length, take, drop, ◌⊎◌, inl, inr, refl, sym}
 use Rattle.std.proofs.Common.{ap, ◌∙◌, subst, arith}
-use Rattle.std.proofs.Common.{append_assoc, append-nil, drop-cons, get_or, length-append}
+use Rattle.std.proofs.Common.{append_assoc, append-nil, length-append}
 use Rattle.std.proofs.Math.Seq.{drop-append_seam, take-append_seam}
 use Rattle.std.proofs.lemmas.Bool.{cases_order}
 use Rattle.std.proofs.lemmas.List.{drop_all, take_all}
-use Rattle.ln_base.specs.Forms.Form.{Rules}
 use Rattle.ln_base.specs.Forms.Judge.{FailsAt, Go, IsFirstFault, Judge}
-use Rattle.ln_base.specs.Forms.Unread.{AreLeft, GoesOn, Unread}
 
 -- lines that lead to a place and lines that lead on from there lead together to where those do
 pub go_append : {P L : Type 0} (J : Judge P L) (p q r : P) (xs ys : List L) → Go J p xs q → Go J q ys r → Go J p (xs ++ ys) r
 go_append J p q r [] ys g h = subst (λ z. Go J z ys r) g h
 go_append J p q r (x ∷ xs) ys g h = (g.0, g.1, go_append J g.0 q r xs ys g.2 h)
-
--- the line at hand and those after it
-pub at_hand : {L : Type 0} (ls : List L) (i : ℕ) (l : L) → i < length ls → l ≡ get_or ls i l → drop i ls ≡ l ∷ drop (i + 1) ls
-at_hand ls i l h e =
-    let k : suc i ≡ i + 1 = omega arith in
-    drop-cons ls i l h ∙ ap (λ x. x ∷ drop (suc i) ls) (sym e) ∙ ap (λ j. l ∷ drop j ls) k
 
 -- the lines so far lead to a place of which this is so, and the others follow, the first of which has this number
 pub record Reached {P L : Type 0} (J : Judge P L) (start : P) (Is : P → Type 0) (lines rest : List L) (n : ℕ) : Type 0 where
@@ -28,12 +20,6 @@ pub record Reached {P L : Type 0} (J : Judge P L) (start : P) (Is : P → Type 0
   pub number : n ≡ length done + 2
   pub come : Go J start done here
   pub is : Is here
-
--- the same where it is so of the others that they are left
-pub record Midway {P L : Type 0} (J : Judge P L) (start : P) (Is : P → Type 0) (Left : List L → Type 0) (lines : List L) (n : ℕ) : Type 0 where
-  pub rest : List L
-  pub left : Left rest
-  pub reached : Reached J start Is lines rest n
 
 module _ {P L : Type 0} (J : Judge P L) (start : P) (Is : P → Type 0) (lines : List L) where
   -- before the first line, which is line 2 of the text
@@ -73,13 +59,34 @@ module _ {P L : Type 0} (J : Judge P L) (start : P) (Is : P → Type 0) (lines :
     reached_all b =
         (r.here, subst (λ x. Go J start x r.here) (sym (r.same ∙ ap (λ x. r.done ++ x) b ∙ append-nil r.done)) r.come, r.is)
 
-  -- where lines are read one by one, the line that is read leads on
-  pub midway_more : {S : Type 0} (R : Rules S L) (Left : List L → Type 0) (w : Unread S) (Js : P → Type 0) (l : L) (n m : ℕ)
-      → Midway J start Is Left lines n → ((ls : List L) → Left ls → GoesOn R ls l w) → m ≡ n + 1 → ((p : P) → Is p → (q : P) × J.Rule p l q × Js q)
-      → Midway J start Js (AreLeft R w) lines m
-  midway_more R Left w Js l n m r t e h =
-      let g = t r.rest r.left in
-      record { rest = g.behind; left = g.left; reached = reached_more r.rest n r.reached Js l g.behind m g.first e h }
+-- ---- lines that are taken one by one
+-- what holds lines (each of which says one that is judged) up to those that are left
+pub record Midway {P L E : Type 0} (J : Judge P L) (start : P) (F : List E → List L) (Is : P → Type 0) (Left : List E → Type 0)
+    (lines : List E) (n : ℕ) : Type 0 where
+  pub rest : List E
+  pub left : Left rest
+  pub reached : Reached J start Is (F lines) (F rest) n
+
+module _ {P L E : Type 0} (J : Judge P L) (start : P) (F : List E → List L) (f : E → L) (one_more : (x : E) (xs : List E) → F (x ∷ xs) ≡ f x ∷ F xs)
+    (Is : P → Type 0) (Left : List E → Type 0) (lines : List E) (n : ℕ) (h : Midway J start F Is Left lines n) where
+  -- a line that is taken leads on
+  pub midway_more : (More : List E → Type 0) (Js : P → Type 0) (x : E) (m : ℕ)
+      → ((xs : List E) → Left xs → (behind : List E) × (xs ≡ x ∷ behind) × More behind) → m ≡ n + 1
+      → ((p : P) → Is p → (q : P) × J.Rule p (f x) q × Js q) → Midway J start F Js More lines m
+  midway_more More Js x m t e g =
+      let k = t h.rest h.left in
+      record {
+        rest = k.0;
+        left = k.2;
+        reached = reached_more J start Is (F lines) (F h.rest) n h.reached Js (f x) (F k.0) m (ap F k.1 ∙ one_more x k.0) e g;
+      }
+
+  -- a line that is taken leads nowhere
+  pub midway_stops : (More : List E → Type 0) (x : E) (m : ℕ) → ((xs : List E) → Left xs → (behind : List E) × (xs ≡ x ∷ behind) × More behind)
+      → m ≡ n → ((p : P) → Is p → (q : P) → J.Rule p (f x) q → ⊥) → IsFirstFault J start (F lines) m
+  midway_stops More x m t e g =
+      let k = t h.rest h.left in
+      reached_stops J start Is (F lines) (F h.rest) n h.reached (f x ∷ F k.0) m (ap F k.1 ∙ one_more x k.0) e g
 
 -- ---- where a line leads to one place at most
 module _ {P L : Type 0} (J : Judge P L) (one : (p q r : P) (l : L) → J.Rule p l q → J.Rule p l r → q ≡ r) where

@@ -1,10 +1,12 @@
 -- Listings of a table: its subjects, and the two results.
 use Rattle.std.proofs.Common.{◌≡◌, ◌↔◌, ℕ, ◌<◌, ◌≤◌, ◌+◌, Bool, List, [], ◌∷◌, ◌++◌, length, map, take, get_or, refl, sym, ◌∙◌}
-use Rattle.std.proofs.Common.{ap, subst, if◌then◌else◌}
+use Rattle.std.proofs.Common.{ap, arith, subst, if◌then◌else◌}
 use Rattle.std.specs.Prelude.{All, None, Option, Some}
 use Rattle.std.proofs.lemmas.Bool.{ne_eqb}
-use Rattle.std.proofs.lemmas.List.{take_all, take_more}
+use Rattle.std.proofs.lemmas.List.{length-map, take_all, take_more}
 use Rattle.std.proofs.lemmas.List.Elements.{All-nil, All-push}
+use Rattle.ln_base.specs.Limits.{most_file}
+use Rattle.ln_base.proofs.Forms.Walk.{few_lines}
 use Rattle.ln_tree.specs.declared.pred.Pred.{Pred}
 use Rattle.ln_tree.specs.declared.shape.Shape.{Shape}
 use Rattle.ln_tree.specs.Names.{name_bytes}
@@ -12,7 +14,8 @@ use Rattle.ln_tree.specs.Table.{PredOf, pred_of}
 use Rattle.ln_poly.specs.Expansion.{IsNormal}
 use Rattle.ln_poly.specs.OfPred.{root_of}
 use Rattle.ln_cert.specs.declared.part.Entry.{Entry}
-use Rattle.ln_cert.specs.Listing.{Listed, parts_of}
+use Rattle.ln_cert.specs.Listing.{Kept, Listed, parts_of}
+use Rattle.ln_cert.specs.Reading.{list_rules}
 use Rattle.ln_verify.specs.BlockRules.{Version, version_1, version_2}
 use Rattle.ln_verify.specs.Here.{IsAnswer, IsCase, subject_of, subjects_of}
 use Rattle.ln_verify.specs.Judge.{IsFirstFault, IsValid}
@@ -128,3 +131,12 @@ pub verified : (ps : List PredOf) (l : Listed) (v : Version) (cs xs : List Case)
 verified ps l v cs xs es o j e those a b q h =
     subst (IsRight ps l) (sym q) (judged-right ps l v (subjects_of cs) e those o
     (subst (λ (ys : List Entry). IsAnswer v (subjects_of cs) (parts_of ys) o) b (subst (λ (ys : List Case). IsAnswer v (subjects_of ys) (parts_of es) o) a h)))
+
+-- a listing has no more lines than its text has bytes
+pub entries-few : (l : Listed) → Kept l → length l.entries ≤ most_file
+entries-few l k = omega (
+  arith,
+  k.short,
+  few_lines (list_rules l.version) k.bytes (parts_of l.entries) k.text.text,
+  length-map l.entries (λ (e : Entry). e.part),
+)

@@ -1,14 +1,14 @@
 -- The results on bytes.
-use Rattle.std.proofs.Common.{◌≡◌, ◌↔◌, ℕ, List, [], ◌∷◌, map, refl, sym, ap, subst}
+use Rattle.std.proofs.Common.{◌≡◌, ◌↔◌, ◌+◌, ℕ, List, [], ◌∷◌, refl, sym, ap, subst}
 use Rattle.std.specs.Prelude.{Err, IfErr, Ok, Option, Result}
 use Rattle.ln_tree.specs.Table.{PredOf}
 use Rattle.ln_cert.specs.declared.part.Entry.{Entry}
 use Rattle.ln_cert.specs.declared.part.Part.{Part}
-use Rattle.ln_cert.specs.Listing.{IsFormFault, ListText, Listed, parts_of}
+use Rattle.ln_cert.specs.Listing.{AreNumbered, IsFormFault, ListText, Listed, parts_of}
 use Rattle.ln_base.specs.declared.lines.stop.TextStop.{TextStop as ListStop}
 use Rattle.ln_base.specs.declared.lines.stop.TextStop.TheVariants.{Form}
 use Rattle.ln_cert.specs.Stop.{Stops}
-use Rattle.ln_cert.specs.Unread.{AreLeft, IsOpened, Unread}
+use Rattle.ln_cert.specs.Unread.{AreLeft, HaveEntries, IsOpened, Unread}
 use Rattle.ln_cert.proofs.Reading.Whole.{no_text, one_fault, one_text}
 use Rattle.ln_verify.specs.BlockRules.{Version}
 use Rattle.ln_verify.specs.Here.{IsAnswer, subjects_of}
@@ -69,20 +69,26 @@ pub form-of : {L : Type 0} (bs : List ℕ) (r : Result L ListStop) (e : ListStop
 form-of bs (Ok l) e at i j h = cc
 form-of bs (Err x) e at i j h = let k : x ≡ Form at = cc in (subst (Stops bs) k h).0
 
--- lines as entries; their numbers are of no account to a rule
-abbrev as_entries : List Part → List Entry
-as_entries ps = map (λ (p : Part). record { line = 0; part = p }) ps
+-- lines as entries, of which the first has this number
+abbrev numbered : ℕ → List Part → List Entry
+numbered n [] = []
+numbered n (p ∷ ps) = record { line = n; part = p } ∷ numbered (n + 1) ps
 
-parts-back : (ps : List Part) → parts_of (as_entries ps) ≡ ps
-parts-back [] = refl
-parts-back (p ∷ ps) = ap (λ (xs : List Part). p ∷ xs) (parts-back ps)
+parts-back : (n : ℕ) (ps : List Part) → parts_of (numbered n ps) ≡ ps
+parts-back n [] = refl
+parts-back n (p ∷ ps) = ap (λ (xs : List Part). p ∷ xs) (parts-back (n + 1) ps)
+
+are-numbered : (n : ℕ) (ps : List Part) → AreNumbered n (numbered n ps)
+are-numbered n [] = tt
+are-numbered n (p ∷ ps) = (refl, are-numbered (n + 1) ps)
 
 -- where the lines of an opened listing were judged with the cases that were made, the result is right about the bytes
 pub verified-lines : (ps : List PredOf) (bs : List ℕ) (u : Unread) (v : Version) (cs xs : List Case) (o : Option ℕ) (j : Judged) → IsOpened bs u
     → v ≡ rules_of u.version → AreSubjectsOf ps (subjects_of cs) → xs ≡ cs → j ≡ judged_of o
-    → ((qs : List Part) → AreLeft u qs → IsAnswer v (subjects_of xs) qs o) → IsRightText ps bs j
+    → ((es : List Entry) → HaveEntries u es → IsAnswer v (subjects_of xs) (parts_of es) o) → IsRightText ps bs j
 verified-lines ps bs u v cs xs o j w e those a q h =
-    let l : Listed = record { version = u.version; entries = as_entries w.parts } in
-    let b = sym (parts-back w.parts) in
-    text-right ps bs l (subst (ListText bs u.version) b w.listing) j
-    (verified ps l v cs xs (as_entries w.parts) o j e those a refl q (subst (λ (ys : List Part). IsAnswer v (subjects_of xs) ys o) b (h w.parts w.left)))
+    let es : List Entry = numbered 2 w.parts in
+    let l : Listed = record { version = u.version; entries = es } in
+    let b : w.parts ≡ parts_of es = sym (parts-back 2 w.parts) in
+    text-right ps bs l (subst (ListText bs u.version) b w.listing) j (verified ps l v cs xs es o j e those a refl q
+    (h es (subst (AreLeft u) b w.left, subst (λ (n : ℕ). AreNumbered n es) (sym w.second) (are-numbered 2 w.parts))))

@@ -36,8 +36,8 @@ use Rattle.ln_verify.specs.BlockRules.{Version, block_rules, deepest, triple_rul
 use Rattle.ln_verify.specs.Line.{Piece, Subject, Written}
 use Rattle.ln_verify.specs.Stands.{FilterStands, ListStands, PartStands, PieceStands}
 use Rattle.ln_verify.specs.Versions.{version_of}
-use Rattle.ln_verify.specs.declared.form.Form.{Form}
-use Rattle.ln_verify.specs.declared.form.Form.TheVariants.{One, Two}
+use Rattle.ln_verify.specs.declared.version.Version.{Version as InCode}
+use Rattle.ln_verify.specs.declared.version.Version.TheVariants.{One, Two}
 use Rattle.ln_verify.proofs.Validity.Stand.{valid-stands}
 use Rattle.ln_verify.proofs.Engines.Versions.{version-1-follows}
 use Rattle.ln_verify.proofs.Judging.Wholes.{list-stands, segments-all}
@@ -50,7 +50,7 @@ pub record Followed (v : Version) : Type 0 where
   pub filter : (vars : List VarInfo) (lines : List (Line Triple)) (x : FilterKnown) → answer (triple_rules v vars) no_locals lines ≡ Some x
       → (y : FilterKnown) × (answer (filter_rules vars deepest) no_locals lines ≡ Some y) × (x.tree ≡ y.tree) × (x.triple ≡ y.triple)
 
-followed : (f : Form) → Followed (version_of f)
+followed : (f : InCode) → Followed (version_of f)
 followed One = record {
   block = λ vars lines x q. let r = version-1-follows.block vars lines x q in (r.0, r.1, r.2.tree);
   filter = λ vars lines x q. let r = version-1-follows.filter vars lines x q in (r.0, r.1, r.2.tree, r.2.triple);

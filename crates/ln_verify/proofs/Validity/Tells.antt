@@ -21,15 +21,15 @@ use Rattle.ln_verify.specs.Judge.{Go, IsValid}
 use Rattle.ln_verify.specs.Line.{Outside, Subject, Written}
 use Rattle.ln_verify.specs.Verified.{AreSubjectsOf, IsSubjectOf, ValidListingsGiveSigns, rules_of}
 use Rattle.ln_verify.specs.Versions.{version_of}
-use Rattle.ln_verify.specs.declared.form.Form.{Form}
-use Rattle.ln_verify.specs.declared.form.Form.TheVariants.{One, Two}
+use Rattle.ln_verify.specs.declared.version.Version.{Version as InCode}
+use Rattle.ln_verify.specs.declared.version.Version.TheVariants.{One, Two}
 use Rattle.ln_verify.proofs.Validity.Signs.{signs-given}
 
--- the form of a listing of this version
-form-of : (n : ℕ) → (f : Form) × (version_of f ≡ rules_of n)
-form-of n = by_case (n == 1) refl
+-- the version in code of a listing with this number
+in-code : (n : ℕ) → (f : InCode) × (version_of f ≡ rules_of n)
+in-code n = by_case (n == 1) refl
   where
-    by_case : (b : Bool) → (n == 1) ≡ b → (f : Form) × (version_of f ≡ rules_of n)
+    by_case : (b : Bool) → (n == 1) ≡ b → (f : InCode) × (version_of f ≡ rules_of n)
     by_case true e = (One, sym (ap (λ (b : Bool). if b then version_1 else version_2) e))
     by_case false e = (Two, sym (ap (λ (b : Bool). if b then version_1 else version_2) e))
 
@@ -58,7 +58,7 @@ part-there (a ∷ xs) (b ∷ ys) zero x l e = (b, refl)
 part-there (a ∷ xs) (b ∷ ys) (suc k) x l e = part-there xs ys k x (omega (arith, l)) e
 part-there xs ys k x l e = absurd (omega (arith, l))
 
-told : (f : Form) (v : Version) (ss : List Subject) (lines : List Part) (h : IsValid v ss lines) (k : ℕ) (s : Subject) (w : Written)
+told : (f : InCode) (v : Version) (ss : List Subject) (lines : List Part) (h : IsValid v ss lines) (k : ℕ) (s : Subject) (w : Written)
     (shape : Shape) (e : Tree) (row : Row) → version_of f ≡ v →
     slice_get ss k ≡ Some s → slice_get h.parts k ≡ Some w → IsSubject shape e s → InRange shape.sites shape.vars row → GivesSign shape e w row
 told f v ss lines h k s w shape e row q there here i r =
@@ -73,7 +73,7 @@ pub signs-told : ValidListingsGiveSigns
 signs-told ps l a h k p row e r =
     let s = subject-there ps h.subjects k p h.those e in
     let w = part-there h.subjects h.valid.parts k s.0 h.valid.all s.1 in
-    let f = form-of l.version in
+    let f = in-code l.version in
     let i : IsSubject p.shape (root_of (pred_of p)) s.0 =
     record { sites = s.2.sites; vars = s.2.vars; inputs = inputs-below p (sound-of ps k p a e); normal = s.2.normal } in
     (w.0, w.1, told f.0 (rules_of l.version) h.subjects (parts_of l.entries) h.valid k s.0 w.0 p.shape (root_of (pred_of p)) row f.1 s.1 w.1 i r)

@@ -2,7 +2,11 @@
 use Rattle.std.proofs.Common.{refl}
 use Rattle.ln_base.specs.Lines.{words_from}
 use Rattle.ln_cert.proofs.Reading.OrderLines.{no_list, no_numbers}
+use Rattle.ln_cert.proofs.Texts.Lists.{no_colon}
 use Rattle.ln_cert.proofs.line.order.Goals as goal
+
+pub items_to_colon-requires : goal.items_to_colon-requires
+items_to_colon-requires c = no_colon
 
 pub returns-then-ended : goal.returns-then-ended
 returns-then-ended c =

@@ -17,7 +17,7 @@ done-requires-clause-case c = case-staged c.args.cases.now c.args.state.now.part
 
 pub returns-then-is_done : goal.returns-then-is_done
 returns-then-is_done c here i =
-    let v = version_of c.args.form in
+    let v = version_of c.args.version in
     let cs = c.args.cases.now in
     subst (λ (x : Part). PlaceStep v (subjects_of cs) here x c.done.result c.done.new.state) (sym (c.is_done.ensures.0 c.if-is_done.true))
     (done-part v cs c.args.state.now c.done.new.state c.in-Some.case.now c.done.result here
@@ -25,7 +25,7 @@ returns-then-is_done c here i =
 
 pub returns : goal.returns
 returns c =
-    let v = version_of c.args.form in
+    let v = version_of c.args.version in
     let cs = c.args.cases.now in
     IfOk-weaker c.within.result (λ (ok : Bool). Leads v (subject_of c.in-Some.case.now) c.args.state.now c.args.line.now ok c.within.new.state)
     (λ (ok : Bool). (here : Place) → IsHere (subjects_of cs) c.args.state.now here → PlaceStep v (subjects_of cs) here c.args.line.now ok c.within.new.state)

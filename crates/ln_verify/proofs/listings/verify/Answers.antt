@@ -11,8 +11,9 @@ use Rattle.ln_verify.proofs.listings.verify.Goals as goal
 pub returns : goal.returns
 returns c =
     let cs = c.in_ok-cases.cases.items in
-    let r = verified (map pred_of c.args.t.now.preds) c.args.l.now (version_of c.form_of-form.result) cs c.as_slice-2.result.now c.lines_of.result.now
-    c.in_ok-first.first c.judged_of.result (c.form_of-form.ensures ∙ ap rules_of c.version.ensures.value)
+    let r = verified (map pred_of c.args.t.now.preds) c.args.l.now (version_of c.of_number-version.result) cs c.as_slice-2.result.now c.lines_of.result.now
+    c.in_ok-first.first c.judged_of.result (c.of_number-version.ensures ∙ ap rules_of c.version.ensures.value)
     (subst (λ (ps : List Pred). AreSubjectsOf (map pred_of ps) (subjects_of cs)) c.as_slice.ensures c.in_ok-cases.ensures.subjects)
-    c.as_slice-2.ensures.value c.lines_of.ensures.value c.judged_of.ensures c.in_ok-first.ensures in
+    c.as_slice-2.ensures.value c.lines_of.ensures.value c.judged_of.ensures
+    (c.in_ok-first.ensures c.lines_of.result.now c.of-lines.ensures.lines) in
     record { valid = r.0; invalid = r.1 }

@@ -19,8 +19,8 @@ returns-in-Err-Form c =
 pub returns : goal.returns
 returns c =
     let cs = c.in_ok-cases.cases.items in
-    let r = verified-lines (map pred_of c.args.t.now.preds) c.args.bytes.now c.in-Ok.lines (version_of c.form_of-form.result) cs c.as_slice-2.result.now
-    c.in_ok-first.first c.judged_of.result c.in-Ok.ensures.ok (c.form_of-form.ensures ∙ ap rules_of c.version.ensures)
+    let r = verified-lines (map pred_of c.args.t.now.preds) c.args.bytes.now c.in-Ok.lines (version_of c.of_number-version.result) cs c.as_slice-2.result.now
+    c.in_ok-first.first c.judged_of.result c.in-Ok.ensures.ok (c.of_number-version.ensures ∙ ap rules_of c.version.ensures)
     (subst (λ (ps : List Pred). AreSubjectsOf (map pred_of ps) (subjects_of cs)) c.as_slice.ensures c.in_ok-cases.ensures.subjects)
     c.as_slice-2.ensures.value c.judged_of.ensures c.in_ok-first.ensures in
     record { valid = r.0; invalid = r.1 }

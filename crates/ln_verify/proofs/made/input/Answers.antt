@@ -9,14 +9,14 @@ use Rattle.ln_verify.proofs.made.input.Goals as goal
 
 pub returns-in_default : goal.returns-in_default
 returns-in_default g c b h =
-    let v = version_of c.args.form in
+    let v = version_of c.args.version in
     nothing g.L.Limits.known g.L.Limits.tree g.met.L.Limits.tree_known (length c.args.vars.now) (Input c.args.k) 0
     ((g.L.Limits.rules v c.args.vars.now).input c.args.k b)
     (g.met.L.Limits.missing v c.args.vars.now c.args.k b (sym c.in_default.is ∙ c.variable.ensures))
 
 pub returns-in_default-within : goal.returns-in_default-within
 returns-in_default-within g c b h =
-    let v = version_of c.args.form in
+    let v = version_of c.args.version in
     let n = length c.args.vars.now in
     let i = c.in-Some.i in
     let e = g.L.Limits.rules v c.args.vars.now in
@@ -31,7 +31,7 @@ kept-requires-clause-heavy g c = input-heavy c.args.k c.input_size-size.result c
 
 pub returns : goal.returns
 returns g c b h =
-    let v = version_of c.args.form in
+    let v = version_of c.args.version in
     let n = length c.args.vars.now in
     let i = c.in-Some.i in
     let e = g.L.Limits.rules v c.args.vars.now in

@@ -16,13 +16,13 @@ use Rattle.ln_verify.proofs.ranged.RangedLimits.of_input.Goals as goal
 
 pub returns-in_default : goal.returns-in_default
 returns-in_default c vars k p h e =
-    let v = version_of c.args.form in
+    let v = version_of c.args.version in
     ap (λ (o : Option VarInfo). next o (λ i. known (v.range i) p (least (magnitude p)) (v.size i) (Input k))) e
     ∙ not-fit (v.range c.args.i) p (least (magnitude p)) (v.size c.args.i) (Input k) (no-ends c.args.ends p c.in_default.is h)
 
 pub returns : goal.returns
 returns c vars k p h e =
-    let v = version_of c.args.form in
+    let v = version_of c.args.version in
     let i = c.args.i in
     let w : c.least.result ≡ least (magnitude (range c.in-Some.b)) = c.least.ensures ∙ ap least c.magnitude.ensures.value in
     let r = c.ruled.ensures (v.range i) (Input k) (v.size i) c.covers_input.ensures in

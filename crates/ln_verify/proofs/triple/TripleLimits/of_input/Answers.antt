@@ -15,7 +15,7 @@ use Rattle.ln_verify.proofs.triple.TripleLimits.of_input.Goals as goal
 pub returns : goal.returns
 returns c vars k b h e =
     let a = c.args.a in
-    let v = version_of c.args._form in
+    let v = version_of c.args._version in
     let i = c.args.i in
     by-triple ((triple_rules v vars).input k) c.covering.result c.input_covered.result a b (Input k) (v.size i) c.covering.ensures h
     (subst (λ (o : Option VarInfo). IsRule in_triple (if c.input_covered.result then Some a else None) (Input k) (v.size i)
