@@ -1,7 +1,6 @@
 -- Lines and listings read, and where reading stops.
 pub mod FirstWords
 pub mod OneLine
-pub mod OrderLines
 pub mod Walk
 pub mod Sound
 pub mod Whole

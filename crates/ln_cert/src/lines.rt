@@ -109,7 +109,9 @@ impl<'a> Source<Entry> for Lines<'a> {
         self.next(alloc)
     }
 
-    fn lent(taken: &Entry) -> &Entry {
+    fn lent(taken: &Entry) -> &Entry
+        ensures { result.now ≡ taken.now }
+    {
         taken
     }
 }

@@ -1,7 +1,7 @@
 -- No line has two readings, and what is read of a line.
-use Rattle.std.proofs.Common.{◌≡◌, ℕ, ◌≤◌, Bool, true, false, ℤ, pos, negsuc, unsigned_abs, List, [], ◌∷◌, ◌++◌, map, Some, None, refl, sym}
-use Rattle.std.proofs.Common.{ap, ◌∙◌, subst, arith}
-use Rattle.std.specs.Prelude.{if◌then◌else◌, decimal}
+use Rattle.std.proofs.Common.{◌≡◌, ℕ, ◌≤◌, Bool, true, false, ℤ, pos, negsuc, unsigned_abs, List, [], ◌∷◌, ◌++◌, map, Some, None, refl, sym, ap, ◌∙◌, subst}
+use Rattle.std.proofs.Common.{arith, ◌<◌, length}
+use Rattle.std.specs.Prelude.{if◌then◌else◌, decimal, codes}
 use Rattle.ln_code.specs.declared.op.Op.{Op}
 use Rattle.ln_code.specs.declared.op.Op.TheVariants as op
 use Rattle.ln_code.specs.declared.op.Triple.{Triple}
@@ -11,8 +11,8 @@ use Rattle.ln_cert.specs.declared.part.Part.{Part}
 use Rattle.ln_cert.specs.declared.part.Part.TheVariants.{Predicate, NoFilter, Filter, FilterOp, Decide, Block, BlockOp, RangeOp, End, Order, Done}
 use Rattle.ln_cert.specs.declared.part.State.{State}
 use Rattle.ln_cert.specs.declared.part.Verb.{Verb}
-use Rattle.ln_cert.specs.Text.{IsBound, IsExponent, IsLine, IsNumber, IsOp, IsRange, IsTriple, args_of, certificate, exponent_word, kind_of}
-use Rattle.ln_cert.specs.Text.{number_words, range_words, takes_off, triple_words, verb_of, word_of, words_of}
+use Rattle.ln_cert.specs.Text.{IsBound, IsExponent, IsLine, IsNumber, IsOp, IsRange, IsTriple, args_of, certificate, exponent_word, kind_of, number_words}
+use Rattle.ln_cert.specs.Text.{range_words, takes_off, triple_words, verb_of, word_of, words_of, Each, IsPlace}
 use Rattle.ln_cert.specs.Reading.{HasArgs, IsRead, NoArgs, Refuses, after, good, kind_in, may, next_of}
 use Rattle.ln_base.proofs.Texts.Halves.{same_exponent}
 use Rattle.ln_cert.proofs.Reading.FirstWords.{complete, one_kind, sound}
@@ -185,3 +185,21 @@ no_args v s k w args ws e g h p t r =
     let b = complete v s (kind_of p) (live v s p t r.goes).0 (good_line p r.range) in
     let c : Some (kind_of p) ≡ Some k = sym b ∙ ap (kind_in v s) (sym a) ∙ g in
     h p (record { kind = let d : kind_of p ≡ k = cc in d; args = rest (sym e ∙ r.spelled); range = r.range })
+
+empty : (xs : List ℕ) → map decimal xs ≡ [] → 0 < length xs → ⊥
+empty [] e h = omega arith
+empty (x ∷ xs) e h = absurd (cc)
+
+-- places and a colon, and nothing after them, are no arguments of an `order` line
+pub no_list : (all : List (List ℕ)) (sites : List ℕ) (behind : List (List ℕ)) → Each IsPlace sites
+    → all ≡ map decimal sites ++ codes ":" ∷ behind → behind ≡ [] → NoArgs kind.Order all
+no_list all sites behind p e f (Order ps xs) h =
+    let s = same_front ps sites (map decimal xs) behind h.range.0 p (sym h.args ∙ e) in empty xs (s.1 ∙ f) h.range.2
+no_list all sites behind p e f q h = absurd (let k = h.kind in cc)
+
+-- places and a colon, and words after them that are no list of blocks, are no arguments of an `order` line
+pub no_numbers : (all : List (List ℕ)) (sites : List ℕ) (behind : List (List ℕ)) → Each IsPlace sites
+    → all ≡ map decimal sites ++ codes ":" ∷ behind → ((ns : List ℕ) → Each IsNumber ns → behind ≡ map decimal ns → ⊥) → NoArgs kind.Order all
+no_numbers all sites behind p e f (Order ps xs) h =
+    let s = same_front ps sites (map decimal xs) behind h.range.0 p (sym h.args ∙ e) in f xs h.range.1 (sym s.1)
+no_numbers all sites behind p e f q h = absurd (let k = h.kind in cc)
