@@ -1,17 +1,10 @@
 pub mod Agreeing
-pub mod Appending
 pub mod BlockLaw
-pub mod BlockLines
-pub mod Bridging
 pub mod Explaining
-pub mod Exponents
-pub mod Midway
 pub mod OneTelling
 pub mod Premises
 pub mod Reading
-pub mod Segmented
 pub mod SmallValues
-pub mod Following
 pub mod Steps
 pub mod Telling
 pub mod Walking

@@ -1,6 +1,6 @@
 -- Proves what each kind of line does to what is held.
-use Rattle.std.proofs.Common.{◌≡◌, ◌↔◌, ℕ, zero, suc, ◌+◌, Bool, true, false, true≢false, List, [], ◌∷◌, length, map, take}
-use Rattle.std.proofs.Common.{refl, sym, ◌∙◌, ap, subst, Some, None}
+use Rattle.std.proofs.Common.{◌≡◌, ◌↔◌, ℕ, zero, suc, ◌+◌, Bool, true, false, true≢false, List, [], ◌∷◌, length, map, take, refl, sym, ◌∙◌, ap, subst, Some}
+use Rattle.std.proofs.Common.{None}
 use Rattle.std.specs.Prelude.{Option, Ok, Err, IsTrue}
 use Rattle.std.proofs.Math.IntN.{ℤ, pos, negsuc}
 use Rattle.ln_base.specs.declared.sign.Sign.{Sign}
@@ -43,8 +43,7 @@ use Rattle.ln_trace.specs.Next.{IsLastOf, MayBeNext}
 use Rattle.ln_trace.specs.Told.{IsNext, Stood}
 use Rattle.ln_trace.specs.ToldLaw.{IsLeft}
 use Rattle.ln_trace.specs.Trace.{Between, Place, RowNext, Rule, Within}
-use Rattle.ln_trace.proofs.Bridging.{all-from, all-to, next-may}
-use Rattle.ln_trace.proofs.Premises.{left-first, sites-over, spot-first}
+use Rattle.ln_trace.proofs.Premises.{all-from, all-to, next-may, left-first, sites-over, spot-first}
 use Rattle.ln_trace.proofs.Telling.{none-left}
 
 -- the order of a row in range is one of its sites

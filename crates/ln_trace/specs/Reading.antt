@@ -1,5 +1,5 @@
 -- Defines which line is allowed where, and what its words say: for the reader, which goes line by line.
--- The lemmas of proofs/Reading/Walk prove that this is the grammar.
+-- The lemmas of proofs/Reading/Whole prove that this is the grammar.
 use Rattle.std.specs.Prelude.{◌≡◌, ℕ, Bool, true, false, if◌then◌else◌, List, ◌∷◌, Option, Some, None, bytes_eq, codes}
 use Rattle.ln_base.specs.Forms.Form.{Rules}
 use Rattle.ln_base.specs.Forms.Form as form

@@ -94,7 +94,9 @@ impl<'a> Source<TraceLine> for TraceLines<'a> {
         self.next(alloc)
     }
 
-    fn lent(taken: &TraceLine) -> &TraceLine {
+    fn lent(taken: &TraceLine) -> &TraceLine
+        ensures { result.now ≡ taken.now }
+    {
         taken
     }
 }

@@ -1,9 +1,10 @@
 -- First words, lines that have one reading, and what is read of a line.
-use Rattle.std.proofs.Common.{◌≡◌, ℕ, ◌<◌, ◌^◌, Bool, true, false, List, [], ◌∷◌, ◌++◌, map, Some, None, refl, sym, ap, ◌∙◌, subst, arith}
-use Rattle.std.specs.Prelude.{if◌then◌else◌, bytes_eq, codes, decimal}
+use Rattle.std.proofs.Common.{◌≡◌, ℕ, ◌<◌, ◌^◌, Bool, true, false, List, [], ◌∷◌, ◌++◌, map, Some, None, refl, sym, ap, ◌∙◌, subst, arith, ℤ, ◌≤◌, unsigned_abs}
+use Rattle.std.proofs.Common.{pos}
+use Rattle.std.specs.Prelude.{IsTrue, if◌then◌else◌, bytes_eq, codes, decimal}
 use Rattle.std.specs.Fmt.{signed_decimal}
 use Rattle.ln_base.specs.Exponents.{Each, IsExponent, exponent_word}
-use Rattle.ln_base.specs.Lines.{is_plain, parted, words}
+use Rattle.ln_base.specs.Lines.{is_plain, parted, words, lines}
 use Rattle.ln_base.specs.declared.sign.Sign.{Sign}
 use Rattle.ln_base.specs.declared.sign.Sign.TheVariants.{Minus, Zero, Plus}
 use Rattle.ln_base.proofs.Texts.Halves.{same_exponent}
@@ -19,8 +20,10 @@ use Rattle.ln_trace.specs.declared.state.Kind.{Kind}
 use Rattle.ln_trace.specs.declared.state.Kind.TheVariants as kind
 use Rattle.ln_trace.specs.declared.state.State.{State}
 use Rattle.ln_trace.specs.declared.state.State.TheVariants.{Between, Opened, Within}
-use Rattle.ln_trace.specs.Reading.{HasArgs, IsRead, NoArgs, Refuses, after, kind_in, kind_of, may, next_of, word_of}
-use Rattle.ln_trace.specs.Text.{IsLine, sign_word, words_of}
+use Rattle.ln_trace.specs.Reading.{HasArgs, IsRead, NoArgs, Refuses, after, kind_in, kind_of, may, next_of, word_of, trace_rules}
+use Rattle.ln_trace.specs.Text.{IsLine, sign_word, words_of, text_of_line}
+use Rattle.ln_base.proofs.Texts.Lines.{words_line_end}
+use Rattle.ln_base.specs.Forms.Form.{AreSound, Finish}
 
 -- ---- first words
 -- the word w is that of the kind k, and the state allows a line of this kind
@@ -171,3 +174,50 @@ no_args s k w args ws e g h l t r =
     let a : w ≡ word_of (kind_of l) = first_of l w args (sym e ∙ r.spelled) in
     let c : kind_of l ≡ k = some (sym (complete s (kind_of l) (live s l t r.goes).0) ∙ ap (kind_in s) (sym a) ∙ g) in
     h l (record { kind = c; words = ap (λ x. x ∷ args) (sym (a ∙ ap word_of c)) ∙ sym e ∙ r.spelled; range = r.range })
+
+-- a test that failed
+pub no_true : {A : Type 0} (b : Bool) → b ≡ false → (A → IsTrue b) → A → ⊥
+no_true b e f a = let t = f a in absurd (cc)
+
+-- ---- the number of a record
+-- 0 is none
+pub zero_number : (ws : List (List ℕ)) (n : ℕ) (more : List (List ℕ)) → ws ≡ decimal n ∷ more → n ≤ 4294967295 → (1 ≤ n → ⊥) → (m : ℕ)
+    → 1 ≤ m → m < 2 ^ 32 → ws ≡ decimal m ∷ [] → ⊥
+zero_number ws n more e b z m l h f =
+    let d : decimal n ≡ decimal m = head (sym e ∙ f) in
+    let q : n ≡ m = decimal_injective n m (omega arith) (omega arith) d in
+    z (omega arith)
+
+-- ---- an `at` line
+
+-- after the colon a value
+pub no_value : (ws : List (List ℕ)) (ps : List (ℕ × ℕ)) (more : List (List ℕ)) → Each IsExponent ps → ws ≡ map exponent_word ps ++ codes ":" ∷ more
+    → ((z : ℤ) (us : List (List ℕ)) → unsigned_abs z < 2 ^ 127 → more ≡ signed_decimal z ∷ us → ⊥) → NoArgs kind.At ws
+no_value ws ps more p e f (line.At exps z) h =
+    let s = same_exponents ps exps more (signed_decimal z ∷ []) p h.range.0 (sym e ∙ rest h.words) in
+    f z [] h.range.1 s.1
+no_value ws ps more p e f l h = absurd (let k = h.kind in cc)
+
+-- and nothing after it
+pub no_more : (ws : List (List ℕ)) (ps : List (ℕ × ℕ)) (more us : List (List ℕ)) (y : ℤ) → Each IsExponent ps
+    → ws ≡ map exponent_word ps ++ codes ":" ∷ more → more ≡ signed_decimal y ∷ us → (us ≡ [] → ⊥) → NoArgs kind.At ws
+no_more ws ps more us y p e g f (line.At exps z) h =
+    let s = same_exponents ps exps more (signed_decimal z ∷ []) p h.range.0 (sym e ∙ rest h.words) in
+    f (rest (sym g ∙ s.1))
+no_more ws ps more us y p e g f l h = absurd (let k = h.kind in cc)
+
+-- lines that end a record from a state
+finish : (s : State) → Finish trace_rules s
+finish Between = record { last = []; ranges = tt; leads = refl }
+finish Opened = record { last = line.At [] (pos 0) ∷ line.Sign Zero ∷ []; ranges = ((tt, omega arith), (tt, tt)); leads = refl }
+finish Within = record { last = line.Sign Zero ∷ []; ranges = (tt, tt); leads = refl }
+
+one_line_end : (l : TraceLine) (rest : List ℕ) → IsLine l → lines (text_of_line l ++ rest) ≡ text_of_line l ∷ lines rest
+one_line_end l rest p =
+    let s = words_split l in
+    subst (λ (ws : List (List ℕ)). lines ((parted ws ++ (10 ∷ [])) ++ rest) ≡ (parted ws ++ (10 ∷ [])) ∷ lines rest) (sym s.1)
+    (words_line_end (word_of (kind_of l)) s.0 rest (subst ArePlain s.1 (words_plain l p)))
+
+-- the rules of traces are as the reader of lines needs them
+pub trace_sound : AreSound trace_rules
+trace_sound = record { read = read_words; alone = one_line_end; one = same_line; finish = finish }

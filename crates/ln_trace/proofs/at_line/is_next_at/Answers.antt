@@ -4,7 +4,7 @@ use Rattle.ln_algebra.specs.Terms.{derived, value}
 use Rattle.ln_tree.specs.Exps.{vector}
 use Rattle.ln_tree.specs.Row.{values}
 use Rattle.ln_poly.specs.Sparse.{terms_of}
-use Rattle.ln_trace.proofs.Bridging.{is-next, not-next, other-value}
+use Rattle.ln_trace.proofs.Premises.{is-next, not-next, other-value}
 use Rattle.ln_trace.proofs.at_line.is_next_at.Goals as goal
 
 pub returns-then-not-may_be_next : goal.returns-then-not-may_be_next

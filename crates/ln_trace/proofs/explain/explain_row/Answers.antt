@@ -1,6 +1,6 @@
 use Rattle.std.proofs.Common.{◌++◌, ap, ◌∙◌}
 use Rattle.ln_code.specs.RowOf.{row_of}
-use Rattle.ln_trace.proofs.BlockLines.{told-behind}
+use Rattle.ln_trace.proofs.BlockLaw.{told-behind}
 use Rattle.ln_trace.proofs.explain.explain_row.Goals as goal
 
 pub returns-clause-ok : goal.returns-clause-ok

@@ -3,7 +3,7 @@ use Rattle.ln_order.specs.Places.{order_places}
 use Rattle.ln_code.specs.RowOf.{row_of}
 use Rattle.ln_trace.specs.declared.line.TraceLine.TheVariants as line
 use Rattle.ln_trace.specs.Text.{text_of_line}
-use Rattle.ln_trace.proofs.BlockLines.{row-told}
+use Rattle.ln_trace.proofs.BlockLaw.{row-told}
 use Rattle.ln_trace.proofs.explain.row_text.Goals as goal
 
 pub order_at-order-requires : goal.order_at-order-requires

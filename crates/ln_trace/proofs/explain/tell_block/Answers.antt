@@ -5,7 +5,7 @@ use Rattle.ln_tree.specs.Exps.{IsRising}
 use Rattle.ln_code.specs.RowOf.{row_of}
 use Rattle.ln_code.specs.Verdict.{sign_of}
 use Rattle.ln_trace.specs.Explain.{BlockTells}
-use Rattle.ln_trace.proofs.BlockLines.{block-tells, its-block, other-told, zero-on}
+use Rattle.ln_trace.proofs.BlockLaw.{block-tells, its-block, other-told, zero-on}
 use Rattle.ln_trace.proofs.explain.tell_block.Goals as goal
 
 pub block_value-z-requires-clause-block : goal.block_value-z-requires-clause-block

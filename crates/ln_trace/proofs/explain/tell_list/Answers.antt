@@ -5,7 +5,7 @@ use Rattle.ln_tree.proofs.KeptLemmas.{laid_out}
 use Rattle.ln_order.specs.Places.{order_places}
 use Rattle.ln_code.specs.Lists.{list_of}
 use Rattle.ln_code.specs.RowOf.{row_of}
-use Rattle.ln_trace.proofs.BlockLines.{list-end, list-on, list-told, nothing-on}
+use Rattle.ln_trace.proofs.BlockLaw.{list-end, list-on, list-told, nothing-on}
 use Rattle.ln_trace.proofs.explain.tell_list.Goals as goal
 
 pub overflow_add-j-end : goal.overflow_add-j-end

@@ -1,6 +1,6 @@
 use Rattle.std.proofs.Common.{◌++◌, get_or, refl}
 use Rattle.ln_code.specs.RowOf.{row_of}
-use Rattle.ln_trace.proofs.BlockLines.{nothing-on, segment-end, segment-on, segment-told}
+use Rattle.ln_trace.proofs.BlockLaw.{nothing-on, segment-end, segment-on, segment-told}
 use Rattle.ln_trace.proofs.explain.tell_segment.Goals as goal
 
 pub numbers-init : goal.numbers-init

@@ -1,6 +1,6 @@
 use Rattle.std.proofs.Common.{◌≡◌, ◌∙◌, false, true, sym}
 use Rattle.std.proofs.lemmas.Result.{IfOk-weaker}
-use Rattle.ln_trace.proofs.Exponents.{of-sites}
+use Rattle.ln_trace.proofs.Premises.{of-sites}
 use Rattle.ln_trace.proofs.exps.exps_of.Goals as goal
 
 pub returns-then-not-are_of_sites : goal.returns-then-not-are_of_sites

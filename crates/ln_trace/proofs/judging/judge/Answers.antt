@@ -1,7 +1,7 @@
 use Rattle.std.proofs.Common.{ap, arith, length, ◌∙◌}
 use Rattle.std.proofs.lemmas.Result.{IfOk-weaker}
 use Rattle.ln_trace.specs.Here.{subject_of}
-use Rattle.ln_trace.proofs.Midway.{fault-answer, fault-signs, few-lines}
+use Rattle.ln_trace.proofs.Walking.{fault-answer, fault-signs, few-lines}
 use Rattle.ln_trace.proofs.judging.judge.Goals as goal
 
 pub of-lines-requires : goal.of-lines-requires

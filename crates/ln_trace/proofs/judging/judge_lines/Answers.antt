@@ -1,5 +1,5 @@
 use Rattle.std.proofs.lemmas.Result.{IfOk-weaker}
-use Rattle.ln_trace.proofs.Midway.{judged-answer, judged-count, judged-signs}
+use Rattle.ln_trace.proofs.Walking.{judged-answer, judged-count, judged-signs}
 use Rattle.ln_trace.proofs.judging.judge_lines.Goals as goal
 
 pub returns-clause-answer : goal.returns-clause-answer

@@ -3,7 +3,7 @@ use Rattle.std.proofs.Common.{List, arith, refl, sym, ◌∙◌, true≢false}
 use Rattle.ln_base.specs.Forms.Source.{TakesOne}
 use Rattle.ln_base.proofs.Forms.Judging.{midway_more, midway_stops, reached_first, reached_stops}
 use Rattle.ln_trace.specs.declared.line.TraceLine.{TraceLine}
-use Rattle.ln_trace.proofs.Midway.{here-ends, here-lacks}
+use Rattle.ln_trace.proofs.Walking.{here-ends, here-lacks}
 use Rattle.ln_trace.proofs.judging.over.Goals as goal
 
 pub lines-init : goal.lines-init

@@ -1,7 +1,7 @@
 use Rattle.std.proofs.Common.{length}
 use Rattle.ln_order.specs.Places.{order_places}
 use Rattle.ln_order.specs.Sites.{sites_of}
-use Rattle.ln_trace.proofs.Following.{behind-some}
+use Rattle.ln_trace.proofs.Premises.{behind-some}
 use Rattle.ln_trace.proofs.next.is_behind.Goals as goal
 
 pub returns-in-Some : goal.returns-in-Some

@@ -3,7 +3,7 @@ use Rattle.ln_tree.specs.Exps.{vector}
 use Rattle.ln_order.specs.Places.{order_places}
 use Rattle.ln_order.specs.Sites.{sites_of}
 use Rattle.ln_trace.specs.Left.{left_at}
-use Rattle.ln_trace.proofs.Following.{may, none-earlier}
+use Rattle.ln_trace.proofs.Premises.{may, none-earlier}
 use Rattle.ln_trace.proofs.next.may_be_next.Goals as goal
 
 pub returns-else-earlier : goal.returns-else-earlier

@@ -7,7 +7,7 @@ use Rattle.ln_order.specs.Sites.{sites_of}
 use Rattle.ln_poly.proofs.Sorting.Collected.{vectors-same}
 use Rattle.ln_stage.proofs.Walks.PairsLemmas.{same_pairs-refl}
 use Rattle.ln_trace.specs.Left.{left_at}
-use Rattle.ln_trace.proofs.Following.{was-first, was-other}
+use Rattle.ln_trace.proofs.Premises.{was-first, was-other}
 use Rattle.ln_trace.proofs.next.passed.Goals as goal
 
 pub returns-then-are_same-clause-left : goal.returns-then-are_same-clause-left

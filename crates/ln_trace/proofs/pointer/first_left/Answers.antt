@@ -3,7 +3,7 @@ use Rattle.ln_order.specs.Places.{order_places}
 use Rattle.ln_stage.specs.Staged.{segment_of}
 use Rattle.ln_tree.specs.Exps.{Pairs}
 use Rattle.ln_trace.specs.Left.{exps_at, numbers_at}
-use Rattle.ln_trace.proofs.Segmented.{left-behind, left-here}
+use Rattle.ln_trace.proofs.Premises.{left-behind, left-here}
 use Rattle.ln_trace.proofs.pointer.first_left.Goals as goal
 
 pub returns-then-at-segment : goal.returns-then-at-segment

@@ -3,7 +3,7 @@ use Rattle.std.proofs.lemmas.Int.{to_z-of_z}
 use Rattle.std.proofs.lemmas.Result.{IfOk-weaker}
 use Rattle.std.specs.Int.{w128}
 use Rattle.std.specs.Prelude.{FitsSigned}
-use Rattle.ln_trace.proofs.Appending.{at_is}
+use Rattle.ln_trace.proofs.BlockLaw.{at_is}
 use Rattle.ln_trace.proofs.put.put_at.Goals as goal
 
 pub returns : goal.returns

@@ -2,8 +2,7 @@
 use Rattle.std.proofs.Common.{◌∷◌, ap, drop, rules, ◌∙◌}
 use Rattle.ln_base.specs.Lines.{lines}
 use Rattle.ln_trace.specs.Stop.{Stops}
-use Rattle.ln_trace.proofs.Reading.Args.{no_true}
-use Rattle.ln_trace.proofs.Reading.Sound.{trace_sound}
+use Rattle.ln_trace.proofs.Reading.OneLine.{no_true, trace_sound}
 use Rattle.ln_trace.proofs.Reading.Whole.{open_first, opened, other_first, stops}
 use Rattle.ln_trace.proofs.read.trace_lines.Goals as goal
 

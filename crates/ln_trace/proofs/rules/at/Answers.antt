@@ -4,7 +4,7 @@ use Rattle.std.proofs.lemmas.Int.{to_z-of_z}
 use mir.Syntax.{w128}
 use Rattle.ln_code.specs.Kept.{AreOfSites}
 use Rattle.ln_tree.specs.declared.shape.VarInfo.{VarInfo}
-use Rattle.ln_trace.proofs.Exponents.{was-read}
+use Rattle.ln_trace.proofs.Premises.{was-read}
 use Rattle.ln_trace.proofs.Steps.{at-of, at-outside, at-unread}
 use Rattle.ln_trace.proofs.rules.at.Goals as goal
 

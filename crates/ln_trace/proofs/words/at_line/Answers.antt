@@ -1,7 +1,10 @@
 -- Answers to the goals of `at_line` in src/words.rt.
 use Rattle.ln_base.specs.Lines.{words_from}
-use Rattle.ln_trace.proofs.Reading.Args.{no_more, no_true, no_value}
+use Rattle.ln_trace.proofs.Reading.OneLine.{no_colon, no_more, no_true, no_value}
 use Rattle.ln_trace.proofs.words.at_line.Goals as goal
+
+pub items_to_colon-requires : goal.items_to_colon-requires
+items_to_colon-requires c = no_colon
 
 pub returns-in_default-signed_field : goal.returns-in_default-signed_field
 returns-in_default-signed_field c =

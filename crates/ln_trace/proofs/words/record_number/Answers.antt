@@ -1,6 +1,6 @@
 -- Answers to the goals of `record_number` in src/words.rt.
 use Rattle.ln_base.specs.Lines.{words_from}
-use Rattle.ln_trace.proofs.Reading.Args.{no_true, zero_number}
+use Rattle.ln_trace.proofs.Reading.OneLine.{no_true, zero_number}
 use Rattle.ln_trace.proofs.words.record_number.Goals as goal
 
 pub returns-then-not-counts : goal.returns-then-not-counts
