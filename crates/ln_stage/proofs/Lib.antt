@@ -4,3 +4,4 @@ pub mod Walks
 pub mod Sights
 pub mod Degrees
 pub mod Testing
+pub mod Accepting

@@ -12,3 +12,4 @@ pub mod Sighted
 pub mod Degrees
 pub mod Graded
 pub mod Sound
+pub mod Accepted

@@ -1,5 +1,6 @@
 -- The faults that a predicate of a table may have, and predicates that have none: those of sources that compile.
-use Rattle.std.specs.Prelude.{ℕ, ◌<◌, List, [], ◌∷◌, length}
+use Rattle.std.specs.Prelude.{ℕ, ◌<◌, List, length}
+use Rattle.std.specs.List.{AllByRecursion}
 use Rattle.ln_algebra.specs.Weights.{weighted_sum}
 use Rattle.ln_base.specs.Limits.{most_stages, most_weight}
 use Rattle.ln_tree.specs.Table.{PredOf}
@@ -37,5 +38,4 @@ pub record IsSound (p : PredOf) : Type 0 where
 
 -- none of them has
 abbrev pub AreSound : List PredOf → Type 0
-AreSound [] = Unit {0}
-AreSound (p ∷ ps) = IsSound p × AreSound ps
+AreSound = AllByRecursion IsSound

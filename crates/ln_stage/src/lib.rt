@@ -8,6 +8,7 @@
 //! numbered in order of first sight, or exactly why there is none; `Stages` has its five readers.
 #![tactic(auto)]
 
+pub mod accepted;
 pub mod laws;
 pub(crate) mod layers;
 pub mod lists;
@@ -19,6 +20,7 @@ pub(crate) mod tally;
 pub(crate) mod visits;
 pub(crate) mod walk;
 
+pub use accepted::Accepted;
 pub use laws::{
     cut_loses_nothing, derivatives_are_coefficients, first_seen_are_sighted, list_is_unique,
     lists_are_those_of_trees, product_rule, there_is_a_first,
