@@ -42,7 +42,7 @@ use Rattle.ln_trace.specs.Text.{text_of_line, text_of_lines}
 use Rattle.std.specs.Fmt.{signed_decimal}
 use Rattle.ln_base.specs.Exponents.{exponent_word}
 use Rattle.ln_base.specs.Lines.{Puts}
-use Rattle.ln_base.proofs.Texts.Putting.{line_is, signed_put, then_puts}
+use Rattle.ln_base.proofs.Texts.Putting.{line_is, signed_put, puts_then}
 
 -- ---- one block
 -- the block at a number below the count of blocks is one of the blocks
@@ -182,8 +182,7 @@ pub at_is : (old a b c d new t u : List ℕ) (exps : List (ℕ × ℕ)) (z x : �
 at_is old a b c d new t u exps z x e f p q g s h n =
     let k : Puts b c (λ r. codes ":" ∷ r) = subst (λ w. Puts b c (λ r. w ∷ r)) g q in
     line_is old a d new (codes "at") (λ r. map exponent_word exps ++ (codes ":" ∷ (signed_decimal z ∷ r))) (e ∙ ap (λ w. old ++ w) f)
-    (then_puts a b d (λ r. map exponent_word exps ++ r) (λ r. codes ":" ∷ (signed_decimal z ∷ r)) p
-    (then_puts b c d (λ r. codes ":" ∷ r) (λ r. signed_decimal z ∷ r) k (signed_put c d x z s h))) n
+    (puts_then p (puts_then k (signed_put c d x z s h))) n
 
 behind-nonzero : (z t : ℤ) → z ≢ pos 0 → or_else (signs.sign_of z) t ≡ signs.sign_of z
 behind-nonzero (pos zero) t h = absurd (h refl)
