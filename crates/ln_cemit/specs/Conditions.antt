@@ -16,7 +16,7 @@ use Rattle.ln_csyn.specs.Text.{fun_words}
 use Rattle.ln_csyn.specs.Spelling.{flat_fun}
 use Rattle.ln_csyn.specs.Tree.{Fun}
 use Rattle.ln_cemit.specs.declared.slot.Way.{Way}
-use Rattle.ln_cemit.specs.Ways.{block_lines, filter_lines}
+use Rattle.ln_cemit.specs.Ways.{block_lines, lines_of_filter}
 use Rattle.ln_cemit.specs.Emit.{fun_of}
 use Rattle.ln_cemit.specs.Checked.{AreNames}
 use Rattle.ln_cemit.specs.Law.{error_of}
@@ -66,6 +66,6 @@ BlocksKeep = (names : List (List ℕ)) (name : ℕ → List ℕ) (own : List ℕ
 -- that there is a row in range makes the error of the last line the one that the rules know
 abbrev pub FiltersKeep : Type 0
 FiltersKeep = (names : List (List ℕ)) (name : ℕ → List ℕ) (own : List ℕ) (vars : List VarInfo) (zs : List ℤ) (f : FilterCode) →
-    AreWithin vars zs → AreNames name (length (filter_lines f)) → AreFree names name (length (filter_lines f)) →
+    AreWithin vars zs → AreNames name (length (lines_of_filter f)) → AreFree names name (length (lines_of_filter f)) →
     is_c_name own ≡ true → is_own own ≡ true → length vars ≤ most_number → FollowsFilterRules vars f →
-    Kept names name own (error_of f) (filter_lines f)
+    Kept names name own (error_of f) (lines_of_filter f)

@@ -17,10 +17,10 @@ use Rattle.ln_csyn.specs.Layout.{laid_funs, laid_text, lines_end}
 use Rattle.ln_cemit.specs.Whole.{Entered, every_row, file_of, outer_name, parts_entered}
 
 -- -1, 0 or 1
-abbrev pub number_of : Sign → ℤ
-number_of Minus = negsuc 0
-number_of Zero = pos 0
-number_of Plus = pos 1
+abbrev pub sign_as_number : Sign → ℤ
+sign_as_number Minus = negsuc 0
+sign_as_number Zero = pos 0
+sign_as_number Plus = pos 1
 
 -- On this row the call of the program's function returns the sign of the machine's verdict, with its calls, and with no wide operation where
 -- the filter decides.
@@ -28,7 +28,7 @@ pub record EntrySays (file : List Fun) (x : Entered) (row : tree.Row) : Type 0 w
   pub verdict : Verdict
   pub counts : Counts
   pub machine : IsVerdict x.part row verdict
-  pub called : CCall file (outer_name x) row.index row.values ≡ Some (Signed (number_of verdict.sign) counts)
+  pub called : CCall file (outer_name x) row.index row.values ≡ Some (Signed (sign_as_number verdict.sign) counts)
   pub calls : counts.calls ≡ verdict.calls
   pub narrow : verdict.by ≡ Filter → counts.wide ≡ 0
 

@@ -9,7 +9,7 @@ use Rattle.ln_code.specs.Errors.{left_error}
 use Rattle.ln_csyn.specs.declared.tree.CType.TheVariants.{Int}
 use Rattle.ln_csyn.specs.Tree.{Body}
 use Rattle.ln_csyn.specs.Meaning.{Counts, Fails, Said, has, runs}
-use Rattle.ln_cemit.specs.Ways.{block_lines, filter_lines}
+use Rattle.ln_cemit.specs.Ways.{block_lines, lines_of_filter}
 use Rattle.ln_cemit.specs.Emit.{body_of, wide_lines}
 use Rattle.ln_cemit.specs.Checked.{sign_of, plus, AreNames}
 
@@ -42,9 +42,9 @@ decided h = if nat_lt h.error (unsigned_abs h.number) then sign_of h.number else
 pub record FilterSays (name : ℕ → List ℕ) (zs : List ℤ) (f : FilterCode) : Type 0 where
   pub left : Held
   pub machine : filter_value zs f ≡ Some left
-  pub means : Means zs (body_of name (error_of f) (filter_lines f)) (decided left) (λ k. k)
+  pub means : Means zs (body_of name (error_of f) (lines_of_filter f)) (decided left) (λ k. k)
 
 -- the body of each filter that follows the rules returns, on each row in range, the sign where the filter decides, else 0
 abbrev pub FiltersSay : Type 0
-FiltersSay = (name : ℕ → List ℕ) (vars : List VarInfo) (zs : List ℤ) (f : FilterCode) → AreNames name (length (filter_lines f)) →
+FiltersSay = (name : ℕ → List ℕ) (vars : List VarInfo) (zs : List ℤ) (f : FilterCode) → AreNames name (length (lines_of_filter f)) →
     AreWithin vars zs → FollowsFilterRules vars f → FilterSays name zs f

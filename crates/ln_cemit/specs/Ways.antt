@@ -27,5 +27,5 @@ abbrev pub block_lines : Code → List (Line Way)
 block_lines c = ways block_way (lines_of c.ops c.pairs)
 
 -- the lines of a filter, with what emission has to know of each
-abbrev pub filter_lines : FilterCode → List (Line Way)
-filter_lines f = ways filter_way (lines_of f.ops f.triples)
+abbrev pub lines_of_filter : FilterCode → List (Line Way)
+lines_of_filter f = ways filter_way (lines_of f.ops f.triples)

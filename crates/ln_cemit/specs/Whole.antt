@@ -6,7 +6,7 @@ use Rattle.ln_code.specs.Lists.{segment_of}
 use Rattle.ln_csyn.specs.Tree.{Body, Fun}
 use Rattle.ln_cemit.specs.declared.entry.Entry.{Entry}
 use Rattle.ln_cemit.specs.declared.entry.Entry.TheVariants.{EveryRow}
-use Rattle.ln_cemit.specs.Ways.{block_lines, filter_lines}
+use Rattle.ln_cemit.specs.Ways.{block_lines, lines_of_filter}
 use Rattle.ln_cemit.specs.Emit.{body_of, touching_index}
 use Rattle.ln_cemit.specs.Law.{error_of}
 use Rattle.ln_cemit.specs.Names.{decl_name, answer_name, filter_name, block_name, entry_name}
@@ -29,7 +29,7 @@ block_body c = body_of decl_name 0 (block_lines c)
 
 -- the body of the function of a filter
 abbrev pub filter_body : FilterCode → Body
-filter_body f = body_of decl_name (error_of f) (filter_lines f)
+filter_body f = body_of decl_name (error_of f) (lines_of_filter f)
 
 -- their bodies
 abbrev pub bodies_of : Option FilterCode → List Code → List Body

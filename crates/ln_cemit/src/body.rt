@@ -1,6 +1,6 @@
 //! The functions of blocks and filters.
 ghost use Rattle.std.specs.Prelude.{◌≡◌, ◌<◌, ◌+◌, ◌∷◌, [], true, false, IfOk, Some, codes, drop, length, map, reverse};
-ghost use Rattle.ln_csyn.specs.Spelling.{Goes, Puts, lexeme, spell, spell_body, spell_fun, spell_own, spell_parameters};
+ghost use Rattle.ln_csyn.specs.Spelling.{Goes, PutsTokens, lexeme, spell, spell_body, spell_fun, spell_own, spell_parameters};
 ghost use Rattle.ln_csyn.specs.Tree.{Body, End, Inner, Minus, Number, Two};
 ghost use Rattle.ln_csyn.specs.declared.tree.CType.TheVariants.{Int};
 ghost use Rattle.ln_csyn.specs.declared.tree.COp.TheVariants.{Less, More};
@@ -27,7 +27,7 @@ use ln_interval::Pair;
 use std::alloc::Global;
 
 fn put_minus(out: &mut Vec<u8>, width: Width, e: u64) -> Result<(), NoMemory>
-    ensures { IfOk result (λ x. Puts out.old.items out.new.items (spell (Minus (Number (type_of width) e)))) }
+    ensures { IfOk result (λ x. PutsTokens out.old.items out.new.items (spell (Minus (Number (type_of width) e)))) }
 {
     put_tokens(out, b"( -")?;
     put_number_of(out, width, e)?;
@@ -36,7 +36,7 @@ fn put_minus(out: &mut Vec<u8>, width: Width, e: u64) -> Result<(), NoMemory>
 
 // The least number that isn't below -e.
 fn put_lowest(out: &mut Vec<u8>, width: Width, e: u64) -> Result<(), NoMemory>
-    ensures { IfOk result (λ x. Puts out.old.items out.new.items (spell (lowest (type_of width) e))) }
+    ensures { IfOk result (λ x. PutsTokens out.old.items out.new.items (spell (lowest (type_of width) e))) }
 {
     if e == 0 {
         put_number_of(out, width, 0)
@@ -47,7 +47,7 @@ fn put_lowest(out: &mut Vec<u8>, width: Width, e: u64) -> Result<(), NoMemory>
 
 // Is the value above e?
 fn put_above(out: &mut Vec<u8>, e: u64, slot: Slot) -> Result<(), NoMemory>
-    ensures { IfOk result (λ x. Puts out.old.items out.new.items
+    ensures { IfOk result (λ x. PutsTokens out.old.items out.new.items
         (spell (Inner Int (Two More (operand decl_name slot.width slot) (Number (type_of slot.width) e))))) }
 {
     put_tokens(out, b"( ( int ) (")?;
@@ -59,7 +59,7 @@ fn put_above(out: &mut Vec<u8>, e: u64, slot: Slot) -> Result<(), NoMemory>
 
 // Is it below -e?
 fn put_below(out: &mut Vec<u8>, e: u64, slot: Slot) -> Result<(), NoMemory>
-    ensures { IfOk result (λ x. Puts out.old.items out.new.items
+    ensures { IfOk result (λ x. PutsTokens out.old.items out.new.items
         (spell (Inner Int (Two Less (operand decl_name slot.width slot) (lowest (type_of slot.width) e))))) }
 {
     put_tokens(out, b"( ( int ) (")?;
@@ -71,7 +71,7 @@ fn put_below(out: &mut Vec<u8>, e: u64, slot: Slot) -> Result<(), NoMemory>
 
 // The sign of a value above e in absolute value, else 0.
 fn put_sign_expr(out: &mut Vec<u8>, e: u64, slot: Slot) -> Result<(), NoMemory>
-    ensures { IfOk result (λ x. Puts out.old.items out.new.items (spell (sign_expr decl_name e slot))) }
+    ensures { IfOk result (λ x. PutsTokens out.old.items out.new.items (spell (sign_expr decl_name e slot))) }
 {
     put(out, b"(")?;
     put_above(out, e, slot)?;
@@ -81,7 +81,7 @@ fn put_sign_expr(out: &mut Vec<u8>, e: u64, slot: Slot) -> Result<(), NoMemory>
 }
 
 fn put_answer(out: &mut Vec<u8>, e: u64, slot: Slot) -> Result<(), NoMemory>
-    ensures { IfOk result (λ x. Puts out.old.items out.new.items
+    ensures { IfOk result (λ x. PutsTokens out.old.items out.new.items
         (λ r. lexeme (codes "return") ∷ spell (sign_expr decl_name e slot) (lexeme (codes ";") ∷ r))) }
 {
     put(out, b"return")?;
@@ -91,7 +91,7 @@ fn put_answer(out: &mut Vec<u8>, e: u64, slot: Slot) -> Result<(), NoMemory>
 
 // Appends the return of the sign of the one remaining value.
 fn put_sign(out: &mut Vec<u8>, e: u64, stack: &[Slot]) -> Result<(), NoMemory>
-    ensures { IfOk result (λ x. Puts out.old.items out.new.items (spell_body (put_sign decl_name e (reverse stack.now)))) }
+    ensures { IfOk result (λ x. PutsTokens out.old.items out.new.items (spell_body (put_sign decl_name e (reverse stack.now)))) }
 {
     match stack {
         [slot] => put_answer(out, e, *slot),
@@ -187,7 +187,7 @@ fn behind(ops: &[Op], i: usize) -> &[Op]
 
 // A statement that names a declaration and is never reached.
 fn put_name(out: &mut Vec<u8>, n: usize) -> Result<(), NoMemory>
-    ensures { IfOk result (λ x. Puts out.old.items out.new.items (spell_body (naming decl_name (Some n) End))) }
+    ensures { IfOk result (λ x. PutsTokens out.old.items out.new.items (spell_body (naming decl_name (Some n) End))) }
 {
     put_tokens(out, b"if ( ( ( int ) 0 ) ) { return ( ( int )")?;
     put_decl_name(out, n)?;
@@ -213,7 +213,7 @@ fn put_lines(
     ways: &[Way],
 ) -> Result<(), NoMemory>
     requires { length ops.now ≡ length ways.now }
-    ensures { IfOk result (λ x. Puts out.old.items out.new.items
+    ensures { IfOk result (λ x. PutsTokens out.old.items out.new.items
         (spell_body (emitted decl_name e (lines_of ops.now ways.now) 0 [] no_locals))) }
 {
     let mut stack = Vec::new(alloc);
@@ -259,7 +259,7 @@ fn reads_row(ops: &[Op]) -> bool
 
 // A statement that names the values and is never reached.
 fn put_touch(out: &mut Vec<u8>) -> Result<(), NoMemory>
-    ensures { IfOk result (λ x. Puts out.old.items out.new.items (spell_body (touching false End))) }
+    ensures { IfOk result (λ x. PutsTokens out.old.items out.new.items (spell_body (touching false End))) }
 {
     put_tokens(
         out,
@@ -269,7 +269,7 @@ fn put_touch(out: &mut Vec<u8>) -> Result<(), NoMemory>
 
 // The same for the indices.
 fn put_touch_index(out: &mut Vec<u8>) -> Result<(), NoMemory>
-    ensures { IfOk result (λ x. Puts out.old.items out.new.items (spell_body (touching_index false End))) }
+    ensures { IfOk result (λ x. PutsTokens out.old.items out.new.items (spell_body (touching_index false End))) }
 {
     put_tokens(
         out,
@@ -305,7 +305,7 @@ fn put_body(
     ways: &[Way],
 ) -> Result<(), NoMemory>
     requires { length ops.now ≡ length ways.now }
-    ensures { IfOk result (λ x. Puts out.old.items out.new.items (spell_body (body_of decl_name e (lines_of ops.now ways.now)))) }
+    ensures { IfOk result (λ x. PutsTokens out.old.items out.new.items (spell_body (body_of decl_name e (lines_of ops.now ways.now)))) }
 {
     let reads = reads_row(ops);
     put_may_touch(out, reads)?;
@@ -314,7 +314,7 @@ fn put_body(
 
 /// Appends the head of a function with one parameter.
 fn put_one_head(out: &mut Vec<u8>, title: &[u8]) -> Result<(), NoMemory>
-    ensures { IfOk result (λ x. Puts out.old.items out.new.items
+    ensures { IfOk result (λ x. PutsTokens out.old.items out.new.items
         (λ r. spell_own true (lexeme (codes "int") ∷ lexeme title.now ∷ lexeme (codes "(")
         ∷ spell_parameters false (lexeme (codes ")") ∷ r)))) }
 {
@@ -325,7 +325,7 @@ fn put_one_head(out: &mut Vec<u8>, title: &[u8]) -> Result<(), NoMemory>
 
 /// Appends the head of the function with two parameters.
 pub(crate) fn put_two_head(out: &mut Vec<u8>, title: &[u8]) -> Result<(), NoMemory>
-    ensures { IfOk result (λ x. Puts out.old.items out.new.items (λ r. lexeme (codes "int") ∷ lexeme title.now
+    ensures { IfOk result (λ x. PutsTokens out.old.items out.new.items (λ r. lexeme (codes "int") ∷ lexeme title.now
         ∷ lexeme (codes "(") ∷ spell_parameters true (lexeme (codes ")") ∷ r))) }
 {
     put_tokens(out, b"int")?;
@@ -343,7 +343,7 @@ fn put_fun(
     ways: &[Way],
 ) -> Result<(), NoMemory>
     requires { length ops.now ≡ length ways.now }
-    ensures { IfOk result (λ x. Puts out.old.items out.new.items
+    ensures { IfOk result (λ x. PutsTokens out.old.items out.new.items
         (spell_fun (one_fun title.now (body_of decl_name e (lines_of ops.now ways.now))))) }
 {
     put_one_head(out, title)?;
@@ -385,7 +385,7 @@ pub(crate) fn put_block_fun(
     title: &[u8],
     block: &Block,
 ) -> Result<(), NoMemory>
-    ensures { IfOk result (λ x. Puts out.old.items out.new.items (spell_fun (one_fun title.now (block_body block.now)))) }
+    ensures { IfOk result (λ x. PutsTokens out.old.items out.new.items (spell_fun (one_fun title.now (block_body block.now)))) }
 {
     let ways = block_ways(alloc, block.pairs())?;
     put_fun(alloc, out, title, 0, block.ops(), ways.as_slice())
@@ -398,7 +398,7 @@ pub(crate) fn put_filter_fun(
     title: &[u8],
     filter: &FilterBlock,
 ) -> Result<(), NoMemory>
-    ensures { IfOk result (λ x. Puts out.old.items out.new.items (spell_fun (one_fun title.now (filter_body filter.now)))) }
+    ensures { IfOk result (λ x. PutsTokens out.old.items out.new.items (spell_fun (one_fun title.now (filter_body filter.now)))) }
 {
     let ways = filter_ways(alloc, filter.triples())?;
     let e = filter.error();

@@ -1,6 +1,6 @@
 //! Writes constants of up to 128 bits: one NUMBER below 2^63, and from there on a sum of parts below 2^31.
 ghost use Rattle.std.specs.Prelude.{◌≡◌, ◌∷◌, true, IfOk, codes};
-ghost use Rattle.ln_csyn.specs.Spelling.{Puts, lexeme, spell};
+ghost use Rattle.ln_csyn.specs.Spelling.{PutsTokens, lexeme, spell};
 ghost use Rattle.ln_csyn.specs.Tree.{Inner};
 ghost use Rattle.ln_cemit.specs.Emit.{constant, in_parts, natural};
 ghost use Rattle.ln_cemit.specs.Puts.{parts_fit};
@@ -13,7 +13,7 @@ use ln_csyn::{COp, CType};
 // A number in parts below 2^31: k of them and one more.
 fn put_parts(out: &mut Vec<u8>, k: u8, n: u128) -> Result<(), NoMemory>
     requires { parts_fit k n ≡ true }
-    ensures { IfOk result (λ z. Puts out.old.items out.new.items (spell (in_parts k n))) }
+    ensures { IfOk result (λ z. PutsTokens out.old.items out.new.items (spell (in_parts k n))) }
 {
     if k == 0 {
         return put_constant(out, CType::Int128, n as u64);
@@ -29,7 +29,7 @@ fn put_parts(out: &mut Vec<u8>, k: u8, n: u128) -> Result<(), NoMemory>
 
 // A number from 0 up: as it is below 2^63, else in parts.
 fn put_natural(out: &mut Vec<u8>, n: u128) -> Result<(), NoMemory>
-    ensures { IfOk result (λ z. Puts out.old.items out.new.items (spell (natural n))) }
+    ensures { IfOk result (λ z. PutsTokens out.old.items out.new.items (spell (natural n))) }
 {
     if n < 9223372036854775808 {
         put_constant(out, CType::Int64, n as u64)
@@ -39,7 +39,7 @@ fn put_natural(out: &mut Vec<u8>, n: u128) -> Result<(), NoMemory>
 }
 
 fn put_negative(out: &mut Vec<u8>, size: u128) -> Result<(), NoMemory>
-    ensures { IfOk result (λ x. Puts out.old.items out.new.items (λ r. lexeme (codes "(") ∷ lexeme (codes "-")
+    ensures { IfOk result (λ x. PutsTokens out.old.items out.new.items (λ r. lexeme (codes "(") ∷ lexeme (codes "-")
         ∷ spell (natural size) (lexeme (codes ")") ∷ r))) }
 {
     put_tokens(out, b"( -")?;
@@ -48,7 +48,7 @@ fn put_negative(out: &mut Vec<u8>, size: u128) -> Result<(), NoMemory>
 }
 
 fn put_whole(out: &mut Vec<u8>, z: i128) -> Result<(), NoMemory>
-    ensures { IfOk result (λ x. Puts out.old.items out.new.items (spell (constant z))) }
+    ensures { IfOk result (λ x. PutsTokens out.old.items out.new.items (spell (constant z))) }
 {
     if z < 0 {
         put_negative(out, z.unsigned_abs())
@@ -59,7 +59,7 @@ fn put_whole(out: &mut Vec<u8>, z: i128) -> Result<(), NoMemory>
 
 /// Appends an integer, cast to the type.
 pub(crate) fn put_inner(out: &mut Vec<u8>, kind: CType, z: i128) -> Result<(), NoMemory>
-    ensures { IfOk result (λ x. Puts out.old.items out.new.items (spell (Inner kind (constant z)))) }
+    ensures { IfOk result (λ x. PutsTokens out.old.items out.new.items (spell (Inner kind (constant z)))) }
 {
     put_cast(out, kind)?;
     put_whole(out, z)?;

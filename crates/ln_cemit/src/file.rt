@@ -2,7 +2,7 @@
 ghost use Rattle.std.specs.Prelude.{◌≡◌, ◌≤◌, ◌++◌, ◌∷◌, [], true, IfOk, OnErr, List, codes, map};
 ghost use Rattle.std.specs.List.{range_with_len};
 ghost use Rattle.ln_csyn.specs.Layout.{Lays};
-ghost use Rattle.ln_csyn.specs.Spelling.{Puts, Goes, lexeme, spell_body, spell_parameters, spell_fun};
+ghost use Rattle.ln_csyn.specs.Spelling.{PutsTokens, Goes, lexeme, spell_body, spell_parameters, spell_fun};
 ghost use Rattle.ln_csyn.specs.Tree.{Body, Group};
 ghost use Rattle.ln_code.specs.Kept.{IsProgram};
 ghost use Rattle.ln_code.specs.Lists.{segment_of};
@@ -114,7 +114,7 @@ fn put_may_filter(alloc: Global, out: &mut Vec<u8>, p: &Program) -> Result<(), N
 fn put_all_sites(alloc: Global, out: &mut Vec<u8>, p: &Program, sites: u8) -> Result<(), NoMemory>
     requires few { sites ≤ 5 }
     requires sites { sites ≡ p.now.shape.sites }
-    ensures { IfOk result (λ x. Puts out.old.items out.new.items
+    ensures { IfOk result (λ x. PutsTokens out.old.items out.new.items
         (spell_body (walked (block_name (part_name p.now)) answer_name (segment_of p.now) sites [] (range_with_len 0 sites)))) }
 {
     let orders = all_orders(alloc, sites)?;
@@ -130,7 +130,7 @@ fn put_all_sites(alloc: Global, out: &mut Vec<u8>, p: &Program, sites: u8) -> Re
 
 // The body of the function with two parameters.
 fn put_call_body(alloc: Global, out: &mut Vec<u8>, p: &Program) -> Result<(), NoMemory>
-    ensures { IfOk result (λ x. Puts out.old.items out.new.items (spell_body (call_body p.now))) }
+    ensures { IfOk result (λ x. PutsTokens out.old.items out.new.items (spell_body (call_body p.now))) }
 {
     let sites = p.shape().sites;
     put_may_touch_index(out, 2 <= sites)?;
@@ -144,7 +144,7 @@ fn put_call_head(
     p: &Program,
     entry: Entry,
 ) -> Result<(), NoMemory>
-    ensures { IfOk result (λ x. Puts out.old.items out.new.items (λ r. lexeme (codes "int") ∷ lexeme (entry_name entry (part_name p.now))
+    ensures { IfOk result (λ x. PutsTokens out.old.items out.new.items (λ r. lexeme (codes "int") ∷ lexeme (entry_name entry (part_name p.now))
         ∷ lexeme (codes "(") ∷ spell_parameters true (lexeme (codes ")") ∷ r))) }
 {
     let name = name_of(p);
@@ -153,7 +153,7 @@ fn put_call_head(
 }
 
 fn put_call_fun(alloc: Global, out: &mut Vec<u8>, p: &Program, entry: Entry) -> Result<(), NoMemory>
-    ensures { IfOk result (λ x. Puts out.old.items out.new.items (spell_fun (two_fun (entry_name entry (part_name p.now)) (call_body p.now)))) }
+    ensures { IfOk result (λ x. PutsTokens out.old.items out.new.items (spell_fun (two_fun (entry_name entry (part_name p.now)) (call_body p.now)))) }
 {
     put_call_head(alloc, out, p, entry)?;
     put(out, b"{")?;

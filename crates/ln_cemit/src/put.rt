@@ -1,6 +1,6 @@
 //! The declaration of each operation, appended to the text without a tree.
 ghost use Rattle.std.specs.Prelude.{◌≡◌, ◌≤◌, ◌<◌, ◌^◌, ◌∷◌, true, IfOk, codes, length, reverse};
-ghost use Rattle.ln_csyn.specs.Spelling.{Puts, cast_before, lexeme, spell, type_text};
+ghost use Rattle.ln_csyn.specs.Spelling.{PutsTokens, cast_before, lexeme, spell, type_text};
 ghost use Rattle.ln_csyn.specs.Tree.{Minus, Number, Two};
 ghost use Rattle.ln_cemit.specs.Emit.{cut_expr, operand, pushing, type_of, put_cut, put_get, put_neg, put_op, put_set, put_two};
 ghost use Rattle.ln_cemit.specs.Names.{decl_name};
@@ -29,14 +29,14 @@ pub(crate) fn type_of(width: Width) -> CType
 }
 
 fn put_width(out: &mut Vec<u8>, width: Width) -> Result<(), NoMemory>
-    ensures { IfOk result (λ x. Puts out.old.items out.new.items (λ r. lexeme (type_text (type_of width)) ∷ r)) }
+    ensures { IfOk result (λ x. PutsTokens out.old.items out.new.items (λ r. lexeme (type_text (type_of width)) ∷ r)) }
 {
     put_type(out, type_of(width))
 }
 
 /// Appends the name of a declaration.
 pub(crate) fn put_decl_name(out: &mut Vec<u8>, n: usize) -> Result<(), NoMemory>
-    ensures { IfOk result (λ x. Puts out.old.items out.new.items (λ r. lexeme (decl_name n) ∷ r)) }
+    ensures { IfOk result (λ x. PutsTokens out.old.items out.new.items (λ r. lexeme (decl_name n) ∷ r)) }
 {
     let mut buffer = Buffer::new();
     out.push(b'n')?;
@@ -47,7 +47,7 @@ pub(crate) fn put_decl_name(out: &mut Vec<u8>, n: usize) -> Result<(), NoMemory>
 
 // Appends the head of a declaration, up to the `=`.
 fn put_decl_head(out: &mut Vec<u8>, n: usize, width: Width) -> Result<(), NoMemory>
-    ensures { IfOk result (λ x. Puts out.old.items out.new.items
+    ensures { IfOk result (λ x. PutsTokens out.old.items out.new.items
         (λ r. lexeme (type_text (type_of width)) ∷ lexeme (decl_name n) ∷ lexeme (codes "=") ∷ r)) }
 {
     put_width(out, width)?;
@@ -57,19 +57,19 @@ fn put_decl_head(out: &mut Vec<u8>, n: usize, width: Width) -> Result<(), NoMemo
 
 /// Appends a constant of this width.
 pub(crate) fn put_number_of(out: &mut Vec<u8>, width: Width, n: u64) -> Result<(), NoMemory>
-    ensures { IfOk result (λ x. Puts out.old.items out.new.items (spell (Number (type_of width) n))) }
+    ensures { IfOk result (λ x. PutsTokens out.old.items out.new.items (spell (Number (type_of width) n))) }
 {
     put_constant(out, type_of(width), n)
 }
 
 fn put_cast_of(out: &mut Vec<u8>, width: Width) -> Result<(), NoMemory>
-    ensures { IfOk result (λ x. Puts out.old.items out.new.items (cast_before (type_of width))) }
+    ensures { IfOk result (λ x. PutsTokens out.old.items out.new.items (cast_before (type_of width))) }
 {
     put_cast(out, type_of(width))
 }
 
 pub(crate) fn put_operand(out: &mut Vec<u8>, width: Width, slot: Slot) -> Result<(), NoMemory>
-    ensures { IfOk result (λ x. Puts out.old.items out.new.items (spell (operand decl_name width slot))) }
+    ensures { IfOk result (λ x. PutsTokens out.old.items out.new.items (spell (operand decl_name width slot))) }
 {
     put_cast_of(out, width)?;
     put_decl_name(out, slot.at)?;
@@ -77,7 +77,7 @@ pub(crate) fn put_operand(out: &mut Vec<u8>, width: Width, slot: Slot) -> Result
 }
 
 fn put_opposite(out: &mut Vec<u8>, width: Width, slot: Slot) -> Result<(), NoMemory>
-    ensures { IfOk result (λ x. Puts out.old.items out.new.items (spell (Minus (operand decl_name width slot)))) }
+    ensures { IfOk result (λ x. PutsTokens out.old.items out.new.items (spell (Minus (operand decl_name width slot)))) }
 {
     put_tokens(out, b"( -")?;
     put_operand(out, width, slot)?;
@@ -85,7 +85,7 @@ fn put_opposite(out: &mut Vec<u8>, width: Width, slot: Slot) -> Result<(), NoMem
 }
 
 fn put_both(out: &mut Vec<u8>, op: COp, width: Width, x: Slot, y: Slot) -> Result<(), NoMemory>
-    ensures { IfOk result (λ z. Puts out.old.items out.new.items (spell (Two op (operand decl_name width x) (operand decl_name width y)))) }
+    ensures { IfOk result (λ z. PutsTokens out.old.items out.new.items (spell (Two op (operand decl_name width x) (operand decl_name width y)))) }
 {
     put(out, b"(")?;
     put_operand(out, width, x)?;
@@ -95,7 +95,7 @@ fn put_both(out: &mut Vec<u8>, op: COp, width: Width, x: Slot, y: Slot) -> Resul
 }
 
 fn put_division(out: &mut Vec<u8>, slot: Slot, n: u64) -> Result<(), NoMemory>
-    ensures { IfOk result (λ x. Puts out.old.items out.new.items (spell (Two Div (operand decl_name W64 slot) (Number Int64 n)))) }
+    ensures { IfOk result (λ x. PutsTokens out.old.items out.new.items (spell (Two Div (operand decl_name W64 slot) (Number Int64 n)))) }
 {
     put(out, b"(")?;
     put_operand(out, Width::W64, slot)?;
@@ -113,7 +113,7 @@ fn power(m: u8) -> u64
 
 // A quotient of a declaration by 2^m, which is 0 from 63 on.
 fn put_quotient(out: &mut Vec<u8>, m: u8, slot: Slot) -> Result<(), NoMemory>
-    ensures { IfOk result (λ x. Puts out.old.items out.new.items (spell (cut_expr m (operand decl_name W64 slot)))) }
+    ensures { IfOk result (λ x. PutsTokens out.old.items out.new.items (spell (cut_expr m (operand decl_name W64 slot)))) }
 {
     if m < 63 {
         put_division(out, slot, power(m))
@@ -123,7 +123,7 @@ fn put_quotient(out: &mut Vec<u8>, m: u8, slot: Slot) -> Result<(), NoMemory>
 }
 
 fn put_side(out: &mut Vec<u8>, width: Width, side: Side) -> Result<(), NoMemory>
-    ensures { IfOk result (λ z. Puts out.old.items out.new.items (spell (side_expr width side))) }
+    ensures { IfOk result (λ z. PutsTokens out.old.items out.new.items (spell (side_expr width side))) }
 {
     match side {
         Side::Number(z) => put_inner(out, type_of(width), z),
@@ -137,7 +137,7 @@ fn put_side(out: &mut Vec<u8>, width: Width, side: Side) -> Result<(), NoMemory>
 
 // Appends a declaration.
 fn put_decl(out: &mut Vec<u8>, n: usize, width: Width, side: Side) -> Result<(), NoMemory>
-    ensures { IfOk result (λ z. Puts out.old.items out.new.items (decl_before n width (side_expr width side))) }
+    ensures { IfOk result (λ z. PutsTokens out.old.items out.new.items (decl_before n width (side_expr width side))) }
 {
     put_decl_head(out, n, width)?;
     put_side(out, width, side)?;

@@ -2,7 +2,7 @@
 ghost use Rattle.std.specs.Prelude.{◌≡◌, ◌≢◌, ◌<◌, ◌+◌, ◌∷◌, ◌++◌, [], IfOk, MatchOption, codes, drop, length, map, take};
 ghost use Rattle.ln_order.specs.Orders.{orders_of};
 ghost use Rattle.ln_order.specs.Places.{order_places};
-ghost use Rattle.ln_csyn.specs.Spelling.{Puts, Goes, lexeme, spell, spell_body};
+ghost use Rattle.ln_csyn.specs.Spelling.{PutsTokens, Goes, lexeme, spell, spell_body};
 ghost use Rattle.ln_csyn.specs.Tree.{Body, Group, Index};
 ghost use Rattle.ln_csyn.specs.declared.tree.CType.TheVariants.{Int64};
 ghost use Rattle.ln_code.specs.Lists.{segment_of};
@@ -21,7 +21,7 @@ use ln_order::Order;
 use std::alloc::Global;
 
 fn put_attempt(out: &mut Vec<u8>, title: &[u8]) -> Result<(), NoMemory>
-    ensures { IfOk result (λ x. Puts out.old.items out.new.items (spell_body (attempt answer_name title.now))) }
+    ensures { IfOk result (λ x. PutsTokens out.old.items out.new.items (spell_body (attempt answer_name title.now))) }
 {
     put_tokens(out, b"int answer = ( ( int )")?;
     put(out, title)?;
@@ -66,20 +66,20 @@ fn put_tries(alloc: Global, out: &mut Vec<u8>, name: &[u8], numbers: &[u32]) -> 
 }
 
 fn put_nothing(out: &mut Vec<u8>) -> Result<(), NoMemory>
-    ensures { IfOk result (λ x. Puts out.old.items out.new.items (spell_body says_nothing)) }
+    ensures { IfOk result (λ x. PutsTokens out.old.items out.new.items (spell_body says_nothing)) }
 {
     put_tokens(out, b"return ( ( int ) 0 ) ;")
 }
 
 fn put_index_at(out: &mut Vec<u8>, i: u8) -> Result<(), NoMemory>
-    ensures { IfOk result (λ x. Puts out.old.items out.new.items (spell (Index Int64 i))) }
+    ensures { IfOk result (λ x. PutsTokens out.old.items out.new.items (spell (Index Int64 i))) }
 {
     put_index(out, CType::Int64, u64::from(i))
 }
 
 // Opens the statements where the index at place i is below that at place j.
 fn put_guard(out: &mut Vec<u8>, i: u8, j: u8) -> Result<(), NoMemory>
-    ensures { IfOk result (λ x. Puts out.old.items out.new.items (λ r. lexeme (codes "if") ∷ lexeme (codes "(") ∷ spell (less i j)
+    ensures { IfOk result (λ x. PutsTokens out.old.items out.new.items (λ r. lexeme (codes "if") ∷ lexeme (codes "(") ∷ spell (less i j)
         (lexeme (codes ")") ∷ lexeme (codes "{") ∷ r))) }
 {
     put_tokens(out, b"if ( (")?;
@@ -90,7 +90,7 @@ fn put_guard(out: &mut Vec<u8>, i: u8, j: u8) -> Result<(), NoMemory>
 }
 
 fn put_guards(out: &mut Vec<u8>, i: u8, others: &[u8]) -> Result<(), NoMemory>
-    ensures { IfOk result (λ x. Puts out.old.items out.new.items (open_guards i others.now)) }
+    ensures { IfOk result (λ x. PutsTokens out.old.items out.new.items (open_guards i others.now)) }
 {
     'others: for j in others {
         put_guard(out, i, *j)?;
@@ -99,7 +99,7 @@ fn put_guards(out: &mut Vec<u8>, i: u8, others: &[u8]) -> Result<(), NoMemory>
 }
 
 fn put_ends(out: &mut Vec<u8>, n: usize) -> Result<(), NoMemory>
-    ensures { IfOk result (λ x. Puts out.old.items out.new.items (close_braces n)) }
+    ensures { IfOk result (λ x. PutsTokens out.old.items out.new.items (close_braces n)) }
 {
     if n == 0 {
         return Ok(());
@@ -193,7 +193,7 @@ pub(crate) fn put_walked(
     d: u8,
 ) -> Result<(), NoMemory>
     requires { map order_places at.now.orders.now ≡ orders_of at.now.program.now.shape.sites }
-    ensures { IfOk result (λ x. Puts out.old.items out.new.items (spell_body (walked (block_name (part_name at.now.program.now)) answer_name
+    ensures { IfOk result (λ x. PutsTokens out.old.items out.new.items (spell_body (walked (block_name (part_name at.now.program.now)) answer_name
         (segment_of at.now.program.now) d at.now.front.now at.now.left.now))) }
 {
     let name = name_of(at.program);
@@ -217,7 +217,7 @@ fn behind(left: &[u8], k: usize) -> &[u8]
 #[cycle(walk)]
 fn put_picks(alloc: Global, out: &mut Vec<u8>, at: &Prefix, d: u8) -> Result<(), NoMemory>
     requires { map order_places at.now.orders.now ≡ orders_of at.now.program.now.shape.sites }
-    ensures { IfOk result (λ x. Puts out.old.items out.new.items (spell_body (picks (λ i. walked (block_name (part_name at.now.program.now)) answer_name
+    ensures { IfOk result (λ x. PutsTokens out.old.items out.new.items (spell_body (picks (λ i. walked (block_name (part_name at.now.program.now)) answer_name
         (segment_of at.now.program.now) d (at.now.front.now ++ i ∷ []) (without i at.now.left.now)) at.now.left.now))) }
 {
     if at.left.is_empty() {
@@ -241,7 +241,7 @@ fn put_pick(
     others: &[u8],
 ) -> Result<(), NoMemory>
     requires { map order_places at.now.orders.now ≡ orders_of at.now.program.now.shape.sites }
-    ensures { IfOk result (λ x. Puts out.old.items out.new.items (λ r. open_guards place others.now
+    ensures { IfOk result (λ x. PutsTokens out.old.items out.new.items (λ r. open_guards place others.now
         (spell_body (walked (block_name (part_name at.now.program.now)) answer_name (segment_of at.now.program.now) d (at.now.front.now ++ place ∷ [])
         (without place at.now.left.now)) (close_braces (length others.now) r)))) }
 {

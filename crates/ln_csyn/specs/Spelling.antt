@@ -1,6 +1,7 @@
 -- Defines the tokens that are written for a file, each before a rest, and their text: one blank after each.
-use Rattle.std.specs.Prelude.{◌≡◌, ℕ, Bool, true, false, List, [], ◌∷◌, ◌++◌, codes, decimal}
+use Rattle.std.specs.Prelude.{ℕ, Bool, true, false, List, [], ◌∷◌, ◌++◌, codes, decimal}
 use Rattle.std.specs.Prelude.{◌==◌, if◌then◌else◌, Option, Some, None, bytes_eq}
+use Rattle.ln_base.specs.Lines.{Appends, Leaves}
 use Rattle.ln_csyn.specs.declared.tree.CType.{CType}
 use Rattle.ln_csyn.specs.declared.tree.CType.TheVariants.{Int, Int64, Int128}
 use Rattle.ln_csyn.specs.declared.tree.COp.{COp}
@@ -120,10 +121,10 @@ abbrev pub flat_file : List Fun → List Fun
 flat_file [] = []
 flat_file (f ∷ fs) = flat_fun f ∷ flat_file fs
 
--- what was out and what is out now, each followed by what a rest spells: between them these tokens were appended
-pub record Puts (old new : List ℕ) (f : List Token → List Token) : Type 0 where
-  pub is : (r : List Token) → new ++ written r ≡ old ++ written (f r)
+-- these tokens were appended
+abbrev pub PutsTokens : List ℕ → List ℕ → (List Token → List Token) → Type 0
+PutsTokens old new f = Appends written old new f
 
--- what is out, followed by what the rest spells, is constant: f of a rest is still to be appended, where g of it was
-pub record Goes (old new : List ℕ) (f g : List Token → List Token) : Type 0 where
-  pub is : (r : List Token) → new ++ written (f r) ≡ old ++ written (g r)
+-- where g of a rest was to be appended, f of it still is
+abbrev pub Goes : List ℕ → List ℕ → (List Token → List Token) → (List Token → List Token) → Type 0
+Goes old new f g = Leaves written old new f g

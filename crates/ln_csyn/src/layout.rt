@@ -3,7 +3,7 @@
 ghost use Rattle.std.specs.Prelude.{◌≡◌, ◌==◌, ◌++◌, ◌∷◌, [], List, ℕ, IfOk};
 ghost use Rattle.ln_csyn.specs.Layout.{begun, deeper, ends_line, fuses, grown, indent, is_operator, is_tight, laid_at, next_spot, put_at, gap};
 ghost use Rattle.ln_csyn.specs.Layout.{Lays, gap_depth, is_apart, is_spaced, spaced_around, start, turned, shallower};
-ghost use Rattle.ln_csyn.specs.Spelling.{Puts, spell_fun};
+ghost use Rattle.ln_csyn.specs.Spelling.{PutsTokens, spell_fun};
 ghost use Rattle.ln_csyn.specs.Tree.{Fun};
 
 use ln_base::NoMemory;
@@ -216,7 +216,7 @@ fn lay(out: &mut Vec<u8>, text: &[u8]) -> Result<(), NoMemory>
 
 /// Appends a function, laid out, whose tokens these are, each with a blank after it. A line feed is appended to the tokens.
 pub fn lay_fun(out: &mut Vec<u8>, tokens: &mut Vec<u8>) -> Result<(), NoMemory>
-    ensures { IfOk result (λ x. (f : Fun) → Puts [] tokens.old.items (spell_fun f) → Lays out.old.items out.new.items (f ∷ [])) }
+    ensures { IfOk result (λ x. (f : Fun) → PutsTokens [] tokens.old.items (spell_fun f) → Lays out.old.items out.new.items (f ∷ [])) }
 {
     tokens.push(b'\n')?;
     lay(out, tokens.as_slice())

@@ -2,7 +2,7 @@
 ghost use Rattle.std.specs.Prelude.{◌≡◌, ◌∷◌, [], IfOk, List, codes, map};
 ghost use Rattle.ln_csyn.specs.View.{expr_tree, stmt_front, body_tree, fun_tree};
 ghost use Rattle.ln_csyn.specs.Tree.{Body, Fun, Two, Minus, Number, Name, Value, Index, Call, Inner};
-ghost use Rattle.ln_csyn.specs.Spelling.{Puts, lexeme, type_text, op_text, cast_before, place_before, spell, Goes, spell_body};
+ghost use Rattle.ln_csyn.specs.Spelling.{PutsTokens, lexeme, type_text, op_text, cast_before, place_before, spell, Goes, spell_body};
 ghost use Rattle.ln_csyn.specs.Spelling.{spell_parameters, spell_own, spell_fun};
 ghost use Rattle.ln_csyn.specs.Layout.{IsTextOf, Lays, laid_text};
 ghost use Rattle.ln_csyn.specs.Text.{CText};
@@ -46,7 +46,7 @@ fn put_laid(alloc: Global, out: &mut Vec<u8>, f: &CFun) -> Result<(), NoMemory>
 }
 
 fn put_fun(out: &mut Vec<u8>, f: &CFun) -> Result<(), NoMemory>
-    ensures { IfOk result (λ x. Puts out.old.items out.new.items (spell_fun (fun_tree f.now))) }
+    ensures { IfOk result (λ x. PutsTokens out.old.items out.new.items (spell_fun (fun_tree f.now))) }
 {
     put_static(out, f.own)?;
     put_type(out, CType::Int)?;
@@ -58,19 +58,19 @@ fn put_fun(out: &mut Vec<u8>, f: &CFun) -> Result<(), NoMemory>
 }
 
 fn put_static(out: &mut Vec<u8>, own: bool) -> Result<(), NoMemory>
-    ensures { IfOk result (λ x. Puts out.old.items out.new.items (spell_own own)) }
+    ensures { IfOk result (λ x. PutsTokens out.old.items out.new.items (spell_own own)) }
 {
     if own { put(out, b"static") } else { Ok(()) }
 }
 
 fn put_own_name(out: &mut Vec<u8>, f: &CFun) -> Result<(), NoMemory>
-    ensures { IfOk result (λ x. Puts out.old.items out.new.items (λ r. lexeme f.now.name ∷ r)) }
+    ensures { IfOk result (λ x. PutsTokens out.old.items out.new.items (λ r. lexeme f.now.name ∷ r)) }
 {
     put(out, f.name.as_slice())
 }
 
 fn put_parameters(out: &mut Vec<u8>, indexed: bool) -> Result<(), NoMemory>
-    ensures { IfOk result (λ x. Puts out.old.items out.new.items (spell_parameters indexed)) }
+    ensures { IfOk result (λ x. PutsTokens out.old.items out.new.items (spell_parameters indexed)) }
 {
     if indexed {
         put_tokens(out, b"const int64_t * x , const int64_t * v")
@@ -80,7 +80,7 @@ fn put_parameters(out: &mut Vec<u8>, indexed: bool) -> Result<(), NoMemory>
 }
 
 fn put_fun_body(out: &mut Vec<u8>, f: &CFun) -> Result<(), NoMemory>
-    ensures { IfOk result (λ x. Puts out.old.items out.new.items
+    ensures { IfOk result (λ x. PutsTokens out.old.items out.new.items
         (λ r. lexeme (codes "{") ∷ spell_body (body_tree f.now.body.items) (lexeme (codes "}") ∷ r))) }
 {
     put_block(out, f.body.as_slice())
@@ -88,7 +88,7 @@ fn put_fun_body(out: &mut Vec<u8>, f: &CFun) -> Result<(), NoMemory>
 
 #[cycle(body)]
 fn put_block(out: &mut Vec<u8>, body: &[CStmt]) -> Result<(), NoMemory>
-    ensures { IfOk result (λ x. Puts out.old.items out.new.items (λ r. lexeme (codes "{") ∷ spell_body (body_tree body.now)
+    ensures { IfOk result (λ x. PutsTokens out.old.items out.new.items (λ r. lexeme (codes "{") ∷ spell_body (body_tree body.now)
         (lexeme (codes "}") ∷ r))) }
 {
     put(out, b"{")?;
@@ -98,7 +98,7 @@ fn put_block(out: &mut Vec<u8>, body: &[CStmt]) -> Result<(), NoMemory>
 
 #[cycle(body)]
 fn put_body(out: &mut Vec<u8>, stmts: &[CStmt]) -> Result<(), NoMemory>
-    ensures { IfOk result (λ x. Puts out.old.items out.new.items (spell_body (body_tree stmts.now))) }
+    ensures { IfOk result (λ x. PutsTokens out.old.items out.new.items (spell_body (body_tree stmts.now))) }
 {
     'stmts: for s in stmts {
         put_stmt(out, s)?;
@@ -123,7 +123,7 @@ fn put_stmt(out: &mut Vec<u8>, s: &CStmt) -> Result<(), NoMemory>
 }
 
 fn put_decl(out: &mut Vec<u8>, kind: CType, name: &[u8], e: &CExpr) -> Result<(), NoMemory>
-    ensures { IfOk result (λ x. Puts out.old.items out.new.items (λ r. lexeme (type_text kind) ∷ lexeme name.now
+    ensures { IfOk result (λ x. PutsTokens out.old.items out.new.items (λ r. lexeme (type_text kind) ∷ lexeme name.now
         ∷ lexeme (codes "=") ∷ spell (expr_tree e.now) (lexeme (codes ";") ∷ r))) }
 {
     put_type(out, kind)?;
@@ -134,7 +134,7 @@ fn put_decl(out: &mut Vec<u8>, kind: CType, name: &[u8], e: &CExpr) -> Result<()
 }
 
 fn put_test(out: &mut Vec<u8>, e: &CExpr) -> Result<(), NoMemory>
-    ensures { IfOk result (λ x. Puts out.old.items out.new.items (λ r. lexeme (codes "if") ∷ lexeme (codes "(")
+    ensures { IfOk result (λ x. PutsTokens out.old.items out.new.items (λ r. lexeme (codes "if") ∷ lexeme (codes "(")
         ∷ spell (expr_tree e.now) (lexeme (codes ")") ∷ r))) }
 {
     put_tokens(out, b"if (")?;
@@ -143,7 +143,7 @@ fn put_test(out: &mut Vec<u8>, e: &CExpr) -> Result<(), NoMemory>
 }
 
 fn put_return(out: &mut Vec<u8>, e: &CExpr) -> Result<(), NoMemory>
-    ensures { IfOk result (λ x. Puts out.old.items out.new.items (λ r. lexeme (codes "return") ∷ spell (expr_tree e.now)
+    ensures { IfOk result (λ x. PutsTokens out.old.items out.new.items (λ r. lexeme (codes "return") ∷ spell (expr_tree e.now)
         (lexeme (codes ";") ∷ r))) }
 {
     put(out, b"return")?;
@@ -154,7 +154,7 @@ fn put_return(out: &mut Vec<u8>, e: &CExpr) -> Result<(), NoMemory>
 /// Appends an expression.
 #[cycle(put)]
 pub fn put_expr(out: &mut Vec<u8>, e: &CExpr) -> Result<(), NoMemory>
-    ensures { IfOk result (λ x. Puts out.old.items out.new.items (spell (expr_tree e.now))) }
+    ensures { IfOk result (λ x. PutsTokens out.old.items out.new.items (spell (expr_tree e.now))) }
 {
     match e {
         CExpr::Two(op, a, b) => {
@@ -175,7 +175,7 @@ pub fn put_expr(out: &mut Vec<u8>, e: &CExpr) -> Result<(), NoMemory>
 // Appends the right operand and what is round it.
 #[cycle(put)]
 fn put_right(out: &mut Vec<u8>, op: COp, b: &CExpr) -> Result<(), NoMemory>
-    ensures { IfOk result (λ x. Puts out.old.items out.new.items (λ r. lexeme (op_text op) ∷ spell (expr_tree b.now)
+    ensures { IfOk result (λ x. PutsTokens out.old.items out.new.items (λ r. lexeme (op_text op) ∷ spell (expr_tree b.now)
         (lexeme (codes ")") ∷ r))) }
 {
     put_op(out, op)?;
@@ -185,7 +185,7 @@ fn put_right(out: &mut Vec<u8>, op: COp, b: &CExpr) -> Result<(), NoMemory>
 
 #[cycle(put)]
 fn put_minus(out: &mut Vec<u8>, e: &CExpr) -> Result<(), NoMemory>
-    ensures { IfOk result (λ x. Puts out.old.items out.new.items (spell (Minus (expr_tree e.now)))) }
+    ensures { IfOk result (λ x. PutsTokens out.old.items out.new.items (spell (Minus (expr_tree e.now)))) }
 {
     put_tokens(out, b"( -")?;
     put_expr(out, e)?;
@@ -194,7 +194,7 @@ fn put_minus(out: &mut Vec<u8>, e: &CExpr) -> Result<(), NoMemory>
 
 #[cycle(put)]
 fn put_inner(out: &mut Vec<u8>, kind: CType, e: &CExpr) -> Result<(), NoMemory>
-    ensures { IfOk result (λ x. Puts out.old.items out.new.items (spell (Inner kind (expr_tree e.now)))) }
+    ensures { IfOk result (λ x. PutsTokens out.old.items out.new.items (spell (Inner kind (expr_tree e.now)))) }
 {
     put_cast(out, kind)?;
     put_expr(out, e)?;
@@ -203,7 +203,7 @@ fn put_inner(out: &mut Vec<u8>, kind: CType, e: &CExpr) -> Result<(), NoMemory>
 
 /// Appends `((TYPE)`, the beginning of an expression that is a cast.
 pub fn put_cast(out: &mut Vec<u8>, kind: CType) -> Result<(), NoMemory>
-    ensures { IfOk result (λ x. Puts out.old.items out.new.items (cast_before kind)) }
+    ensures { IfOk result (λ x. PutsTokens out.old.items out.new.items (cast_before kind)) }
 {
     put_tokens(out, b"( (")?;
     put_type(out, kind)?;
@@ -212,7 +212,7 @@ pub fn put_cast(out: &mut Vec<u8>, kind: CType) -> Result<(), NoMemory>
 
 /// Appends `((TYPE)NUMBER)`.
 pub fn put_constant(out: &mut Vec<u8>, kind: CType, n: u64) -> Result<(), NoMemory>
-    ensures { IfOk result (λ x. Puts out.old.items out.new.items (spell (Number kind n))) }
+    ensures { IfOk result (λ x. PutsTokens out.old.items out.new.items (spell (Number kind n))) }
 {
     put_cast(out, kind)?;
     put_number(out, n)?;
@@ -221,7 +221,7 @@ pub fn put_constant(out: &mut Vec<u8>, kind: CType, n: u64) -> Result<(), NoMemo
 
 /// Appends `((TYPE)NAME)`.
 pub fn put_name(out: &mut Vec<u8>, kind: CType, name: &[u8]) -> Result<(), NoMemory>
-    ensures { IfOk result (λ x. Puts out.old.items out.new.items (spell (Name kind name.now))) }
+    ensures { IfOk result (λ x. PutsTokens out.old.items out.new.items (spell (Name kind name.now))) }
 {
     put_cast(out, kind)?;
     put(out, name)?;
@@ -230,7 +230,7 @@ pub fn put_name(out: &mut Vec<u8>, kind: CType, name: &[u8]) -> Result<(), NoMem
 
 /// Appends `((TYPE)v[N])`.
 pub fn put_value(out: &mut Vec<u8>, kind: CType, n: u64) -> Result<(), NoMemory>
-    ensures { IfOk result (λ x. Puts out.old.items out.new.items (spell (Value kind n))) }
+    ensures { IfOk result (λ x. PutsTokens out.old.items out.new.items (spell (Value kind n))) }
 {
     put_cast(out, kind)?;
     put_place(out, b"v", n)
@@ -238,14 +238,14 @@ pub fn put_value(out: &mut Vec<u8>, kind: CType, n: u64) -> Result<(), NoMemory>
 
 /// Appends `((TYPE)x[N])`.
 pub fn put_index(out: &mut Vec<u8>, kind: CType, n: u64) -> Result<(), NoMemory>
-    ensures { IfOk result (λ x. Puts out.old.items out.new.items (spell (Index kind n))) }
+    ensures { IfOk result (λ x. PutsTokens out.old.items out.new.items (spell (Index kind n))) }
 {
     put_cast(out, kind)?;
     put_place(out, b"x", n)
 }
 
 fn put_place(out: &mut Vec<u8>, name: &[u8], n: u64) -> Result<(), NoMemory>
-    ensures { IfOk result (λ x. Puts out.old.items out.new.items (place_before name.now n)) }
+    ensures { IfOk result (λ x. PutsTokens out.old.items out.new.items (place_before name.now n)) }
 {
     put(out, name)?;
     put(out, b"[")?;
@@ -255,7 +255,7 @@ fn put_place(out: &mut Vec<u8>, name: &[u8], n: u64) -> Result<(), NoMemory>
 
 /// Appends `((TYPE)NAME(v))`.
 pub fn put_call(out: &mut Vec<u8>, kind: CType, name: &[u8]) -> Result<(), NoMemory>
-    ensures { IfOk result (λ x. Puts out.old.items out.new.items (spell (Call kind name.now))) }
+    ensures { IfOk result (λ x. PutsTokens out.old.items out.new.items (spell (Call kind name.now))) }
 {
     put_cast(out, kind)?;
     put(out, name)?;

@@ -16,7 +16,7 @@ use Rattle.ln_cemit.specs.Checked.{sign_of, plus}
 use Rattle.ln_cemit.specs.Choose.{first_of_signs}
 use Rattle.ln_cemit.specs.Chosen.{decided}
 use Rattle.ln_cemit.specs.Emit.{wide_lines}
-use Rattle.ln_cemit.specs.Emitted.{number_of}
+use Rattle.ln_cemit.specs.Emitted.{sign_as_number}
 use Rattle.ln_cemit.specs.Law as law
 use Rattle.ln_cemit.specs.Ways.{block_lines}
 use Rattle.ln_cemit.specs.Whole.{first_of, moved}
@@ -66,7 +66,7 @@ pub record Valued (zs : List ℤ) (cs : List Code) (b : ℕ) : Type 0 where
 pub record Agrees (o : Option Verdict) (d : ℤ × ℕ) (calls : ℕ) : Type 0 where
   pub verdict : Verdict
   pub is : o ≡ Some verdict
-  pub sign : number_of verdict.sign ≡ d.0
+  pub sign : sign_as_number verdict.sign ≡ d.0
   pub count : verdict.calls ≡ calls + d.1
   pub by : verdict.by ≢ Filter
 
@@ -119,7 +119,7 @@ is-zero-sign (pos zero) e h = absurd (never e h) where
 is-zero-sign (pos (suc n)) e h = refl
 is-zero-sign (negsuc n) e h = refl
 
-same-sign : (z : ℤ) → number_of (machine.sign_of z) ≡ sign_of z
+same-sign : (z : ℤ) → sign_as_number (machine.sign_of z) ≡ sign_of z
 same-sign (pos zero) = refl
 same-sign (pos (suc n)) = refl
 same-sign (negsuc n) = refl
@@ -128,7 +128,7 @@ same-sign (negsuc n) = refl
 record Answers (o : Option Verdict) (d : ℤ × ℕ) (first : ℤ) : Type 0 where
   pub verdict : Verdict
   pub is : o ≡ Some verdict
-  pub sign : number_of verdict.sign ≡ d.0
+  pub sign : sign_as_number verdict.sign ≡ d.0
   pub count : verdict.calls ≡ d.1
   pub quiet : verdict.by ≡ Filter → is_zero first ≡ false
 
@@ -166,7 +166,7 @@ Leaves zs (Some f) = (left : Held) × (filter_value zs f ≡ Some left)
 pub record Same (zs : List ℤ) (f : Option FilterCode) (cs : List Code) (ns : List ℕ) : Type 0 where
   pub verdict : Verdict
   pub is : through f zs cs ns ≡ Some verdict
-  pub sign : number_of verdict.sign ≡ (decided (signs zs f cs) (first_of f ++ moved f ns)).0
+  pub sign : sign_as_number verdict.sign ≡ (decided (signs zs f cs) (first_of f ++ moved f ns)).0
   pub count : verdict.calls ≡ (decided (signs zs f cs) (first_of f ++ moved f ns)).1
   pub narrow : verdict.by ≡ Filter → (z : ℤ) (j : Counts)
       → first_of_signs (signs zs f cs) (afters f cs) (first_of f ++ moved f ns) (record { wide = 0; calls = 0 }) ≡ Said z j → j.wide ≡ 0

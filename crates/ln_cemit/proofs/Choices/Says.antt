@@ -36,12 +36,12 @@ use Rattle.ln_cemit.specs.Checked.{plus, sign_of, ups}
 use Rattle.ln_cemit.specs.Choose.{first_of_signs}
 use Rattle.ln_cemit.specs.Chosen.{decided, list_of_order}
 use Rattle.ln_cemit.specs.Emit.{touching_index, wide_lines}
-use Rattle.ln_cemit.specs.Emitted.{AreKept, EntriesSay, EntrySays, FileIsEmitted, number_of}
+use Rattle.ln_cemit.specs.Emitted.{AreKept, EntriesSay, EntrySays, FileIsEmitted, sign_as_number}
 use Rattle.ln_cemit.specs.File.{AreAway, one_funs, two_fun}
 use Rattle.ln_cemit.specs.Law.{BlockSays, FilterSays, Means}
 use Rattle.ln_cemit.specs.Names.{decl_name, answer_name}
 use Rattle.ln_cemit.specs.Walked.{body_for}
-use Rattle.ln_cemit.specs.Ways.{block_lines, block_way, filter_lines, filter_way}
+use Rattle.ln_cemit.specs.Ways.{block_lines, block_way, lines_of_filter, filter_way}
 use Rattle.ln_cemit.specs.Whole.{Entered, block_body, bodies_of, file_of, filter_body, first_of, funs_before, moved, numbered, outer_fun, outer_name}
 use Rattle.ln_cemit.specs.Whole.{part_name, parts_entered}
 use Rattle.ln_cemit.proofs.Choices.Agrees.{Leaves, Same, Valued, afters, block_sign, both_same, held_sign, signs, value_or, wide_of}
@@ -61,7 +61,7 @@ module _ (vars : List VarInfo) (zs : List ℤ) (range : AreWithin vars zs) where
 
   filter_says : (f : FilterCode) → length f.ops ≤ 2 ^ 63 → FollowsFilterRules vars f → FilterSays decl_name zs f
   filter_says f l r =
-      filters_say decl_name vars zs f (names_serve [] (length (filter_lines f)) (omega (arith, lines_short filter_way f.ops f.triples, l)) refl).0 range r
+      filters_say decl_name vars zs f (names_serve [] (length (lines_of_filter f)) (omega (arith, lines_short filter_way f.ops f.triples, l)) refl).0 range r
 
   block_means : (c : Code) → BlockSays decl_name zs c → Means zs (block_body c) (block_sign zs (Some c)) (plus (wide_of (Some c)))
   block_means c b = subst (λ (o : Option ℤ). Means zs (block_body c) (sign_of (value_or o)) (plus (wide_lines (block_lines c)))) (sym b.machine) b.means
@@ -174,7 +174,7 @@ as-verdict fs x row places xs ys s j o u e f few called calls said =
     let q : xs ≡ first_of p.filter ++ moved p.filter (list_of p places) = e ∙ f in
     let d : decided g xs ≡ decided g (first_of p.filter ++ moved p.filter (list_of p places)) = ap (decided g) q in
     let a : s.verdict.calls ≡ (decided g xs).1 = s.count ∙ sym (ap (λ (x : ℤ × ℕ). x.1) d) in
-    let b : number_of s.verdict.sign ≡ (decided g xs).0 = s.sign ∙ sym (ap (λ (x : ℤ × ℕ). x.0) d) in
+    let b : sign_as_number s.verdict.sign ≡ (decided g xs).0 = s.sign ∙ sym (ap (λ (x : ℤ × ℕ). x.0) d) in
     let n : (decided g xs).1 < 2 ^ 32 = let c = count-few g xs in omega (arith, c, few, ap length e) in
     record {
       verdict = s.verdict;
@@ -289,7 +289,7 @@ says_too fs gs (x ∷ xs) e a = (
         verdict = s.verdict;
         counts = s.counts;
         machine = s.machine;
-        called = (lines_say_nothing gs fs e (outer_name x) row.index row.values (number_of s.verdict.sign) s.counts).1 s.called;
+        called = (lines_say_nothing gs fs e (outer_name x) row.index row.values (sign_as_number s.verdict.sign) s.counts).1 s.called;
         calls = s.calls;
         narrow = s.narrow;
       }

@@ -25,7 +25,7 @@ use Rattle.ln_code.proofs.Engines.Runs.{some_is, filter_runs}
 use Rattle.ln_code.proofs.Filters.Cutting.{cut_none, cut_abs}
 use Rattle.ln_csyn.specs.Words.{is_c_name, most_number}
 use Rattle.ln_cemit.specs.declared.slot.Way.{Way}
-use Rattle.ln_cemit.specs.Ways.{ways, block_way, filter_way, block_lines, filter_lines}
+use Rattle.ln_cemit.specs.Ways.{ways, block_way, filter_way, block_lines, lines_of_filter}
 use Rattle.ln_cemit.specs.Emit.{body_of}
 use Rattle.ln_cemit.specs.Law.{error_of}
 use Rattle.ln_cemit.specs.Conditions.{is_fine, are_fine, FunsKeep, BlocksKeep, FiltersKeep}
@@ -106,7 +106,7 @@ filters_keep names name own vars zs f range differ free w o few r =
     at_most (error_of f) b.left.error b.what.triple.e r.what.triple.e (sym b.error) b.holds.error (ap (λ (y : FilterKnown). y.triple.e) one) r.narrow in
     let q = next_some (run (filter_rules vars f.depth) (lines_of f.ops f.triples) (record { stack = []; locals = no_locals }))
     (λ s. only s.stack) r.what r.known in
-    funs_keep names name own (error_of f) (filter_lines f) differ free w o small (fine_run filter_way (filter_rules vars f.depth)
+    funs_keep names name own (error_of f) (lines_of_filter f) differ free w o small (fine_run filter_way (filter_rules vars f.depth)
     (strict_filter vars f.depth few) (lines_of f.ops f.triples) (record { stack = []; locals = no_locals }) q.0 q.1)
   where
     one_known : (o : Option FilterKnown) (a b : FilterKnown) → o ≡ Some a → o ≡ Some b → a ≡ b

@@ -29,7 +29,7 @@ use Rattle.ln_cemit.specs.Conditions.{MeetsConditions, is_free}
 use Rattle.ln_cemit.specs.File.{AreAway, one_fun, one_funs, two_fun}
 use Rattle.ln_cemit.specs.Names.{all_begin, begins_with_l, decl_name, answer_name}
 use Rattle.ln_cemit.specs.Walked.{body_for}
-use Rattle.ln_cemit.specs.Ways.{block_lines, block_way, filter_lines, filter_way, ways}
+use Rattle.ln_cemit.specs.Ways.{block_lines, block_way, lines_of_filter, filter_way, ways}
 use Rattle.ln_cemit.specs.Whole.{Entered, block_body, bodies_of, call_body, file_of, filter_body, first_of, moved, numbered, outer_fun, outer_name, part_name}
 use Rattle.ln_cemit.specs.Whole.{parts_entered}
 use Rattle.ln_cemit.proofs.Conditions.Keeping.{blocks_keep, filters_keep}
@@ -94,7 +94,7 @@ module _ (names : List (List ℕ)) (begin : all_begin names ≡ true) (sites : �
 
   filter_serves : (f : FilterCode) → length f.ops ≤ 2 ^ 63 → FollowsFilterRules vars f → Serves names (filter_body f)
   filter_serves f l r own w o =
-      let n = names_serve names (length (filter_lines f)) (omega (arith, lines_short filter_way f.ops f.triples, l)) begin in
+      let n = names_serve names (length (lines_of_filter f)) (omega (arith, lines_short filter_way f.ops f.triples, l)) begin in
       filters_keep names decl_name own vars (map (λ i. i.lo) vars) f (lows_within vars (laid_out sites vars laid).ranges) n.0 n.1 w o few r
 
   blocks_serve : (cs : List Code) → ops_in_blocks cs ≤ 2 ^ 63 → All (FollowsRules vars) cs → (b : ℕ) → b < length (map block_body cs)

@@ -6,7 +6,7 @@ use Rattle.std.proofs.lemmas.Bool.Decides.{nat_tests}
 use Rattle.std.proofs.lemmas.List.{reverse-append}
 use Rattle.ln_code.specs.Numbers.{with_local}
 use Rattle.ln_csyn.specs.Tree.{Body}
-use Rattle.ln_csyn.specs.Spelling.{Puts, Goes, spell_body}
+use Rattle.ln_csyn.specs.Spelling.{PutsTokens, Goes, spell_body}
 use Rattle.ln_cemit.specs.declared.slot.Slot.{Slot}
 use Rattle.ln_cemit.specs.Emit.{Rest, slot, operand, put_set}
 use Rattle.ln_cemit.specs.Names.{decl_name}
@@ -30,7 +30,7 @@ locals_set os j s h = fun_ext (λ i. one_local os j i s h)
 
 -- a declaration, and the local that it is
 pub stored : {a b : List ℕ} (n j : ℕ) (s : Slot) (old rest : List Slot) (os : List (Option Slot)) → old ≡ rest ++ s ∷ [] → j < length os
-    → Puts a b (decl_before n s.width (operand decl_name s.width s))
+    → PutsTokens a b (decl_before n s.width (operand decl_name s.width s))
     → Stores a b rest (slice_set os j (Some (slot n s.width))) (λ go. put_set decl_name j n (reverse old) (locals_of os) go)
 stored {a} {b} n j s old rest os e h p =
     let f : reverse old ≡ s ∷ reverse rest = ap reverse e ∙ reverse-append rest (s ∷ []) in

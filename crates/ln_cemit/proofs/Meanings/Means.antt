@@ -20,7 +20,7 @@ use Rattle.ln_csyn.specs.declared.tree.CType.TheVariants.{Int}
 use Rattle.ln_csyn.specs.Tree.{Body}
 use Rattle.ln_csyn.specs.Meaning.{Counts, Scene, Fails, Said, has, runs}
 use Rattle.ln_cemit.specs.declared.slot.Way.{Way}
-use Rattle.ln_cemit.specs.Ways.{ways, block_way, filter_way, block_lines, filter_lines}
+use Rattle.ln_cemit.specs.Ways.{ways, block_way, filter_way, block_lines, lines_of_filter}
 use Rattle.ln_cemit.specs.Emit.{emitted, touching, reads_row, wide_lines}
 use Rattle.ln_cemit.specs.Checked.{Sized, checked, sign_of, sign_above, plus, Quiet, without, narrow}
 use Rattle.ln_cemit.specs.Law.{BlocksSay, FiltersSay, error_of}
@@ -87,18 +87,18 @@ filters_say name vars zs f differ range r =
     let x : Sized = p.0 in
     let h : Held = b.left in
     let w = next_some (run (exact_filter zs) lines (record { stack = []; locals = no_locals })) (λ s. only s.stack) h b.exactly in
-    let no : wide_lines (filter_lines f) ≡ 0 = no_wide zs lines (record { stack = []; locals = no_locals }) w.0 w.1 in
+    let no : wide_lines (lines_of_filter f) ≡ 0 = no_wide zs lines (record { stack = []; locals = no_locals }) w.0 w.1 in
     let small : error_of f ≤ limit W64 = error_small (error_of f) h.error b.what.triple.e r.what.triple.e (sym b.error) b.holds.error
     (ap (λ (y : FilterKnown). y.triple.e) (one_known (filter_known_of vars f) b.what r.what b.known r.known)) r.narrow in
     let q : Quiet (error_of f) x.width = subst (λ (u : Width). Quiet (error_of f) u) (sym p.2.width) (narrow (fits_from W64 (pos (error_of f)) small)) in
-    let says : (k : Counts) → runs (scene zs) [] (emitted name (error_of f) (filter_lines f) 0 [] no_locals) k ≡ Said (sign_above h.error h.number) k
-    = λ k. emitted_means name (error_of f) (scene zs) (filter_lines f) x k differ q p.1
-    ∙ alike (error_of f) h.error x.number h.number (wide_lines (filter_lines f)) k (sym b.error) p.2.same no in
+    let says : (k : Counts) → runs (scene zs) [] (emitted name (error_of f) (lines_of_filter f) 0 [] no_locals) k ≡ Said (sign_above h.error h.number) k
+    = λ k. emitted_means name (error_of f) (scene zs) (lines_of_filter f) x k differ q p.1
+    ∙ alike (error_of f) h.error x.number h.number (wide_lines (lines_of_filter f)) k (sym b.error) p.2.same no in
     record {
       left = h;
       machine = b.exactly;
       means = record {
-        says = λ k. touched zs (reads_row (filter_lines f)) _ k ∙ says k;
+        says = λ k. touched zs (reads_row (lines_of_filter f)) _ k ∙ says k;
         small = has_either (nat_lt h.error (unsigned_abs h.number)) h.number;
         keeps = λ k. refl;
       };

@@ -6,7 +6,7 @@ use Rattle.std.proofs.lemmas.List.{drop_all, drop_more}
 use Rattle.std.proofs.lemmas.List.Elements.{filter-append}
 use Rattle.ln_code.specs.Part.{FilterCode}
 use Rattle.ln_csyn.specs.Layout.{Lays}
-use Rattle.ln_csyn.specs.Spelling.{Goes, Puts, lexeme, spell, spell_body, written}
+use Rattle.ln_csyn.specs.Spelling.{Goes, PutsTokens, lexeme, spell, spell_body, written}
 use Rattle.ln_csyn.specs.Tree.{Body, Group}
 use Rattle.ln_csyn.proofs.Writing.Lays.{lays_none}
 use Rattle.ln_cemit.specs.File.{one_fun}
@@ -41,7 +41,7 @@ kept_all x done all xs i h g = sym (append-nil done) ∙ ap (λ z. done ++ witho
 
 -- one comparison more was appended
 pub guards_more : {start now new : List ℕ} (i : ℕ) (js : List ℕ) (k d : ℕ) → k < length js → Goes start now (open_guards i (drop k js)) (open_guards i js)
-    → Puts now new (λ r. lexeme (codes "if") ∷ lexeme (codes "(") ∷ spell (less i (get_or js k d)) (lexeme (codes ")") ∷ lexeme (codes "{") ∷ r))
+    → PutsTokens now new (λ r. lexeme (codes "if") ∷ lexeme (codes "(") ∷ spell (less i (get_or js k d)) (lexeme (codes ")") ∷ lexeme (codes "{") ∷ r))
     → Goes start new (open_guards i (drop (k + 1) js)) (open_guards i js)
 guards_more {start} {now} {new} i js k d h g p = record {
   is = λ r. p.is (open_guards i (drop (k + 1) js) r) ∙ ap (λ z. now ++ written (open_guards i z r)) (sym (drop_more js k d h)) ∙ g.is r;
@@ -49,7 +49,7 @@ guards_more {start} {now} {new} i js k d h g p = record {
 
 -- at the end all comparisons were appended
 pub guards_all : {start now : List ℕ} (i : ℕ) (js : List ℕ) (k : ℕ) → length js ≤ k
-    → Goes start now (open_guards i (drop k js)) (open_guards i js) → Puts start now (open_guards i js)
+    → Goes start now (open_guards i (drop k js)) (open_guards i js) → PutsTokens start now (open_guards i js)
 guards_all {start} {now} i js k h g = record { is = λ r. ap (λ z. now ++ written (open_guards i z r)) (sym (drop_all k js h)) ∙ g.is r }
 
 -- ---- the function of a filter, if there is one

@@ -20,7 +20,7 @@ use Rattle.ln_csyn.specs.Tree as c
 use Rattle.ln_csyn.specs.Tree.{Body, Fun}
 use Rattle.ln_csyn.specs.Grammar.{Token}
 use Rattle.ln_csyn.specs.Layout.{Lays}
-use Rattle.ln_csyn.specs.Spelling.{Goes, Puts, lexeme, spell, spell_body, spell_fun, written}
+use Rattle.ln_csyn.specs.Spelling.{Goes, PutsTokens, lexeme, spell, spell_body, spell_fun, written}
 use Rattle.ln_csyn.proofs.Writing.Lays.{LaysRest, all_laid, lays_then, one_laid}
 use Rattle.ln_order.specs.declared.order.Order.{Order}
 use Rattle.ln_order.specs.Orders.{orders_of}
@@ -101,7 +101,7 @@ module _ {start old new : List ℕ} {all : List Token → List Token} (e : ℕ) 
 
   -- the end of the loop in `put_lines`: after the last line the sign was appended
   pub loop_end : xs ≡ [] → Goes start old (spell_body (emitted decl_name e xs i (reverse st) (locals_of os))) all
-      → Puts old new (spell_body (put_sign decl_name e (reverse st))) → Puts start new all
+      → PutsTokens old new (spell_body (put_sign decl_name e (reverse st))) → PutsTokens start new all
   loop_end q g p =
       let h : Goes start old (spell_body (put_sign decl_name e (reverse st))) all =
       subst (λ z. Goes start old (spell_body (emitted decl_name e z i (reverse st) (locals_of os))) all) q g in
@@ -127,7 +127,7 @@ unread_is o ops left ws i st u e f g = ap (λ z. unread o z i (reverse st)) (ops
 
 -- what goes on with nothing is appended
 pub loop_stop : {start new : List ℕ} {all : List Token → List Token} (more : Bool) (b : Body) → more ≡ false
-    → Goes start new (spell_body (rest_or more b)) all → Puts start new all
+    → Goes start new (spell_body (rest_or more b)) all → PutsTokens start new all
 loop_stop true b e p = absurd cc
 loop_stop false b e p = record { is = p.is }
 
@@ -157,7 +157,7 @@ pub touched_none : {a : List ℕ} (v : Bool) → v ≡ true → (b : Body) → G
 touched_none v e b = rw e (record { is = λ r. refl })
 
 -- before a body that reads none, the statement that names the parameter was appended
-pub touched_put : {a n : List ℕ} (v : Bool) → v ≡ false → Puts a n (spell_body (touching false c.End)) → (b : Body)
+pub touched_put : {a n : List ℕ} (v : Bool) → v ≡ false → PutsTokens a n (spell_body (touching false c.End)) → (b : Body)
     → Goes a n (spell_body b) (spell_body (touching v b))
 touched_put v e p b = rw e (record { is = λ r. p.is (spell_body b r) })
 
@@ -166,18 +166,18 @@ pub index_none : {a : List ℕ} (v : Bool) → v ≡ true → (b : Body) → Goe
 index_none v e b = rw e (record { is = λ r. refl })
 
 -- where it reads none, the statement that names them was appended
-pub index_put : {a n : List ℕ} (v : Bool) → v ≡ false → Puts a n (spell_body (touching_index false c.End)) → (b : Body)
+pub index_put : {a n : List ℕ} (v : Bool) → v ≡ false → PutsTokens a n (spell_body (touching_index false c.End)) → (b : Body)
     → Goes a n (spell_body b) (spell_body (touching_index v b))
 index_put v e p b = rw e (record { is = λ r. p.is (spell_body b r) })
 
 -- the body is the statement that names the parameter, where it is needed, and then what is emitted for the lines
 pub body_put : {a m n : List ℕ} (v : Bool) (e : ℕ) (ops : List Op) (ws : List Way) → v ≡ any_reads ops
     → length ops ≡ length ws → ((b : Body) → Goes a m (spell_body b) (spell_body (touching v b)))
-    → Puts m n (spell_body (emitted decl_name e (lines_of ops ws) 0 [] no_locals)) → Puts a n (spell_body (body_of decl_name e (lines_of ops ws)))
+    → PutsTokens m n (spell_body (emitted decl_name e (lines_of ops ws) 0 [] no_locals)) → PutsTokens a n (spell_body (body_of decl_name e (lines_of ops ws)))
 body_put {a} {m} {n} v e ops ws q l g p =
     let b : Body = emitted decl_name e (lines_of ops ws) 0 [] no_locals in
     let f : v ≡ reads_row (lines_of ops ws) = q ∙ sym (reads_lines ops ws l) in
-    subst (λ u. Puts a n (spell_body (touching u b))) f (record { is = λ r. p.is r ∙ (g b).is r })
+    subst (λ u. PutsTokens a n (spell_body (touching u b))) f (record { is = λ r. p.is r ∙ (g b).is r })
 
 -- ---- functions by operations and bounds
 module _ {B : Type 0} (g : B → Way) where
@@ -190,8 +190,8 @@ module _ {B : Type 0} (g : B → Way) where
   module _ {a n : List ℕ} (x : List ℕ) (d e : ℕ) where
     -- a function appended for operations and ways is the one for the same operations with their bounds
     pub fun_put : (ops os : List Op) (bs : List B) (ws vs : List Way) → ops ≡ os → vs ≡ ws → ws ≡ map g bs → d ≡ e
-        → Puts a n (spell_fun (one_fun x (body_of decl_name d (lines_of ops vs))))
-        → Puts a n (spell_fun (one_fun x (body_of decl_name e (ways g (lines_of os bs)))))
+        → PutsTokens a n (spell_fun (one_fun x (body_of decl_name d (lines_of ops vs))))
+        → PutsTokens a n (spell_fun (one_fun x (body_of decl_name e (ways g (lines_of os bs)))))
     fun_put ops os bs ws vs p q r h u = rw (← p, ways_map ops bs, ← r, ← q, ← h) u
 
 -- ---- the function with two parameters
@@ -242,7 +242,7 @@ module _ {start cur : List ℕ} {all : List Token → List Token} (go : ℕ → 
   -- the step of the loop in `put_picks`: the statements of one more site were appended
   pub picks_next : {new : List ℕ} (others : List ℕ) (k place d : ℕ) → k < length left → place ≡ get_or left k d → others ≡ drop (k + 1) left
       → Goes start cur (spell_body (picks_on go (drop k left))) all
-      → Puts cur new (λ r. open_guards place others (spell_body (go place) (close_braces (length others) r)))
+      → PutsTokens cur new (λ r. open_guards place others (spell_body (go place) (close_braces (length others) r)))
       → Goes start new (spell_body (picks_on go (drop (k + 1) left))) all
   picks_next {new} others k place d l e o g p =
       let q : drop k left ≡ place ∷ others = drop_more left k d l ∙ ap (λ z. z ∷ drop (k + 1) left) (sym e) ∙ ap (λ z. place ∷ z) (sym o) in
@@ -251,7 +251,7 @@ module _ {start cur : List ℕ} {all : List Token → List Token} (go : ℕ → 
       (record { is = λ r. p.is (spell_body (picks_on go others) r) ∙ sym (ap (λ z. cur ++ written z) (pick_spelled go place others r)) ∙ f.is r })
 
   -- the end of the loop in `put_picks`: no site remains
-  pub picks_done : (k : ℕ) → length left ≤ k → Goes start cur (spell_body (picks_on go (drop k left))) all → Puts start cur all
+  pub picks_done : (k : ℕ) → length left ≤ k → Goes start cur (spell_body (picks_on go (drop k left))) all → PutsTokens start cur all
   picks_done k l g =
       let f : Goes start cur (spell_body (picks_on go [])) all = subst (λ z. Goes start cur (spell_body (picks_on go z)) all) (drop_all k left l) g in
       record { is = f.is }
@@ -261,17 +261,17 @@ module _ {a m n : List ℕ} (name x : List ℕ) (segment : List ℕ → List ℕ
   -- the case in `put_walked` in which no site is placed any more: the calls of the prefix, and the return of 0
   pub walked_end : (p left : List ℕ) → name ≡ x → numbers ≡ segment p → d ≡ 0
       → ((b : Body) → Goes a m (spell_body b) (spell_body (tries (block_name name) answer_name numbers b)))
-      → Puts m n (spell_body says_nothing) → Puts a n (spell_body (walked (block_name x) answer_name segment d p left))
+      → PutsTokens m n (spell_body says_nothing) → PutsTokens a n (spell_body (walked (block_name x) answer_name segment d p left))
   walked_end p left e f z g u = rw (z, ← e, ← f) (record { is = λ r. u.is r ∙ (g says_nothing).is r })
 
   -- the case in `put_walked` in which another site is placed: the calls of the prefix, and the statements of the sites
   pub walked_on : (e : ℕ) (p left : List ℕ) → name ≡ x → numbers ≡ segment p → d ≡ suc e
       → ((b : Body) → Goes a m (spell_body b) (spell_body (tries (block_name name) answer_name numbers b)))
-      → Puts m n (spell_body (picks (λ i. walked (block_name x) answer_name segment e (p ++ i ∷ []) (without i left)) left))
-      → Puts a n (spell_body (walked (block_name x) answer_name segment d p left))
+      → PutsTokens m n (spell_body (picks (λ i. walked (block_name x) answer_name segment e (p ++ i ∷ []) (without i left)) left))
+      → PutsTokens a n (spell_body (walked (block_name x) answer_name segment d p left))
   walked_on e p left q f z g u =
       let rest : Body = picks (λ i. walked (block_name x) answer_name segment e (p ++ i ∷ []) (without i left)) left in
-      let h : Puts a n (spell_body (tries (block_name name) answer_name numbers rest)) = record { is = λ r. u.is r ∙ (g rest).is r } in
+      let h : PutsTokens a n (spell_body (tries (block_name name) answer_name numbers rest)) = record { is = λ r. u.is r ∙ (g rest).is r } in
       rw z (rw (q, f) at h)
 
 -- the same with functions by number
@@ -304,20 +304,20 @@ first-tried x (Some f) a b e = ap (λ z. c.Group 2 (attempt answer_name (filter_
 pub call_put : {a l m n : List ℕ} (p : Part) (sites : ℕ) (v : Bool) → sites ≡ p.shape.sites
     → v ≡ nat_le 2 sites → ((b : Body) → Goes a l (spell_body b) (spell_body (touching_index v b)))
     → ((b : Body) → Goes l m (spell_body b) (spell_body (filter_tried (part_name p) p.filter b)))
-    → Puts m n (spell_body (walked (block_name (part_name p)) answer_name (segment_of p) sites [] (range_with_len 0 sites)))
-    → Puts a n (spell_body (call_body p))
+    → PutsTokens m n (spell_body (walked (block_name (part_name p)) answer_name (segment_of p) sites [] (range_with_len 0 sites)))
+    → PutsTokens a n (spell_body (call_body p))
 call_put {a} {l} {m} {n} p sites v e q g h u =
     let inner : Body = walked (block_name (part_name p)) answer_name (segment_of p) sites [] (range_with_len 0 sites) in
     let x : List ℕ = part_name p in
-    let t : Puts a n (spell_body (touching_index v (filter_tried x p.filter inner))) =
+    let t : PutsTokens a n (spell_body (touching_index v (filter_tried x p.filter inner))) =
     record { is = λ r. u.is r ∙ (h inner).is r ∙ (g (filter_tried x p.filter inner)).is r } in
     let f : body_for (numbered x p.filter) answer_name (λ q. moved p.filter (segment_of p q)) (first_of p.filter) sites ≡ filter_tried x p.filter inner =
     first-tried x p.filter _ _ (walked-moved x p.filter (segment_of p) sites [] (range_with_len 0 sites)) in
-    let s : Puts a n (spell_body (touching_index (nat_le 2 sites)
-    (body_for (numbered x p.filter) answer_name (λ q. moved p.filter (segment_of p q)) (first_of p.filter) sites))) = subst (λ z. Puts a n
+    let s : PutsTokens a n (spell_body (touching_index (nat_le 2 sites)
+    (body_for (numbered x p.filter) answer_name (λ q. moved p.filter (segment_of p q)) (first_of p.filter) sites))) = subst (λ z. PutsTokens a n
     (spell_body (touching_index z (body_for (numbered x p.filter) answer_name (λ q. moved p.filter (segment_of p q)) (first_of p.filter) sites)))) q
-    (subst (λ z. Puts a n (spell_body (touching_index v z))) (sym f) t) in
-    subst (λ z. Puts a n
+    (subst (λ z. PutsTokens a n (spell_body (touching_index v z))) (sym f) t) in
+    subst (λ z. PutsTokens a n
     (spell_body (touching_index (nat_le 2 z) (body_for (numbered x p.filter) answer_name (λ q. moved p.filter (segment_of p q)) (first_of p.filter) z)))) e s
 
 -- ---- the file
@@ -335,12 +335,12 @@ ones-are x None cs = one-by-number x 0 (map block_body cs)
 ones-are x (Some f) cs = ap (λ z. one_fun (filter_name x) (filter_body f) ∷ z) (one-by-block x f 0 (map block_body cs))
 
 -- the tokens of a function with one parameter were laid out
-pub named_laid : {old new tokens empty : List ℕ} (x y : List ℕ) (b : Body) → empty ≡ [] → x ≡ y → Puts empty tokens (spell_fun (one_fun x b))
-    → ((f : Fun) → Puts [] tokens (spell_fun f) → Lays old new (f ∷ []))
+pub named_laid : {old new tokens empty : List ℕ} (x y : List ℕ) (b : Body) → empty ≡ [] → x ≡ y → PutsTokens empty tokens (spell_fun (one_fun x b))
+    → ((f : Fun) → PutsTokens [] tokens (spell_fun f) → Lays old new (f ∷ []))
     → Lays old new (one_fun y b ∷ [])
 named_laid {tokens = tokens} x y b e q p h =
-    let p2 : Puts [] tokens (spell_fun (one_fun x b)) = subst (λ z. Puts z tokens (spell_fun (one_fun x b))) e p in
-    h (one_fun y b) (subst (λ z. Puts [] tokens (spell_fun (one_fun z b))) q p2)
+    let p2 : PutsTokens [] tokens (spell_fun (one_fun x b)) = subst (λ z. PutsTokens z tokens (spell_fun (one_fun x b))) e p in
+    h (one_fun y b) (subst (λ z. PutsTokens [] tokens (spell_fun (one_fun z b))) q p2)
 
 -- the functions of a program were written
 pub program_put : {a l m n : List ℕ} (x : Entered) → Lays a l (filter_funs (part_name x.part) x.part.filter)

@@ -8,7 +8,7 @@ use Rattle.ln_csyn.specs.Seen.{seen, tokens_of}
 use Rattle.ln_csyn.specs.Tree.{Body, End}
 use Rattle.ln_csyn.specs.Grammar.{Token}
 use Rattle.ln_csyn.specs.declared.tree.CStmt.{CStmt}
-use Rattle.ln_csyn.specs.View.{Front, joined, stmt_front, body_tree}
+use Rattle.ln_csyn.specs.View.{Front, body_made, stmt_front, body_tree}
 use Rattle.ln_csyn.specs.Reading.{begins as begins_text, eat, go_on, stmt_at, stmts_at, block_at, ReadStmt}
 use Rattle.ln_csyn.proofs.Reading.Leaving.{Leaves, dropped, fewer}
 use Rattle.ln_csyn.proofs.Reading.SoundFile.{block_sound, stmt_sound}
@@ -19,7 +19,7 @@ onto [] b = b
 onto (f ∷ fs) b = f (onto fs b)
 
 -- before no statement
-pub onto_end : (fs : List Front) → onto fs End ≡ joined fs
+pub onto_end : (fs : List Front) → onto fs End ≡ body_made fs
 onto_end [] = refl
 onto_end (f ∷ fs) = ap f (onto_end fs)
 
@@ -65,7 +65,7 @@ goes stmt ts fs rest next f g h s l = by_n g.n g.room g.all where
 
 -- at a closing brace all statements were read
 pub ends : (stmt : ReadStmt) (ts : List Token) (fs : List Front) (rest us : List Token) → Going stmt ts fs rest
-    → eat (codes "}") rest ≡ Some us → stmts_at stmt (suc (length ts)) ts ≡ Some (joined fs, rest)
+    → eat (codes "}") rest ≡ Some us → stmts_at stmt (suc (length ts)) ts ≡ Some (body_made fs, rest)
 ends stmt ts fs rest us g h =
     let e : stmts_at stmt (suc g.n) rest ≡ Some (End, rest) = rw h refl in
     g.all ∙ ap (onto_read fs) e ∙ ap (λ (b : Body). Some (b, rest)) (onto_end fs)

@@ -1,14 +1,13 @@
 -- Tokens appended one after the other.
 use Rattle.std.proofs.Common.{◌≡◌, ℕ, Bool, true, false, List, [], ◌∷◌, ◌++◌, append_assoc, refl, sym, ap, ◌∙◌}
-use Rattle.std.specs.Prelude.{◌==◌, if◌then◌else◌, codes, Result, IfOk}
+use Rattle.std.specs.Prelude.{◌==◌, if◌then◌else◌, codes}
 use Rattle.std.proofs.lemmas.Bool.{eqb-true}
-use Rattle.std.proofs.lemmas.Result.{IfOk-weaker}
 use Rattle.ln_csyn.specs.Tree.{Body, Group}
 use Rattle.ln_csyn.specs.Grammar.{Token}
-use Rattle.ln_csyn.specs.Spelling.{lexeme, spell_body, tokens_in, written, Puts, Goes}
+use Rattle.ln_csyn.specs.Spelling.{lexeme, spell_body, tokens_in, written, PutsTokens, Goes}
 
 -- a token and a blank
-pub puts_one : (old mid new text : List ℕ) → mid ≡ old ++ text → new ≡ mid ++ 32 ∷ [] → Puts old new (λ r. lexeme text ∷ r)
+pub puts_one : (old mid new text : List ℕ) → mid ≡ old ++ text → new ≡ mid ++ 32 ∷ [] → PutsTokens old new (λ r. lexeme text ∷ r)
 puts_one old mid new text e f = record {
   is = λ r.
       ap (λ (z : List ℕ). z ++ written r) (f ∙ ap (λ (z : List ℕ). z ++ 32 ∷ []) e)
@@ -26,24 +25,10 @@ tokens_written w (c ∷ cs) r = by_case (c == 32) refl (tokens_written [] cs r) 
   by_case false e p q = q ∙ append_assoc w (c ∷ []) (cs ++ 32 ∷ written r)
 
 -- a text that was appended as one token is its tokens, which are parted by blanks
-pub tokens_put : {a b : List ℕ} (t : List ℕ) → Puts a b (λ r. lexeme t ∷ r) → Puts a b (tokens_in [] t)
+pub tokens_put : {a b : List ℕ} (t : List ℕ) → PutsTokens a b (λ r. lexeme t ∷ r) → PutsTokens a b (tokens_in [] t)
 tokens_put {a} t p = record { is = λ r. p.is r ∙ ap (λ z. a ++ z) (sym (tokens_written [] t r)) }
 
--- one after the other
-pub puts_then : {a b c : List ℕ} {f g : List Token → List Token} → Puts a b f → Puts b c g → Puts a c (λ r. f (g r))
-puts_then {g = g} p q = record { is = λ r. q.is r ∙ p.is (g r) }
-
--- one after the other, where the last call is handed on
-pub puts_last : {X Y : Type 0} {a b : List ℕ} {f : List Token → List Token} (r : Result X Y) (c : List ℕ) (g : List Token → List Token)
-    → Puts a b f → IfOk r (λ _. Puts b c g) → IfOk r (λ _. Puts a c (λ t. f (g t)))
-puts_last {a = a} {b = b} {f = f} r c g p h =
-    IfOk-weaker r (λ _. Puts b c g) (λ _. Puts a c (λ t. f (g t))) (λ _ q. puts_then p q) h
-
--- one after the other
-pub goes_then : {a b c : List ℕ} {f g h : List Token → List Token} → Goes a b g h → Goes b c f g → Goes a c f h
-goes_then p q = record { is = λ r. q.is r ∙ p.is r }
-
 -- statements in braces
-pub goes_group : {a b : List ℕ} (l : ℕ) (d : Body) → Puts a b (λ r. lexeme (codes "{") ∷ spell_body d (lexeme (codes "}") ∷ r)) → (c : Body)
+pub goes_group : {a b : List ℕ} (l : ℕ) (d : Body) → PutsTokens a b (λ r. lexeme (codes "{") ∷ spell_body d (lexeme (codes "}") ∷ r)) → (c : Body)
     → Goes a b (spell_body c) (spell_body (Group l d c))
 goes_group l d p c = record { is = λ r. p.is (spell_body c r) }

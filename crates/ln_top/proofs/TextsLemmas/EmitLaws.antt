@@ -20,7 +20,7 @@ use Rattle.ln_compile.proofs.Making.BuildingLemmas.{program-more, programs-of-ta
 use Rattle.ln_compile.proofs.Listing.FilteredLemmas.{programs_answer}
 use Rattle.ln_csyn.specs.Tree.{Fun}
 use Rattle.ln_cemit.specs.Whole.{part_name}
-use Rattle.ln_cemit.specs.Emitted.{AllSay, AreKept, BeginsFile, CallSays, IsEmitted, number_of}
+use Rattle.ln_cemit.specs.Emitted.{AllSay, AreKept, BeginsFile, CallSays, IsEmitted, sign_as_number}
 use Rattle.ln_cemit.proofs.Writing.Whole.{begun_kept}
 use Rattle.ln_top.specs.Frame.Signature.{asks_nothing}
 use Rattle.ln_top.specs.Texts.Emit.{AllAreDue, BeginsCOfFirst, CallIsDue, IsCOf, emit_work}
@@ -43,7 +43,7 @@ names_there t =
     named u.sites u.params u.preds (table_parts u t.whole).preds
 
 -- a sign is one number
-pub same_number : (s : Sign) → number_of s ≡ sign_number s
+pub same_number : (s : Sign) → sign_as_number s ≡ sign_number s
 same_number Minus = refl
 same_number Zero = refl
 same_number Plus = refl

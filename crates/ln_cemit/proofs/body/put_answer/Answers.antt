@@ -1,5 +1,5 @@
 -- Answers to the goals of `put_answer` in src/body.rt.
-use Rattle.ln_csyn.proofs.Writing.PutLemmas.{puts_last, puts_then}
+use Rattle.ln_base.proofs.Texts.Putting.{puts_last, puts_then}
 use Rattle.ln_cemit.proofs.body.put_answer.Goals as goal
 
 pub returns : goal.returns

@@ -1,7 +1,7 @@
 -- Answers to the goals of `put_parts` in src/constant.rt.
 use Rattle.std.proofs.Common.{◌≡◌, suc, ◌-◌, arith, refl, ◌/◌, ◌%◌, ◌^◌}
 use Rattle.std.proofs.lemmas.Result.{IfOk-weaker}
-use Rattle.ln_csyn.proofs.Writing.PutLemmas.{puts_then}
+use Rattle.ln_base.proofs.Texts.Putting.{puts_then}
 use Rattle.ln_cemit.proofs.Writing.Parts.{parts_step}
 use Rattle.ln_cemit.proofs.constant.+put_parts.Goals as goal
 

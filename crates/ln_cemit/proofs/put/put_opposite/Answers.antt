@@ -1,5 +1,5 @@
 -- Answers to the goals of `put_opposite` in src/put.rt.
-use Rattle.ln_csyn.proofs.Writing.PutLemmas.{puts_last, puts_then}
+use Rattle.ln_base.proofs.Texts.Putting.{puts_last, puts_then}
 use Rattle.ln_cemit.proofs.put.put_opposite.Goals as goal
 
 pub returns : goal.returns

@@ -1,6 +1,6 @@
 -- Answers to the goals of `put_ends` in src/walk.rt.
 use Rattle.std.proofs.Common.{arith, suc, ◌-◌, ◌≡◌}
-use Rattle.ln_csyn.proofs.Writing.PutLemmas.{puts_last}
+use Rattle.ln_base.proofs.Texts.Putting.{puts_last}
 use Rattle.ln_cemit.proofs.walk.+put_ends.Goals as goal
 
 pub returns : goal.returns

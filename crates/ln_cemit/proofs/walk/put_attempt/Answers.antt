@@ -1,6 +1,6 @@
 -- Answers to the goals of `put_attempt` in src/walk.rt.
 use Rattle.std.proofs.lemmas.Result.{IfOk-weaker}
-use Rattle.ln_csyn.proofs.Writing.PutLemmas.{puts_then}
+use Rattle.ln_base.proofs.Texts.Putting.{puts_then}
 use Rattle.ln_cemit.proofs.Writing.Parts.{attempt_put}
 use Rattle.ln_cemit.proofs.walk.put_attempt.Goals as goal
 

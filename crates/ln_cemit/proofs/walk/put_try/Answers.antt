@@ -1,6 +1,7 @@
 -- Answers to the goals of `put_try` in src/walk.rt.
 use Rattle.std.proofs.lemmas.Result.{IfOk-weaker}
-use Rattle.ln_csyn.proofs.Writing.PutLemmas.{goes_group, puts_then}
+use Rattle.ln_base.proofs.Texts.Putting.{puts_then}
+use Rattle.ln_csyn.proofs.Writing.PutLemmas.{goes_group}
 use Rattle.ln_cemit.specs.Names.{answer_name}
 use Rattle.ln_cemit.specs.Walked.{attempt}
 use Rattle.ln_cemit.proofs.walk.put_try.Goals as goal
