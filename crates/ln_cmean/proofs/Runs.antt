@@ -12,7 +12,7 @@ use Rattle.ln_cmean.specs.declared.body.Flow.{Flow}
 use Rattle.ln_cmean.specs.declared.body.Flow.TheVariants.{Went}
 use Rattle.ln_cmean.specs.declared.stack.Stack.{Stack}
 use Rattle.ln_cmean.specs.Answered.{goes_on}
-use Rattle.ln_cmean.specs.Room.{IsSame, IsPrefix}
+use Rattle.ln_cmean.specs.Room.{IsSame, IsExtended}
 
 -- what holds anyway holds where there is a value
 pub on_ok : {T E P : Type 0} (r : Result T E) → P → OnOk r P
@@ -32,15 +32,15 @@ fronts xs ys zs p q =
     sym (take-take (length xs) (length ys) zs l) ∙ ap (λ ws. take (length xs) ws) q ∙ p
 
 -- declarations that each of two steps keeps as a prefix are a prefix after both
-pub front_then : (a b c : Stack) → IsPrefix a b → IsPrefix b c → IsPrefix a c
+pub front_then : (a b c : Stack) → IsExtended a b → IsExtended b c → IsExtended a c
 front_then a b c p q = record {
   base_front = q.base_front ∙ p.base_front;
   slots_front = fronts a.slots.items b.slots.items c.slots.items p.slots_front q.slots_front;
 }
 
 -- the declarations before one more, which has a number now, are a prefix
-pub front_set : (old opened at new : Stack) → IsPrefix old opened → length opened.slots.items ≡ length old.slots.items + 1 → IsSame opened at →
-    new.base ≡ at.base → ((n : ℕ) → n < length at.slots.items → take n new.slots.items ≡ take n at.slots.items) → IsPrefix old new
+pub front_set : (old opened at new : Stack) → IsExtended old opened → length opened.slots.items ≡ length old.slots.items + 1 → IsSame opened at →
+    new.base ≡ at.base → ((n : ℕ) → n < length at.slots.items → take n new.slots.items ≡ take n at.slots.items) → IsExtended old new
 front_set old opened at new f r s b t = record {
   base_front = b ∙ s.base_same ∙ f.base_front;
   slots_front = t (length old.slots.items) (omega (arith, r, ap length s.slots_same)) ∙ ap (λ ys. take (length old.slots.items) ys) s.slots_same
@@ -69,12 +69,12 @@ pub left_on : (need : Body → ℕ) (ss : List CStmt) (i : ℕ) (s : CStmt) (a b
 left_on need ss i s a b all l g h r = omega (arith, h, r (body_tree (drop (i + 1) ss)), ap need (next_body ss i s l g))
 
 -- only what was there remains
-pub left_same : (old at new : Stack) (n : ℕ) → n ≡ length old.slots.items → IsPrefix old at → new.base ≡ at.base →
+pub left_same : (old at new : Stack) (n : ℕ) → n ≡ length old.slots.items → IsExtended old at → new.base ≡ at.base →
     new.slots.items ≡ take n at.slots.items → IsSame old new
 left_same old at new n e p b s = record { base_same = b ∙ p.base_front; slots_same = s ∙ ap (λ i. take i at.slots.items) e ∙ p.slots_front }
 
 -- the same declarations are a prefix
-pub same_front : (old new : Stack) → IsSame old new → IsPrefix old new
+pub same_front : (old new : Stack) → IsSame old new → IsExtended old new
 same_front old new p = record {
   base_front = p.base_same;
   slots_front = ap (λ ys. take (length old.slots.items) ys) p.slots_same ∙ take_all (length old.slots.items) old.slots.items (omega arith);

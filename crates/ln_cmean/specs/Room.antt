@@ -21,7 +21,7 @@ pub record IsSame (old new : Stack) : Type 0 where
   pub slots_same : new.slots.items ≡ old.slots.items
 
 -- what was there is a prefix of what is there
-pub record IsPrefix (old new : Stack) : Type 0 where
+pub record IsExtended (old new : Stack) : Type 0 where
   pub base_front : new.base ≡ old.base
   pub slots_front : take (length old.slots.items) new.slots.items ≡ old.slots.items
 

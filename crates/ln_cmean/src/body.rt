@@ -5,7 +5,7 @@ ghost use Rattle.ln_csyn.specs.Meaning as m;
 ghost use Rattle.ln_csyn.specs.Tree.{Body, Decl};
 ghost use Rattle.ln_csyn.specs.View.{expr_tree, body_tree, stmt_front};
 ghost use Rattle.ln_cmean.specs.Answered.{goes_on, goes_with, ended, fault_line, tally};
-ghost use Rattle.ln_cmean.specs.Room.{HasRoom, IsNoSmaller, IsSame, IsPrefix, slots_in};
+ghost use Rattle.ln_cmean.specs.Room.{HasRoom, IsNoSmaller, IsSame, IsExtended, slots_in};
 ghost use Rattle.ln_cmean.specs.Slots.{seen};
 ghost use Rattle.ln_cmean.specs.Scene.{scene_of};
 
@@ -82,7 +82,7 @@ fn declare<'a, C: Calls>(
         (Decl of.now.line of.now.kind name.now (expr_tree of.now.expr.now) rest) (tally counts.old) ≡ goes_on result (tally counts.new)
         (λ k. runs (scene_of (C.given calls.now) inputs.now) (seen s.new) rest k) }
     ensures capacity { IsNoSmaller s.old s.new }
-    ensures front { OnOk result (IsPrefix s.old s.new) }
+    ensures front { OnOk result (IsExtended s.old s.new) }
     ensures room { OnOk result (length s.new.slots.items ≡ length s.old.slots.items + 1) }
 {
     open(s, of.kind, name);
@@ -146,7 +146,7 @@ fn step<'a, C: Calls>(
         (tally counts.old) ≡ goes_on result (tally counts.new)
         (λ k. runs (scene_of (C.given calls.now) inputs.now) (seen s.new) rest k) }
     ensures capacity { IsNoSmaller s.old s.new }
-    ensures front { OnOk result (IsPrefix s.old s.new) }
+    ensures front { OnOk result (IsExtended s.old s.new) }
     ensures room { OnOk result ((rest : Body) →
         length s.new.slots.items + slots_in rest ≤ length s.old.slots.items + slots_in (stmt_front stmt.now rest)) }
 {

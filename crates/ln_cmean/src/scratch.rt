@@ -2,7 +2,7 @@
 ghost use Rattle.std.specs.Prelude.{◌≡◌, ℕ, List, ◌∷◌, ◌+◌, ◌-◌, ◌≤◌, ◌<◌, length, take, vec_len, None, slice_get, Some};
 ghost use Rattle.ln_csyn.specs.Meaning.{find, number_in, Seen};
 ghost use Rattle.ln_csyn.specs.Meaning as m;
-ghost use Rattle.ln_cmean.specs.Room.{HasRoom, IsNoSmaller, IsPrefix};
+ghost use Rattle.ln_cmean.specs.Room.{HasRoom, IsNoSmaller, IsExtended};
 ghost use Rattle.ln_cmean.specs.Slots.{seen};
 ghost use Rattle.ln_cmean.specs.Answered.{answered};
 
@@ -59,7 +59,7 @@ pub fn look_up(s: &Stack<'_>, name: &[u8]) -> Result<Number, Fault>
 pub fn open<'a>(s: &mut Stack<'a>, kind: CType, name: &'a [u8])
     requires { HasRoom s.old 1 }
     ensures seen { seen s.new ≡ record { name = name.now; kind = kind; number = None } ∷ seen s.old }
-    ensures front { IsPrefix s.old s.new }
+    ensures front { IsExtended s.old s.new }
     ensures room { length s.new.slots.items ≡ length s.old.slots.items + 1 }
     ensures capacity { IsNoSmaller s.old s.new }
 {

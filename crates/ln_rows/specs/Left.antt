@@ -32,7 +32,7 @@ abbrev pub IsBetween : State → Type 0
 IsBetween s = (s ≡ st.StartRecord) ⊎ (s ≡ st.AfterCr)
 
 -- the first record of a text has these fields, and this remains after it
-pub record Gives (text : List ℕ) (fields : List (List ℕ)) (rest : List ℕ) : Type 0 where
+pub record HasFirst (text : List ℕ) (fields : List (List ℕ)) (rest : List ℕ) : Type 0 where
   pub state : State
   pub between : IsBetween state
   pub first : first_of text ≡ Some (fields, state, rest)

@@ -5,7 +5,7 @@ use Rattle.std.specs.Char.{is_ascii_digit}
 use Rattle.ln_base.specs.Decimal.{decimal_value}
 use Rattle.ln_tree.specs.declared.shape.VarInfo.{VarInfo}
 use Rattle.ln_code.specs.declared.row.Row.{Row}
-use Rattle.ln_rows.specs.Left.{Records, Gives}
+use Rattle.ln_rows.specs.Left.{Records, HasFirst}
 use Rattle.ln_rows.specs.Number.{within, number_in}
 use Rattle.ln_rows.specs.Record.{columns, IsRead}
 
@@ -71,7 +71,7 @@ pub record HasValue (text : List ℕ) (lo hi : ℤ) (last : Bool) (z : ℤ) (res
 -- the first record of a text has a field for each column, and the program's row is what they say
 pub record IsPlainRow (vars : List VarInfo) (text rest : List ℕ) (r : Row) : Type 0 where
   pub fields : List (List ℕ)
-  pub gives : Gives text fields rest
+  pub gives : HasFirst text fields rest
   pub size : length fields ≡ length (columns vars)
   pub read : IsRead vars fields r
 

@@ -25,9 +25,9 @@ columns [] = []
 columns (i ∷ is) = if starts_site i then SiteIndex ∷ Variable i ∷ columns is else Variable i ∷ columns is
 
 -- the number of a field in a column, which is from 0 to 2^63 - 1 for an index, in its declared range for a variable
-abbrev pub number_of : Column → List ℕ → Result ℤ NumberStop
-number_of SiteIndex field = number_in (pos 0) (pos (2 ^ 63 - 1)) field
-number_of (Variable i) field = number_in i.lo i.hi field
+abbrev pub column_number : Column → List ℕ → Result ℤ NumberStop
+column_number SiteIndex field = number_in (pos 0) (pos (2 ^ 63 - 1)) field
+column_number (Variable i) field = number_in i.lo i.hi field
 
 -- the same with the fault named by the column's number
 abbrev pub in_column : ℕ → Result ℤ NumberStop → Result ℤ RowStop
@@ -44,7 +44,7 @@ fault_or (Err e) behind = Some e
 abbrev pub first_fault : ℕ → List Column → List (List ℕ) → Option RowStop
 first_fault k [] fields = None
 first_fault k (c ∷ cs) [] = None
-first_fault k (c ∷ cs) (f ∷ fs) = fault_or (in_column k (number_of c f)) (first_fault (suc k) cs fs)
+first_fault k (c ∷ cs) (f ∷ fs) = fault_or (in_column k (column_number c f)) (first_fault (suc k) cs fs)
 
 -- the number that a field says, where it says one
 abbrev pub said : List ℕ → ℤ

@@ -2,7 +2,7 @@
 ghost use Rattle.std.specs.Prelude.{◌≡◌, ◌≤◌, ◌<◌, ℕ, List, true, false, get_or, length, take, IfOk, IfSome, OnOk};
 ghost use Rattle.std.specs.List.{list_all};
 ghost use Rattle.csv.specs.Records.{fields_of};
-ghost use Rattle.ln_rows.specs.Left.{Gives};
+ghost use Rattle.ln_rows.specs.Left.{HasFirst};
 ghost use Rattle.ln_rows.specs.Line.{is_unquoted, is_no_comma, fields_in};
 
 use crate::plain::past_end;
@@ -70,7 +70,7 @@ pub(crate) fn plain_record<'a>(
     most: usize,
     into: &mut ByteRecord,
 ) -> Result<Option<&'a [u8]>, NoMemory>
-    ensures { IfOk result (λ o. IfSome o (λ rest. (all : List (List ℕ)) × Gives text.now all rest.now
+    ensures { IfOk result (λ o. IfSome o (λ rest. (all : List (List ℕ)) × HasFirst text.now all rest.now
         × (fields_of into.new ≡ take most all))) }
 {
     let size = line_length(text);

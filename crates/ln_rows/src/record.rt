@@ -5,7 +5,7 @@ ghost use Rattle.ln_tree.specs.Row.{InRange};
 ghost use Rattle.ln_code.specs.RowOf.{row_of, IsZeroPast};
 ghost use Rattle.ln_tree.specs.Variables.{is_laid_out};
 ghost use Rattle.ln_rows.specs.Number.{number_in};
-ghost use Rattle.ln_rows.specs.Record.{SiteIndex, Variable, columns, number_of, in_column, first_fault};
+ghost use Rattle.ln_rows.specs.Record.{SiteIndex, Variable, columns, column_number, in_column, first_fault};
 ghost use Rattle.ln_rows.specs.Record.{values, index_column, read_row, IsBegun, IsRead, IsReadAs, StaysPast};
 
 use crate::numbers::{NumberStop, number};
@@ -53,7 +53,7 @@ fn read(fields: &ByteRecord, at: usize, lo: i64, hi: i64) -> Result<i64, RowStop
 // The index in column `at`.
 fn read_index(fields: &ByteRecord, at: usize) -> Result<i64, RowStop>
     requires { at < 256 }
-    ensures { result ≡ in_column at (number_of SiteIndex (slice_index_or (fields_of fields.now) at [])) }
+    ensures { result ≡ in_column at (column_number SiteIndex (slice_index_or (fields_of fields.now) at [])) }
 {
     read(fields, at, 0, i64::MAX)
 }
@@ -61,7 +61,7 @@ fn read_index(fields: &ByteRecord, at: usize) -> Result<i64, RowStop>
 // The value of a variable in column `at`.
 fn read_value(fields: &ByteRecord, at: usize, i: &VarInfo) -> Result<i64, RowStop>
     requires { at < 256 }
-    ensures { result ≡ in_column at (number_of (Variable i.now) (slice_index_or (fields_of fields.now) at [])) }
+    ensures { result ≡ in_column at (column_number (Variable i.now) (slice_index_or (fields_of fields.now) at [])) }
 {
     let lo = i.lo;
     let hi = i.hi;

@@ -5,10 +5,10 @@ use Rattle.ln_watch.specs.declared.watcher.Watcher.TheVariants.{Signs, Deciders,
 use Rattle.ln_watch.specs.Panel.{State}
 
 -- the number of its kind
-abbrev pub kind_of : Watcher → ℕ
-kind_of (Signs w) = 1
-kind_of (Deciders w) = 2
-kind_of (First w) = 3
+abbrev pub watcher_kind : Watcher → ℕ
+watcher_kind (Signs w) = 1
+watcher_kind (Deciders w) = 2
+watcher_kind (First w) = 3
 
 -- what it gathered
 abbrev pub tally_of : Watcher → List ℕ

@@ -1,7 +1,7 @@
 //! The three watchers as one type, and those that the program has.
 ghost use Rattle.std.specs.Prelude.{◌≡◌};
 ghost use Rattle.ln_watch.specs.Panel.{states_of};
-ghost use Rattle.ln_watch.specs.Watchers.{kind_of as number_of, tally_of as gathered, those_of_gen};
+ghost use Rattle.ln_watch.specs.Watchers.{watcher_kind, tally_of as gathered, those_of_gen};
 
 use crate::decider_watch::DeciderWatch;
 use crate::first_watch::FirstWatch;
@@ -36,7 +36,7 @@ impl Watcher {
 }
 
 impl Watch for Watcher {
-    ghost kind_of = { λ w. number_of w };
+    ghost kind_of = { λ w. watcher_kind w };
 
     ghost tally_of = { λ w. gathered w };
 

@@ -10,7 +10,7 @@ use Rattle.csv.specs.declared.parser.State.TheVariants as st
 use Rattle.ln_tree.specs.declared.shape.VarInfo.{VarInfo}
 use Rattle.ln_tree.specs.Variables.{starts_site, no_var}
 use Rattle.ln_code.specs.declared.row.Row.{Row}
-use Rattle.ln_rows.specs.Left.{first_of, Gives}
+use Rattle.ln_rows.specs.Left.{first_of, HasFirst}
 use Rattle.ln_rows.specs.Number.{number_in}
 use Rattle.ln_rows.specs.Plain.{HasValue, IsPlainRow}
 use Rattle.ln_rows.specs.Record.{columns, in_column, IsRead}
@@ -35,7 +35,7 @@ module _ (text : List ℕ) (fields : List (List ℕ)) (rest more : List ℕ) (lo
   }
 
   -- a value with the end of the record after it
-  value_gives : (h : HasValue rest lo hi true z more) → Gives text (fields ++ (h.number.first ∷ h.number.others) ∷ []) more
+  value_gives : (h : HasValue rest lo hi true z more) → HasFirst text (fields ++ (h.number.first ∷ h.number.others) ∷ []) more
   value_gives h =
       let e = end_goes fields (h.number.first ∷ h.number.others) h.behind more h.past in
       record { state = e.state; between = e.between; first = s.is ∙ number_goes s.state fields rest h.behind lo hi z s.fresh h.number ∙ e.ends }
@@ -43,7 +43,7 @@ module _ (text : List ℕ) (fields : List (List ℕ)) (rest more : List ℕ) (lo
   -- where the record goes on after a value, and where it ends
   behind_value : (vars : List VarInfo) (v : ℕ) (last : Bool) → last ≡ (v + 1 == length vars) → (h : HasValue rest lo hi last z more)
       → (v + 1 < length vars → IsBetweenFields text (fields ++ (h.number.first ∷ h.number.others) ∷ []) more)
-      × (v + 1 ≡ length vars → Gives text (fields ++ (h.number.first ∷ h.number.others) ∷ []) more)
+      × (v + 1 ≡ length vars → HasFirst text (fields ++ (h.number.first ∷ h.number.others) ∷ []) more)
   behind_value vars v true e h =
       (λ l. absurd (no_eq (omega (arith, l)) (sym e)), λ l. value_gives h)
     where
@@ -62,7 +62,7 @@ pub record Reading (vars : List VarInfo) (text : List ℕ) (index0 value0 : List
   pub fields : List (List ℕ)
   pub filled : (more : List (List ℕ)) → Filled vars (fields ++ more) index0 value0 v site (length fields) index value
   pub going : v < length vars → IsBetweenFields text fields rest
-  pub gone : v ≡ length vars → Gives text fields rest
+  pub gone : v ≡ length vars → HasFirst text fields rest
 
 -- before any variable
 pub reading_none : (vars : List VarInfo) (text : List ℕ) (index value : List ℤ) → 0 < length vars → length index ≡ 5 → length value ≡ 168

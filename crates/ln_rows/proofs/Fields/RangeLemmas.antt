@@ -15,7 +15,7 @@ use Rattle.ln_tree.proofs.KeptLemmas.{within_length, laid_out, LaidOut}
 use Rattle.ln_order.specs.Order.{first_equal, IsFirstEqual}
 use Rattle.ln_order.proofs.Listing.OrderLemmas.{first_equal_is}
 use Rattle.ln_rows.specs.Number.{within}
-use Rattle.ln_rows.specs.Record.{Column, SiteIndex, Variable, columns, number_of, in_column, fault_or, first_fault, said, indices, values}
+use Rattle.ln_rows.specs.Record.{Column, SiteIndex, Variable, columns, column_number, in_column, fault_or, first_fault, said, indices, values}
 use Rattle.ln_rows.specs.Record.{differing, unless_fault, read_row}
 use Rattle.ln_rows.specs.declared.numbers.NumberStop.TheVariants as stop
 use Rattle.ln_rows.specs.declared.record.RowStop.{RowStop}
@@ -61,10 +61,11 @@ pub indices_within : (cs : List Column) (fields : List (List ℕ)) (k : ℕ) →
 indices_within [] fields k h = All-nil _
 indices_within (c ∷ cs) [] k h = All-nil _
 indices_within (SiteIndex ∷ cs) (f ∷ fs) k h =
-    let p = no_fault (in_column k (number_of SiteIndex f)) (first_fault (suc k) cs fs) h in
+    let p = no_fault (in_column k (column_number SiteIndex f)) (first_fault (suc k) cs fs) h in
     All-cons (λ z. (pos 0 ≤ℤ z) × (z ≤ℤ pos (2 ^ 63 - 1))) (said f) (indices cs fs)
     (number_within (pos 0) (pos (2 ^ 63 - 1)) p.0 (integer_value f) k p.1) (indices_within cs fs (suc k) p.2)
-indices_within (Variable i ∷ cs) (f ∷ fs) k h = indices_within cs fs (suc k) (no_fault (in_column k (number_of (Variable i) f)) (first_fault (suc k) cs fs) h).2
+indices_within (Variable i ∷ cs) (f ∷ fs) k h =
+    indices_within cs fs (suc k) (no_fault (in_column k (column_number (Variable i) f)) (first_fault (suc k) cs fs) h).2
 
 -- the values of variables are in their ranges, where those after it are
 Within : List VarInfo → Type 0
@@ -75,7 +76,7 @@ value_within : (i : VarInfo) (is : List VarInfo) → Within is → (k : ℕ) (fs
 unfolding Within
 value_within i is behind k [] size h = absurd (omega (arith, size))
 value_within i is behind k (f ∷ fs) size h =
-    let p = no_fault (in_column k (number_of (Variable i) f)) (first_fault (suc k) (columns is) fs) h in
+    let p = no_fault (in_column k (column_number (Variable i) f)) (first_fault (suc k) (columns is) fs) h in
     let w = number_within i.lo i.hi p.0 (integer_value f) k p.1 in
     (w.0, w.1, behind (suc k) fs (omega (arith, size)) p.2)
 
@@ -85,7 +86,7 @@ site_within : (i : VarInfo) (is : List VarInfo) → Within is → (k : ℕ) (fs 
 site_within i is behind k [] size h = absurd (omega (arith, size))
 site_within i is behind k (f ∷ fs) size h =
     value_within i is behind (suc k) fs (omega (arith, size))
-    (no_fault (in_column k (number_of SiteIndex f)) (first_fault (suc k) (Variable i ∷ columns is) fs) h).2
+    (no_fault (in_column k (column_number SiteIndex f)) (first_fault (suc k) (Variable i ∷ columns is) fs) h).2
 
 -- the values are in their ranges
 values_within : (vars : List VarInfo) → Within vars

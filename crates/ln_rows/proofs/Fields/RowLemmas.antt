@@ -11,7 +11,7 @@ use Rattle.ln_tree.specs.Variables.{starts_site, no_var}
 use Rattle.ln_code.specs.declared.row.Row.{Row}
 use Rattle.ln_code.specs.RowOf.{IsZeroPast}
 use Rattle.ln_rows.specs.Number.{within, number_in}
-use Rattle.ln_rows.specs.Record.{Column, SiteIndex, Variable, columns, number_of, in_column, first_fault, said, indices, values, IsBegun, IsRead, StaysPast}
+use Rattle.ln_rows.specs.Record.{Column, SiteIndex, Variable, columns, column_number, in_column, first_fault, said, indices, values, IsBegun, IsRead, StaysPast}
 use Rattle.ln_rows.specs.declared.numbers.NumberStop.TheVariants as stop
 use Rattle.ln_rows.specs.declared.record.RowStop.{RowStop}
 
@@ -65,7 +65,7 @@ front_value cs fields at i left index value z f h e =
 -- a column with a fault
 pub front_fault : (cs : List Column) (fields : List (List ℕ)) (at : ℕ) (c : Column) (left : List Column) (index value : List ℤ) (e : RowStop)
     → Front cs fields at (c ∷ left) index value → at < length fields
-    → in_column at (number_of c (get_or fields at [])) ≡ Err e → first_fault 0 cs fields ≡ Some e
+    → in_column at (column_number c (get_or fields at [])) ≡ Err e → first_fault 0 cs fields ≡ Some e
 front_fault cs fields at c left index value e f h k = sym f.fault ∙ rw (drop-cons fields at [], k) refl
 
 -- the field at a place by the word of csv

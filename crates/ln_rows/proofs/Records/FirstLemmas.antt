@@ -8,7 +8,7 @@ use Rattle.csv.specs.declared.parser.State.{State}
 use Rattle.csv.specs.declared.parser.State.TheVariants as st
 use Rattle.csv.specs.declared.parser.Action.{Action}
 use Rattle.csv.specs.declared.parser.Action.TheVariants as act
-use Rattle.ln_rows.specs.Left.{Records, records_of, first_of, IsBetween, Gives}
+use Rattle.ln_rows.specs.Left.{Records, records_of, first_of, IsBetween, HasFirst}
 
 -- after a record fewer bytes remain, or none and the start of a record
 IsShorter : List ℕ → Read → Type 0
@@ -105,7 +105,7 @@ unfolding records_from
 next_none s xs e = rw (add-one (length xs), e) refl
 
 -- the first record of a text
-pub gives_records : (text : List ℕ) (fields : List (List ℕ)) (rest : List ℕ) → Gives text fields rest → records_of text ≡ fields ∷ records_of rest
+pub gives_records : (text : List ℕ) (fields : List (List ℕ)) (rest : List ℕ) → HasFirst text fields rest → records_of text ≡ fields ∷ records_of rest
 gives_records text fields rest g = next_gives st.StartRecord text (fields, g.state, rest) g.first
     ∙ ap (λ (q : Records). fields ∷ q) (records_between (length rest + 1) g.state rest g.between)
 
@@ -151,7 +151,7 @@ count s all field (c ∷ xs) = by_end (is_end (step default_config s c).1)
     by_end false h = widen _ h
 
 -- the first record of a text has at most one field more than the text has bytes
-pub few_fields : (text : List ℕ) (fields : List (List ℕ)) (rest : List ℕ) → Gives text fields rest → length fields ≤ length text + 1
+pub few_fields : (text : List ℕ) (fields : List (List ℕ)) (rest : List ℕ) → HasFirst text fields rest → length fields ≤ length text + 1
 few_fields text fields rest g =
     let p : Read = (fields, g.state, rest) in
     let few : length fields ≤ 0 + length text + 1 =

@@ -12,7 +12,7 @@ use Rattle.csv.specs.declared.parser.State.{State}
 use Rattle.csv.specs.declared.parser.State.TheVariants as st
 use Rattle.csv.specs.declared.parser.Action.{Action}
 use Rattle.csv.specs.declared.parser.Action.TheVariants as act
-use Rattle.ln_rows.specs.Left.{first_of, IsBetween, Gives}
+use Rattle.ln_rows.specs.Left.{first_of, IsBetween, HasFirst}
 use Rattle.ln_rows.specs.Line.{is_unquoted, is_no_comma, fields_from, fields_in}
 use Rattle.ln_rows.specs.Plain.{PastEnd}
 use Rattle.ln_rows.proofs.Records.MachineLemmas.{moves, comes_out, at_end}
@@ -139,7 +139,7 @@ line_goes s all field (b ∷ bs) behind rest w h p =
 
 -- the first record of a text that begins with such a line
 pub line_gives : (text line behind rest : List ℕ) → text ≡ line ++ behind → line ≢ [] → list_all is_unquoted line ≡ true
-    → PastEnd behind rest → Gives text (fields_in line) rest
+    → PastEnd behind rest → HasFirst text (fields_in line) rest
 line_gives text [] behind rest e n h p = absurd (n refl)
 line_gives text (b ∷ bs) behind rest e n h p =
     let k = both_true (is_unquoted b) (list_all is_unquoted bs) h in
@@ -233,7 +233,7 @@ more_pass p text at l h e = list_all_more p text at 0 l ∙ ap (λ b. b && p (ge
 
 -- the first record of a text whose first bytes are such a line
 pub record_gives : (text behind rest : List ℕ) (size : ℕ) → behind ≡ take (length text - size) (drop size text) → size ≤ length text
-    → size ≢ 0 → list_all is_unquoted (take size text) ≡ true → PastEnd behind rest → Gives text (fields_in (take size text)) rest
+    → size ≢ 0 → list_all is_unquoted (take size text) ≡ true → PastEnd behind rest → HasFirst text (fields_in (take size text)) rest
 record_gives text behind rest size b l n h p = line_gives text (take size text) behind rest whole some h p where
   whole : text ≡ take size text ++ behind
   whole = sym (take-append-drop size text) ∙ ap (λ (xs : List ℕ). take size text ++ xs) (sym (take_rest text size) ∙ sym b)

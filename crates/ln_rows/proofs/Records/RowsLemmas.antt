@@ -8,7 +8,7 @@ use Rattle.csv.specs.Machine.{next_record}
 use Rattle.csv.specs.Reading.{is_bom, strip_bom}
 use Rattle.ln_tree.specs.declared.shape.VarInfo.{VarInfo}
 use Rattle.ln_code.specs.declared.row.Row as code
-use Rattle.ln_rows.specs.Left.{Records, records_of, first_of, left_of, Gives, Takes, TakesFirst, TakesWithin}
+use Rattle.ln_rows.specs.Left.{Records, records_of, first_of, left_of, HasFirst, Takes, TakesFirst, TakesWithin}
 use Rattle.ln_rows.specs.Plain.{IsPlainRow, TakenRow}
 use Rattle.ln_rows.specs.Record.{columns, read_row, IsReadAs}
 use Rattle.ln_rows.specs.declared.record.RowStop.{RowStop}
@@ -24,7 +24,7 @@ pub no_records : records_of [] ≡ []
 no_records = none_records [] first_none
 
 -- the first record after what counts for nothing
-pub gives_past : (a b : List ℕ) (fields : List (List ℕ)) (rest : List ℕ) → first_of a ≡ first_of b → Gives b fields rest → Gives a fields rest
+pub gives_past : (a b : List ℕ) (fields : List (List ℕ)) (rest : List ℕ) → first_of a ≡ first_of b → HasFirst b fields rest → HasFirst a fields rest
 gives_past a b fields rest e g = record { state = g.state; between = g.between; first = e ∙ g.first }
 
 -- a text begins with a byte order mark or not
@@ -70,7 +70,7 @@ module _ (old : Records) (o : Option Records) (rest text : List ℕ) (view : lef
 
   -- a record without quotes is taken
   pub left_takes : (most : ℕ) (more : List ℕ) (kept : List (List ℕ)) → length text + 1 < 2 ^ 64
-      → (all : List (List ℕ)) × Gives text all more × (kept ≡ take most all) → TakesFirst most old (left_of more o) kept
+      → (all : List (List ℕ)) × HasFirst text all more × (kept ≡ take most all) → TakesFirst most old (left_of more o) kept
   left_takes most more kept small t = record {
     fields = t.0;
     next = sym view ∙ ap (left_of rest) none ∙ gives_records rest t.0 more (gives_past rest text t.0 more same t.1)
