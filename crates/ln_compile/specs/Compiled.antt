@@ -129,8 +129,8 @@ AreNumbered table (i ∷ is) [] = ⊥
 AreNumbered table (i ∷ is) (p ∷ ps) = (slice_get table i ≡ Some p) × AreNumbered table is ps
 
 -- the number of the first predicate of a name
-abbrev pub number_of : List ℕ → List Pred → Option ℕ
-number_of name preds = position (λ p. bytes_eq (name_bytes p.name) name) preds
+abbrev pub pred_number : List ℕ → List Pred → Option ℕ
+pred_number name preds = position (λ p. bytes_eq (name_bytes p.name) name) preds
 
 -- a source whose predicates have no fault: its table and its stage counts
 pub record CheckedOf : Type 0 where

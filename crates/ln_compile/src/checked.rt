@@ -3,7 +3,7 @@ ghost use Rattle.std.specs.Prelude.{◌≡◌, ◌≤◌, ◌<◌, length, map, 
 ghost use Rattle.ln_base.specs.Limits.{most_source, most_stages};
 ghost use Rattle.ln_tree.specs.Table.{pred_of, table_of};
 ghost use Rattle.ln_compile.specs.Accepted.{Accepted};
-ghost use Rattle.ln_compile.specs.Compiled.{AreProgramsOf, AreStageCounts, IsProgramAt, IsStageCountAt, number_of};
+ghost use Rattle.ln_compile.specs.Compiled.{AreProgramsOf, AreStageCounts, IsProgramAt, IsStageCountAt, pred_number};
 ghost use Rattle.ln_compile.specs.Polynomial.{IsPolynomialAt};
 ghost use Rattle.ln_compile.specs.Refused.{IsRefusal, IsTheOne, IsUnaccepted};
 ghost use Rattle.ln_compile.specs.Symmetry.{IsSymmetryAt};
@@ -23,7 +23,7 @@ use std::marker::Model;
 
 // The number of the predicate of a name.
 pub(crate) fn found(t: &Table, name: &str) -> Option<usize>
-    ensures { result ≡ number_of name.now t.now.preds }
+    ensures { result ≡ pred_number name.now t.now.preds }
 {
     let name = name.as_bytes();
     t.preds
@@ -79,7 +79,7 @@ impl Checked {
 
     /// The number of the predicate of a name, from 0; none where no predicate has it. It allocates nothing.
     pub fn find(&self, name: &str) -> Option<usize>
-        ensures { result ≡ number_of name.now self.now.table.preds }
+        ensures { result ≡ pred_number name.now self.now.table.preds }
     {
         found(&self.table, name)
     }

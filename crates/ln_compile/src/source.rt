@@ -3,7 +3,7 @@ ghost use Rattle.std.specs.Prelude.{◌≡◌, ◌≤◌, ◌<◌, length, map, 
 ghost use Rattle.ln_base.specs.Limits.{most_source};
 ghost use Rattle.ln_tree.specs.Table.{pred_of, table_of};
 ghost use Rattle.ln_compile.specs.Accepted.{Accepted};
-ghost use Rattle.ln_compile.specs.Compiled.{AreProgramsOf, IsStageCountAt, number_of};
+ghost use Rattle.ln_compile.specs.Compiled.{AreProgramsOf, IsStageCountAt, pred_number};
 ghost use Rattle.ln_compile.specs.Refused.{IsRefusal, IsTheOne, IsUnaccepted};
 
 use crate::checked::{check, count_at, found};
@@ -62,7 +62,7 @@ impl Compiled {
 
     /// The number of the predicate of a name, from 0; none where no predicate has it. It allocates nothing.
     pub fn find(&self, name: &str) -> Option<usize>
-        ensures { result ≡ number_of name.now self.now.table.preds }
+        ensures { result ≡ pred_number name.now self.now.table.preds }
     {
         found(&self.table, name)
     }

@@ -10,7 +10,7 @@ use Rattle.ln_tree.specs.declared.pred.Pred.{Pred}
 use Rattle.ln_tree.specs.Names.{name_bytes}
 use Rattle.ln_tree.specs.Table.{PredOf, pred_of}
 use Rattle.ln_parse.proofs.ReadBack.InputsThere.{at_place}
-use Rattle.ln_compile.specs.Compiled.{number_of}
+use Rattle.ln_compile.specs.Compiled.{pred_number}
 use Rattle.ln_top.specs.Frame.Given.{named}
 
 -- the first predicate of a name, in memory
@@ -45,14 +45,14 @@ no_position test ps e = by_test (nat_lt (position_or_len test ps) (length ps)) r
     by_test true f e = cc
     by_test false f e = grind (arith, nat_tests, f)
 
-number_named : (name : List ℕ) (ps : List Pred) (i : ℕ) (p : Pred) → number_of name ps ≡ Some i
+number_named : (name : List ℕ) (ps : List Pred) (i : ℕ) (p : Pred) → pred_number name ps ≡ Some i
     → slice_get ps i ≡ Some p → named_in name ps ≡ Some p
 number_named name ps i p e f =
     let test = λ (q : Pred). bytes_eq (name_bytes q.name) name in
     find_at test ps ∙ ap (slice_get ps) (sym (some_position test ps i e).0) ∙ f
 
 -- a number that was found is that of the predicate with the name
-pub found_at : (name : List ℕ) (ps : List Pred) (i : ℕ) → number_of name ps ≡ Some i
+pub found_at : (name : List ℕ) (ps : List Pred) (i : ℕ) → pred_number name ps ≡ Some i
     → (p : PredOf) × (slice_get (map pred_of ps) i ≡ Some p) × (named name (map pred_of ps) ≡ Some p)
 found_at name ps i e =
     let p = at_place ps i (some_position (λ p. bytes_eq (name_bytes p.name) name) ps i e).1 in (
@@ -62,7 +62,7 @@ found_at name ps i e =
     )
 
 -- where none was found, none has it
-pub none_at : (name : List ℕ) (ps : List Pred) → number_of name ps ≡ None → named name (map pred_of ps) ≡ None
+pub none_at : (name : List ℕ) (ps : List Pred) → pred_number name ps ≡ None → named name (map pred_of ps) ≡ None
 none_at name ps e =
     let test = λ (q : Pred). bytes_eq (name_bytes q.name) name in
     sym (named_like name ps) ∙ ap (option_map pred_of)

@@ -8,7 +8,7 @@ use Rattle.ln_base.specs.Limits.{most_file, most_source}
 use Rattle.ln_base.specs.Outside.{Shelf, bytes_of, IsAbsent, Rose, refused}
 use Rattle.ln_tree.specs.declared.pred.Pred.{Pred}
 use Rattle.ln_tree.specs.Table.{PredOf, TableOf, pred_of}
-use Rattle.ln_compile.specs.Compiled.{number_of}
+use Rattle.ln_compile.specs.Compiled.{pred_number}
 use Rattle.ln_top.specs.declared.frame.stop.Why.{Why}
 use Rattle.ln_top.specs.declared.frame.stop.Why.TheVariants.{TooLong, NoPredicate}
 use Rattle.ln_top.specs.declared.frame.stop.Stop.{Stop}
@@ -105,7 +105,7 @@ pub record Looking (table : List PredOf) (names left : List (List ℕ)) (numbers
 
 -- the step of `numbers`: the next name was found, at its number
 pub looking_more : (ps : List Pred) (names left rest : List (List ℕ)) (numbers more : List ℕ) (name : List ℕ) (i : ℕ)
-    → Looking (map pred_of ps) names left numbers → left ≡ name ∷ rest → number_of name ps ≡ Some i
+    → Looking (map pred_of ps) names left numbers → left ≡ name ∷ rest → pred_number name ps ≡ Some i
     → more ≡ numbers ++ i ∷ [] → Looking (map pred_of ps) names rest more
 looking_more ps names left rest numbers more name i s l e m =
     let p = found_at name ps i e in
@@ -127,7 +127,7 @@ looking_all table names left numbers s l = record {
 
 -- a name has no predicate
 pub looking_stops : (ps : List Pred) (names left rest : List (List ℕ)) (numbers : List ℕ) (name : List ℕ)
-    → Looking (map pred_of ps) names left numbers → left ≡ name ∷ rest → number_of name ps ≡ None
+    → Looking (map pred_of ps) names left numbers → left ≡ name ∷ rest → pred_number name ps ≡ None
     → Halts (Each (Finds (map pred_of ps)) names) ⊥ (stop.Tell NoPredicate)
 looking_stops ps names left rest numbers name s l n =
     halts_behind (Finds (map pred_of ps)) names rest s.preds name ⊥ (stop.Tell NoPredicate)
