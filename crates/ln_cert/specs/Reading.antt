@@ -14,7 +14,7 @@ use Rattle.ln_cert.specs.declared.part.Verb.TheVariants as verb
 use Rattle.ln_base.specs.Forms.Form.{Rules}
 use Rattle.ln_base.specs.Forms.Form as form
 use Rattle.ln_cert.specs.Listing.{first_line}
-use Rattle.ln_cert.specs.Text.{IsLine, IsOp, args_of, block_word, filter_word, kind_of}
+use Rattle.ln_cert.specs.Text.{IsLine, IsOp, args_of, block_word, filter_word, part_kind}
 use Rattle.ln_cert.specs.Text.{number_words, of_block, of_filter, verb_of, words_of}
 
 -- ---- first words
@@ -93,7 +93,7 @@ good k = true
 
 -- the state after a line in version v, if a line of its kind may come next in the state s
 abbrev pub next_of : ℕ → State → Part → Option State
-next_of v s p = if may v s (kind_of p) then Some (after (kind_of p)) else None
+next_of v s p = if may v s (part_kind p) then Some (after (part_kind p)) else None
 
 -- the form of listings of version v, as the reader of lines takes it
 abbrev pub list_rules : ℕ → Rules State Part
@@ -114,7 +114,7 @@ Refuses v s ws = form.Refuses (list_rules v) s ws
 
 -- the words are the arguments of this line of a kind
 pub record HasArgs (k : Kind) (ws : List (List ℕ)) (p : Part) : Type 0 where
-  pub kind : kind_of p ≡ k
+  pub kind : part_kind p ≡ k
   pub args : ws ≡ args_of p
   pub range : IsLine p
 

@@ -143,18 +143,18 @@ IsNumber n = n ≤ 65535
 
 -- ---- lines
 -- the kind of a line
-abbrev pub kind_of : Part → Kind
-kind_of (Predicate n) = kind.Predicate
-kind_of NoFilter = kind.NoFilter
-kind_of Filter = kind.Filter
-kind_of (FilterOp o t) = kind.FilterOp (verb_of o)
-kind_of Decide = kind.Decide
-kind_of (Block n exps) = kind.Block
-kind_of (BlockOp o b) = kind.BlockOp (verb_of o)
-kind_of (RangeOp o l u) = kind.RangeOp (verb_of o)
-kind_of End = kind.End
-kind_of (Order places list) = kind.Order
-kind_of Done = kind.Done
+abbrev pub part_kind : Part → Kind
+part_kind (Predicate n) = kind.Predicate
+part_kind NoFilter = kind.NoFilter
+part_kind Filter = kind.Filter
+part_kind (FilterOp o t) = kind.FilterOp (verb_of o)
+part_kind Decide = kind.Decide
+part_kind (Block n exps) = kind.Block
+part_kind (BlockOp o b) = kind.BlockOp (verb_of o)
+part_kind (RangeOp o l u) = kind.RangeOp (verb_of o)
+part_kind End = kind.End
+part_kind (Order places list) = kind.Order
+part_kind Done = kind.Done
 
 -- the first word of a line
 abbrev pub word_of : Kind → List ℕ
@@ -186,7 +186,7 @@ args_of Done = []
 
 -- the words of a line
 abbrev pub words_of : Part → List (List ℕ)
-words_of p = word_of (kind_of p) ∷ args_of p
+words_of p = word_of (part_kind p) ∷ args_of p
 
 -- the text of a line: its words, parted by one space, and a line feed
 abbrev pub text_of : Part → List ℕ

@@ -27,9 +27,9 @@ abbrev pub range_line : Line Range → Part
 range_line x = RangeOp x.op x.bound.low x.bound.high
 
 -- the lines of a filter, or the one line that says that there is none
-abbrev pub filter_lines : Option FilterCode → List Part
-filter_lines None = NoFilter ∷ []
-filter_lines (Some f) = Filter ∷ (map filter_line (lines_of f.ops f.triples) ++ Decide ∷ [])
+abbrev pub filter_parts : Option FilterCode → List Part
+filter_parts None = NoFilter ∷ []
+filter_parts (Some f) = Filter ∷ (map filter_line (lines_of f.ops f.triples) ++ Decide ∷ [])
 
 -- block number n
 abbrev pub block_lines : ℕ → Code → List Part
@@ -47,7 +47,7 @@ order_lines p os = map (λ o. Order o (list_of p o)) os
 -- one program: its name, its filter, its blocks by number, and the list of each order of its sites
 abbrev pub program_lines : Program → List Part
 program_lines p = Predicate (name_bytes p.shape.name)
-    ∷ (filter_lines p.filter ++ (blocks_lines 0 p.blocks ++ (order_lines p (orders_of p.shape.sites) ++ Done ∷ [])))
+    ∷ (filter_parts p.filter ++ (blocks_lines 0 p.blocks ++ (order_lines p (orders_of p.shape.sites) ++ Done ∷ [])))
 
 -- all programs, one after the other
 abbrev pub listing_of : List Program → List Part
@@ -55,7 +55,7 @@ listing_of [] = []
 listing_of (p ∷ ps) = program_lines p ++ listing_of ps
 
 -- these lines were appended, and what they say is within the ranges
-pub record Wrote (old new : List ℕ) (ps : List Part) : Type 0 where
+pub record WroteParts (old new : List ℕ) (ps : List Part) : Type 0 where
   pub text : new ≡ old ++ joined (map text_of ps)
   pub ranges : Each IsLine ps
 

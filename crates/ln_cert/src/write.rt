@@ -15,8 +15,8 @@ ghost use Rattle.ln_cert.specs.declared.part.Part.TheVariants as part;
 ghost use Rattle.ln_cert.specs.Listing.{ListText};
 ghost use Rattle.ln_cert.specs.Text.{Each};
 ghost use Rattle.ln_cert.specs.Writing.{Puts};
-ghost use Rattle.ln_cert.specs.Written.{ForBlock, ForFilter, InBlock, InFilter, Wrote, block_lines, blocks_lines};
-ghost use Rattle.ln_cert.specs.Written.{filter_line, filter_lines, listing_of, order_lines, range_line};
+ghost use Rattle.ln_cert.specs.Written.{ForBlock, ForFilter, InBlock, InFilter, WroteParts, block_lines, blocks_lines};
+ghost use Rattle.ln_cert.specs.Written.{filter_line, filter_parts, listing_of, order_lines, range_line};
 ghost use Rattle.ln_cert.specs.Written.{AreListableBlocks, IsListable, IsListableBlock};
 
 use crate::put::{
@@ -33,14 +33,14 @@ use std::mem::replace;
 
 fn put_filter_line(out: &mut Vec<u8>, op: Op, t: Triple) -> Result<(), NoMemory>
     requires { InFilter (record { op = op; bound = t }) }
-    ensures { IfOk result (λ x. Wrote out.old.items out.new.items (part.FilterOp op t ∷ [])) }
+    ensures { IfOk result (λ x. WroteParts out.old.items out.new.items (part.FilterOp op t ∷ [])) }
 {
     put_filter_op(out, op, t)
 }
 
 fn put_range_line(out: &mut Vec<u8>, op: Op, p: Pair) -> Result<(), NoMemory>
     requires { InBlock (record { op = op; bound = range p }) }
-    ensures { IfOk result (λ x. Wrote out.old.items out.new.items (part.RangeOp op p.low p.high ∷ [])) }
+    ensures { IfOk result (λ x. WroteParts out.old.items out.new.items (part.RangeOp op p.low p.high ∷ [])) }
 {
     put_range_op(out, op, p.low, p.high)
 }
@@ -48,7 +48,7 @@ fn put_range_line(out: &mut Vec<u8>, op: Op, p: Pair) -> Result<(), NoMemory>
 fn put_filter_lines(out: &mut Vec<u8>, ops: &[Op], triples: &[Triple]) -> Result<(), NoMemory>
     requires same { length ops.now ≡ length triples.now }
     requires rules { Each InFilter (lines_of ops.now triples.now) }
-    ensures { IfOk result (λ x. Wrote out.old.items out.new.items (map filter_line (lines_of ops.now triples.now))) }
+    ensures { IfOk result (λ x. WroteParts out.old.items out.new.items (map filter_line (lines_of ops.now triples.now))) }
 {
     'ops: for (i, op) in ops.iter().enumerate() {
         put_filter_line(out, *op, triples[i])?;
@@ -59,7 +59,7 @@ fn put_filter_lines(out: &mut Vec<u8>, ops: &[Op], triples: &[Triple]) -> Result
 fn put_range_lines(out: &mut Vec<u8>, ops: &[Op], pairs: &[Pair]) -> Result<(), NoMemory>
     requires same { length ops.now ≡ length pairs.now }
     requires rules { Each InBlock (lines_of ops.now (map range pairs.now)) }
-    ensures { IfOk result (λ x. Wrote out.old.items out.new.items (map range_line (lines_of ops.now (map range pairs.now)))) }
+    ensures { IfOk result (λ x. WroteParts out.old.items out.new.items (map range_line (lines_of ops.now (map range pairs.now)))) }
 {
     'ops: for (i, op) in ops.iter().enumerate() {
         put_range_line(out, *op, pairs[i])?;
@@ -68,44 +68,44 @@ fn put_range_lines(out: &mut Vec<u8>, ops: &[Op], pairs: &[Pair]) -> Result<(), 
 }
 
 fn put_name(out: &mut Vec<u8>, name: &Name) -> Result<(), NoMemory>
-    ensures { IfOk result (λ x. Wrote out.old.items out.new.items (part.Predicate (name_bytes name.now) ∷ [])) }
+    ensures { IfOk result (λ x. WroteParts out.old.items out.new.items (part.Predicate (name_bytes name.now) ∷ [])) }
 {
     put_predicate(out, name.bytes())
 }
 
 fn put_no_filter(out: &mut Vec<u8>) -> Result<(), NoMemory>
-    ensures { IfOk result (λ x. Wrote out.old.items out.new.items (part.NoFilter ∷ [])) }
+    ensures { IfOk result (λ x. WroteParts out.old.items out.new.items (part.NoFilter ∷ [])) }
 {
     put_bare(out, b"nofilter".as_slice())
 }
 
 fn put_filter_head(out: &mut Vec<u8>) -> Result<(), NoMemory>
-    ensures { IfOk result (λ x. Wrote out.old.items out.new.items (part.Filter ∷ [])) }
+    ensures { IfOk result (λ x. WroteParts out.old.items out.new.items (part.Filter ∷ [])) }
 {
     put_bare(out, b"filter".as_slice())
 }
 
 fn put_decide(out: &mut Vec<u8>) -> Result<(), NoMemory>
-    ensures { IfOk result (λ x. Wrote out.old.items out.new.items (part.Decide ∷ [])) }
+    ensures { IfOk result (λ x. WroteParts out.old.items out.new.items (part.Decide ∷ [])) }
 {
     put_bare(out, b"decide".as_slice())
 }
 
 fn put_end(out: &mut Vec<u8>) -> Result<(), NoMemory>
-    ensures { IfOk result (λ x. Wrote out.old.items out.new.items (part.End ∷ [])) }
+    ensures { IfOk result (λ x. WroteParts out.old.items out.new.items (part.End ∷ [])) }
 {
     put_bare(out, b"end".as_slice())
 }
 
 fn put_done(out: &mut Vec<u8>) -> Result<(), NoMemory>
-    ensures { IfOk result (λ x. Wrote out.old.items out.new.items (part.Done ∷ [])) }
+    ensures { IfOk result (λ x. WroteParts out.old.items out.new.items (part.Done ∷ [])) }
 {
     put_bare(out, b"done".as_slice())
 }
 
 fn put_some_filter(out: &mut Vec<u8>, f: &FilterBlock) -> Result<(), NoMemory>
     requires { ForFilter f.now }
-    ensures wrote { IfOk result (λ x. Wrote out.old.items out.new.items (filter_lines (Some f.now))) }
+    ensures wrote { IfOk result (λ x. WroteParts out.old.items out.new.items (filter_parts (Some f.now))) }
     ensures shallow { IfOk result (λ x. f.now.depth ≤ 2048) }
 {
     let triples = f.triples();
@@ -116,7 +116,7 @@ fn put_some_filter(out: &mut Vec<u8>, f: &FilterBlock) -> Result<(), NoMemory>
 
 fn put_filter(out: &mut Vec<u8>, p: &Program) -> Result<(), NoMemory>
     requires { length p.now.shape.vars ≤ 168 }
-    ensures wrote { IfOk result (λ x. Wrote out.old.items out.new.items (filter_lines p.now.filter)) }
+    ensures wrote { IfOk result (λ x. WroteParts out.old.items out.new.items (filter_parts p.now.filter)) }
     ensures shallow { IfOk result (λ x. IfSome p.now.filter (λ f. f.depth ≤ 2048)) }
 {
     match p.filter() {
@@ -128,7 +128,7 @@ fn put_filter(out: &mut Vec<u8>, p: &Program) -> Result<(), NoMemory>
 fn put_block_head(out: &mut Vec<u8>, n: u32, exps: &Exps) -> Result<(), NoMemory>
     requires number { n ≤ 65535 }
     requires of_vars { Each (λ p. p.0 ≤ 167) exps.now }
-    ensures wrote { IfOk result (λ x. Wrote out.old.items out.new.items (part.Block n exps.now ∷ [])) }
+    ensures wrote { IfOk result (λ x. WroteParts out.old.items out.new.items (part.Block n exps.now ∷ [])) }
     ensures rising { IfOk result (λ x. IsRising exps.now) }
 {
     put_block(out, n, exps.pairs())
@@ -137,7 +137,7 @@ fn put_block_head(out: &mut Vec<u8>, n: u32, exps: &Exps) -> Result<(), NoMemory
 fn put_block_lines(out: &mut Vec<u8>, n: u32, b: &Block) -> Result<(), NoMemory>
     requires number { n ≤ 65535 }
     requires rules { ForBlock b.now }
-    ensures wrote { IfOk result (λ x. Wrote out.old.items out.new.items (block_lines n b.now)) }
+    ensures wrote { IfOk result (λ x. WroteParts out.old.items out.new.items (block_lines n b.now)) }
     ensures listable { IfOk result (λ x. IsListableBlock b.now) }
 {
     let pairs = b.pairs();
@@ -149,7 +149,7 @@ fn put_block_lines(out: &mut Vec<u8>, n: u32, b: &Block) -> Result<(), NoMemory>
 fn put_blocks(out: &mut Vec<u8>, blocks: &[Block]) -> Result<(), NoMemory>
     requires few { length blocks.now ≤ most_stages }
     requires rules { Each ForBlock blocks.now }
-    ensures wrote { IfOk result (λ x. Wrote out.old.items out.new.items (blocks_lines 0 blocks.now)) }
+    ensures wrote { IfOk result (λ x. WroteParts out.old.items out.new.items (blocks_lines 0 blocks.now)) }
     ensures listable { IfOk result (λ x. AreListableBlocks blocks.now) }
 {
     'numbered: for (i, b) in blocks.iter().enumerate() {
@@ -174,7 +174,7 @@ fn put_order_line(out: &mut Vec<u8>, p: &Program, o: &Order) -> Result<(), NoMem
     requires order { IsOrderOf p.now.shape.sites (order_places o.now) }
     requires few { length p.now.blocks ≤ most_stages }
     requires list { IsList (length p.now.blocks) (list_of p.now (order_places o.now)) }
-    ensures { IfOk result (λ x. Wrote out.old.items out.new.items (part.Order (order_places o.now)
+    ensures { IfOk result (λ x. WroteParts out.old.items out.new.items (part.Order (order_places o.now)
         (list_of p.now (order_places o.now)) ∷ [])) }
 {
     put(out, b"order".as_slice())?;
@@ -189,7 +189,7 @@ fn put_orders(out: &mut Vec<u8>, p: &Program, orders: &[Order]) -> Result<(), No
     requires all { map order_places orders.now ≡ orders_of p.now.shape.sites }
     requires few { length p.now.blocks ≤ most_stages }
     requires kept { IsProgram p.now }
-    ensures { IfOk result (λ x. Wrote out.old.items out.new.items (order_lines p.now (map order_places orders.now))) }
+    ensures { IfOk result (λ x. WroteParts out.old.items out.new.items (order_lines p.now (map order_places orders.now))) }
 {
     'orders: for o in orders {
         put_order_line(out, p, o)?;
@@ -200,7 +200,7 @@ fn put_orders(out: &mut Vec<u8>, p: &Program, orders: &[Order]) -> Result<(), No
 fn put_all_orders(alloc: Global, out: &mut Vec<u8>, p: &Program) -> Result<(), NoMemory>
     requires few { length p.now.blocks ≤ most_stages }
     requires kept { IsProgram p.now }
-    ensures { IfOk result (λ x. Wrote out.old.items out.new.items (order_lines p.now (orders_of p.now.shape.sites))) }
+    ensures { IfOk result (λ x. WroteParts out.old.items out.new.items (order_lines p.now (orders_of p.now.shape.sites))) }
 {
     let orders = all_orders(alloc, p.shape().sites)?;
     put_orders(out, p, orders.as_slice())

@@ -13,11 +13,11 @@ use Rattle.ln_trace.specs.Text.{IsLine, first_line, words_of}
 
 -- ---- kinds
 -- the kind of a line
-abbrev pub kind_of : TraceLine → Kind
-kind_of (line.Refused n) = kind.Refused
-kind_of (line.Row n) = kind.Row
-kind_of (line.At exps z) = kind.At
-kind_of (line.Sign t) = kind.Sign
+abbrev pub line_kind : TraceLine → Kind
+line_kind (line.Refused n) = kind.Refused
+line_kind (line.Row n) = kind.Row
+line_kind (line.At exps z) = kind.At
+line_kind (line.Sign t) = kind.Sign
 
 -- the first word of a line
 abbrev pub word_of : Kind → List ℕ
@@ -51,7 +51,7 @@ after kind.Sign = Between
 
 -- the state that this line leads to, where it may come in this state
 abbrev pub next_of : State → TraceLine → Option State
-next_of s l = if may s (kind_of l) then Some (after (kind_of l)) else None
+next_of s l = if may s (line_kind l) then Some (after (line_kind l)) else None
 
 -- the form of traces, as the reader of lines takes it
 abbrev pub trace_rules : Rules State TraceLine
@@ -72,7 +72,7 @@ Refuses s ws = form.Refuses trace_rules s ws
 
 -- the words follow the first word of this line of a kind
 pub record HasArgs (k : Kind) (ws : List (List ℕ)) (l : TraceLine) : Type 0 where
-  pub kind : kind_of l ≡ k
+  pub kind : line_kind l ≡ k
   pub words : word_of k ∷ ws ≡ words_of l
   pub range : IsLine l
 

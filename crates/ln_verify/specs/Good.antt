@@ -28,9 +28,9 @@ abbrev pub triple_line : Line Triple → Part
 triple_line x = FilterOp x.op x.bound
 
 -- the lines of a filter, or the one line that says that there is none
-abbrev pub filter_lines : Option (List (Line Triple)) → List Part
-filter_lines None = NoFilter ∷ []
-filter_lines (Some lines) = Filter ∷ (map triple_line lines ++ Decide ∷ [])
+abbrev pub triple_parts : Option (List (Line Triple)) → List Part
+triple_parts None = NoFilter ∷ []
+triple_parts (Some lines) = Filter ∷ (map triple_line lines ++ Decide ∷ [])
 
 -- the blocks, of which the first has the number k
 abbrev pub block_lines : ℕ → List Piece → List Part
@@ -46,7 +46,7 @@ order_lines (o ∷ os) (l ∷ ls) = Order o l ∷ order_lines os ls
 -- the lines of a predicate's part: its name, its filter, its blocks by number, the list of each order of its sites, and `done`
 abbrev pub part_lines : Subject → Written → List Part
 part_lines p w = Predicate p.name
-    ∷ (filter_lines w.filter ++ (block_lines 0 w.blocks ++ (order_lines (orders_of p.sites) w.lists ++ Done ∷ [])))
+    ∷ (triple_parts w.filter ++ (block_lines 0 w.blocks ++ (order_lines (orders_of p.sites) w.lists ++ Done ∷ [])))
 
 -- the lines of the parts of all predicates, one part after the other
 abbrev pub all_lines : List Subject → List Written → List Part

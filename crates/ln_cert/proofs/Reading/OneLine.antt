@@ -11,7 +11,7 @@ use Rattle.ln_cert.specs.declared.part.Part.{Part}
 use Rattle.ln_cert.specs.declared.part.Part.TheVariants.{Predicate, NoFilter, Filter, FilterOp, Decide, Block, BlockOp, RangeOp, End, Order, Done}
 use Rattle.ln_cert.specs.declared.part.State.{State}
 use Rattle.ln_cert.specs.declared.part.Verb.{Verb}
-use Rattle.ln_cert.specs.Text.{IsBound, IsExponent, IsLine, IsNumber, IsOp, IsRange, IsTriple, args_of, certificate, exponent_word, kind_of, number_words}
+use Rattle.ln_cert.specs.Text.{IsBound, IsExponent, IsLine, IsNumber, IsOp, IsRange, IsTriple, args_of, certificate, exponent_word, part_kind, number_words}
 use Rattle.ln_cert.specs.Text.{range_words, takes_off, triple_words, verb_of, word_of, words_of, Each, IsPlace}
 use Rattle.ln_cert.specs.Reading.{HasArgs, IsRead, NoArgs, Refuses, after, good, kind_in, may, next_of}
 use Rattle.ln_base.proofs.Texts.Halves.{same_exponent}
@@ -109,7 +109,7 @@ number : (m n : ℕ) → m ≤ 65535 → n ≤ 65535 → decimal m ≡ decimal n
 number m n p q e = decimal_injective m n (omega arith) (omega arith) e
 
 -- lines of one kind with the same arguments are the same
-pub same_args : (x y : Part) → kind_of x ≡ kind_of y → IsLine x → IsLine y → args_of x ≡ args_of y → x ≡ y
+pub same_args : (x y : Part) → part_kind x ≡ part_kind y → IsLine x → IsLine y → args_of x ≡ args_of y → x ≡ y
 same_args (Predicate m) (Predicate n) k p q e = ap Predicate (head e)
 same_args NoFilter NoFilter k p q e = refl
 same_args Filter Filter k p q e = refl
@@ -129,7 +129,7 @@ same_args (Order ps xs) (Order qs ys) k p q e =
 same_args Done Done k p q e = refl
 same_args x y k p q e = absurd (cc)
 
-good_line : (p : Part) → IsLine p → good (kind_of p) ≡ true
+good_line : (p : Part) → IsLine p → good (part_kind p) ≡ true
 good_line (Predicate n) p = refl
 good_line NoFilter p = refl
 good_line Filter p = refl
@@ -144,10 +144,10 @@ good_line Done p = refl
 
 -- ---- one line
 -- a line that leads on is allowed in the state, and leads where its kind leads
-pub live : (v : ℕ) (s : State) (p : Part) (t : State) → next_of v s p ≡ Some t → (may v s (kind_of p) ≡ true) × (t ≡ after (kind_of p))
-live v s p t e = by (may v s (kind_of p)) e
+pub live : (v : ℕ) (s : State) (p : Part) (t : State) → next_of v s p ≡ Some t → (may v s (part_kind p) ≡ true) × (t ≡ after (part_kind p))
+live v s p t e = by (may v s (part_kind p)) e
   where
-    by : (b : Bool) → (if b then Some (after (kind_of p)) else None) ≡ Some t → (b ≡ true) × (t ≡ after (kind_of p))
+    by : (b : Bool) → (if b then Some (after (part_kind p)) else None) ≡ Some t → (b ≡ true) × (t ≡ after (part_kind p))
     by true e = (refl, cc)
     by false e = absurd (cc)
 
@@ -155,7 +155,7 @@ live v s p t e = by (may v s (kind_of p)) e
 pub same_line : (v : ℕ) (s : State) (x y : Part) (t u : State) → next_of v s x ≡ Some t → next_of v s y ≡ Some u → IsLine x → IsLine y
     → words_of x ≡ words_of y → x ≡ y
 same_line v s x y t u a b p q e =
-    let k = one_kind v s (kind_of x) (kind_of y) (live v s x t a).0 (good_line x p) (live v s y u b).0 (good_line y q) (head e) in
+    let k = one_kind v s (part_kind x) (part_kind y) (live v s x t a).0 (good_line x p) (live v s y u b).0 (good_line y q) (head e) in
     same_args x y k p q (rest e)
 
 -- ---- what the reader of a line finds
@@ -167,24 +167,24 @@ found v s k w args ws p e g h =
     record {
       spelled = e ∙ (λ i. (r.word ∙ ap word_of (sym h.kind)) i ∷ h.args i);
       range = h.range;
-      goes = ap (λ (b : Bool). if b then Some (after (kind_of p)) else None) (subst (λ x. may v s x ≡ true) (sym h.kind) r.may)
+      goes = ap (λ (b : Bool). if b then Some (after (part_kind p)) else None) (subst (λ x. may v s x ≡ true) (sym h.kind) r.may)
           ∙ ap (λ x. Some (after x)) h.kind;
     }
 
 -- words are refused where no line in the state begins with the first of them
 pub no_kind : (v : ℕ) (s : State) (w : List ℕ) (args ws : List (List ℕ)) → ws ≡ w ∷ args → kind_in v s w ≡ None → Refuses v s ws
 no_kind v s w args ws e g p t r =
-    let a : w ≡ word_of (kind_of p) = head (sym e ∙ r.spelled) in
-    let b = complete v s (kind_of p) (live v s p t r.goes).0 (good_line p r.range) in
-    let c : None ≡ Some (kind_of p) = sym g ∙ ap (kind_in v s) a ∙ b in absurd (cc)
+    let a : w ≡ word_of (part_kind p) = head (sym e ∙ r.spelled) in
+    let b = complete v s (part_kind p) (live v s p t r.goes).0 (good_line p r.range) in
+    let c : None ≡ Some (part_kind p) = sym g ∙ ap (kind_in v s) a ∙ b in absurd (cc)
 
 -- words are refused where the first is that of a kind and the others are none of its arguments
 pub no_args : (v : ℕ) (s : State) (k : Kind) (w : List ℕ) (args ws : List (List ℕ)) → ws ≡ w ∷ args → kind_in v s w ≡ Some k → NoArgs k args → Refuses v s ws
 no_args v s k w args ws e g h p t r =
-    let a : w ≡ word_of (kind_of p) = head (sym e ∙ r.spelled) in
-    let b = complete v s (kind_of p) (live v s p t r.goes).0 (good_line p r.range) in
-    let c : Some (kind_of p) ≡ Some k = sym b ∙ ap (kind_in v s) (sym a) ∙ g in
-    h p (record { kind = let d : kind_of p ≡ k = cc in d; args = rest (sym e ∙ r.spelled); range = r.range })
+    let a : w ≡ word_of (part_kind p) = head (sym e ∙ r.spelled) in
+    let b = complete v s (part_kind p) (live v s p t r.goes).0 (good_line p r.range) in
+    let c : Some (part_kind p) ≡ Some k = sym b ∙ ap (kind_in v s) (sym a) ∙ g in
+    h p (record { kind = let d : part_kind p ≡ k = cc in d; args = rest (sym e ∙ r.spelled); range = r.range })
 
 empty : (xs : List ℕ) → map decimal xs ≡ [] → 0 < length xs → ⊥
 empty [] e h = omega arith

@@ -6,7 +6,7 @@ use Rattle.ln_cert.specs.declared.part.Part.TheVariants.{NoFilter, Decide, Block
 use Rattle.ln_cert.specs.declared.part.State.{State}
 use Rattle.ln_cert.specs.declared.part.State.TheVariants.{Top, Opened, InFilter, Planned, InBlock, Blocks, Orders}
 use Rattle.ln_cert.specs.Reading.{list_rules}
-use Rattle.ln_cert.specs.Text.{args_of, kind_of, word_of}
+use Rattle.ln_cert.specs.Text.{args_of, part_kind, word_of}
 use Rattle.ln_cert.proofs.Reading.OneLine.{same_line}
 use Rattle.ln_cert.proofs.Texts.Plain.{args_plain, first_plain, read_words}
 
@@ -32,7 +32,7 @@ finish v Orders = record { last = Done ∷ []; ranges = (tt, tt); leads = refl }
 pub list_sound : (v : ℕ) → AreSound (list_rules v)
 list_sound v = record {
   read = read_words;
-  alone = λ p rest q. words_line_end (word_of (kind_of p)) (args_of p) rest (first_plain (kind_of p), args_plain p q);
+  alone = λ p rest q. words_line_end (word_of (part_kind p)) (args_of p) rest (first_plain (part_kind p), args_plain p q);
   one = same_line v;
   finish = finish v;
 }

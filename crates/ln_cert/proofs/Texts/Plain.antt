@@ -14,7 +14,7 @@ use Rattle.ln_cert.specs.declared.part.Part.TheVariants.{Predicate, NoFilter, Fi
 use Rattle.ln_cert.specs.declared.part.Verb.{Verb}
 use Rattle.ln_cert.specs.declared.part.Verb.TheVariants as verb
 use Rattle.ln_base.specs.Lines.{is_plain, parted, words}
-use Rattle.ln_cert.specs.Text.{IsExponent, IsLine, IsOp, IsTriple, args_of, block_word, certificate, exponent_word, filter_word, kind_of}
+use Rattle.ln_cert.specs.Text.{IsExponent, IsLine, IsOp, IsTriple, args_of, block_word, certificate, exponent_word, filter_word, part_kind}
 use Rattle.ln_cert.specs.Text.{number_words, range_words, takes_off, triple_words, verb_of, word_of, words_of}
 use Rattle.ln_base.proofs.Texts.Plain.{byte_plain, decimal_plain, exponent_plain, plain_append, plain_map, signed_plain}
 use Rattle.ln_base.proofs.Texts.Words.{ArePlain, words_parted}
@@ -124,4 +124,4 @@ args_plain Done p = tt
 
 -- the words of a line are read from its text
 pub read_words : (p : Part) → IsLine p → words (parted (words_of p)) ≡ words_of p
-read_words p q = words_parted (word_of (kind_of p)) (args_of p) (first_plain (kind_of p), args_plain p q)
+read_words p q = words_parted (word_of (part_kind p)) (args_of p) (first_plain (part_kind p), args_plain p q)

@@ -12,7 +12,7 @@ use Rattle.ln_cert.specs.declared.part.Part.TheVariants.{Decide, End, Done}
 use Rattle.ln_cert.specs.declared.part.State.{State}
 use Rattle.ln_cert.specs.declared.part.State.TheVariants.{Top, Opened, InFilter, Planned, InBlock, Blocks, Orders}
 use Rattle.ln_cert.specs.Listing.{Predicates}
-use Rattle.ln_cert.specs.Written.{block_lines, blocks_lines, filter_line, filter_lines, order_lines, program_lines, range_line}
+use Rattle.ln_cert.specs.Written.{block_lines, blocks_lines, filter_line, filter_parts, order_lines, program_lines, range_line}
 use Rattle.ln_cert.proofs.Reading.Walk.{goes, is_form, whole}
 use Rattle.ln_cert.specs.Reading.{list_rules}
 use Rattle.ln_base.proofs.Forms.Walk.{goes_append}
@@ -24,7 +24,7 @@ filter_ops : (ls : List (Line Triple)) → goes 2 (Some InFilter) (map filter_li
 filter_ops [] = refl
 filter_ops (l ∷ ls) = filter_ops ls
 
-a_filter : (f : Option FilterCode) → goes 2 (Some Opened) (filter_lines f) ≡ Some Planned
+a_filter : (f : Option FilterCode) → goes 2 (Some Opened) (filter_parts f) ≡ Some Planned
 a_filter None = refl
 a_filter (Some f) = join (Some InFilter) (Some InFilter) (Some Planned) (map filter_line (lines_of f.ops f.triples)) (Decide ∷ [])
     (filter_ops (lines_of f.ops f.triples)) refl
@@ -65,7 +65,7 @@ some_order (suc k) =
 pub program_form : (p : Program) → 0 < length p.blocks → Predicates 2 (program_lines p)
 program_form p h =
     is_form 2 (program_lines p) (inr refl)
-    (join (Some Opened) (Some Planned) (Some Top) (filter_lines p.filter)
+    (join (Some Opened) (Some Planned) (Some Top) (filter_parts p.filter)
     (blocks_lines 0 p.blocks ++ (order_lines p (orders_of p.shape.sites) ++ Done ∷ [])) (a_filter p.filter)
     (join (Some Planned) (Some Blocks) (Some Top) (blocks_lines 0 p.blocks) (order_lines p (orders_of p.shape.sites) ++ Done ∷ []) (all_blocks 0 p.blocks h)
     (join (Some Blocks) (Some Orders) (Some Top) (order_lines p (orders_of p.shape.sites)) (Done ∷ [])

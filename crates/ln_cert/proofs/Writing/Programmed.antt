@@ -22,7 +22,7 @@ use Rattle.ln_cert.specs.declared.part.Part.TheVariants.{Predicate, Block, Order
 use Rattle.ln_cert.specs.Text.{Each, IsExponent, IsNumber, IsPlace}
 use Rattle.ln_cert.specs.Listing.{ListText, Predicates, first_line}
 use Rattle.ln_cert.specs.Writing.{Puts, PutsLine, spaced}
-use Rattle.ln_cert.specs.Written.{ForBlock, ForFilter, InBlock, InFilter, Wrote, block_lines, blocks_lines, filter_lines, listing_of}
+use Rattle.ln_cert.specs.Written.{ForBlock, ForFilter, InBlock, InFilter, WroteParts, block_lines, blocks_lines, filter_parts, listing_of}
 use Rattle.ln_cert.specs.Written.{AreListableBlocks, IsListableBlock, order_lines, program_lines}
 use Rattle.ln_cert.proofs.Writing.Forms.{both_forms, program_form, some_order}
 use Rattle.ln_cert.proofs.Writing.Rules.{obeys_block, obeys_filter}
@@ -47,7 +47,7 @@ exponents (p ∷ ps) r v = ((v.0, r.0, omega (arith, r.1)), exponents ps r.3 v.1
 
 -- the first line of a block was appended, with numbers in range
 pub head_wrote : (a b : List ℕ) (n : ℕ) (ps qs : Pairs) → n ≤ 65535 → IsRising qs → Each (λ p. p.0 ≤ 167) qs → ps ≡ qs
-    → PutsLine a b (Block n ps) → Wrote a b (Block n qs ∷ [])
+    → PutsLine a b (Block n ps) → WroteParts a b (Block n qs ∷ [])
 head_wrote a b n ps qs h r v e p = one a b (Block n qs) (subst (λ z. PutsLine a b (Block n z)) e p) (h, exponents qs r v)
 
 -- the exponents of a block are of variables up to 167
@@ -63,7 +63,7 @@ pub filter_each : (f : FilterCode) → ForFilter f → IsFilter f → Each InFil
 filter_each f g k = obeys_filter g.vars f g.few g.rules k.stores_have
 
 -- lines appended in three steps are appended in one
-pub three : (a b c d : List ℕ) (p q r : List Part) → Wrote a b p → Wrote b c q → Wrote c d r → Wrote a d (p ++ (q ++ r))
+pub three : (a b c d : List ℕ) (p q r : List Part) → WroteParts a b p → WroteParts b c q → WroteParts c d r → WroteParts a d (p ++ (q ++ r))
 three a b c d p q r x y z = after a b d p (q ++ r) x (after b c d q r y z)
 
 for_block : (p : Program) → length p.shape.vars ≤ 168 → (cs : List Code) → Each (FollowsRules p.shape.vars) cs
@@ -86,7 +86,7 @@ pub block_at : (cs : List Code) (i : ℕ) (c : Code) → i < length cs → c ≡
 block_at cs i c h e p = each_get ForBlock cs i c h e p
 
 more_block : (start now new : List ℕ) (cs : List Code) (i : ℕ) (c : Code) → i < length cs → c ≡ get_or cs i c
-    → Left start now (blocks_lines i (drop i cs)) (blocks_lines 0 cs) → Wrote now new (block_lines i c)
+    → Left start now (blocks_lines i (drop i cs)) (blocks_lines 0 cs) → WroteParts now new (block_lines i c)
     → Left start new (blocks_lines (suc i) (drop (suc i) cs)) (blocks_lines 0 cs)
 more_block start now new cs i c h e left w =
     let d : drop i cs ≡ c ∷ drop (suc i) cs = drop-cons cs i c h ∙ ap (λ z. z ∷ drop (suc i) cs) (sym e) in
@@ -95,7 +95,7 @@ more_block start now new cs i c h e left w =
 
 -- the step of the loop in `put_blocks`: the lines of one more block were appended
 pub more_blocks : (start now new : List ℕ) (cs : List Code) (i : ℕ) (c : Code) → i < length cs → c ≡ get_or cs i c
-    → Left start now (blocks_lines i (drop i cs)) (blocks_lines 0 cs) → Wrote now new (block_lines i c)
+    → Left start now (blocks_lines i (drop i cs)) (blocks_lines 0 cs) → WroteParts now new (block_lines i c)
     → Left start new (blocks_lines (i + 1) (drop (i + 1) cs)) (blocks_lines 0 cs)
 more_blocks start now new cs i c h e left w =
     let n : suc i ≡ i + 1 = omega arith in
@@ -142,7 +142,7 @@ number n (x ∷ xs) h p = let q = p.0 in (omega arith, number n xs h p.1)
 
 -- the line of an order was appended, with numbers in range
 pub order_wrote : (a b : List ℕ) (blocks : ℕ) (places list : List ℕ) → PutsLine a b (Order places list) → length places ≤ 5
-    → ArePlaces places → blocks ≤ most_stages → IsList blocks list → Wrote a b (Order places list ∷ [])
+    → ArePlaces places → blocks ≤ most_stages → IsList blocks list → WroteParts a b (Order places list ∷ [])
 order_wrote a b blocks places list e few each small l =
     one a b (Order places list) e (
       place (length places) places few (all_each (λ k. k < length places) places each.within),
@@ -173,7 +173,7 @@ order_at k os i o h e all =
 -- the step of the loop in `put_orders`: the line of one more order was appended
 pub more_orders : (p : Program) (start now new : List ℕ) (os : List AnyOrder) (i : ℕ) (o : AnyOrder) → i < length os → o ≡ get_or os i o →
     Left start now (order_lines p (map order_places (drop i os))) (order_lines p (map order_places os)) →
-    Wrote now new (Order (order_places o) (list_of p (order_places o)) ∷ []) →
+    WroteParts now new (Order (order_places o) (list_of p (order_places o)) ∷ []) →
     Left start new (order_lines p (map order_places (drop (i + 1) os))) (order_lines p (map order_places os))
 more_orders p start now new os i o h e left w =
     let n : suc i ≡ i + 1 = omega arith in
@@ -185,13 +185,13 @@ more_orders p start now new os i o h e left w =
 -- the end of the loop in `put_orders`: the lines of all were appended
 pub no_orders : (p : Program) (start now : List ℕ) (os : List AnyOrder) (i : ℕ) → length os ≤ i
     → Left start now (order_lines p (map order_places (drop i os))) (order_lines p (map order_places os))
-    → Wrote start now (order_lines p (map order_places os))
+    → WroteParts start now (order_lines p (map order_places os))
 no_orders p start now os i h left = at_end start now (order_lines p (map order_places (drop i os)))
     (order_lines p (map order_places os)) left (ap (λ z. order_lines p (map order_places z)) (drop_all i os h))
 
 -- the end of the loop in `put_blocks`: the lines of all blocks were appended
 pub no_blocks : (start now : List ℕ) (cs : List Code) (i : ℕ) → length cs ≤ i
-    → Left start now (blocks_lines i (drop i cs)) (blocks_lines 0 cs) → Wrote start now (blocks_lines 0 cs)
+    → Left start now (blocks_lines i (drop i cs)) (blocks_lines 0 cs) → WroteParts start now (blocks_lines 0 cs)
 no_blocks start now cs i h left = at_end start now (blocks_lines i (drop i cs)) (blocks_lines 0 cs) left (ap (λ z. blocks_lines i z) (drop_all i cs h))
 
 -- the words of some places were appended, and so were those of an equal list
@@ -216,7 +216,7 @@ some_block p k =
 
 -- these lines were appended, and they are predicates of version 2
 pub record WroteListing (old new : List ℕ) (ps : List Part) : Type 0 where
-  pub wrote : Wrote old new ps
+  pub wrote : WroteParts old new ps
   pub form : Predicates 2 ps
 
 -- the parts of a program were appended one after the other: its name, its filter, its blocks, its orders and `done`
@@ -225,16 +225,16 @@ pub record WroteProgram (p : Program) (old new : List ℕ) : Type 0 where
   pub after_filter : List ℕ
   pub after_blocks : List ℕ
   pub after_orders : List ℕ
-  pub name : Wrote old after_name (Predicate (name_bytes p.shape.name) ∷ [])
-  pub filter : Wrote after_name after_filter (filter_lines p.filter)
-  pub blocks : Wrote after_filter after_blocks (blocks_lines 0 p.blocks)
-  pub orders : Wrote after_blocks after_orders (order_lines p (orders_of p.shape.sites))
-  pub done : Wrote after_orders new (Done ∷ [])
+  pub name : WroteParts old after_name (Predicate (name_bytes p.shape.name) ∷ [])
+  pub filter : WroteParts after_name after_filter (filter_parts p.filter)
+  pub blocks : WroteParts after_filter after_blocks (blocks_lines 0 p.blocks)
+  pub orders : WroteParts after_blocks after_orders (order_lines p (orders_of p.shape.sites))
+  pub done : WroteParts after_orders new (Done ∷ [])
 
 -- the lines of a program's parts, one after the other, are those of the program
 pub program_wrote : (p : Program) (old new : List ℕ) → IsProgram p → WroteProgram p old new → WroteListing old new (program_lines p)
 program_wrote p old new k w =
-    let x : List Part = filter_lines p.filter in
+    let x : List Part = filter_parts p.filter in
     let y : List Part = blocks_lines 0 p.blocks in
     let z : List Part = order_lines p (orders_of p.shape.sites) in
     record {
@@ -260,8 +260,8 @@ listing_more (q ∷ ps) p = ap (λ z. program_lines q ++ z) (listing_more ps p) 
 pub one_behind : (old new : List ℕ) (p : Program) → WroteListing old new (program_lines p) → (ps : List Program)
     → ListText old 2 (listing_of ps) → ListText new 2 (listing_of (ps ++ p ∷ []))
 one_behind old new p w ps t =
-    let b : Wrote (first_line 2) old (listing_of ps) = record { text = t.text; ranges = t.listing.ranges } in
-    let a : Wrote (first_line 2) new (listing_of ps ++ program_lines p) = after (first_line 2) old new (listing_of ps) (program_lines p) b w.wrote in
+    let b : WroteParts (first_line 2) old (listing_of ps) = record { text = t.text; ranges = t.listing.ranges } in
+    let a : WroteParts (first_line 2) new (listing_of ps ++ program_lines p) = after (first_line 2) old new (listing_of ps) (program_lines p) b w.wrote in
     let l : ListText new 2 (listing_of ps ++ program_lines p) = record {
       listing = record { known = inr refl; form = both_forms (listing_of ps) (program_lines p) t.listing.form w.form; ranges = a.ranges };
       text = a.text;

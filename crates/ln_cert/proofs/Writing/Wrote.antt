@@ -13,10 +13,10 @@ use Rattle.ln_cert.specs.declared.part.Part.TheVariants.{Filter, Decide, Block, 
 use Rattle.ln_base.specs.Lines.{joined}
 use Rattle.ln_cert.specs.Text.{Each, IsLine, text_of}
 use Rattle.ln_cert.specs.Writing.{PutsLine}
-use Rattle.ln_cert.specs.Written.{InBlock, Wrote, block_lines, filter_line, filter_lines, range_line}
+use Rattle.ln_cert.specs.Written.{InBlock, WroteParts, block_lines, filter_line, filter_parts, range_line}
 
 -- no lines were appended to a text that is the same
-pub nothing : (a : List ℕ) → Wrote a a []
+pub nothing : (a : List ℕ) → WroteParts a a []
 nothing a = record { text = sym (append-nil a); ranges = tt }
 
 joined_append : (ps qs : List Part) → joined (map text_of (ps ++ qs)) ≡ joined (map text_of ps) ++ joined (map text_of qs)
@@ -28,7 +28,7 @@ each_both [] qs p q = q
 each_both (x ∷ ps) qs p q = (p.0, each_both ps qs p.1 q)
 
 -- lines appended after others are appended with them
-pub after : (a b c : List ℕ) (ps qs : List Part) → Wrote a b ps → Wrote b c qs → Wrote a c (ps ++ qs)
+pub after : (a b c : List ℕ) (ps qs : List Part) → WroteParts a b ps → WroteParts b c qs → WroteParts a c (ps ++ qs)
 after a b c ps qs p q = record {
   text = q.text ∙ ap (λ z. z ++ joined (map text_of qs)) p.text ∙ append_assoc a (joined (map text_of ps)) (joined (map text_of qs))
       ∙ ap (λ z. a ++ z) (sym (joined_append ps qs));
@@ -36,21 +36,21 @@ after a b c ps qs p q = record {
 }
 
 -- one line was appended, and what it says is within the ranges
-pub one : (a b : List ℕ) (p : Part) → PutsLine a b p → IsLine p → Wrote a b (p ∷ [])
+pub one : (a b : List ℕ) (p : Part) → PutsLine a b p → IsLine p → WroteParts a b (p ∷ [])
 one a b p e r = record { text = e ∙ ap (λ z. a ++ z) (sym (append-nil (text_of p))); ranges = (r, tt) }
 
 -- ---- a loop by the remaining lines
 -- where the remaining lines are appended to the text so far, all lines have been appended to the text at the start
 abbrev pub Left : List ℕ → List ℕ → List Part → List Part → Type 0
-Left start now rest all = (d : List ℕ) → Wrote now d rest → Wrote start d all
+Left start now rest all = (d : List ℕ) → WroteParts now d rest → WroteParts start d all
 
 -- the step of such a loop: the first of the remaining lines were appended
-pub go_on : (start now new : List ℕ) (p rest all : List Part) → Left start now (p ++ rest) all → Wrote now new p → Left start new rest all
+pub go_on : (start now new : List ℕ) (p rest all : List Part) → Left start now (p ++ rest) all → WroteParts now new p → Left start new rest all
 go_on start now new p rest all f w d q = f d (after now new d p rest w q)
 
 -- the end of such a loop: no line remains, so all were appended
-pub at_end : (start now : List ℕ) (rest all : List Part) → Left start now rest all → rest ≡ [] → Wrote start now all
-at_end start now rest all f e = f now (subst (λ ps. Wrote now now ps) (sym e) (nothing now))
+pub at_end : (start now : List ℕ) (rest all : List Part) → Left start now rest all → rest ≡ [] → WroteParts start now all
+at_end start now rest all f e = f now (subst (λ ps. WroteParts now now ps) (sym e) (nothing now))
 
 -- ---- loops over operations
 lines_at : {B : Type 0} (os : List Op) (bs : List B) (i : ℕ) (o : Op) (b : B) → i < length os → i < length bs
@@ -75,7 +75,7 @@ pub record WroteOp {B : Type 0} (f : Line B → Part) (now new : List ℕ) (os :
   pub bound : B
   pub op_there : i < length os
   pub bound_there : i < length bs
-  pub wrote : Wrote now new (f (record { op = get_or os i op; bound = get_or bs i bound }) ∷ [])
+  pub wrote : WroteParts now new (f (record { op = get_or os i op; bound = get_or bs i bound }) ∷ [])
 
 -- the step of a loop over operations: the line of one more was appended
 pub more_lines : {B : Type 0} (f : Line B → Part) (start now new : List ℕ) (os : List Op) (bs : List B) (i : ℕ)
@@ -90,7 +90,7 @@ more_lines {B} f start now new os bs i left w =
 
 -- the end of a loop over operations: the lines of all were appended
 pub no_lines : {B : Type 0} (f : Line B → Part) (start now : List ℕ) (os : List Op) (bs : List B) (i : ℕ) → length os ≤ i
-    → LinesLeft f start now os bs i → Wrote start now (map f (lines_of os bs))
+    → LinesLeft f start now os bs i → WroteParts start now (map f (lines_of os bs))
 no_lines f start now os bs i h left =
     at_end start now (map f (lines_of (drop i os) (drop i bs))) (map f (lines_of os bs)) left (ap (λ z. map f (lines_of z (drop i bs))) (drop_all i os h))
 
@@ -114,7 +114,7 @@ range_at os ps i o r h k e p =
 
 -- the line of an operation with a pair was appended, and so was that with the pair's range
 pub range_wrote : (now new : List ℕ) (os : List Op) (ps : List Pair) (i : ℕ) (o : Op) (r : Pair) → i < length os → i < length ps → r ≡ get_or ps i r
-    → Wrote now new (RangeOp (get_or os i o) r.low r.high ∷ []) → WroteOp range_line now new os (map range ps) i
+    → WroteParts now new (RangeOp (get_or os i o) r.low r.high ∷ []) → WroteOp range_line now new os (map range ps) i
 range_wrote now new os ps i o r h k e w =
     let l = long_ranges ps in
     record {
@@ -122,27 +122,27 @@ range_wrote now new os ps i o r h k e w =
       bound = range r;
       op_there = h;
       bound_there = omega arith;
-      wrote = subst (λ z. Wrote now new (range_line (record { op = get_or os i o; bound = z }) ∷ [])) (sym (range_get ps i r k e)) w;
+      wrote = subst (λ z. WroteParts now new (range_line (record { op = get_or os i o; bound = z }) ∷ [])) (sym (range_get ps i r k e)) w;
     }
 
 -- ---- filters and blocks
 -- the parts of a filter were appended one after the other: `filter`, its operations and `decide`
 pub some_filter : (a b c d : List ℕ) (f : FilterCode) (os : List Op) (ts : List Triple) → os ≡ f.ops → ts ≡ f.triples
-    → Wrote a b (Filter ∷ []) → Wrote b c (map filter_line (lines_of os ts)) → Wrote c d (Decide ∷ []) → Wrote a d (filter_lines (Some f))
+    → WroteParts a b (Filter ∷ []) → WroteParts b c (map filter_line (lines_of os ts)) → WroteParts c d (Decide ∷ []) → WroteParts a d (filter_parts (Some f))
 some_filter a b c d f os ts p q x y z =
     after a b d (Filter ∷ []) (map filter_line (lines_of f.ops f.triples) ++ Decide ∷ []) x
-    (after b c d (map filter_line (lines_of f.ops f.triples)) (Decide ∷ []) (subst (λ w. Wrote b c (map filter_line w)) (λ i. lines_of (p i) (q i)) y) z)
+    (after b c d (map filter_line (lines_of f.ops f.triples)) (Decide ∷ []) (subst (λ w. WroteParts b c (map filter_line w)) (λ i. lines_of (p i) (q i)) y) z)
 
 -- the parts of block number n were appended one after the other: its first line, its operations and `end`
 pub record WroteBlock (n : ℕ) (c : Code) (old new : List ℕ) : Type 0 where
   pub after_head : List ℕ
   pub after_lines : List ℕ
-  pub head : Wrote old after_head (Block n c.exps ∷ [])
-  pub lines : Wrote after_head after_lines (map range_line (lines_of c.ops c.pairs))
-  pub end : Wrote after_lines new (End ∷ [])
+  pub head : WroteParts old after_head (Block n c.exps ∷ [])
+  pub lines : WroteParts after_head after_lines (map range_line (lines_of c.ops c.pairs))
+  pub end : WroteParts after_lines new (End ∷ [])
 
 -- the lines of a block's parts, one after the other, are those of the block
-pub block_wrote : (n : ℕ) (c : Code) (old new : List ℕ) → WroteBlock n c old new → Wrote old new (block_lines n c)
+pub block_wrote : (n : ℕ) (c : Code) (old new : List ℕ) → WroteBlock n c old new → WroteParts old new (block_lines n c)
 block_wrote n c old new w =
     let x : List Part = map range_line (lines_of c.ops c.pairs) in
     after old w.after_head new (Block n c.exps ∷ []) (x ++ End ∷ []) w.head (after w.after_head w.after_lines new x (End ∷ []) w.lines w.end)

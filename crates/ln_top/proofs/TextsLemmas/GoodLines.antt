@@ -18,7 +18,7 @@ use Rattle.ln_cert.specs.Listing.{ListText, parts_of}
 use Rattle.ln_cert.specs.Written as cert
 use Rattle.ln_cert.specs.Written.{blocks_lines, listing_of, program_lines}
 use Rattle.ln_verify.specs.BlockRules.{version_2}
-use Rattle.ln_verify.specs.Good.{AreGoodParts, all_lines, block_lines, filter_lines, order_lines, part_lines, range_line}
+use Rattle.ln_verify.specs.Good.{AreGoodParts, all_lines, block_lines, triple_parts, order_lines, part_lines, range_line}
 use Rattle.ln_verify.specs.Judge.{Go}
 use Rattle.ln_verify.specs.Line.{Outside, Subject, Written}
 use Rattle.ln_verify.specs.Verified.{AreSubjectsOf}
@@ -28,7 +28,7 @@ use Rattle.ln_top.proofs.TextsLemmas.GoodParts.{good_part, lines_in, piece_of, s
 use Rattle.ln_top.proofs.TextsLemmas.ListedParts.{part_due}
 
 -- ---- the lines of one program
-filter_same : (o : Option FilterCode) → cert.filter_lines o ≡ filter_lines (lines_in o)
+filter_same : (o : Option FilterCode) → cert.filter_parts o ≡ triple_parts (lines_in o)
 filter_same None = refl
 filter_same (Some f) = refl
 

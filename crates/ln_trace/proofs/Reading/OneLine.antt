@@ -20,7 +20,7 @@ use Rattle.ln_trace.specs.declared.state.Kind.{Kind}
 use Rattle.ln_trace.specs.declared.state.Kind.TheVariants as kind
 use Rattle.ln_trace.specs.declared.state.State.{State}
 use Rattle.ln_trace.specs.declared.state.State.TheVariants.{Between, Opened, Within}
-use Rattle.ln_trace.specs.Reading.{HasArgs, IsRead, NoArgs, Refuses, after, kind_in, kind_of, may, next_of, word_of, trace_rules}
+use Rattle.ln_trace.specs.Reading.{HasArgs, IsRead, NoArgs, Refuses, after, kind_in, line_kind, may, next_of, word_of, trace_rules}
 use Rattle.ln_trace.specs.Text.{IsLine, sign_word, words_of, text_of_line}
 use Rattle.ln_base.proofs.Texts.Lines.{words_line_end}
 use Rattle.ln_base.specs.Forms.Form.{AreSound, Finish}
@@ -90,7 +90,7 @@ same_sign Zero Zero e = refl
 same_sign Plus Plus e = refl
 same_sign t u e = let b = head e in absurd (omega (arith, b))
 
-same_words : (x y : TraceLine) → kind_of x ≡ kind_of y → IsLine x → IsLine y → words_of x ≡ words_of y → x ≡ y
+same_words : (x y : TraceLine) → line_kind x ≡ line_kind y → IsLine x → IsLine y → words_of x ≡ words_of y → x ≡ y
 same_words (line.Refused m) (line.Refused n) k p q e = ap line.Refused (number m n p.1 q.1 (head (rest e)))
 same_words (line.Row m) (line.Row n) k p q e = ap line.Row (number m n p.1 q.1 (head (rest e)))
 same_words (line.At a y) (line.At b z) k p q e =
@@ -118,7 +118,7 @@ words_plain (line.At exps z) p = (
 words_plain (line.Sign t) p = (refl, (sign_plain t, tt))
 
 -- the words of a line are its kind's word and some more
-pub words_split : (l : TraceLine) → (ws : List (List ℕ)) × (words_of l ≡ word_of (kind_of l) ∷ ws)
+pub words_split : (l : TraceLine) → (ws : List (List ℕ)) × (words_of l ≡ word_of (line_kind l) ∷ ws)
 words_split (line.Refused n) = (decimal n ∷ [], refl)
 words_split (line.Row n) = (decimal n ∷ [], refl)
 words_split (line.At exps z) = (map exponent_word exps ++ codes ":" ∷ signed_decimal z ∷ [], refl)
@@ -128,26 +128,26 @@ words_split (line.Sign t) = (sign_word t ∷ [], refl)
 pub read_words : (l : TraceLine) → IsLine l → words (parted (words_of l)) ≡ words_of l
 read_words l p =
     let s = words_split l in
-    subst (λ (ws : List (List ℕ)). words (parted ws) ≡ ws) (sym s.1) (words_parted (word_of (kind_of l)) s.0 (subst ArePlain s.1 (words_plain l p)))
+    subst (λ (ws : List (List ℕ)). words (parted ws) ≡ ws) (sym s.1) (words_parted (word_of (line_kind l)) s.0 (subst ArePlain s.1 (words_plain l p)))
 
 -- ---- one line
 -- a line that leads on is allowed in the state, and leads where its kind leads
-pub live : (s : State) (l : TraceLine) (t : State) → next_of s l ≡ Some t → (may s (kind_of l) ≡ true) × (t ≡ after (kind_of l))
-live s l t e = by (may s (kind_of l)) e
+pub live : (s : State) (l : TraceLine) (t : State) → next_of s l ≡ Some t → (may s (line_kind l) ≡ true) × (t ≡ after (line_kind l))
+live s l t e = by (may s (line_kind l)) e
   where
-    by : (b : Bool) → (if b then Some (after (kind_of l)) else None) ≡ Some t → (b ≡ true) × (t ≡ after (kind_of l))
+    by : (b : Bool) → (if b then Some (after (line_kind l)) else None) ≡ Some t → (b ≡ true) × (t ≡ after (line_kind l))
     by true e = (refl, cc)
     by false e = absurd (cc)
 
-first_of : (l : TraceLine) (w : List ℕ) (ws : List (List ℕ)) → w ∷ ws ≡ words_of l → w ≡ word_of (kind_of l)
+first_of : (l : TraceLine) (w : List ℕ) (ws : List (List ℕ)) → w ∷ ws ≡ words_of l → w ≡ word_of (line_kind l)
 first_of l w ws e = head (e ∙ (words_split l).1)
 
 -- two lines that are allowed in one state and have the same words are one
 pub same_line : (s : State) (x y : TraceLine) (t u : State) → next_of s x ≡ Some t → next_of s y ≡ Some u → IsLine x → IsLine y
     → words_of x ≡ words_of y → x ≡ y
 same_line s x y t u a b p q e =
-    let k = one_kind s (kind_of x) (kind_of y) (live s x t a).0 (live s y u b).0
-    (first_of y (word_of (kind_of x)) (words_split x).0 (sym (words_split x).1 ∙ e)) in
+    let k = one_kind s (line_kind x) (line_kind y) (live s x t a).0 (live s y u b).0
+    (first_of y (word_of (line_kind x)) (words_split x).0 (sym (words_split x).1 ∙ e)) in
     same_words x y k p q e
 
 -- ---- what the reader of a line finds
@@ -159,20 +159,21 @@ found s k w args ws l e g h =
     record {
       spelled = e ∙ ap (λ x. x ∷ args) r.word ∙ h.words;
       range = h.range;
-      goes = ap (λ (b : Bool). if b then Some (after (kind_of l)) else None) (subst (λ x. may s x ≡ true) (sym h.kind) r.may) ∙ ap (λ x. Some (after x)) h.kind;
+      goes = ap (λ (b : Bool). if b then Some (after (line_kind l)) else None) (subst (λ x. may s x ≡ true) (sym h.kind) r.may)
+          ∙ ap (λ x. Some (after x)) h.kind;
     }
 
 -- where the first word is that of no kind in the state, the state refuses the words
 pub no_kind : (s : State) (w : List ℕ) (args ws : List (List ℕ)) → ws ≡ w ∷ args → kind_in s w ≡ None → Refuses s ws
 no_kind s w args ws e g l t r =
-    let a : w ≡ word_of (kind_of l) = first_of l w args (sym e ∙ r.spelled) in
-    let c : None ≡ Some (kind_of l) = sym g ∙ ap (kind_in s) a ∙ complete s (kind_of l) (live s l t r.goes).0 in absurd (cc)
+    let a : w ≡ word_of (line_kind l) = first_of l w args (sym e ∙ r.spelled) in
+    let c : None ≡ Some (line_kind l) = sym g ∙ ap (kind_in s) a ∙ complete s (line_kind l) (live s l t r.goes).0 in absurd (cc)
 
 -- where the other words are those of no line of its kind, the state refuses the words
 pub no_args : (s : State) (k : Kind) (w : List ℕ) (args ws : List (List ℕ)) → ws ≡ w ∷ args → kind_in s w ≡ Some k → NoArgs k args → Refuses s ws
 no_args s k w args ws e g h l t r =
-    let a : w ≡ word_of (kind_of l) = first_of l w args (sym e ∙ r.spelled) in
-    let c : kind_of l ≡ k = some (sym (complete s (kind_of l) (live s l t r.goes).0) ∙ ap (kind_in s) (sym a) ∙ g) in
+    let a : w ≡ word_of (line_kind l) = first_of l w args (sym e ∙ r.spelled) in
+    let c : line_kind l ≡ k = some (sym (complete s (line_kind l) (live s l t r.goes).0) ∙ ap (kind_in s) (sym a) ∙ g) in
     h l (record { kind = c; words = ap (λ x. x ∷ args) (sym (a ∙ ap word_of c)) ∙ sym e ∙ r.spelled; range = r.range })
 
 -- a test that failed
@@ -216,7 +217,7 @@ one_line_end : (l : TraceLine) (rest : List ℕ) → IsLine l → lines (text_of
 one_line_end l rest p =
     let s = words_split l in
     subst (λ (ws : List (List ℕ)). lines ((parted ws ++ (10 ∷ [])) ++ rest) ≡ (parted ws ++ (10 ∷ [])) ∷ lines rest) (sym s.1)
-    (words_line_end (word_of (kind_of l)) s.0 rest (subst ArePlain s.1 (words_plain l p)))
+    (words_line_end (word_of (line_kind l)) s.0 rest (subst ArePlain s.1 (words_plain l p)))
 
 -- the rules of traces are as the reader of lines needs them
 pub trace_sound : AreSound trace_rules

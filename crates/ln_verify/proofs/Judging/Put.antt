@@ -16,7 +16,7 @@ use Rattle.ln_interval.specs.Range.{Range}
 use Rattle.ln_code.specs.Rules.{Known}
 use Rattle.ln_due.specs.Small.{AreSmall}
 use Rattle.ln_verify.specs.BlockRules.{block_rules, triple_rules, version_2}
-use Rattle.ln_verify.specs.Good.{AllLead, AreGood, AreGoodParts, AreNext, IsGoodFilter, IsGoodPart, all_lines, block_lines, filter_lines}
+use Rattle.ln_verify.specs.Good.{AllLead, AreGood, AreGoodParts, AreNext, IsGoodFilter, IsGoodPart, all_lines, block_lines, triple_parts}
 use Rattle.ln_verify.specs.Good.{order_lines, part_lines, range_line, triple_line}
 use Rattle.ln_verify.specs.Judge.{Go, judge_of}
 use Rattle.ln_verify.specs.Law.{GoodPartsAreValid}
@@ -60,7 +60,7 @@ module _ (ps : List Subject) (p : Subject) (parts : List Written) (there : slice
       )
 
   filter-go : (f : Option (List (Line Triple))) → IfSome f (IsGoodFilter version_2 p)
-      → Go version_2 ps (Within parts Named) (filter_lines f) (Within parts (Between f []))
+      → Go version_2 ps (Within parts Named) (triple_parts f) (Within parts (Between f []))
   filter-go None h = (Within parts (Between None []), (p, there, (Between None [], refl, refl)), refl)
   filter-go (Some lines) h = (
     Within parts (InFilter [] fresh),
@@ -145,7 +145,7 @@ module _ (ps : List Subject) (p : Subject) (parts : List Written) (there : slice
   part-go w h some = (
     Within parts Named,
     record { subject = p; there = there; named = refl; to = refl },
-    go_append (judge_of version_2 ps) (Within parts Named) (Within parts (Between w.filter [])) (Outside (parts ++ w ∷ [])) (filter_lines w.filter)
+    go_append (judge_of version_2 ps) (Within parts Named) (Within parts (Between w.filter [])) (Outside (parts ++ w ∷ [])) (triple_parts w.filter)
         (block_lines 0 w.blocks ++ (order_lines (orders_of p.sites) w.lists ++ Done ∷ []))
         (filter-go w.filter h.filter)
         (go_append (judge_of version_2 ps) (Within parts (Between w.filter [])) (Within parts (Between w.filter w.blocks))

@@ -4,7 +4,7 @@ use Rattle.std.proofs.Common.{[], ◌∷◌, map, subst}
 use Rattle.ln_tree.specs.Exps.{IsRising}
 use Rattle.ln_code.specs.Part.{lines_of}
 use Rattle.ln_cert.specs.declared.part.Part.TheVariants.{Block}
-use Rattle.ln_cert.specs.Written.{Wrote, range_line}
+use Rattle.ln_cert.specs.Written.{WroteParts, range_line}
 use Rattle.ln_cert.proofs.Writing.Programmed.{block_each, block_vars}
 use Rattle.ln_cert.proofs.Writing.Wrote.{block_wrote}
 use Rattle.ln_cert.proofs.write.put_block_lines.Goals as goal
@@ -19,8 +19,9 @@ pub returns-clause-wrote : goal.returns-clause-wrote
 returns-clause-wrote c = IfOk-weaker c.put_end.result _ _ (λ _ p. block_wrote c.args.n c.args.b.now c.args.out.now.items c.put_end.new.out.items (record {
   after_head = c.put_block_head.new.out.items;
   after_lines = c.put_range_lines.new.out.items;
-  head = subst (λ z. Wrote c.args.out.now.items c.put_block_head.new.out.items (Block c.args.n z ∷ [])) c.exps.ensures c.in_ok-put_block_head.ensures.wrote;
-  lines = subst (λ z. Wrote c.put_block_head.new.out.items c.put_range_lines.new.out.items (map range_line z))
+  head = subst (λ z. WroteParts c.args.out.now.items c.put_block_head.new.out.items (Block c.args.n z ∷ [])) c.exps.ensures
+      c.in_ok-put_block_head.ensures.wrote;
+  lines = subst (λ z. WroteParts c.put_block_head.new.out.items c.put_range_lines.new.out.items (map range_line z))
       (λ i. lines_of (c.ops.ensures i) (c.pairs-pairs.ensures.value i)) c.in_ok-put_range_lines.ensures;
   end = p;
 })) c.put_end.ensures

@@ -5,7 +5,7 @@ use Rattle.ln_tree.specs.declared.shape.Shape.{Shape}
 use Rattle.ln_tree.specs.Names.{name_bytes}
 use Rattle.ln_tree.proofs.KeptLemmas.{few_vars}
 use Rattle.ln_cert.specs.declared.part.Part.TheVariants.{Predicate}
-use Rattle.ln_cert.specs.Written.{AreListableBlocks, Wrote, blocks_lines}
+use Rattle.ln_cert.specs.Written.{AreListableBlocks, WroteParts, blocks_lines}
 use Rattle.ln_cert.proofs.Writing.Programmed.{for_blocks, one_behind, program_wrote}
 use Rattle.ln_cert.proofs.write.put_part.Goals as goal
 
@@ -37,10 +37,10 @@ returns-clause-listed c = IfOk-weaker c.put_done.result _ _ (λ _ p. one_behind 
       after_filter = c.put_filter.new.out.items;
       after_blocks = c.put_blocks.new.out.items;
       after_orders = c.put_all_orders.new.out.items;
-      name = subst (λ (s : Shape). Wrote c.args.out.now.items c.put_name.new.out.items (Predicate (name_bytes s.name) ∷ []))
+      name = subst (λ (s : Shape). WroteParts c.args.out.now.items c.put_name.new.out.items (Predicate (name_bytes s.name) ∷ []))
           c.shape.ensures c.in_ok-put_name.ensures;
       filter = c.in_ok-put_filter.ensures.wrote;
-      blocks = subst (λ cs. Wrote c.put_filter.new.out.items c.put_blocks.new.out.items (blocks_lines 0 cs))
+      blocks = subst (λ cs. WroteParts c.put_filter.new.out.items c.put_blocks.new.out.items (blocks_lines 0 cs))
           c.blocks-blocks.ensures.value c.in_ok-put_blocks.ensures.wrote;
       orders = c.in_ok-put_all_orders.ensures;
       done = p;
