@@ -45,8 +45,8 @@ plan_for (Some c) source rest =
     else None
 
 -- the number that a word of 1 to 18 digits is; leading zeros count for nothing
-abbrev pub number_of : List ℕ → Option ℕ
-number_of word = if is_digits word && nat_le (length word) 18 then Some (decimal_value word) else None
+abbrev pub number_of_word : List ℕ → Option ℕ
+number_of_word word = if is_digits word && nat_le (length word) 18 then Some (decimal_value word) else None
 
 -- the count of rows is from 1 to 1,000,000
 abbrev pub is_count : ℕ → Bool
@@ -63,7 +63,7 @@ gen_with source name (Some seed) (Some count) =
 
 -- the plan of `gen`, where after the source file come exactly a name, a seed and a count
 abbrev pub gen_plan : List ℕ → List (List ℕ) → Option Plan
-gen_plan source (name ∷ seed ∷ count ∷ []) = gen_with source name (number_of seed) (number_of count)
+gen_plan source (name ∷ seed ∷ count ∷ []) = gen_with source name (number_of_word seed) (number_of_word count)
 gen_plan source words = None
 
 -- the plan of a first word, a source file and the words after them

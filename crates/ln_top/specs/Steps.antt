@@ -20,13 +20,13 @@ pub data Then {A B : Type 0} (first : Outcome A → Type 0) (next : A → Outcom
   goes : (a : A) {o : Outcome B} → first (gives a) → next a o → Then first next o
 
 -- the end of a chain
-abbrev pub Gives : {A : Type 0} → A → Outcome A → Type 0
-Gives a o = o ≡ gives a
+abbrev pub ChainEnds : {A : Type 0} → A → Outcome A → Type 0
+ChainEnds a o = o ≡ gives a
 
 -- the same step for each member of a list, in order
 abbrev pub Each : {A B : Type 0} → (A → Outcome B → Type 0) → List A → Outcome (List B) → Type 0
-Each step [] = Gives []
-Each step (a ∷ rest) = Then (step a) (λ b. Then (Each step rest) (λ bs. Gives (b ∷ bs)))
+Each step [] = ChainEnds []
+Each step (a ∷ rest) = Then (step a) (λ b. Then (Each step rest) (λ bs. ChainEnds (b ∷ bs)))
 
 -- a file may hold these bytes: where files tell theirs it does, else any file may
 abbrev pub MayHold : Option Shelf → List ℕ → List ℕ → Type 0
@@ -67,7 +67,7 @@ Prepares plan told =
     Then (Each (Finds table.preds) plan.names) (λ preds.
     Then (Suits plan.command bytes preds) (λ fine.
     Then (Each (Reads told most_file) plan.files) (λ texts.
-    Gives (record { table = table; preds = preds; texts = texts }))))))
+    ChainEnds (record { table = table; preds = preds; texts = texts }))))))
 
 -- a claim on what is given where these words are this command and the files prepare it
 abbrev pub WhereGiven : List (List ℕ) → Shelf → Command → (Given → Type 0) → Type 0

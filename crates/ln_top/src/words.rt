@@ -1,6 +1,6 @@
 //! The words, and what a command needs.
 ghost use Rattle.std.specs.Prelude.{◌≡◌, ◌≤◌, ◌+◌, map, option_map, string_bytes, IfSome};
-ghost use Rattle.ln_top.specs.Plan.{HasForm, command_of, is_count, named_among, named_command, number_of, with_bytes};
+ghost use Rattle.ln_top.specs.Plan.{HasForm, command_of, is_count, named_among, named_command, number_of_word, with_bytes};
 ghost use Rattle.ln_top.specs.Plan.{gen_plan, gen_with, plan_behind, plan_for, plan_of};
 ghost use Rattle.ln_top.specs.Signature.{form, signature_of};
 
@@ -137,7 +137,7 @@ fn plan_for<'a>(command: Option<Command>, source: &'a str, rest: &'a [String]) -
 
 // The number that a word of 1 to 18 digits is.
 fn number(word: &str) -> Option<u64>
-    ensures { result ≡ number_of word.now }
+    ensures { result ≡ number_of_word word.now }
 {
     let digits = word.as_bytes();
     if all_digits(digits) && digits.len() <= 18 {

@@ -12,7 +12,8 @@ use Rattle.ln_top.specs.declared.frame.status.Early.TheVariants.{Write}
 use Rattle.ln_top.specs.declared.frame.stop.Stop.{Stop}
 use Rattle.ln_top.specs.declared.frame.stop.Stop.TheVariants as stop
 use Rattle.ln_top.specs.declared.frame.stop.Why.{Why}
-use Rattle.ln_top.specs.Frame.Said.{Said, Count, Rises, whole, put_both, IsPrefix}
+use Rattle.ln_base.specs.Prefixes.{IsPrefix}
+use Rattle.ln_top.specs.Frame.Said.{Said, Count, Rises, whole, put_both}
 use Rattle.ln_top.specs.Frame.Stop.{said_of}
 use Rattle.ln_top.specs.Frame.Given.{Outcome, stops, missing}
 use Rattle.ln_top.specs.Frame.Carried as c

@@ -7,7 +7,7 @@ use Rattle.ln_top.specs.declared.frame.status.Early.TheVariants.{Write}
 use Rattle.ln_top.specs.Frame.Said.{Said, put_both}
 use Rattle.ln_top.specs.Frame.Carried as c
 use Rattle.ln_top.specs.Frame.Carried.{CarriesOut, LeavesFronts, LeavesPart, of_owed, of_part, of_read}
-use Rattle.ln_top.specs.Frame.Lines.{Wrote, broke, wrote}
+use Rattle.ln_top.specs.Frame.Lines.{WroteBoth, broke, wrote}
 use Rattle.ln_top.proofs.FrameLemmas.Loops.{Streams, faults_in}
 use Rattle.ln_top.proofs.FrameLemmas.LinesLaws.{both_twice, broke_off, front_behind, fronts_wider, rises_from}
 
@@ -53,7 +53,7 @@ part_after {h = h} {was = was} i m (of_part said out err p o f g e) =
 
 -- the text was written, and the rest was carried out after it
 pub head_carried : {h : Headed} {result : Result End Early} {was mid now : Streams} → IsHeaded h
-    → Wrote h.head [] (faults_in was mid) true was.shown mid.shown
+    → WroteBoth h.head [] (faults_in was mid) true was.shown mid.shown
     → CarriesOut h.rest h.more ⊥ ⊥ (faults_in mid now) result mid.shown now.shown
     → CarriesOut h.owes h.part ⊥ ⊥ (faults_in was now) result was.shown now.shown
 head_carried i (broke d p f) k = cc
@@ -67,7 +67,7 @@ head_carried {was = was} {mid = mid} {now = now} i (wrote p d m) (c.cut q l r) =
 head_carried i (wrote p d m) (c.short q l r) = c.short (q ∙ p) (part_after i m l) r
 
 -- the text was cut off
-pub head_cut : {h : Headed} {was now : Streams} → IsHeaded h → Wrote h.head [] (faults_in was now) false was.shown now.shown
+pub head_cut : {h : Headed} {was now : Streams} → IsHeaded h → WroteBoth h.head [] (faults_in was now) false was.shown now.shown
     → CarriesOut h.owes h.part ⊥ ⊥ (faults_in was now) (Err Write) was.shown now.shown
 head_cut {h = h} {was = was} {now = now} i w =
     let p = broke_off h.head [] (faults_in was now) was.shown now.shown w in

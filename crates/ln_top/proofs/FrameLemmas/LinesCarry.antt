@@ -9,7 +9,7 @@ use Rattle.ln_top.specs.Frame.Said.{Said, put_both}
 use Rattle.ln_top.specs.Frame.Carried as c
 use Rattle.ln_top.specs.Frame.Carried.{CarriesOut, ended, of_owed, of_part}
 use Rattle.ln_top.specs.Frame.Lines as l
-use Rattle.ln_top.specs.Frame.Lines.{Lines, Ran, Wrote, all_good, Closes, closed, unclosed}
+use Rattle.ln_top.specs.Frame.Lines.{Lines, Ran, WroteBoth, all_good, Closes, closed, unclosed}
 use Rattle.ln_top.proofs.FrameLemmas.Loops.{Work, Streams, faults_in}
 use Rattle.ln_top.proofs.FrameLemmas.LinesLaws.{rises_from, lines_have, lines_join, HasLines, fronts_behind, fronts_wider, wrote_all, broke_off}
 use Rattle.ln_top.proofs.FrameLemmas.LinesLaws.{both_twice, ok_err, ok_same}
@@ -48,7 +48,7 @@ HasRun t result z was now = Ran t.work.step t.work.good t.state t.records (fault
 
 -- the last lines of a task were written, or cut off
 abbrev pub EndsWith : {S R : Type 0} → Task S R → Bool → S → Streams → Streams → Type 0
-EndsWith t done z was now = Wrote (t.last_out z) (t.last_err z) (faults_in was now) done was.shown now.shown
+EndsWith t done z was now = WroteBoth (t.last_out z) (t.last_err z) (faults_in was now) done was.shown now.shown
 
 -- the last lines of a task are for Err alone; they were written, or cut off
 pub record ClosesTask {S R : Type 0} (t : Task S R) (right : Bool) (result : Result End Early) (z : S) (was now : Streams) : Type 0 where
@@ -110,7 +110,7 @@ pub closes_carried : {S R : Type 0} {t : Task S R} {right : Bool} {result : Resu
     → IsByLines t → HasRun t (Ok right) z was mid → ClosesTask t right result z mid now → IsCarriedOut t result was now
 closes_carried {t = t} {right = right} {result = result} {z = z} {was = was} {mid = mid} {now = now} b r k = by_result k.closes
   where
-    on_err : {done : Bool} → Wrote [] (t.last_err z) (faults_in mid now) done mid.shown now.shown → EndsWith t done z mid now
+    on_err : {done : Bool} → WroteBoth [] (t.last_err z) (faults_in mid now) done mid.shown now.shown → EndsWith t done z mid now
     on_err w = rw k.silent w
 
     by_result : Closes (t.last_err z) (t.ends right) (faults_in mid now) result mid.shown now.shown → IsCarriedOut t result was now

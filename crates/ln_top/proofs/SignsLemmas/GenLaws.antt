@@ -27,7 +27,7 @@ use Rattle.ln_top.specs.Frame.Carried.{CarriesOut, NoPart}
 use Rattle.ln_top.specs.Signs.GenRow.{words, past}
 use Rattle.ln_top.specs.Signs.Gen.{Draw, draw, drawn, draws, seeded, GenStep, GenSaid, made, GenEnds, done, gen_work}
 use Rattle.ln_top.specs.Frame.Lines as l
-use Rattle.ln_top.specs.Frame.Lines.{Lines, PutsOne, Wrote}
+use Rattle.ln_top.specs.Frame.Lines.{Lines, PutsOne, WroteBoth}
 use Rattle.ln_top.specs.Target.Target.{Belongs, TargetOf, pred_in}
 use Rattle.ln_top.specs.Frame.Work as kind_of
 use Rattle.ln_top.specs.Frame.Work.{IsWorkEnd}
@@ -72,7 +72,7 @@ pub record IsDrawn (p : Pred) (d : Draw) (r : code.Row) (v : Verdict) : Type 0 w
 
 -- the verdict that it requires was shown to the watchers
 pub row_put : {p : Pred} {d : Draw} {r : code.Row} {v : Verdict} {boxes z : List State} {all : Bool} {was now : Streams}
-    → IsDrawn p d r v → Wrote (lines_at d.number v boxes) [] (faults_in was now) all was.shown now.shown
+    → IsDrawn p d r v → WroteBoth (lines_at d.number v boxes) [] (faults_in was now) all was.shown now.shown
     → (all ≡ true → z ≡ left_after d.number v boxes)
     → PutsOne (GenStep (pred_of p)) boxes d (faults_in was now) all was.shown now.shown z
 row_put {p = p} {d = d} {v = v} {boxes = boxes} i w s = record {

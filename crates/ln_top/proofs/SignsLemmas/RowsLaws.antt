@@ -12,7 +12,7 @@ use Rattle.ln_top.specs.Frame.Said.{Said, count}
 use Rattle.ln_top.specs.Frame.Given.{Given}
 use Rattle.ln_top.specs.Target.Line.{is_row}
 use Rattle.ln_top.specs.Frame.Lines as l
-use Rattle.ln_top.specs.Frame.Lines.{Lines, Takes, Wrote, all_good, took, tore}
+use Rattle.ln_top.specs.Frame.Lines.{Lines, Takes, WroteBoth, all_good, took, tore}
 use Rattle.ln_top.specs.Signs.Run as run
 use Rattle.ln_top.specs.Signs.Run.{HasRecords, RunEnds, end_of}
 use Rattle.ln_top.specs.Signs.Rows as rows
@@ -34,7 +34,7 @@ use Rattle.ln_top.proofs.SignsLemmas.RunLaws as run_laws
 -- a record was taken
 pub takes_all : (line : LineOf) (p : PredOf) (names : List (List ℕ)) {fields : List (List ℕ)} {shown : Option Verdict} {out held grown : List ℕ}
     {before after : Watching} {n m : ℕ} {was now : Option Shown} {right : Bool} → line p names (before.seen + 1) fields shown out
-    → grown ≡ held ++ out → Wrote [] (next_lines shown before) (count n m) true was now → after ≡ next shown before → right ≡ is_row p fields
+    → grown ≡ held ++ out → WroteBoth [] (next_lines shown before) (count n m) true was now → after ≡ next shown before → right ≡ is_row p fields
     → Takes (RowStep (line p names)) (is_row p) before fields (count n m) (Ok right) held grown was now after
 takes_all line p names {shown = shown} {out = out} {before = before} {n = n} {m = m} {was = was} {now = now} l g w a r =
     let e = wrote_all [] (next_lines shown before) (count n m) was now w in
@@ -43,7 +43,7 @@ takes_all line p names {shown = shown} {out = out} {before = before} {n = n} {m 
 -- the write of the watchers' lines for a record was cut off
 pub takes_cut : (line : LineOf) (p : PredOf) (names : List (List ℕ)) {fields : List (List ℕ)} {shown : Option Verdict} {out held grown : List ℕ}
     {before after : Watching} {n m : ℕ} {was now : Option Shown} → line p names (before.seen + 1) fields shown out
-    → grown ≡ held ++ out → Wrote [] (next_lines shown before) (count n m) false was now
+    → grown ≡ held ++ out → WroteBoth [] (next_lines shown before) (count n m) false was now
     → Takes (RowStep (line p names)) (is_row p) before fields (count n m) (Err Write) held grown was now after
 takes_cut line p names {shown = shown} {out = out} {before = before} {n = n} {m = m} {was = was} {now = now} l g w =
     let e = broke_off [] (next_lines shown before) (count n m) was now w in

@@ -14,7 +14,7 @@ use Rattle.ln_top.specs.declared.words.Command.{Command}
 use Rattle.ln_top.specs.Plan.{Plan}
 use Rattle.ln_top.specs.Frame.Source.{IsRefusedAt, place_at}
 use Rattle.ln_top.specs.Frame.Given.{Outcome, stops, missing, gives}
-use Rattle.ln_top.specs.Steps.{Then, stopped, lacks, goes, Gives, Each, Reads, there, long, absent, Compiles, accepted, refused, Finds, found, none, Suits}
+use Rattle.ln_top.specs.Steps.{Then, stopped, lacks, goes, ChainEnds, Each, Reads, there, long, absent, Compiles, accepted, refused, Finds, found, none, Suits}
 use Rattle.ln_top.specs.Steps.{suited, unsuited, Prepares}
 use Rattle.ln_top.proofs.FrameLemmas.Outcomes.{some_same}
 
@@ -38,14 +38,14 @@ one_then first next f n o p (goes a s x) (goes b t y) =
     n b o p (subst (λ c. next c o) same x) y
 
 -- the end of a chain is one thing
-pub one_gives : {A : Type 0} (a : A) → One (Gives a)
+pub one_gives : {A : Type 0} (a : A) → One (ChainEnds a)
 one_gives a o p e f = e ∙ sym f
 
 one_each : {A B : Type 0} (step : A → Outcome B → Type 0) → ((a : A) → One (step a)) → (all : List A) → One (Each step all)
 one_each step f [] = one_gives []
 one_each step f (a ∷ rest) =
-    one_then (step a) (λ b. Then (Each step rest) (λ bs. Gives (b ∷ bs))) (f a)
-    (λ b. one_then (Each step rest) (λ bs. Gives (b ∷ bs)) (one_each step f rest) (λ bs. one_gives (b ∷ bs)))
+    one_then (step a) (λ b. Then (Each step rest) (λ bs. ChainEnds (b ∷ bs))) (f a)
+    (λ b. one_then (Each step rest) (λ bs. ChainEnds (b ∷ bs)) (one_each step f rest) (λ bs. one_gives (b ∷ bs)))
 
 -- the known bytes of a file are one
 one_reads : (shelf : Shelf) (limit : ℕ) (name : List ℕ) → One (Reads (Some shelf) limit name)

@@ -24,7 +24,7 @@ use Rattle.ln_top.specs.Frame.Stop.{said_of, why_end}
 use Rattle.ln_top.specs.Plan.{Plan, plan_of}
 use Rattle.ln_top.specs.Steps as step
 use Rattle.ln_top.specs.Frame.Given.{Outcome, stops, missing, gives, Given}
-use Rattle.ln_top.specs.Steps.{Prepares, Each, Finds, Gives, Reads, Then, WhereGiven}
+use Rattle.ln_top.specs.Steps.{Prepares, Each, Finds, ChainEnds, Reads, Then, WhereGiven}
 use Rattle.ln_top.specs.Frame.Carried as c
 use Rattle.ln_top.specs.Frame.Carried.{CarriesOut, Halts, Says, LeavesFronts, LeavesPart, read_line}
 use Rattle.ln_top.specs.Frame.Work as kind_of
@@ -156,7 +156,7 @@ planned_as None = stops Usage
 planned_as (Some plan) = gives plan
 
 abbrev Comes : List (List ℕ) → Option Shelf → Outcome (Plan × Given) → Type 0
-Comes words told = Then (λ o. planned_as (plan_of words) ≡ o) (λ plan. Then (Prepares plan told) (λ g. Gives (plan, g)))
+Comes words told = Then (λ o. planned_as (plan_of words) ≡ o) (λ plan. Then (Prepares plan told) (λ g. ChainEnds (plan, g)))
 
 one_comes : (words : List (List ℕ)) (shelf : Shelf) → One (Comes words (Some shelf))
 one_comes words shelf =

@@ -5,7 +5,7 @@ use Rattle.std.proofs.Math.Seq.{take-length}
 use Rattle.std.proofs.lemmas.Bool.{le-leb}
 use Rattle.std.proofs.lemmas.List.{length-map, take-map, drop-map}
 use Rattle.ln_top.specs.declared.words.Command.{Command}
-use Rattle.ln_top.specs.Plan.{Plan, plan_for, plan_of, number_of}
+use Rattle.ln_top.specs.Plan.{Plan, plan_for, plan_of, number_of_word}
 use Rattle.ln_top.specs.Frame.Signature.{Form}
 use Rattle.ln_top.specs.Signature.{form}
 use Rattle.ln_base.specs.Decimal.{is_digits, decimal_value}
@@ -42,7 +42,7 @@ number_fits ds n h l e = (number_is ds n h l e).1
 
 -- the number that was read of a word of 1 to 18 digits is the word's number
 pub number_there : (ds : List ℕ) (n : ℕ) → is_digits ds ≡ true → length ds ≤ 18
-    → n ≡ min (decimal_value ds) (2 ^ 128 - 1) → Some n ≡ number_of ds
+    → n ≡ min (decimal_value ds) (2 ^ 128 - 1) → Some n ≡ number_of_word ds
 number_there ds n h l e = rw (h, le-leb (length ds) 18 l) (ap Some (number_is ds n h l e).0)
 
 -- fewer than two words are no command

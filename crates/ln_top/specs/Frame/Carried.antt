@@ -7,7 +7,8 @@ use Rattle.ln_top.specs.declared.frame.status.Early.TheVariants.{Read, Write, Me
 use Rattle.ln_top.specs.declared.frame.stop.Why.{Why}
 use Rattle.ln_top.specs.declared.frame.stop.Stop.{Stop}
 use Rattle.ln_top.specs.declared.frame.stop.Stop.TheVariants as stop
-use Rattle.ln_top.specs.Frame.Said.{Said, Count, Rises, IsCalm, line, put_both, IsPrefix}
+use Rattle.ln_base.specs.Prefixes.{IsPrefix}
+use Rattle.ln_top.specs.Frame.Said.{Said, Count, Rises, IsCalm, line, put_both}
 use Rattle.ln_top.specs.Frame.Stop.{why_end, why_text}
 use Rattle.ln_top.specs.Frame.Given.{Outcome, stops, missing}
 

@@ -8,7 +8,8 @@ use Rattle.ln_base.specs.declared.outside.Port.TheVariants.{Out, Err as ErrPort}
 use Rattle.ln_top.specs.declared.frame.status.End.{End}
 use Rattle.ln_top.specs.declared.frame.status.Early.{Early}
 use Rattle.ln_top.specs.declared.frame.status.Early.TheVariants.{Write, Memory}
-use Rattle.ln_top.specs.Frame.Said.{Count, Rises, IsCalm, put_both, IsPrefix}
+use Rattle.ln_base.specs.Prefixes.{IsPrefix}
+use Rattle.ln_top.specs.Frame.Said.{Count, Rises, IsCalm, put_both}
 
 -- a step: from the state before a record, such as its watchers, to what it writes to Out and to Err and to the state after it
 abbrev pub Step : Type 0 → Type 0 → Type 1
@@ -34,19 +35,19 @@ pub record PutsFronts (out err : List ℕ) (was now : Option Shown) : Type 0 whe
   pub shown : now ≡ put_both o e was
 
 -- these were written to both streams, or cut off by a fault of writing
-pub data Wrote (out err : List ℕ) (puts : Count) (done : Bool) (was now : Option Shown) : Type 0 where
-  wrote : IsCalm puts → done ≡ true → now ≡ put_both out err was → Wrote out err puts done was now
-  broke : done ≡ false → Rises puts → PutsFronts out err was now → Wrote out err puts done was now
+pub data WroteBoth (out err : List ℕ) (puts : Count) (done : Bool) (was now : Option Shown) : Type 0 where
+  wrote : IsCalm puts → done ≡ true → now ≡ put_both out err was → WroteBoth out err puts done was now
+  broke : done ≡ false → Rises puts → PutsFronts out err was now → WroteBoth out err puts done was now
 
 -- a text was written to one stream, or cut off
 abbrev pub WroteOn : Port → List ℕ → Count → Bool → Option Shown → Option Shown → Type 0
-WroteOn Out text = Wrote text []
-WroteOn ErrPort text = Wrote [] text
+WroteOn Out text = WroteBoth text []
+WroteOn ErrPort text = WroteBoth [] text
 
 -- the last lines for Err were written, or cut off
 pub data Closes (err : List ℕ) (end : End) (puts : Count) (result : Result End Early) (was now : Option Shown) : Type 0 where
-  closed : result ≡ Ok end → Wrote [] err puts true was now → Closes err end puts result was now
-  unclosed : result ≡ Err Write → Wrote [] err puts false was now → Closes err end puts result was now
+  closed : result ≡ Ok end → WroteBoth [] err puts true was now → Closes err end puts result was now
+  unclosed : result ≡ Err Write → WroteBoth [] err puts false was now → Closes err end puts result was now
 
 -- one record: its bytes for Out were gathered and those for Err were written; or a write was cut off; or it was given up
 pub data Takes {S R : Type 0} (step : Step S R) (good : R → Bool) (s : S) (r : R)
@@ -98,7 +99,7 @@ pub record PutsOne {S R : Type 0} (step : Step S R) (s : S) (r : R)
   pub err : List ℕ
   pub left : S
   pub stepped : step s r out err left
-  pub wrote : Wrote out err puts done was now
+  pub wrote : WroteBoth out err puts done was now
   pub stays : done ≡ true → z ≡ left
 
 -- every record is good

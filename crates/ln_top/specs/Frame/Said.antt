@@ -31,11 +31,6 @@ whole end text = record { end = end; out = text; err = [] }
 abbrev pub put_both : List ℕ → List ℕ → Option Shown → Option Shown
 put_both out err was = appended ErrPort err (appended Out out was)
 
--- the first bytes of a text, or all of them
-pub record IsPrefix (text front : List ℕ) : Type 0 where
-  pub rest : List ℕ
-  pub is : text ≡ front ++ rest
-
 -- the status of an end: the one table that names all of them
 abbrev pub end_status : End → Status
 end_status end.Done = status.Done

@@ -1,6 +1,6 @@
 //! Watchers that see the records.
 ghost use Rattle.std.specs.Prelude.{◌≡◌, [], true, ◌<◌, ◌+◌, ◌^◌};
-ghost use Rattle.ln_top.specs.Frame.Lines.{Wrote, WroteOn};
+ghost use Rattle.ln_top.specs.Frame.Lines.{WroteBoth, WroteOn};
 ghost use Rattle.ln_top.specs.Frame.Said.{count};
 ghost use Rattle.ln_top.specs.Signs.Watching.{next, next_lines, watching};
 ghost use Rattle.ln_watch.specs.Panel.{left_after, lines_at, states_of};
@@ -47,7 +47,7 @@ pub(crate) fn show<C: Console>(
 /// Shows the verdict on the next record, if it has one, to the watchers, and returns whether all that was to be written to Err was written.
 pub(crate) fn view<C: Console>(con: &mut C, viewers: &mut Viewers, shown: Option<Verdict>) -> bool
     requires { viewers.old.seen + 1 < 2 ^ 32 }
-    ensures wrote { Wrote []
+    ensures wrote { WroteBoth []
         (next_lines shown (watching viewers.old.seen (states_of kind_of tally_of viewers.old.panel.watchers.items)))
         (count (C.faults con.old) (C.faults con.new)) result (C.shown con.old) (C.shown con.new) }
     ensures left { result ≡ true → watching viewers.new.seen (states_of kind_of tally_of viewers.new.panel.watchers.items)
