@@ -4,11 +4,8 @@ use Rattle.ln_base.specs.declared.span.Span.{Span}
 use Rattle.ln_algebra.specs.Tree.{Tree, Num, Input, Name, Neg, Add, Sub, Mul, Pow}
 use Rattle.ln_tree.specs.declared.shape.VarInfo.{VarInfo}
 use Rattle.ln_tree.specs.Formula.{Formula, FNum, FInput, FName, FNeg, FAdd, FSub, FMul, FPow, tree}
+pub use Rattle.ln_interval.specs.Range.{most}
 use Rattle.ln_bound.specs.Value.{power, value, weight_over, weights}
-
--- the largest weight: 2^127 - 1
-abbrev pub most : ℕ
-most = 170141183460469231731687303715884105727
 
 -- the weight of a formula over variables, after lets of these weights
 abbrev pub weight_of : List VarInfo → List ℕ → Formula → ℕ

@@ -46,15 +46,15 @@ width (TTwo k s t p w) = w
 width (TPow t n p w) = w
 
 -- which operation on two a formula is, where it is one
-abbrev pub kind_of : Formula → Two
-kind_of (FNum at c) = Plus
-kind_of (FInput at a c) = Plus
-kind_of (FName at j) = Plus
-kind_of (FNeg at e) = Plus
-kind_of (FAdd at e f) = Plus
-kind_of (FSub at e f) = Minus
-kind_of (FMul at e f) = Times
-kind_of (FPow at e n) = Plus
+abbrev pub kind_of_two : Formula → Two
+kind_of_two (FNum at c) = Plus
+kind_of_two (FInput at a c) = Plus
+kind_of_two (FName at j) = Plus
+kind_of_two (FNeg at e) = Plus
+kind_of_two (FAdd at e f) = Plus
+kind_of_two (FSub at e f) = Minus
+kind_of_two (FMul at e f) = Times
+kind_of_two (FPow at e n) = Plus
 
 -- the formula of an operation on two
 abbrev pub formula_of : Two → Span → Formula → Formula → Formula

@@ -8,7 +8,7 @@ ghost use Rattle.ln_tree.specs.Formula.{formula, tree_of};
 ghost use Rattle.ln_bound.specs.Light.{AreLight};
 ghost use Rattle.ln_bound.specs.Loads.{loaded_pred};
 ghost use Rattle.ln_bound.specs.Exact.{AreExact, IsExact};
-ghost use Rattle.ln_bound.specs.Typed.{TInput, TNeg, TNum, TPow, TTwo, kind_of, pair, range_of, untyped, width};
+ghost use Rattle.ln_bound.specs.Typed.{TInput, TNeg, TNum, TPow, TTwo, kind_of_two, pair, range_of, untyped, width};
 ghost use Rattle.ln_bound.specs.View.{typed};
 ghost use Rattle.ln_bound.specs.Ranges.{HaveRange, LetsHaveRange, ranges};
 ghost use Rattle.ln_bound.specs.Widths.{least, wider};
@@ -154,7 +154,7 @@ fn raised(alloc: Global, x: Fitted, n: u8) -> Result<Fitted, NoMemory>
 
 /// Which operation on two an expression is, where it is one; else a sum.
 pub fn kind_of(e: &Expr) -> Two
-    ensures { result ≡ kind_of (formula e.now) }
+    ensures { result ≡ kind_of_two (formula e.now) }
 {
     match &e.node {
         Node::Sub(_, _) => Two::Minus,

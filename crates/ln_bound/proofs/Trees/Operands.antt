@@ -12,12 +12,12 @@ use Rattle.ln_interval.specs.Range.{Range}
 use Rattle.ln_bound.specs.declared.fitted.Two.{Two}
 use Rattle.ln_bound.specs.declared.fitted.Two.TheVariants.{Plus, Minus, Times}
 use Rattle.ln_bound.specs.Ranges.{HaveRange}
-use Rattle.ln_bound.specs.Typed.{formula_of, kind_of, two_of}
+use Rattle.ln_bound.specs.Typed.{formula_of, kind_of_two, two_of}
 
 -- what is a sum, a difference or a product has the formula of its operation
 pub operands : (at : Span) (n x y z : Node) (f g : Formula) → (n ≡ x) ⊎ ((n ≡ y) ⊎ (n ≡ z)) → node_formula at x ≡ FAdd at f g
     → node_formula at y ≡ FSub at f g → node_formula at z ≡ FMul at f g
-    → node_formula at n ≡ formula_of (kind_of (node_formula at n)) at f g
+    → node_formula at n ≡ formula_of (kind_of_two (node_formula at n)) at f g
 operands at n x y z f g (inl e) a b c = rw (e, a) refl
 operands at n x y z f g (inr (inl e)) a b c = rw (e, b) refl
 operands at n x y z f g (inr (inr e)) a b c = rw (e, c) refl

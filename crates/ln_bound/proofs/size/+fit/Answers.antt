@@ -1,7 +1,7 @@
 use Rattle.std.proofs.Common.{◌≡◌, ap, length, map, refl, subst}
 use Rattle.std.proofs.lemmas.Result.{IfOk-weaker}
 use Rattle.ln_tree.specs.Formula.{FPow, formula, node_formula, tree}
-use Rattle.ln_bound.specs.Typed.{formula_of, kind_of, pair}
+use Rattle.ln_bound.specs.Typed.{formula_of, kind_of_two, pair}
 use Rattle.ln_bound.specs.Ranges.{HaveRange}
 use Rattle.ln_bound.specs.View.{typed}
 use Rattle.ln_bound.proofs.Soundness.ExactLaws.{power_range, two_range, two_untyped}
@@ -10,7 +10,7 @@ use Rattle.ln_bound.proofs.size.+fit.Goals as goal
 
 pub fit-requires-in-Add : goal.fit-requires-in-Add
 fit-requires-in-Add t c =
-    let k = kind_of (formula c.args.e.now) in
+    let k = kind_of_two (formula c.args.e.now) in
     let at = c.args.e.now.at in
     let x = formula c.deref-in-Add.result.now in
     let y = formula c.in-Add.y.value in
@@ -22,7 +22,7 @@ fit-requires-in-Add t c =
 
 pub fit-requires-in-Add-2 : goal.fit-requires-in-Add-2
 fit-requires-in-Add-2 t c =
-    let k = kind_of (formula c.args.e.now) in
+    let k = kind_of_two (formula c.args.e.now) in
     let at = c.args.e.now.at in
     let x = formula c.deref-in-Add.result.now in
     let y = formula c.deref-in-Add-2.result.now in
@@ -34,7 +34,7 @@ fit-requires-in-Add-2 t c =
 
 pub two-requires : goal.two-requires
 two-requires t c =
-    let k = kind_of (formula c.args.e.now) in
+    let k = kind_of_two (formula c.args.e.now) in
     let at = c.args.e.now.at in
     let x = formula c.deref-in-Add.result.now in
     let y = formula c.deref-in-Add-2.result.now in
@@ -47,7 +47,7 @@ two-requires t c =
 
 pub returns-in_ok-y-in-Add-clause-tree : goal.returns-in_ok-y-in-Add-clause-tree
 returns-in_ok-y-in-Add-clause-tree t c =
-    let k = kind_of (formula c.args.e.now) in
+    let k = kind_of_two (formula c.args.e.now) in
     let at = c.args.e.now.at in
     let x = formula c.deref-in-Add.result.now in
     let y = formula c.deref-in-Add-2.result.now in

@@ -6,7 +6,7 @@ use Rattle.std.proofs.lemmas.Result.{err_from_is_err_and}
 use Rattle.ln_bound.specs.Loads.{loaded}
 use Rattle.ln_bound.specs.Measures.{range_in, size_in}
 use Rattle.ln_bound.specs.Stop.{StopsWeighing}
-use Rattle.ln_bound.specs.Typed.{formula_of, kind_of}
+use Rattle.ln_bound.specs.Typed.{formula_of, kind_of_two}
 use Rattle.ln_tree.specs.Formula.{FInput, FName, FNeg, FNum, FPow, Formula, formula, node_count, node_formula}
 use Rattle.ln_bound.proofs.Measures.Nodes.{first_stops, leaf_weighed, operand_stops, opposite_weighed, power_weighed, second_stops, two_weighed, weighed_as}
 use Rattle.ln_bound.proofs.Trees.Operands.{count_two, operands}
@@ -42,7 +42,7 @@ weigh_in-requires t c =
 
 pub weigh_in-requires-in-Add : goal.weigh_in-requires-in-Add
 weigh_in-requires-in-Add t c =
-    let k = kind_of (formula c.args.e.now) in
+    let k = kind_of_two (formula c.args.e.now) in
     let at = c.args.e.now.at in
     let x = formula c.deref-in-Add.result.now in
     let y = formula c.in-Add.y.value in
@@ -52,7 +52,7 @@ weigh_in-requires-in-Add t c =
 
 pub weigh_in-requires-in-Add-2 : goal.weigh_in-requires-in-Add-2
 weigh_in-requires-in-Add-2 t c =
-    let k = kind_of (formula c.args.e.now) in
+    let k = kind_of_two (formula c.args.e.now) in
     let at = c.args.e.now.at in
     let x = formula c.deref-in-Add.result.now in
     let y = formula c.deref-in-Add-2.result.now in
@@ -77,7 +77,7 @@ returns-in_err-a-in-Neg t c =
 
 pub returns-in_err-a-in-Add : goal.returns-in_err-a-in-Add
 returns-in_err-a-in-Add t c =
-    let k = kind_of (formula c.args.e.now) in
+    let k = kind_of_two (formula c.args.e.now) in
     let at = c.args.e.now.at in
     let x = formula c.deref-in-Add.result.now in
     let y = formula c.in-Add.y.value in
@@ -89,7 +89,7 @@ returns-in_err-a-in-Add t c =
 
 pub returns-in_err-b-in-Add : goal.returns-in_err-b-in-Add
 returns-in_err-b-in-Add t c =
-    let k = kind_of (formula c.args.e.now) in
+    let k = kind_of_two (formula c.args.e.now) in
     let at = c.args.e.now.at in
     let x = formula c.deref-in-Add.result.now in
     let y = formula c.deref-in-Add-2.result.now in
@@ -119,7 +119,7 @@ returns-in_ok-a-in-Neg t c =
 
 pub returns-in_ok-b-in-Add : goal.returns-in_ok-b-in-Add
 returns-in_ok-b-in-Add t c =
-    let k = kind_of (formula c.args.e.now) in
+    let k = kind_of_two (formula c.args.e.now) in
     let at = c.args.e.now.at in
     let x = formula c.deref-in-Add.result.now in
     let y = formula c.deref-in-Add-2.result.now in

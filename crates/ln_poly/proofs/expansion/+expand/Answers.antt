@@ -5,7 +5,7 @@ use Rattle.ln_tree.specs.Formula.{FNeg, FPow, Formula, formula, node_formula, tr
 use Rattle.ln_algebra.specs.Sizes.{two}
 use Rattle.ln_poly.specs.Expansion.{closed_lets, expanded, powers}
 use Rattle.ln_poly.specs.Ready.{AreLight}
-use Rattle.ln_bound.specs.Typed.{formula_of, kind_of}
+use Rattle.ln_bound.specs.Typed.{formula_of, kind_of_two}
 use Rattle.ln_bound.proofs.Trees.Operands.{operands}
 use Rattle.ln_poly.proofs.Expansions.Nodes.{are-ready, first-stops, one-err, one-ok, pow-room, second-stops, two-err, two-ok}
 use Rattle.ln_poly.proofs.expansion.+expand.Goals as goal
@@ -17,7 +17,7 @@ expand-requires-in-Add t c =
     let e = c.args.e.now in
     let x = formula c.deref-in-Add.result.now in
     let y = formula c.in-Add.y.value in
-    let q : formula e ≡ formula_of (kind_of (formula e)) e.at x y = rw c.deref-in-Add.ensures
+    let q : formula e ≡ formula_of (kind_of_two (formula e)) e.at x y = rw c.deref-in-Add.ensures
     (operands e.at e.node _ _ _ (formula c.in-Add.x.value) (formula c.in-Add.y.value) c.in-Add.is refl refl refl) in
     let r = are-ready vars ls (length c.args.polys.now) t _ e.at _ _ _ q c.decreases c.requires.fit c.requires.light in
     (r.first_falls, (c.requires.few, (r.first_fits, (r.first_light, c.requires.polys))))
@@ -29,7 +29,7 @@ expand-requires-in-Add-2 t c =
     let e = c.args.e.now in
     let x = formula c.deref-in-Add.result.now in
     let y = formula c.deref-in-Add-2.result.now in
-    let q : formula e ≡ formula_of (kind_of (formula e)) e.at x y = rw (c.deref-in-Add.ensures, c.deref-in-Add-2.ensures)
+    let q : formula e ≡ formula_of (kind_of_two (formula e)) e.at x y = rw (c.deref-in-Add.ensures, c.deref-in-Add-2.ensures)
     (operands e.at e.node _ _ _ (formula c.in-Add.x.value) (formula c.in-Add.y.value) c.in-Add.is refl refl refl) in
     let r = are-ready vars ls (length c.args.polys.now) t _ e.at _ _ _ q c.decreases c.requires.fit c.requires.light in
     (r.second_falls, (c.requires.few, (r.second_fits, (r.second_light, c.requires.polys))))
@@ -41,7 +41,7 @@ returns-in_err-f-in-Add-clause-err t c =
     let e = c.args.e.now in
     let x = formula c.deref-in-Add.result.now in
     let y = formula c.in-Add.y.value in
-    let q : formula e ≡ formula_of (kind_of (formula e)) e.at x y = rw c.deref-in-Add.ensures
+    let q : formula e ≡ formula_of (kind_of_two (formula e)) e.at x y = rw c.deref-in-Add.ensures
     (operands e.at e.node _ _ _ (formula c.in-Add.x.value) (formula c.in-Add.y.value) c.in-Add.is refl refl refl) in
     let r = are-ready vars ls (length c.args.polys.now) t _ e.at _ _ _ q c.decreases c.requires.fit c.requires.light in
     let p = err_from_is_err_and c.from_residual-in_err-f-in-Add.result c.from_residual-in_err-f-in-Add.ensures.1 in
@@ -55,7 +55,7 @@ returns-in_err-g-in-Add-clause-err t c =
     let e = c.args.e.now in
     let x = formula c.deref-in-Add.result.now in
     let y = formula c.deref-in-Add-2.result.now in
-    let q : formula e ≡ formula_of (kind_of (formula e)) e.at x y = rw (c.deref-in-Add.ensures, c.deref-in-Add-2.ensures)
+    let q : formula e ≡ formula_of (kind_of_two (formula e)) e.at x y = rw (c.deref-in-Add.ensures, c.deref-in-Add-2.ensures)
     (operands e.at e.node _ _ _ (formula c.in-Add.x.value) (formula c.in-Add.y.value) c.in-Add.is refl refl refl) in
     let r = are-ready vars ls (length c.args.polys.now) t _ e.at _ _ _ q c.decreases c.requires.fit c.requires.light in
     let p = err_from_is_err_and c.from_residual-in_err-g-in-Add.result c.from_residual-in_err-g-in-Add.ensures.1 in
@@ -69,7 +69,7 @@ both-requires t c =
     let e = c.args.e.now in
     let x = formula c.deref-in-Add.result.now in
     let y = formula c.deref-in-Add-2.result.now in
-    let q : formula e ≡ formula_of (kind_of (formula e)) e.at x y = rw (c.deref-in-Add.ensures, c.deref-in-Add-2.ensures)
+    let q : formula e ≡ formula_of (kind_of_two (formula e)) e.at x y = rw (c.deref-in-Add.ensures, c.deref-in-Add-2.ensures)
     (operands e.at e.node _ _ _ (formula c.in-Add.x.value) (formula c.in-Add.y.value) c.in-Add.is refl refl refl) in
     let r = are-ready vars ls (length c.args.polys.now) t _ e.at _ _ _ q c.decreases c.requires.fit c.requires.light in
     rw c.kind_of.ensures (r.room c.in_ok-f-in-Add.f c.in_ok-g-in-Add.g c.in_ok-f-in-Add.ensures.ok.normal c.in_ok-g-in-Add.ensures.ok.normal)
@@ -81,7 +81,7 @@ returns-in_ok-g-in-Add-clause-ok t c =
     let e = c.args.e.now in
     let x = formula c.deref-in-Add.result.now in
     let y = formula c.deref-in-Add-2.result.now in
-    let q : formula e ≡ formula_of (kind_of (formula e)) e.at x y = rw (c.deref-in-Add.ensures, c.deref-in-Add-2.ensures)
+    let q : formula e ≡ formula_of (kind_of_two (formula e)) e.at x y = rw (c.deref-in-Add.ensures, c.deref-in-Add-2.ensures)
     (operands e.at e.node _ _ _ (formula c.in-Add.x.value) (formula c.in-Add.y.value) c.in-Add.is refl refl refl) in
     let r = are-ready vars ls (length c.args.polys.now) t _ e.at _ _ _ q c.decreases c.requires.fit c.requires.light in
     let o = rw c.kind_of.ensures at c.both.ensures.ok in
@@ -96,7 +96,7 @@ returns-in_ok-g-in-Add-clause-err t c =
     let e = c.args.e.now in
     let x = formula c.deref-in-Add.result.now in
     let y = formula c.deref-in-Add-2.result.now in
-    let q : formula e ≡ formula_of (kind_of (formula e)) e.at x y = rw (c.deref-in-Add.ensures, c.deref-in-Add-2.ensures)
+    let q : formula e ≡ formula_of (kind_of_two (formula e)) e.at x y = rw (c.deref-in-Add.ensures, c.deref-in-Add-2.ensures)
     (operands e.at e.node _ _ _ (formula c.in-Add.x.value) (formula c.in-Add.y.value) c.in-Add.is refl refl refl) in
     let r = are-ready vars ls (length c.args.polys.now) t _ e.at _ _ _ q c.decreases c.requires.fit c.requires.light in
     let o = rw c.kind_of.ensures at c.both.ensures.err in
