@@ -2,7 +2,7 @@ use Rattle.std.proofs.Common.{◌≡◌, ℕ, zero, suc, refl, ◌∙◌, ap, ar
 use Rattle.std.proofs.lemmas.Int.{ints}
 use Rattle.std.proofs.Math.IntN.{ℤ, pos, ◌+ℤ◌, ◌*ℤ◌}
 use Rattle.ln_algebra.proofs.Expanded.Ring.{mul_add}
-use Rattle.ln_algebra.specs.Vector.{sum_over, parts, splits, joined}
+use Rattle.ln_algebra.specs.Vector.{sum_over, parts, splits, each_way}
 
 -- the sum over two lists
 pub sum_over-append : {A : Type 0} (f : A → ℤ) (xs ys : List A) → sum_over f (xs ++ ys) ≡ sum_over f xs +ℤ sum_over f ys
@@ -45,13 +45,13 @@ pub sum_parts_is : (n : ℕ) (f : ℕ → ℕ → ℤ) → sum_over (λ p. f p.0
 sum_parts_is zero f = omega (arith, ints)
 sum_parts_is (suc n) f = ap (λ t. f 0 (suc n) +ℤ t) (sum_over-map (λ p. f p.0 p.1) (λ p. (suc p.0, p.1)) (parts n) ∙ sum_parts_is n (λ i j. f (suc i) j))
 
--- the sum over joined parts is a sum of sums
+-- the sum over all ways is a sum of sums
 sum_joined : (f : List ℕ → List ℕ → ℤ) (ps : List (ℕ × ℕ)) (rest : List (List ℕ × List ℕ))
-    → sum_over (λ s. f s.0 s.1) (joined ps rest) ≡ sum_over (λ p. sum_over (λ s. f (p.0 ∷ s.0) (p.1 ∷ s.1)) rest) ps
+    → sum_over (λ s. f s.0 s.1) (each_way ps rest) ≡ sum_over (λ p. sum_over (λ s. f (p.0 ∷ s.0) (p.1 ∷ s.1)) rest) ps
 sum_joined f [] rest = refl
 sum_joined f (p ∷ ps) rest =
-    sum_over-append (λ s. f s.0 s.1) (map (λ s. (p.0 ∷ s.0, p.1 ∷ s.1)) rest) (joined ps rest)
-    ∙ ap (λ t. t +ℤ sum_over (λ s. f s.0 s.1) (joined ps rest)) (sum_over-map (λ s. f s.0 s.1) (λ s. (p.0 ∷ s.0, p.1 ∷ s.1)) rest)
+    sum_over-append (λ s. f s.0 s.1) (map (λ s. (p.0 ∷ s.0, p.1 ∷ s.1)) rest) (each_way ps rest)
+    ∙ ap (λ t. t +ℤ sum_over (λ s. f s.0 s.1) (each_way ps rest)) (sum_over-map (λ s. f s.0 s.1) (λ s. (p.0 ∷ s.0, p.1 ∷ s.1)) rest)
     ∙ ap (λ t. sum_over (λ s. f (p.0 ∷ s.0) (p.1 ∷ s.1)) rest +ℤ t) (sum_joined f ps rest)
 
 -- it is the sum over the list of splits
