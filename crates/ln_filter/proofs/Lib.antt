@@ -1,2 +1,3 @@
 pub mod Truncation
 pub mod Operations
+pub mod Slices

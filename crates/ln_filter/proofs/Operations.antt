@@ -1,5 +1,4 @@
 -- The operations of a filter.
-pub mod Two
 pub mod Style
 pub mod Lets
 pub mod Meaning
@@ -7,5 +6,6 @@ pub mod Nodes
 pub mod Leaves
 pub mod Costs
 pub mod Operands
+pub mod Marks
 pub mod Writes
 pub mod Sealed

@@ -4,6 +4,7 @@ pub mod Truncated
 pub mod Law
 pub mod Tried
 pub mod Lines
+pub mod Style
 pub mod Wrote
 pub mod Nodes
 pub mod Planned

@@ -50,24 +50,7 @@ pub record IsSmall (a : Triple) : Type 0 where
 abbrev pub of_raw : Raw → Triple
 of_raw r = record { k = r.k; h = r.h; e = r.e }
 
--- the size of each variable of the tree fits 64 bits
-abbrev pub AreNarrow : List VarInfo → Tree → Type 0
-AreNarrow vars (Num c) = Unit {0}
-AreNarrow vars (Input v) = sizes vars v < 2 ^ 63
-AreNarrow vars (Name j) = Unit {0}
-AreNarrow vars (Neg e) = AreNarrow vars e
-AreNarrow vars (Add e f) = AreNarrow vars e × AreNarrow vars f
-AreNarrow vars (Sub e f) = AreNarrow vars e × AreNarrow vars f
-AreNarrow vars (Mul e f) = AreNarrow vars e × AreNarrow vars f
-AreNarrow vars (Pow e n) = AreNarrow vars e
-
--- so in each of these
-abbrev pub AllNarrow : List VarInfo → List Tree → Type 0
-AllNarrow vars [] = Unit {0}
-AllNarrow vars (t ∷ ts) = AreNarrow vars t × AllNarrow vars ts
-
 -- the result for a tree: its triple, or none where a node isn't steady
 pub record IsTried (vars : List VarInfo) (lets : List Triple) (t : Tree) (o : Option Triple) : Type 0 where
   pub value : o ≡ tried vars lets t
   pub small : IfSome o (λ a. IsSmall a)
-  pub narrow : IfSome o (λ a. AreNarrow vars t)

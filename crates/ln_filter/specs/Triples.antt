@@ -51,6 +51,18 @@ sum_of a b = record { k = max a.k b.k; h = (aligned a b).h + (aligned b a).h; e 
 abbrev pub product_of : Triple → Triple → Triple
 product_of a b = record { k = a.k + b.k; h = a.h * b.h; e = a.h * b.e + b.h * a.e + a.e * b.e }
 
+-- of a sum, a difference or a product before it is cut
+abbrev pub raw_of : Two → Triple → Triple → Triple
+raw_of Plus a b = sum_of a b
+raw_of Minus a b = sum_of a b
+raw_of Times a b = product_of a b
+
+-- by which power of 2 an operand with the triple a is divided beside one with the triple b
+abbrev pub align : Two → Triple → Triple → ℕ
+align Plus a b = b.k - a.k
+align Minus a b = b.k - a.k
+align Times a b = 0
+
 -- of a sum or a difference, cut so that 31 binary digits remain
 abbrev pub added : Triple → Triple → Triple
 added a b = trimmed (sum_of a b)
@@ -61,9 +73,7 @@ multiplied a b = trimmed (product_of a b)
 
 -- of a sum, a difference or a product
 abbrev pub both : Two → Triple → Triple → Triple
-both Plus a b = added a b
-both Minus a b = added a b
-both Times a b = multiplied a b
+both o a b = trimmed (raw_of o a b)
 
 -- of the n-th power: the number 1, the base, or the power before it times the base
 abbrev pub powered : Triple → ℕ → Triple

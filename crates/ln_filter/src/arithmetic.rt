@@ -1,5 +1,5 @@
 //! Triples of nodes: exponent, size and error.
-ghost use Rattle.std.specs.Prelude.{◌≡◌, ◌+◌, ◌-◌, ◌*◌, ◌^◌, ◌<◌, ◌≤◌, true, All, IfSome, slice_index_or};
+ghost use Rattle.std.specs.Prelude.{◌≡◌, ℕ, ◌+◌, ◌-◌, ◌*◌, ◌^◌, ◌<◌, ◌≤◌, true, All, IfSome, slice_index_or};
 ghost use Rattle.std.specs.List.{list_all};
 ghost use Rattle.ln_tree.specs.Variables.{has_range};
 ghost use Rattle.ln_bound.specs.Typed.{untyped};
@@ -8,7 +8,7 @@ ghost use Rattle.ln_bound.specs.View.{typed};
 ghost use Rattle.ln_code.specs.Engine.{next};
 ghost use Rattle.ln_code.specs.FilterRules.{error_after};
 ghost use Rattle.ln_code.specs.Kept.{no_triple};
-ghost use Rattle.ln_filter.specs.Triples.{both, cut, excess, leaf, product_of, sum_of, trimmed, whole};
+ghost use Rattle.ln_filter.specs.Triples.{both, cut, excess, leaf, product_of, raw_of, sum_of, trimmed, whole};
 ghost use Rattle.ln_filter.specs.Tried.{IsSmall, IsTried, of_raw, power_tried, settled};
 
 use ln_bound::{FitOp, Fitted, Two};
@@ -85,8 +85,8 @@ fn trimmed(r: Raw) -> Option<Triple>
     })
 }
 
-/// What is known of a sum or a difference.
-pub(crate) fn sum(a: Triple, b: Triple) -> Raw
+// What is known of a sum or a difference.
+fn sum(a: Triple, b: Triple) -> Raw
     requires left { IsSmall a }
     requires right { IsSmall b }
     ensures value { of_raw result ≡ sum_of a b }
@@ -117,8 +117,22 @@ pub(crate) fn product(a: Triple, b: Triple) -> Raw
     }
 }
 
-// The triple of a power.
-fn powered(a: Triple, n: u8) -> Option<Triple>
+/// What is known of a sum, a difference or a product.
+pub(crate) fn joined(kind: Two, a: Triple, b: Triple) -> Raw
+    requires left { IsSmall a }
+    requires right { IsSmall b }
+    ensures value { of_raw result ≡ raw_of kind a b }
+    ensures power { result.k ≤ 510 }
+    ensures size { result.h < 2 ^ 62 }
+{
+    match kind {
+        Two::Plus | Two::Minus => sum(a, b),
+        Two::Times => product(a, b),
+    }
+}
+
+/// The triple of a power, or none where a product on the way has too large an error or exponent.
+pub(crate) fn powered(a: Triple, n: u8) -> Option<Triple>
     requires { IsSmall a }
     ensures value { result ≡ power_tried a n }
     ensures small { IfSome result (λ a. IsSmall a) }
@@ -135,9 +149,8 @@ fn powered(a: Triple, n: u8) -> Option<Triple>
 
 /// The largest absolute value of a variable, at least 1.
 pub(crate) fn size_at(vars: &[VarInfo], v: u8) -> u64
-    requires { list_all has_range vars.now ≡ true }
     ensures value { result ≡ sizes vars.now v }
-    ensures small { result < 2 ^ 63 }
+    ensures small { list_all has_range vars.now ≡ true → result < 2 ^ 63 }
 {
     match vars.get(usize::from(v)) {
         None => 0,
@@ -145,8 +158,22 @@ pub(crate) fn size_at(vars: &[VarInfo], v: u8) -> u64
     }
 }
 
-/// The triple of a let.
-pub(crate) fn let_triple(lets: &[Triple], j: u8) -> Triple
+/// The size of each variable fits 63 bits, since its range is one of 64-bit numbers.
+pub(crate) fn narrow(vars: &[VarInfo])
+    requires { list_all has_range vars.now ≡ true }
+    ensures { (v : ℕ) → sizes vars.now v < 2 ^ 63 }
+{
+    match vars {
+        [] => {}
+        [_, rest @ ..] => {
+            size_at(vars, 0);
+            narrow(rest)
+        }
+    }
+}
+
+// The triple of a let.
+fn let_triple(lets: &[Triple], j: u8) -> Triple
     requires { All IsSmall lets.now }
     ensures value { result ≡ slice_index_or lets.now j no_triple }
     ensures small { IsSmall result }
@@ -166,10 +193,7 @@ fn both(kind: Two, a: Option<Triple>, b: Option<Triple>) -> Option<Triple>
 {
     let a = a?;
     let b = b?;
-    match kind {
-        Two::Plus | Two::Minus => trimmed(sum(a, b)),
-        Two::Times => trimmed(product(a, b)),
-    }
+    trimmed(joined(kind, a, b))
 }
 
 // The triple of a power, where the base has one.
@@ -184,8 +208,7 @@ fn raised(a: Option<Triple>, n: u8) -> Option<Triple>
 
 /// The triple of a tree, or none where one of its nodes has too large an error or exponent.
 pub(crate) fn tried(vars: &[VarInfo], lets: &[Triple], t: &Fitted) -> Option<Triple>
-    requires ranges { list_all has_range vars.now ≡ true }
-    requires lets { All IsSmall lets.now }
+    requires { All IsSmall lets.now }
     ensures { IsTried vars.now lets.now (untyped (typed t.now)) result }
 {
     match &t.op {

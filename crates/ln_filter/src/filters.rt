@@ -14,10 +14,11 @@ ghost use Rattle.ln_filter.specs.Planned.{IsPlan};
 ghost use Rattle.ln_filter.specs.Steady.{HasFilter};
 ghost use Rattle.ln_filter.specs.Truncated.{root_number, root_triple};
 
+use crate::arithmetic::narrow;
 use crate::emit::{put_lets, put_steady};
-use ln_base::NoMemory;
+use ln_base::{NoMemory, Seq};
 use ln_bound::FittedPred;
-use ln_code::{Builder, FilterBlock};
+use ln_code::{Draft, FilterBlock};
 use std::alloc::Global;
 
 // The filter, or none, with all that is known of it.
@@ -25,13 +26,15 @@ fn written(alloc: Global, p: &FittedPred) -> Result<Option<FilterBlock>, NoMemor
     ensures { IfOk result (λ o. IsPlan p.now.shape.vars (map typed p.now.lets) (typed p.now.root) o) }
 {
     let vars = p.shape.vars.as_slice();
-    let mut draft = Builder::new(alloc);
-    match put_lets(alloc, &mut draft, vars, p.lets.as_slice())? {
+    narrow(vars);
+    let mut draft = Draft::new(alloc);
+    match put_lets(&mut draft, vars, Seq::new(alloc), p.lets.as_slice(), 0)? {
         None => Ok(None),
         Some(lets) => match put_steady(&mut draft, vars, lets.as_slice(), &p.root)? {
             None => Ok(None),
             Some(_) => {
-                let code = draft.built();
+                let Draft { code, kept: _kept } = draft;
+                let code = code.built();
                 Ok(Some(FilterBlock::seal(code.ops, code.bounds, 2048)))
             }
         },

@@ -9,5 +9,6 @@ pub(crate) mod arithmetic;
 pub(crate) mod emit;
 pub mod filters;
 pub mod laws;
+pub(crate) mod marks;
 
 pub use filters::plan;

@@ -5,8 +5,8 @@ use Rattle.ln_bound.specs.Typed.{Typed, cost, costs}
 use Rattle.ln_code.specs.declared.op.Triple.{Triple}
 use Rattle.ln_code.specs.StackCode.{division}
 use Rattle.ln_code.proofs.Building.Sizes.{Weighs, cost_positive, per, weights}
-use Rattle.ln_filter.specs.Triples.{cut, excess}
-use Rattle.ln_filter.proofs.Operations.Style.{align, filter_style}
+use Rattle.ln_filter.specs.Triples.{align, cut, excess}
+use Rattle.ln_filter.proofs.Operations.Style.{style_in}
 
 per_three : (n : ℕ) → per 1 n ≡ 3 * n
 per_three zero = refl
@@ -17,7 +17,7 @@ cut_cost zero a = omega arith
 cut_cost (suc n) a = omega arith
 
 -- at most six operations for each that a tree costs
-pub filter_weighs : (vars : List VarInfo) (lets : List Typed) → Weighs (filter_style vars lets) 1 (λ t. 6 * cost t)
+pub filter_weighs : (vars : List VarInfo) (lets : List Typed) → Weighs (style_in vars lets) 1 (λ t. 6 * cost t)
 filter_weighs vars lets = record {
   excess = λ a. cut_cost (excess a.h) a;
   align = λ o a b. cut_cost (align o a b) a;

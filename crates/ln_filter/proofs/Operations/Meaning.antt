@@ -1,5 +1,5 @@
 -- What code of filters means by the rules: what is known on the stack, which trees may be written, and which values stand for them.
-use Rattle.std.specs.Prelude.{◌≡◌, ℕ, ◌≤◌, ℤ, unsigned_abs, List}
+use Rattle.std.specs.Prelude.{◌≡◌, ℕ, ◌≤◌, ℤ, unsigned_abs, All, List}
 use Rattle.ln_algebra.specs.Tree as tree
 use Rattle.ln_algebra.specs.Tree.{Tree}
 use Rattle.ln_tree.specs.declared.shape.VarInfo.{VarInfo}
@@ -18,11 +18,9 @@ use Rattle.ln_code.proofs.Building.Names.{closed, size_in, tree_in}
 use Rattle.ln_code.proofs.Building.Runs.{Meaning}
 use Rattle.ln_filter.specs.Nodes.{PushesNode}
 use Rattle.ln_filter.specs.Steady.{AreSteady}
-use Rattle.ln_filter.specs.Tried.{AreNarrow}
-use Rattle.ln_filter.specs.Triples.{cut, leaf, whole}
-use Rattle.ln_filter.proofs.Truncation.Steady.{AreSmall}
-use Rattle.ln_filter.proofs.Operations.Style.{filter_style, triple_in, triples_of}
-use Rattle.ln_filter.proofs.Operations.Two.{raw_of}
+use Rattle.ln_filter.specs.Tried.{IsSmall}
+use Rattle.ln_filter.specs.Triples.{cut, leaf, raw_of, whole}
+use Rattle.ln_filter.proofs.Operations.Style.{style_in, triple_in, triples_of}
 
 -- ---- where operations run
 
@@ -77,28 +75,25 @@ pub record MayPush (r : Setting) (k : FilterKnown) : Type 0 where
 
 -- ---- trees
 
--- a tree that may be written after these lets: sound, steady and narrow, after lets with small triples, and its nodes may be pushed
+-- a tree that may be written after these lets: sound and steady, after lets with small triples, and its nodes may be pushed
 pub record IsGood (r : Setting) (lets : List Typed) (t : Typed) : Type 0 where
   pub sound : Sound r.vars lets t
   pub steady : AreSteady r.vars (triples_of r.vars lets) (untyped t)
-  pub narrow : AreNarrow r.vars (untyped t)
-  pub small : AreSmall (triples_of r.vars lets)
+  pub small : All IsSmall (triples_of r.vars lets)
   pub nodes : (e : Tree) (v : Width) → IsNode (closed lets) t e v → r.is_node e v
 
 -- a value that stands for a tree: it has the tree's triple and polynomial, and a size up to the tree's
 pub record StandsFor (r : Setting) (lets : List Typed) (t : Typed) (v : FilterKnown) : Type 0 where
-  pub tree : Tree
-  pub size : ℕ
-  pub is : v ≡ at (triple_in r.vars lets t) tree size
-  pub fits : size ≤ size_in lets t
-  pub same : Same tree (tree_in lets t)
+  pub triple : v.triple ≡ triple_in r.vars lets t
+  pub fits : v.size ≤ size_in lets t
+  pub same : Same v.tree (tree_in lets t)
 
 -- what code means in a setting
 abbrev pub meaning : Setting → Meaning Triple FilterKnown
 meaning r = record {
   engine = filter_rules r.vars r.depth;
   depth = r.depth;
-  style = filter_style r.vars;
+  style = style_in r.vars;
   good = IsGood r;
   stands = StandsFor r;
   may = PushesNode r.is_node;

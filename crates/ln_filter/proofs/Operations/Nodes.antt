@@ -5,7 +5,7 @@ use Rattle.std.specs.Prelude.{Option, Some, None, slice_get, ◌==◌}
 use Rattle.std.specs.Int.{div_ceil}
 use Rattle.std.proofs.lemmas.Bool.{le-leb, eq-eqb}
 use Rattle.std.proofs.lemmas.Nat.{mul-le}
-use Rattle.std.proofs.Math.Nat.{pow-suc, pow-zero, div-one, div-le_self}
+use Rattle.std.proofs.Math.Nat.{pow-suc, pow-zero, div-le_self}
 use Rattle.ln_algebra.specs.Coefficient.{Series}
 use Rattle.ln_algebra.specs.Tree as tree
 use Rattle.ln_algebra.specs.Tree.{Tree}
@@ -33,11 +33,11 @@ use Rattle.ln_code.proofs.Building.Operands.{root_room, sound_base, sound_left, 
 use Rattle.ln_code.proofs.Building.Runs.{Cuts, Is, Trims}
 use Rattle.ln_code.proofs.Building.Lands.{Beside, Facts, IsNamed}
 use Rattle.ln_filter.specs.Tried.{IsSmall}
-use Rattle.ln_filter.specs.Triples.{aligned, cut, excess, leaf, powered, product_of, sum_of, trimmed, whole}
+use Rattle.ln_filter.specs.Triples.{align, aligned, both, excess, leaf, powered, product_of, raw_of, sum_of, triple, trimmed, whole}
+use Rattle.ln_filter.specs.Style.{cut_nothing, operands_steady}
 use Rattle.ln_filter.proofs.Truncation.Steady.{powered_small, triple_small}
 use Rattle.ln_filter.proofs.Operations.Lets.{triple_front, triple_last}
-use Rattle.ln_filter.proofs.Operations.Style.{align, filter_style, triple_in, triples_of}
-use Rattle.ln_filter.proofs.Operations.Two.{both_form, narrow_operands, raw_of, steady_operands, two_triple}
+use Rattle.ln_filter.proofs.Operations.Style.{style_in, triple_in, triples_of}
 use Rattle.ln_filter.proofs.Operations.Meaning.{Fits, IsGood, MayPush, Setting, StandsFor, at, cut_known, meaning, neg_known, number_known}
 use Rattle.ln_filter.proofs.Operations.Meaning.{raw_known, variable_known}
 
@@ -58,27 +58,28 @@ known_at k h e x y z p f =
 self_known : (k : FilterKnown) → Fits k → filter_known k.triple.k k.triple.h k.triple.e k.size k.tree k.triple ≡ Some k
 self_known k f = known_at k.triple.k k.triple.h k.triple.e k refl (le_self k.triple.h) (le_self k.triple.e) f
 
-cut_nothing : (a : Triple) → a ≡ cut 0 a
-cut_nothing a =
-    let e : a.k + 0 ≡ a.k = omega arith in
-    let f : a.h / 2 ^ 0 ≡ a.h = rw pow-zero (div-one a.h) in
-    rw (e, f) refl
-
 cut_fits : (n : ℕ) (k : FilterKnown) → Fits k → Fits (cut_known n k)
 cut_fits n k f =
     let h : k.triple.h ≤ limit W64 = f.number in
     let g : k.triple.h / 2 ^ n ≤ k.triple.h = div-le_self k.triple.h (2 ^ n) in
     record { number = omega (arith, g, h); size = f.size }
 
-push_size : (m n j : ℕ) → j ≡ n → m / 2 ^ j ≤ m / 2 ^ n
-push_size m n j e = rw e (le_self (m / 2 ^ n))
-
-push_covers : (n j : ℕ) → j ≡ n → push_error j ≤ error_after n 0
-push_covers zero j e = rw e (omega arith)
-push_covers (suc n) j e = rw e (at_least (div_ceil 0 (2 ^ suc n)))
+push_covers : (n : ℕ) → push_error n ≤ error_after n 0
+push_covers zero = omega arith
+push_covers (suc n) = at_least (div_ceil 0 (2 ^ suc n))
   where
     at_least : (c : ℕ) → 1 ≤ c + 1
     at_least c = omega arith
+
+-- a number, whose triple covers it
+number_is_known : (r : Setting) (c : ℤ) → Fits (number_known c)
+    → (filter_rules r.vars r.depth).push c (leaf (unsigned_abs c)) ≡ Some (number_known c)
+number_is_known r c f =
+    let m : ℕ = unsigned_abs c in
+    let n : ℕ = excess (unsigned_abs c) in
+    let z : 0 + n ≡ n = omega arith in
+    known_at (0 + n) (m / 2 ^ (0 + n)) (push_error (0 + n)) (number_known c) refl
+    (subst (λ j. m / 2 ^ j ≤ m / 2 ^ n) (sym z) (le_self (m / 2 ^ n))) (subst (λ j. push_error j ≤ error_after n 0) (sym z) (push_covers n)) f
 
 aligned_power : (a b : ℕ) → a + (b - a) ≡ b + (a - b)
 aligned_power a b = omega arith
@@ -89,19 +90,21 @@ largest_power a b = omega arith
 at_one_power : (a b : ℕ) (o p : Option FilterKnown) → a ≡ b → o ≡ p → (if a == b then o else None) ≡ p
 at_one_power a b o p e h = rw (eq-eqb a b e) h
 
+sum_is_known : (x y : FilterKnown) (t : Tree) → Fits (at (sum_of x.triple y.triple) t (x.size + y.size))
+    → (if (aligned x.triple y.triple).k == (aligned y.triple x.triple).k then filter_known (aligned x.triple y.triple).k
+    ((aligned x.triple y.triple).h + (aligned y.triple x.triple).h) ((aligned x.triple y.triple).e + (aligned y.triple x.triple).e) (x.size + y.size) t
+    (sum_of x.triple y.triple) else None) ≡ Some (at (sum_of x.triple y.triple) t (x.size + y.size))
+sum_is_known x y t f =
+    let a : Triple = aligned x.triple y.triple in
+    let b : Triple = aligned y.triple x.triple in
+    at_one_power a.k b.k _ _ (aligned_power x.triple.k y.triple.k) (known_at a.k (a.h + b.h) (a.e + b.e) (at (sum_of x.triple y.triple) t (x.size + y.size))
+    (largest_power x.triple.k y.triple.k) (le_self (a.h + b.h)) (le_self (a.e + b.e)) f)
+
 -- a sum, a difference or a product of two operands as the operation wants them
 two_is_known : (k : Two) (x y : FilterKnown) → Fits (raw_known k x y) → two_known k (raw_of k x.triple y.triple)
     (cut_known (align k x.triple y.triple) x) (cut_known (align k y.triple x.triple) y) ≡ Some (raw_known k x y)
-two_is_known Plus x y f =
-    let a : Triple = aligned x.triple y.triple in
-    let b : Triple = aligned y.triple x.triple in
-    at_one_power a.k b.k _ _ (aligned_power x.triple.k y.triple.k) (known_at a.k (a.h + b.h) (a.e + b.e) (raw_known Plus x y)
-    (largest_power x.triple.k y.triple.k) (le_self (a.h + b.h)) (le_self (a.e + b.e)) f)
-two_is_known Minus x y f =
-    let a : Triple = aligned x.triple y.triple in
-    let b : Triple = aligned y.triple x.triple in
-    at_one_power a.k b.k _ _ (aligned_power x.triple.k y.triple.k) (known_at a.k (a.h + b.h) (a.e + b.e) (raw_known Minus x y)
-    (largest_power x.triple.k y.triple.k) (le_self (a.h + b.h)) (le_self (a.e + b.e)) f)
+two_is_known Plus x y f = sum_is_known x y (two_of Plus x.tree y.tree) f
+two_is_known Minus x y f = sum_is_known x y (two_of Minus x.tree y.tree) f
 two_is_known Times x y f =
     let a : Triple = product_of x.triple y.triple in
     let first = subst (λ b. two_known Times a (at b x.tree x.size) y ≡ Some (raw_known Times x y)) (cut_nothing x.triple)
@@ -120,7 +123,7 @@ is_known r op o k P m e h = record {
 
 -- a value after its division
 cut_is : (r : Setting) (lets : List Typed) (n : ℕ) (k : FilterKnown) (P : FilterKnown → Type 0) → MayPush r k → P (cut_known n k)
-    → Cuts (meaning r) (filter_style r.vars lets) n k.triple P k
+    → Cuts (meaning r) (style_in r.vars lets) n k.triple P k
 cut_is r lets zero k P m h = subst P (ap (λ (a : Triple). at a k.tree k.size) (sym (cut_nothing k.triple))) h
 cut_is r lets (suc n) k P m h =
     let f = cut_fits (suc n) k m.fits in
@@ -128,7 +131,7 @@ cut_is r lets (suc n) k P m h =
 
 -- an operation and the division that leaves 31 binary digits
 trim_is : (r : Setting) (lets : List Typed) (op : Op) (o : Option FilterKnown) (k : FilterKnown) (P : FilterKnown → Type 0) → MayPush r k → o ≡ Some k
-    → P (at (trimmed k.triple) k.tree k.size) → Trims (meaning r) (filter_style r.vars lets) op k.triple P o
+    → P (at (trimmed k.triple) k.tree k.size) → Trims (meaning r) (style_in r.vars lets) op k.triple P o
 trim_is r lets op o k P m e h = is_known r op o k _ m e (cut_is r lets (excess k.triple.h) k P m h)
 
 -- ---- sizes
@@ -174,29 +177,27 @@ pub good_small : (r : Setting) (lets : List Typed) (t : Typed) → IsGood r lets
 good_small r lets t g = triple_small r.vars (triples_of r.vars lets) (untyped t) g.small g.steady
 
 -- a value that stands for a tree that may be written may be pushed
-may_push : (r : Setting) (lets : List Typed) (t : Typed) (e : Tree) (n : ℕ) → IsGood r lets t → n ≤ size_in lets t → Same e (tree_in lets t)
-    → MayPush r (at (triple_in r.vars lets t) e n)
-may_push r lets t e n g f q =
+may_push : (r : Setting) (lets : List Typed) (t : Typed) (v : FilterKnown) → IsGood r lets t → StandsFor r lets t v → MayPush r v
+may_push r lets t v g x =
     let s = g.sound in
+    let f = x.fits in
     let h = root_room (running lets) (untyped t) s.sizes in
     record {
-      fits = record { number = small_narrow (triple_in r.vars lets t) (good_small r lets t g); size = omega (arith, f, h) };
-      node = record { node = tree_in lets t; width = width t; there = g.nodes (tree_in lets t) (width t) (root_node (closed lets) t); same = q };
+      fits = record { number = rw x.triple (small_narrow (triple_in r.vars lets t) (good_small r lets t g)); size = omega (arith, f, h) };
+      node = record { node = tree_in lets t; width = width t; there = g.nodes (tree_in lets t) (width t) (root_node (closed lets) t); same = x.same };
     }
 
+-- an operation that leaves such a value
+stands_is : (r : Setting) (lets : List Typed) (t : Typed) (op : Op) (o : Option FilterKnown) (v : FilterKnown) → IsGood r lets t → StandsFor r lets t v
+    → (Fits v → o ≡ Some v) → Is (meaning r) op o (StandsFor r lets t)
+stands_is r lets t op o v g x e = let m = may_push r lets t v g x in is_known r op o v (StandsFor r lets t) m (e m.fits) x
+
 -- a number is pushed
-push_is : (r : Setting) (lets : List Typed) (t : Typed) (c : ℤ) → triple_in r.vars lets t ≡ leaf (unsigned_abs c) → IsGood r lets t
+push_is : (r : Setting) (lets : List Typed) (t : Typed) (c : ℤ) → leaf (unsigned_abs c) ≡ triple_in r.vars lets t → IsGood r lets t
     → unsigned_abs c ≤ size_in lets t → Same (tree.Num c) (tree_in lets t)
     → Is (meaning r) (Push c) ((filter_rules r.vars r.depth).push c (triple_in r.vars lets t)) (StandsFor r lets t)
-push_is r lets t c e g f q =
-    let a : Triple = leaf (unsigned_abs c) in
-    let n : ℕ = excess (unsigned_abs c) in
-    let z : 0 + excess (unsigned_abs c) ≡ excess (unsigned_abs c) = omega arith in
-    let m : MayPush r (number_known c) = rw e at (may_push r lets t (tree.Num c) (unsigned_abs c) g f q) in
-    let k = known_at a.k (unsigned_abs c / 2 ^ a.k) (push_error a.k) (number_known c) refl (push_size (unsigned_abs c) n (0 + n) z)
-    (push_covers n (0 + n) z) m.fits in
-    is_known r (Push c) _ (number_known c) (StandsFor r lets t) m (rw e k)
-    (record { tree = tree.Num c; size = unsigned_abs c; is = rw e refl; fits = f; same = q })
+push_is r lets t c e g f q = subst (λ a. Is (meaning r) (Push c) ((filter_rules r.vars r.depth).push c a) (StandsFor r lets t)) e
+    (stands_is r lets t (Push c) _ (number_known c) g (record { triple = e; fits = f; same = q }) (number_is_known r c))
 
 size_there : (vars : List VarInfo) (v : ℕ) → v < length vars → (i : VarInfo) × (slice_get vars v ≡ Some i) × (sizes vars v ≡ size_of i)
 size_there [] v h = absurd (omega arith)
@@ -204,11 +205,10 @@ size_there (i ∷ is) zero h = (i, refl, refl)
 size_there (i ∷ is) (suc v) h = size_there is v (omega arith)
 
 -- a variable
-input_is : (r : Setting) (lets : List Typed) (v : ℕ) (p : Range) (w : Width) → IsGood r lets (TInput v p w)
-    → Trims (meaning r) (filter_style r.vars lets) (Input v) (whole (sizes r.vars v)) (StandsFor r lets (TInput v p w))
+input_is : (r : Setting) (lets : List Typed) (v : ℕ) (p : Range) (w : Width) → sizes r.vars v < 2 ^ 63 → IsGood r lets (TInput v p w)
+    → Trims (meaning r) (style_in r.vars lets) (Input v) (whole (sizes r.vars v)) (StandsFor r lets (TInput v p w))
     ((filter_rules r.vars r.depth).input v (whole (sizes r.vars v)))
-input_is r lets v p w g =
-    let n : sizes r.vars v < 2 ^ 63 = g.narrow in
+input_is r lets v p w n g =
     let i = g.sound.nodes in
     let m : MayPush r (variable_known r.vars v) = record {
       fits = record { number = omega (arith, n); size = omega arith };
@@ -221,16 +221,13 @@ input_is r lets v p w g =
     let q : next (slice_get r.vars v) (λ i. filter_known 0 (size_of i) 0 1 (tree.Input v) (whole (sizes r.vars v)))
     ≡ Some (variable_known r.vars v) = rw (x.1, e) k in
     trim_is r lets (Input v) _ (variable_known r.vars v) (StandsFor r lets (TInput v p w)) m q
-    (record { tree = tree.Input v; size = 1; is = refl; fits = le_self 1; same = same_self (tree.Input v) })
+    (record { triple = refl; fits = le_self 1; same = same_self (tree.Input v) })
 
 -- a value from a local
 get_is : (r : Setting) (lets : List Typed) (t : Typed) (j : ℕ) (v : FilterKnown) → IsGood r lets t → StandsFor r lets t v
     → Is (meaning r) (Get j) ((filter_rules r.vars r.depth).again v (triple_in r.vars lets t)) (StandsFor r lets t)
-get_is r lets t j v g x =
-    let k : FilterKnown = at (triple_in r.vars lets t) x.tree x.size in
-    let m = may_push r lets t x.tree x.size g x.fits x.same in
-    subst (λ v. Is (meaning r) (Get j) ((filter_rules r.vars r.depth).again v (triple_in r.vars lets t)) (StandsFor r lets t)) (sym x.is)
-    (is_known r (Get j) _ k (StandsFor r lets t) m (self_known k m.fits) (record { tree = x.tree; size = x.size; is = refl; fits = x.fits; same = x.same }))
+get_is r lets t j v g x = subst (λ a. Is (meaning r) (Get j) ((filter_rules r.vars r.depth).again v a) (StandsFor r lets t)) x.triple
+    (stands_is r lets t (Get j) _ v g x (self_known v))
 
 -- where its range is covered there is such a let
 pub let_there : (o : Option Typed) (p : Range) (w : Width) → CoversLet o p w → (u : Typed) × (o ≡ Some u)
@@ -245,19 +242,16 @@ name_is r lets j p w g =
     record {
       named = u.0;
       there = u.1;
-      leads = λ v x. get_is r lets (TLet j p w) j v g (record { tree = x.tree; size = x.size; is = x.is; fits = x.fits; same = x.same });
+      leads = λ v x. get_is r lets (TLet j p w) j v g (record { triple = x.triple; fits = x.fits; same = x.same });
     }
 
 -- a negation
 neg_is : (r : Setting) (lets : List Typed) (t : Typed) (p : Range) (w : Width) (v : FilterKnown) → IsGood r lets (TNeg t p w) → StandsFor r lets t v
     → Is (meaning r) (Neg W64) ((filter_rules r.vars r.depth).minus W64 (triple_in r.vars lets t) v) (StandsFor r lets (TNeg t p w))
 neg_is r lets t p w v g x =
-    let k : FilterKnown = at (triple_in r.vars lets t) x.tree x.size in
-    let q : Same (tree.Neg x.tree) (tree_in lets (TNeg t p w)) = same_neg x.tree (tree_in lets t) x.same in
-    let m : MayPush r (neg_known (at (triple_in r.vars lets t) x.tree x.size)) = may_push r lets (TNeg t p w) (tree.Neg x.tree) x.size g x.fits q in
-    subst (λ v. Is (meaning r) (Neg W64) ((filter_rules r.vars r.depth).minus W64 (triple_in r.vars lets t) v) (StandsFor r lets (TNeg t p w))) (sym x.is)
-    (is_known r (Neg W64) _ (neg_known k) (StandsFor r lets (TNeg t p w)) m (self_known (neg_known k) m.fits)
-    (record { tree = tree.Neg x.tree; size = x.size; is = refl; fits = x.fits; same = q }))
+    subst (λ a. Is (meaning r) (Neg W64) ((filter_rules r.vars r.depth).minus W64 a v) (StandsFor r lets (TNeg t p w))) x.triple
+    (stands_is r lets (TNeg t p w) (Neg W64) _ (neg_known v) g
+    (record { triple = x.triple; fits = x.fits; same = same_neg v.tree (tree_in lets t) x.same }) (self_known (neg_known v)))
 
 -- ---- sums, differences and products
 
@@ -276,68 +270,73 @@ record GoodTwo (r : Setting) (lets : List Typed) (t u : Typed) : Type 0 where
 
 good_two : (r : Setting) (lets : List Typed) (o : Two) (t u : Typed) (p : Range) (w : Width) → IsGood r lets (TTwo o t u p w) → GoodTwo r lets t u
 good_two r lets o t u p w g =
-    let k = steady_operands r.vars (triples_of r.vars lets) o (untyped t) (untyped u) g.steady in
-    let n = narrow_operands r.vars o (untyped t) (untyped u) g.narrow in
+    let k = operands_steady r.vars (triples_of r.vars lets) o (untyped t) (untyped u) g.steady in
     record {
-      left = record { sound = sound_left g.sound; steady = k.left; narrow = n.0; small = g.small; nodes = λ e v h. g.nodes e v (inl (inl h)) };
-      right = record { sound = sound_right g.sound; steady = k.right; narrow = n.1; small = g.small; nodes = λ e v h. g.nodes e v (inl (inr h)) };
+      left = record { sound = sound_left g.sound; steady = k.0; small = g.small; nodes = λ e v h. g.nodes e v (inl (inl h)) };
+      right = record { sound = sound_right g.sound; steady = k.1; small = g.small; nodes = λ e v h. g.nodes e v (inl (inr h)) };
     }
 
--- the operation on the left operand's value, divided, and each value of the right one
-two_right : (r : Setting) (lets : List Typed) (o : Two) (t u : Typed) (p : Range) (w : Width) (e : Tree) (n : ℕ) → IsGood r lets (TTwo o t u p w)
-    → n ≤ size_in lets t → Same e (tree_in lets t) → Beside (meaning r) lets o t u p w
-    (cut_known (align o (triple_in r.vars lets t) (triple_in r.vars lets u)) (at (triple_in r.vars lets t) e n))
-two_right r lets o t u p w e n g f q v j =
-    let a : Triple = triple_in r.vars lets t in
-    let b : Triple = triple_in r.vars lets u in
-    let k : FilterKnown = at a e n in
-    let l : FilterKnown = at b j.tree j.size in
+-- the triple of an operation on two is that of the operands' triples
+two_triple : (vars : List VarInfo) (lets : List Triple) (k : Two) (x y : Tree)
+    → triple vars lets (two_of k x y) ≡ both k (triple vars lets x) (triple vars lets y)
+two_triple vars lets Plus x y = refl
+two_triple vars lets Minus x y = refl
+two_triple vars lets Times x y = refl
+
+-- the right operand's value, divided, and the operation, where the operands have the triples a and b
+abbrev Right : (r : Setting) (lets : List Typed) (o : Two) (t u : Typed) (p : Range) (w : Width) (x y : FilterKnown) (a b : Triple) → Type 0
+Right r lets o t u p w x y a b = Cuts (meaning r) (style_in r.vars lets) (align o b a) b (λ z. Trims (meaning r) (style_in r.vars lets) (op_of o W64)
+    (raw_of o a b) (StandsFor r lets (TTwo o t u p w)) ((filter_rules r.vars r.depth).two o W64 (raw_of o a b) (cut_known (align o a b) x) z)) y
+
+two_right : (r : Setting) (lets : List Typed) (o : Two) (t u : Typed) (p : Range) (w : Width) (x y : FilterKnown) → IsGood r lets (TTwo o t u p w)
+    → StandsFor r lets t x → StandsFor r lets u y → Right r lets o t u p w x y x.triple y.triple
+two_right r lets o t u p w x y g i j =
     let z = good_two r lets o t u p w g in
     let forms = two_tree (closed lets) (running lets) o (untyped t) (untyped u) in
-    let s : Same (two_of o e j.tree) (tree_in lets (TTwo o t u p w)) = rw forms.expression (same_two o e (tree_in lets t) j.tree (tree_in lets u) q j.same) in
-    let i : bound_of o n j.size ≤ size_in lets (TTwo o t u p w) = rw forms.weight (bound_le o n j.size (size_in lets t) (size_in lets u) f j.fits) in
-    let c : triple_in r.vars lets (TTwo o t u p w) ≡ trimmed (raw_of o (triple_in r.vars lets t) (triple_in r.vars lets u)) =
-    two_triple r.vars (triples_of r.vars lets) o (untyped t) (untyped u) ∙ both_form o a b in
-    let y = may_push r lets (TTwo o t u p w) (two_of o e j.tree) (bound_of o n j.size) g i s in
-    let m : MayPush r (raw_known o (at (triple_in r.vars lets t) e n) (at (triple_in r.vars lets u) j.tree j.size)) =
-    record { fits = raw_fits r lets o t u k l z.left z.right refl refl y.fits.size; node = y.node } in
-    subst (λ v. Cuts (meaning r) (filter_style r.vars lets) (align o b a) b (λ y. Trims (meaning r) (filter_style r.vars lets) (op_of o W64) (raw_of o a b)
-    (StandsFor r lets (TTwo o t u p w)) ((filter_rules r.vars r.depth).two o W64 (raw_of o a b) (cut_known (align o a b) k) y)) v) (sym j.is)
-    (cut_is r lets (align o b a) l _ (may_push r lets u j.tree j.size z.right j.fits j.same)
-    (trim_is r lets (op_of o W64) _ (raw_known o k l) (StandsFor r lets (TTwo o t u p w)) m (two_is_known o k l m.fits)
-    (record { tree = two_of o e j.tree; size = bound_of o n j.size; is = rw c refl; fits = i; same = s })))
+    let s : Same (two_of o x.tree y.tree) (tree_in lets (TTwo o t u p w)) =
+    rw forms.expression (same_two o x.tree (tree_in lets t) y.tree (tree_in lets u) i.same j.same) in
+    let f : bound_of o x.size y.size ≤ size_in lets (TTwo o t u p w) =
+    rw forms.weight (bound_le o x.size y.size (size_in lets t) (size_in lets u) i.fits j.fits) in
+    let c : trimmed (raw_of o x.triple y.triple) ≡ triple_in r.vars lets (TTwo o t u p w) =
+    rw (i.triple, j.triple) (sym (two_triple r.vars (triples_of r.vars lets) o (untyped t) (untyped u))) in
+    let v = may_push r lets (TTwo o t u p w) (at (trimmed (raw_of o x.triple y.triple)) (two_of o x.tree y.tree) (bound_of o x.size y.size)) g
+    (record { triple = c; fits = f; same = s }) in
+    let m : MayPush r (raw_known o x y) = record { fits = raw_fits r lets o t u x y z.left z.right i.triple j.triple v.fits.size; node = v.node } in
+    cut_is r lets (align o y.triple x.triple) y _ (may_push r lets u y z.right j)
+    (trim_is r lets (op_of o W64) _ (raw_known o x y) (StandsFor r lets (TTwo o t u p w)) m (two_is_known o x y m.fits)
+    (record { triple = c; fits = f; same = s }))
 
-two_is : (r : Setting) (lets : List Typed) (o : Two) (t u : Typed) (p : Range) (w : Width) (v : FilterKnown) → IsGood r lets (TTwo o t u p w)
-    → StandsFor r lets t v → Cuts (meaning r) (filter_style r.vars lets) (align o (triple_in r.vars lets t) (triple_in r.vars lets u)) (triple_in r.vars lets t)
-    (Beside (meaning r) lets o t u p w) v
-two_is r lets o t u p w v g x =
+two_is : (r : Setting) (lets : List Typed) (o : Two) (t u : Typed) (p : Range) (w : Width) (x : FilterKnown) → IsGood r lets (TTwo o t u p w)
+    → StandsFor r lets t x → Cuts (meaning r) (style_in r.vars lets) (align o (triple_in r.vars lets t) (triple_in r.vars lets u)) (triple_in r.vars lets t)
+    (Beside (meaning r) lets o t u p w) x
+two_is r lets o t u p w x g i =
     let a : Triple = triple_in r.vars lets t in
+    let b : Triple = triple_in r.vars lets u in
     let z = good_two r lets o t u p w g in
-    subst (λ v. Cuts (meaning r) (filter_style r.vars lets) (align o (triple_in r.vars lets t) (triple_in r.vars lets u)) (triple_in r.vars lets t)
-    (Beside (meaning r) lets o t u p w) v) (sym x.is)
-    (cut_is r lets (align o a (triple_in r.vars lets u)) (at a x.tree x.size) (Beside (meaning r) lets o t u p w)
-    (may_push r lets t x.tree x.size z.left x.fits x.same) (two_right r lets o t u p w x.tree x.size g x.fits x.same))
+    subst (λ c. Cuts (meaning r) (style_in r.vars lets) (align o a b) c (Beside (meaning r) lets o t u p w) x) i.triple
+    (cut_is r lets (align o a b) x (Beside (meaning r) lets o t u p w) (may_push r lets t x z.left i)
+    (λ y j. subst (λ c. Right r lets o t u p w x y c b) i.triple (subst (λ c. Right r lets o t u p w x y x.triple c) j.triple
+    (two_right r lets o t u p w x y g i j))))
 
 -- ---- powers
 
 -- one more factor
 factor_is : (r : Setting) (lets : List Typed) (t : Typed) (n i : ℕ) (p : Range) (w : Width) (x z : FilterKnown) → IsGood r lets (TPow t (suc n) p w)
     → IsGood r lets t → suc i ≤ n → StandsFor r lets t x → StandsFor r lets (raised_to t (suc i) w) z
-    → Trims (meaning r) (filter_style r.vars lets) (Mul W64) (product_of (powered (triple_in r.vars lets t) (suc i)) (triple_in r.vars lets t))
+    → Trims (meaning r) (style_in r.vars lets) (Mul W64) (product_of (powered (triple_in r.vars lets t) (suc i)) (triple_in r.vars lets t))
     (StandsFor r lets (raised_to t (suc (suc i)) w))
     ((filter_rules r.vars r.depth).two Times W64 (product_of (powered (triple_in r.vars lets t) (suc i)) (triple_in r.vars lets t)) z x)
 factor_is r lets t n i p w x z g b h k l =
     let a : Triple = triple_in r.vars lets t in
-    let u : FilterKnown = at (powered a (suc i)) l.tree l.size in
-    let v : FilterKnown = at a k.tree k.size in
-    let s : Same (tree.Mul l.tree k.tree) (tree.Pow (tree_in lets t) (suc (suc i))) = same_next (tree_in lets t) k.tree l.tree (suc i) k.same l.same in
+    let s : Same (tree.Mul z.tree x.tree) (tree.Pow (tree_in lets t) (suc (suc i))) = same_next (tree_in lets t) x.tree z.tree (suc i) k.same l.same in
     let room = g.sound.sizes in
     let c : size_in lets t ^ suc (suc i) ≤ limit W128 = fitting.lower (size_in lets t) (suc (suc i)) (suc n) (omega (arith, h)) room.1 in
-    let f : l.size * k.size ≤ size_in lets t ^ suc (suc i) =
-    rw pow-suc (mul-le l.size k.size (size_in lets t ^ suc i) (size_in lets t) l.fits k.fits) in
-    let small = powered_small a (suc i) (good_small r lets t b) (λ m y o. g.steady.1 m y (omega (arith, o, h))) in
-    let m : MayPush r (raw_known Times (at (powered (triple_in r.vars lets t) (suc i)) l.tree l.size) (at (triple_in r.vars lets t) k.tree k.size)) = record {
-      fits = record { number = raw_narrow Times (powered a (suc i)) a small (good_small r lets t b); size = omega (arith, f, c) };
+    let f : z.size * x.size ≤ size_in lets t ^ suc (suc i) =
+    rw pow-suc (mul-le z.size x.size (size_in lets t ^ suc i) (size_in lets t) l.fits k.fits) in
+    let q : IsSmall x.triple = rw k.triple (good_small r lets t b) in
+    let small : IsSmall z.triple = rw l.triple (powered_small a (suc i) (good_small r lets t b) (λ m y o. g.steady.1 m y (omega (arith, o, h)))) in
+    let m : MayPush r (raw_known Times z x) = record {
+      fits = record { number = raw_narrow Times z.triple x.triple small q; size = omega (arith, f, c) };
       node = record {
         node = tree.Pow (tree_in lets t) (suc (suc i));
         width = w;
@@ -345,54 +344,47 @@ factor_is r lets t n i p w x z g b h k l =
         same = s;
       };
     } in
-    rw (l.is, k.is) (trim_is r lets (Mul W64) _ (raw_known Times u v) (StandsFor r lets (raised_to t (suc (suc i)) w)) m
-    (self_known (raw_known Times u v) m.fits)
-    (record { tree = tree.Mul l.tree k.tree; size = l.size * k.size; is = refl; fits = f; same = s }))
+    let e : product_of z.triple x.triple ≡ product_of (powered a (suc i)) a = rw (l.triple, k.triple) refl in
+    subst (λ d. Trims (meaning r) (style_in r.vars lets) (Mul W64) d (StandsFor r lets (raised_to t (suc (suc i)) w))
+    ((filter_rules r.vars r.depth).two Times W64 d z x)) e
+    (trim_is r lets (Mul W64) _ (raw_known Times z x) (StandsFor r lets (raised_to t (suc (suc i)) w)) m (self_known (raw_known Times z x) m.fits)
+    (record { triple = ap (λ d. trimmed d) e; fits = f; same = s }))
 
 -- a value is its first power
 first_stands : (r : Setting) (lets : List Typed) (t : Typed) (w : Width) (v : FilterKnown) → StandsFor r lets t v → StandsFor r lets (raised_to t 1 w) v
 first_stands r lets t w v x =
     let e : size_in lets t ^ 1 ≡ size_in lets t = (let a = pow-suc (size_in lets t) 0 in let b = pow-zero (size_in lets t) in
     let k : size_in lets t ^ 0 * size_in lets t ≡ 1 * size_in lets t = ap (λ m. m * size_in lets t) b in omega (arith, a, k)) in
-    record {
-      tree = x.tree;
-      size = x.size;
-      is = x.is;
-      fits = rw e x.fits;
-      same = same_then x.tree (tree_in lets t) (tree.Pow (tree_in lets t) 1) x.same (same_first (tree_in lets t));
-    }
+    record { triple = x.triple; fits = rw e x.fits; same = same_then v.tree (tree_in lets t) (tree.Pow (tree_in lets t) 1) x.same (same_first (tree_in lets t)) }
 
 -- ---- one let more
 
 old_stands : (r : Setting) (lets : List Typed) (t u : Typed) (v : FilterKnown) → NamesBelow (length lets) (untyped u) → StandsFor r lets u v
     → StandsFor r (lets ++ (t ∷ [])) u v
 old_stands r lets t u v n x =
-    let a : triple_in r.vars (lets ++ (t ∷ [])) u ≡ triple_in r.vars lets u = triple_front r.vars lets t u n in
     let b : size_in (lets ++ (t ∷ [])) u ≡ size_in lets u = size_front lets t u n in
     let c : tree_in (lets ++ (t ∷ [])) u ≡ tree_in lets u = tree_front lets t u n in
-    record { tree = x.tree; size = x.size; is = rw a x.is; fits = rw b x.fits; same = rw c x.same }
+    record { triple = x.triple ∙ sym (triple_front r.vars (λ i. pos 0) lets t u n); fits = rw b x.fits; same = rw c x.same }
 
 new_stands : (r : Setting) (lets : List Typed) (t : Typed) (v : FilterKnown) → StandsFor r lets t v
     → StandsFor r (lets ++ (t ∷ [])) (TLet (length lets) (pair t) (width t)) v
 new_stands r lets t v x =
-    let a : triple_in r.vars (lets ++ (t ∷ [])) (TLet (length lets) (pair t) (width t)) ≡ triple_in r.vars lets t = triple_last r.vars lets t (pair t)
-    (width t) in
     let b : size_in (lets ++ (t ∷ [])) (TLet (length lets) (pair t) (width t)) ≡ size_in lets t = size_last lets t (pair t) (width t) in
     let c : tree_in (lets ++ (t ∷ [])) (TLet (length lets) (pair t) (width t)) ≡ tree_in lets t = tree_last lets t (pair t) (width t) in
-    record { tree = x.tree; size = x.size; is = rw a x.is; fits = rw b x.fits; same = rw c x.same }
+    record { triple = x.triple ∙ sym (triple_last r.vars (λ i. pos 0) lets t (pair t) (width t)); fits = rw b x.fits; same = rw c x.same }
 
 -- ---- all nodes
 
 base_good : (r : Setting) (lets : List Typed) (t : Typed) (n : ℕ) (p : Range) (w : Width) → IsGood r lets (TPow t n p w) → IsGood r lets t
 base_good r lets t n p w g =
-    record { sound = sound_base g.sound; steady = g.steady.0; narrow = g.narrow; small = g.small; nodes = λ e v h. g.nodes e v (inl h) }
+    record { sound = sound_base g.sound; steady = g.steady.0; small = g.small; nodes = λ e v h. g.nodes e v (inl h) }
 
 -- each node of a tree that may be written
-pub facts : (r : Setting) → 2048 ≤ r.depth → Facts (meaning r)
-facts r room = record {
+pub facts : (r : Setting) → 2048 ≤ r.depth → ((v : ℕ) → sizes r.vars v < 2 ^ 63) → Facts (meaning r)
+facts r room narrow = record {
   machine = record { room = λ n h. le-leb n r.depth h; got = λ l j. refl; put = λ l j v. refl };
   at_number = λ lets c p w g. push_is r lets (TNum c p w) c refl g (le_self (unsigned_abs c)) (same_self (tree.Num c));
-  at_variable = λ lets i p w g. input_is r lets i p w g;
+  at_variable = λ lets i p w g. input_is r lets i p w (narrow i) g;
   at_zeroth = λ lets t p w g. push_is r lets (TPow t zero p w) (pos 1) refl g
       (let n : size_in lets t ^ 0 ≡ 1 = pow-zero (size_in lets t) in omega (arith, n)) (same_zeroth (tree_in lets t));
   at_again = λ lets t j x g h. get_is r lets t j x g h;
@@ -401,14 +393,8 @@ facts r room = record {
   at_two = λ lets o t u p w x g h. two_is r lets o t u p w x g h;
   at_first = λ lets t n p w x g h. first_stands r lets t w x h;
   at_factor = λ lets t n i p w x z g k h b. factor_is r lets t n i p w x z g (base_good r lets t (suc n) p w g) k h b;
-  at_power = λ lets t n p w x g h. record { tree = h.tree; size = h.size; is = h.is; fits = h.fits; same = h.same };
-  operand = λ lets t p w g. record {
-    sound = sound_opposite g.sound;
-    steady = g.steady;
-    narrow = g.narrow;
-    small = g.small;
-    nodes = λ e v h. g.nodes e v (inl h);
-  };
+  at_power = λ lets t n p w x g h. record { triple = h.triple; fits = h.fits; same = h.same };
+  operand = λ lets t p w g. record { sound = sound_opposite g.sound; steady = g.steady; small = g.small; nodes = λ e v h. g.nodes e v (inl h) };
   left = λ lets o t u p w g. let z = good_two r lets o t u p w g in z.left;
   right = λ lets o t u p w g. let z = good_two r lets o t u p w g in z.right;
   base = λ lets t n p w g. base_good r lets t n p w g;

@@ -1,13 +1,13 @@
 -- Triples that are worked out: where there is a result each node is steady, and where each is there is one.
-use Rattle.std.proofs.Common.{◌≡◌, ◌⊎◌, inl, inr, ℕ, ◌≤◌, ◌<◌, true, List, [], ◌∷◌, ◌++◌, refl, zero, suc, ap, arith, ap₂, subst, ℤ, ◌^◌, sym, ◌∙◌, nat_le, ◌-◌}
-use Rattle.std.specs.Prelude.{Option, Some, None, All, IfSome, slice_index_or, unsigned_abs, ◌≢◌}
+use Rattle.std.proofs.Common.{◌≡◌, ◌⊎◌, inl, inr, ℕ, ◌≤◌, ◌<◌, true, List, [], ◌∷◌, ◌++◌, refl, zero, suc, ap, arith, ap₂, sym, ◌∙◌, nat_le, ◌-◌}
+use Rattle.std.specs.Prelude.{Option, Some, None, All, IfSome, slice_index_or, ◌≢◌}
 use Rattle.std.proofs.lemmas.Bool.{leb-true, le-leb, and_parts, cases_lt}
+use Rattle.std.proofs.lemmas.List.Elements.{All-head, All-tail}
 use Rattle.ln_algebra.specs.Tree.{Tree, Num, Input, Name, Neg, Add, Sub, Mul, Pow}
 use Rattle.ln_tree.specs.declared.shape.VarInfo.{VarInfo}
 use Rattle.ln_bound.specs.declared.fitted.Two.{Two}
 use Rattle.ln_bound.specs.declared.fitted.Two.TheVariants.{Plus, Minus, Times}
 use Rattle.ln_bound.specs.Typed.{two_of}
-use Rattle.ln_bound.specs.Value.{sizes}
 use Rattle.ln_code.specs.declared.op.Triple.{Triple}
 use Rattle.ln_code.specs.Engine.{next}
 use Rattle.ln_code.specs.Kept.{no_triple}
@@ -15,7 +15,7 @@ use Rattle.ln_code.proofs.Engines.Follow.{when_some}
 use Rattle.ln_code.proofs.Following.Known.{next_some}
 use Rattle.ln_filter.specs.Triples.{bits, both, whole, leaf, trimmed, added, multiplied, powered, triple, let_triples}
 use Rattle.ln_filter.specs.Steady.{IsSteady, ArePowersSteady, AreSteady, AreLetsSteady, HasFilter}
-use Rattle.ln_filter.specs.Tried.{is_steady, settled, power_tried, tried, lets_tried, AreNarrow, IsSmall, IsTried}
+use Rattle.ln_filter.specs.Tried.{is_steady, settled, power_tried, tried, lets_tried, IsSmall, IsTried}
 use Rattle.ln_filter.proofs.Truncation.Bits.{excess_leaves}
 
 -- a steady triple passes the test
@@ -103,20 +103,23 @@ pub record Tried (vars : List VarInfo) (lets : List Triple) (t : Tree) (a : Trip
   pub steady : AreSteady vars lets t
   pub is : triple vars lets t ≡ a
 
-record TwoTried (o p : Option Triple) (join : Triple → Triple → Triple) (x : Triple) : Type 0 where
-  left : Triple
-  right : Triple
-  left_is : o ≡ Some left
-  right_is : p ≡ Some right
-  steady : IsSteady (join left right)
-  is : join left right ≡ x
+-- where a triple is worked out for an operation on two, the operands have one each, and it is that of the operation on these
+record TwoTried (vars : List VarInfo) (lets : List Triple) (e f : Tree) (join : Triple → Triple → Triple) (x : Triple) : Type 0 where
+  left : AreSteady vars lets e
+  right : AreSteady vars lets f
+  steady : IsSteady (join (triple vars lets e) (triple vars lets f))
+  is : join (triple vars lets e) (triple vars lets f) ≡ x
 
-two_tried : (o p : Option Triple) (join : Triple → Triple → Triple) (x : Triple) → next o (λ a. next p (λ b. settled (join a b))) ≡ Some x → TwoTried o p join x
-two_tried None p join x h = cc
-two_tried (Some a) None join x h = cc
-two_tried (Some a) (Some b) join x h =
-    let w = settled_some (join a b) x h in
-    record { left = a; right = b; left_is = refl; right_is = refl; steady = w.0; is = w.1 }
+two_tried : (vars : List VarInfo) (lets : List Triple) (e f : Tree) (join : Triple → Triple → Triple) (x : Triple)
+    → ((a : Triple) → tried vars lets e ≡ Some a → Tried vars lets e a) → ((a : Triple) → tried vars lets f ≡ Some a → Tried vars lets f a)
+    → next (tried vars lets e) (λ a. next (tried vars lets f) (λ b. settled (join a b))) ≡ Some x → TwoTried vars lets e f join x
+two_tried vars lets e f join x u v h =
+    let m = next_some (tried vars lets e) (λ (a : Triple). next (tried vars lets f) (λ b. settled (join a b))) x h in
+    let n = next_some (tried vars lets f) (λ (b : Triple). settled (join m.0 b)) x m.2 in
+    let w = settled_some (join m.0 n.0) x n.2 in
+    let r = u m.0 m.1 in
+    let s = v n.0 n.1 in
+    record { left = r.steady; right = s.steady; steady = rw (r.is, s.is) w.0; is = rw (r.is, s.is) w.1 }
 
 -- where a triple is worked out for an expression, its nodes are steady, and it is the expression's
 pub tried_steady : (vars : List VarInfo) (lets : List Triple) (t : Tree) (a : Triple) → tried vars lets t ≡ Some a → Tried vars lets t a
@@ -125,26 +128,14 @@ tried_steady vars lets (Input v) a h = let w = settled_some _ a h in record { st
 tried_steady vars lets (Name j) a h = record { steady = tt; is = cc }
 tried_steady vars lets (Neg e) a h = let r = tried_steady vars lets e a h in record { steady = r.steady; is = r.is }
 tried_steady vars lets (Add e f) a h =
-    let w = two_tried (tried vars lets e) (tried vars lets f) added a h in
-    let r = tried_steady vars lets e w.left w.left_is in
-    let s = tried_steady vars lets f w.right w.right_is in
-    let z : IsSteady (added (triple vars lets e) (triple vars lets f)) = rw (r.is, s.is) w.steady in
-    let i : added (triple vars lets e) (triple vars lets f) ≡ a = rw (r.is, s.is) w.is in
-    record { steady = (r.steady, s.steady, z); is = i }
+    let w = two_tried vars lets e f added a (tried_steady vars lets e) (tried_steady vars lets f) h in
+    record { steady = (w.left, w.right, w.steady); is = w.is }
 tried_steady vars lets (Sub e f) a h =
-    let w = two_tried (tried vars lets e) (tried vars lets f) added a h in
-    let r = tried_steady vars lets e w.left w.left_is in
-    let s = tried_steady vars lets f w.right w.right_is in
-    let z : IsSteady (added (triple vars lets e) (triple vars lets f)) = rw (r.is, s.is) w.steady in
-    let i : added (triple vars lets e) (triple vars lets f) ≡ a = rw (r.is, s.is) w.is in
-    record { steady = (r.steady, s.steady, z); is = i }
+    let w = two_tried vars lets e f added a (tried_steady vars lets e) (tried_steady vars lets f) h in
+    record { steady = (w.left, w.right, w.steady); is = w.is }
 tried_steady vars lets (Mul e f) a h =
-    let w = two_tried (tried vars lets e) (tried vars lets f) multiplied a h in
-    let r = tried_steady vars lets e w.left w.left_is in
-    let s = tried_steady vars lets f w.right w.right_is in
-    let z : IsSteady (multiplied (triple vars lets e) (triple vars lets f)) = rw (r.is, s.is) w.steady in
-    let i : multiplied (triple vars lets e) (triple vars lets f) ≡ a = rw (r.is, s.is) w.is in
-    record { steady = (r.steady, s.steady, z); is = i }
+    let w = two_tried vars lets e f multiplied a (tried_steady vars lets e) (tried_steady vars lets f) h in
+    record { steady = (w.left, w.right, w.steady); is = w.is }
 tried_steady vars lets (Pow e n) a h =
     let w = next_some (tried vars lets e) (λ (b : Triple). power_tried b n) a h in
     let r = tried_steady vars lets e w.0 w.1 in
@@ -152,14 +143,6 @@ tried_steady vars lets (Pow e n) a h =
     let z : ArePowersSteady (triple vars lets e) n = rw r.is p.steady in
     let i : powered (triple vars lets e) n ≡ a = rw r.is p.is in
     record { steady = (r.steady, z); is = i }
-
--- where some triple is worked out for an expression, the expression's own is
-pub tried_again : (vars : List VarInfo) (lets : List Triple) (t : Tree) (x a : Triple) → Some x ≡ tried vars lets t → a ≡ triple vars lets t
-    → Some a ≡ tried vars lets t
-tried_again vars lets t x a h k =
-    let r = tried_steady vars lets t x (sym h) in
-    let e : a ≡ x = k ∙ r.is in
-    ap Some e ∙ h
 
 -- ---- lets
 
@@ -224,24 +207,14 @@ powered_small a zero s p = trimmed_small (whole 1) one_steady
 powered_small a (suc zero) s p = s
 powered_small a (suc (suc n)) s p = trimmed_small _ (p (suc (suc n)) (omega arith) (omega arith))
 
--- each of these
-abbrev pub AreSmall : List Triple → Type 0
-AreSmall [] = Unit {0}
-AreSmall (a ∷ as') = IsSmall a × AreSmall as'
-
 -- each of small triples is small, and so is the one that is read past the end
-pub small_at : (ts : List Triple) (j : ℕ) → AreSmall ts → IsSmall (slice_index_or ts j no_triple)
+small_at : (ts : List Triple) (j : ℕ) → All IsSmall ts → IsSmall (slice_index_or ts j no_triple)
 small_at [] j s = record { power = omega arith; size = omega arith; error = omega arith }
-small_at (a ∷ ts) zero s = s.0
-small_at (a ∷ ts) (suc j) s = small_at ts j s.1
-
--- small triples and one more are small
-pub small_snoc : (ts : List Triple) (a : Triple) → AreSmall ts → IsSmall a → AreSmall (ts ++ (a ∷ []))
-small_snoc [] a s p = (p, tt)
-small_snoc (b ∷ ts) a s p = (s.0, small_snoc ts a s.1 p)
+small_at (a ∷ ts) zero s = All-head IsSmall a ts s
+small_at (a ∷ ts) (suc j) s = small_at ts j (All-tail IsSmall a ts s)
 
 -- the triple of an expression with steady nodes is small, where those of the lets are
-pub triple_small : (vars : List VarInfo) (lets : List Triple) (t : Tree) → AreSmall lets → AreSteady vars lets t → IsSmall (triple vars lets t)
+pub triple_small : (vars : List VarInfo) (lets : List Triple) (t : Tree) → All IsSmall lets → AreSteady vars lets t → IsSmall (triple vars lets t)
 triple_small vars lets (Num c) g s = trimmed_small _ s
 triple_small vars lets (Input v) g s = trimmed_small _ s
 triple_small vars lets (Name j) g s = small_at lets j g
@@ -250,13 +223,6 @@ triple_small vars lets (Add e f) g s = trimmed_small _ s.2
 triple_small vars lets (Sub e f) g s = trimmed_small _ s.2
 triple_small vars lets (Mul e f) g s = trimmed_small _ s.2
 triple_small vars lets (Pow e n) g s = powered_small (triple vars lets e) n (triple_small vars lets e g s.0) s.1
-
--- small triples and one more are small, by `All`
-pub all_snoc : (ts : List Triple) (a : Triple) → All IsSmall ts → IsSmall a → All IsSmall (ts ++ (a ∷ []))
-all_snoc [] a s p zero d h = p
-all_snoc [] a s p (suc k) d h = absurd (omega arith)
-all_snoc (b ∷ ts) a s p zero d h = s 0 b (omega arith)
-all_snoc (b ∷ ts) a s p (suc k) d h = all_snoc ts a (λ i e l. s (suc i) e (omega arith)) p k d (omega arith)
 
 -- ---- a tree from its operands
 
@@ -267,24 +233,19 @@ settled_small a s =
     let k = s.power in
     settled_is a (record { error = omega arith; power = omega arith })
 
--- the result for a number
-pub tried_num : (vars : List VarInfo) (lets : List Triple) (t : Tree) (c : ℤ) (a : Triple) → t ≡ Num c → a ≡ leaf (unsigned_abs c)
-    → IsSmall a → IsTried vars lets t (Some a)
-tried_num vars lets t c a e h s = record { value = sym (settled_small a s) ∙ ap settled h ∙ ap (tried vars lets) (sym e); small = s; narrow = rw e tt }
-
--- the result for a variable
-pub tried_input : (vars : List VarInfo) (lets : List Triple) (t : Tree) (v : ℕ) (a : Triple) → t ≡ Input v → a ≡ leaf (sizes vars v)
-    → IsSmall a → sizes vars v < 2 ^ 63 → IsTried vars lets t (Some a)
-tried_input vars lets t v a e h s n = record { value = sym (settled_small a s) ∙ ap settled h ∙ ap (tried vars lets) (sym e); small = s; narrow = rw e n }
+-- the result for a number or a variable
+pub tried_leaf : (vars : List VarInfo) (lets : List Triple) (t : Tree) (a b : Triple) → tried vars lets t ≡ settled b → a ≡ b → IsSmall a
+    → IsTried vars lets t (Some a)
+tried_leaf vars lets t a b e h s = record { value = sym (settled_small a s) ∙ ap settled h ∙ sym e; small = s }
 
 -- the result for the name of a let
 pub tried_let : (vars : List VarInfo) (lets : List Triple) (t : Tree) (j : ℕ) (a : Triple) → t ≡ Name j
     → a ≡ slice_index_or lets j no_triple → IsSmall a → IsTried vars lets t (Some a)
-tried_let vars lets t j a e h s = record { value = ap Some h ∙ ap (tried vars lets) (sym e); small = s; narrow = rw e tt }
+tried_let vars lets t j a e h s = record { value = ap Some h ∙ ap (tried vars lets) (sym e); small = s }
 
 -- the result for a negation is that for its operand
 pub tried_neg : (vars : List VarInfo) (lets : List Triple) (t x : Tree) (o : Option Triple) → t ≡ Neg x → IsTried vars lets x o → IsTried vars lets t o
-tried_neg vars lets t x o e h = rw e (record { value = h.value; small = h.small; narrow = h.narrow })
+tried_neg vars lets t x o e h = rw e (record { value = h.value; small = h.small })
 
 two_tries : (vars : List VarInfo) (lets : List Triple) (k : Two) (x y : Tree)
     → tried vars lets (two_of k x y) ≡ next (tried vars lets x) (λ a. next (tried vars lets y) (λ b. settled (both k a b)))
@@ -292,34 +253,13 @@ two_tries vars lets Plus x y = refl
 two_tries vars lets Minus x y = refl
 two_tries vars lets Times x y = refl
 
-two_narrow : (vars : List VarInfo) (k : Two) (x y : Tree) → AreNarrow vars x → AreNarrow vars y → AreNarrow vars (two_of k x y)
-two_narrow vars Plus x y p q = (p, q)
-two_narrow vars Minus x y p q = (p, q)
-two_narrow vars Times x y p q = (p, q)
-
-if_there : (o : Option Triple) (P : Type 0) → P → IfSome o (λ a. P)
-if_there None P h = tt
-if_there (Some a) P h = h
-
-both_narrow : (vars : List VarInfo) (k : Two) (x y : Tree) (o p r : Option Triple) → r ≡ next o (λ a. next p (λ b. settled (both k a b)))
-    → IfSome o (λ a. AreNarrow vars x) → IfSome p (λ a. AreNarrow vars y) → IfSome r (λ a. AreNarrow vars (two_of k x y))
-both_narrow vars k x y None p r e m n = rw e tt
-both_narrow vars k x y (Some a) None r e m n = rw e tt
-both_narrow vars k x y (Some a) (Some b) r e m n = if_there r (AreNarrow vars (two_of k x y)) (two_narrow vars k x y m n)
-
 -- the result for an operation on two, by those for its operands
 pub tried_both : (vars : List VarInfo) (lets : List Triple) (k : Two) (x y : Tree) (o p r : Option Triple) → IsTried vars lets x o
     → IsTried vars lets y p → r ≡ next o (λ a. next p (λ b. settled (both k a b))) → IfSome r (λ a. IsSmall a) → IsTried vars lets (two_of k x y) r
 tried_both vars lets k x y o p r u v i s = record {
   value = i ∙ ap₂ (λ (m n : Option Triple). next m (λ a. next n (λ b. settled (both k a b)))) u.value v.value ∙ sym (two_tries vars lets k x y);
   small = s;
-  narrow = both_narrow vars k x y o p r i u.narrow v.narrow;
 }
-
-raised_narrow : (vars : List VarInfo) (x : Tree) (n : ℕ) (o r : Option Triple) → r ≡ next o (λ a. power_tried a n)
-    → IfSome o (λ a. AreNarrow vars x) → IfSome r (λ a. AreNarrow vars x)
-raised_narrow vars x n None r e m = rw e tt
-raised_narrow vars x n (Some a) r e m = if_there r (AreNarrow vars x) m
 
 -- the result for a power, by that for its base
 pub tried_raised : (vars : List VarInfo) (lets : List Triple) (t x : Tree) (n : ℕ) (o r : Option Triple) → t ≡ Pow x n
@@ -327,5 +267,4 @@ pub tried_raised : (vars : List VarInfo) (lets : List Triple) (t x : Tree) (n : 
 tried_raised vars lets t x n o r e u i s = record {
   value = i ∙ ap (λ (m : Option Triple). next m (λ a. power_tried a n)) u.value ∙ ap (tried vars lets) (sym e);
   small = s;
-  narrow = subst (λ z. IfSome r (λ a. AreNarrow vars z)) (sym e) (raised_narrow vars x n o r i u.narrow);
 }

@@ -1,23 +1,24 @@
 use Rattle.std.proofs.Common.{◌≡◌, refl, rules, subst, sym, unsigned_abs}
 use Rattle.ln_algebra.specs.Tree.{Neg, Pow}
 use Rattle.ln_bound.specs.Typed.{operation, untyped}
+use Rattle.ln_bound.specs.Value.{sizes}
 use Rattle.ln_bound.specs.View.{typed}
 use Rattle.ln_filter.specs.Tried.{IsTried}
 use Rattle.ln_filter.specs.Triples.{leaf}
 use Rattle.ln_filter.proofs.Operations.Operands.{operands}
-use Rattle.ln_filter.proofs.Truncation.Steady.{tried_num, tried_input, tried_let, tried_neg, tried_both, tried_raised}
+use Rattle.ln_filter.proofs.Truncation.Steady.{tried_leaf, tried_let, tried_neg, tried_both, tried_raised}
 use Rattle.ln_filter.proofs.arithmetic.+tried.Goals as goal
 
 pub returns-in-Num : goal.returns-in-Num
 returns-in-Num t c =
     let h : c.leaf.result ≡ leaf (unsigned_abs c.in-Num.c) = search rules in
-    tried_num c.args.vars.now c.args.lets.now (untyped (typed c.args.t.now)) c.in-Num.c c.leaf.result (rw c.in-Num.is refl) h c.leaf.ensures.small
+    tried_leaf c.args.vars.now c.args.lets.now (untyped (typed c.args.t.now)) c.leaf.result (leaf (unsigned_abs c.in-Num.c)) (rw c.in-Num.is refl) h
+    c.leaf.ensures.small
 
 pub returns-in-Input : goal.returns-in-Input
 returns-in-Input t c =
-    tried_input c.args.vars.now c.args.lets.now (untyped (typed c.args.t.now)) c.in-Input.v c.leaf-in-Input.result
+    tried_leaf c.args.vars.now c.args.lets.now (untyped (typed c.args.t.now)) c.leaf-in-Input.result (leaf (sizes c.args.vars.now c.in-Input.v))
     (rw c.in-Input.is refl) (rw (c.from.ensures, c.size_at.ensures.value) at c.leaf-in-Input.ensures.value) c.leaf-in-Input.ensures.small
-    (rw c.size_at.ensures.value at c.size_at.ensures.small)
 
 pub returns-in-Let : goal.returns-in-Let
 returns-in-Let t c = tried_let c.args.vars.now c.args.lets.now (untyped (typed c.args.t.now)) c.in-Let.j c.let_triple.result
@@ -31,13 +32,13 @@ returns-in-Neg t c =
 pub tried-a-requires-in-Add : goal.tried-a-requires-in-Add
 tried-a-requires-in-Add t c =
     let o = operands t c.args.t.now c.in-Add.x c.in-Add.y c.deref-in-Add.result.now c.in-Add.y.value c.in-Add.is c.deref-in-Add.ensures refl c.decreases in
-    (o.first_falls, (c.requires.ranges, c.requires.lets))
+    (o.first_falls, c.requires)
 
 pub tried-b-requires : goal.tried-b-requires
 tried-b-requires t c =
     let o = operands t c.args.t.now c.in-Add.x c.in-Add.y c.deref-in-Add.result.now c.deref-in-Add-2.result.now c.in-Add.is
     c.deref-in-Add.ensures c.deref-in-Add-2.ensures c.decreases in
-    (o.second_falls, (c.requires.ranges, c.requires.lets))
+    (o.second_falls, c.requires)
 
 pub returns-in-Add : goal.returns-in-Add
 returns-in-Add t c =

@@ -1,6 +1,0 @@
-use Rattle.ln_bound.specs.Typed.{cost}
-use Rattle.ln_bound.specs.View.{typed}
-use Rattle.ln_filter.proofs.emit.+put_tree.Given as goal
-
-abbrev pub decreases-put_tree : goal.decreases-put_tree
-decreases-put_tree l = cost (typed l.t.now)
