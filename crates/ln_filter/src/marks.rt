@@ -158,5 +158,5 @@ impl<'a> Marks for Scope<'a> {
 
     ghost powers = { λ s t n w h. power_left _ n h };
 
-    ghost first = { λ s t w. refl };
+    ghost first = { λ s t n p w g. refl };
 }
