@@ -21,8 +21,8 @@ after_division divided zero b = b
 after_division divided (suc n) b = divided (suc n) b
 
 -- the bound after the division that follows an operation with this bound
-abbrev pub trimmed : {B : Type 0} → Style B → B → B
-trimmed y b = after_division y.divided (y.excess b) b
+abbrev pub after_excess : {B : Type 0} → Style B → B → B
+after_excess y b = after_division y.divided (y.excess b) b
 
 -- the second draft has these operations more, and the last value has the bound that is wanted
 pub record Gives {A B : Type 0} (told : A → B) (before after : Draft A) (lines : List (Line B)) (want : B) (a : A) : Type 0 where
@@ -32,25 +32,25 @@ pub record Gives {A B : Type 0} (told : A → B) (before after : Draft A) (lines
 -- the bound that the operations of a node leave
 abbrev pub left_by : {B : Type 0} → Style B → Typed → B
 left_by y (TNum c p w) = y.mark (TNum c p w)
-left_by y (TInput v p w) = trimmed y (y.raw (TInput v p w))
+left_by y (TInput v p w) = after_excess y (y.raw (TInput v p w))
 left_by y (TLet j p w) = y.mark (TLet j p w)
 left_by y (TNeg t p w) = y.mark t
-left_by y (TTwo o t u p w) = trimmed y (y.raw (TTwo o t u p w))
+left_by y (TTwo o t u p w) = after_excess y (y.raw (TTwo o t u p w))
 left_by y (TPow t zero p w) = y.mark (TPow t zero p w)
 left_by y (TPow t (suc n) p w) = y.mark (raised_to t (suc n) w)
 
 -- these numbers are these trees, one by one
-abbrev pub AreNumbers : (ℕ → Typed → Type 0) → List ℕ → List Typed → Type 0
-AreNumbers is_number [] [] = Unit {0}
-AreNumbers is_number [] (t ∷ ts) = ⊥
-AreNumbers is_number (n ∷ ns) [] = ⊥
-AreNumbers is_number (n ∷ ns) (t ∷ ts) = is_number n t × AreNumbers is_number ns ts
+abbrev pub AreKeptNumbers : (ℕ → Typed → Type 0) → List ℕ → List Typed → Type 0
+AreKeptNumbers is_number [] [] = Unit {0}
+AreKeptNumbers is_number [] (t ∷ ts) = ⊥
+AreKeptNumbers is_number (n ∷ ns) [] = ⊥
+AreKeptNumbers is_number (n ∷ ns) (t ∷ ts) = is_number n t × AreKeptNumbers is_number ns ts
 
 -- the operations are code of a tree where these trees are kept; those that are kept after it have these numbers
 pub record Coded {B : Type 0} (y : Style B) (is_number : ℕ → Typed → Type 0) (kept : List Typed) (t : Typed) (lines : List (Line B)) (more : List ℕ) (b : Bool)
     : Type 0 where
   pub new : List Typed
-  pub are : AreNumbers is_number more new
+  pub are : AreKeptNumbers is_number more new
   pub code : IsCode y kept t lines new b
 
 -- the second draft has the operations of a tree more, whichever trees have the numbers that are kept, and a is its bound
@@ -60,7 +60,7 @@ pub record Puts {A B : Type 0} (told : A → B) (y : Style B) (is_number : ℕ �
   pub more : List ℕ
   pub computed : Bool
   pub wrote : Wrote told before after lines more
-  pub coded : (kept : List Typed) → AreNumbers is_number before.kept kept → Coded y is_number kept t lines more computed
+  pub coded : (kept : List Typed) → AreKeptNumbers is_number before.kept kept → Coded y is_number kept t lines more computed
   pub bound : told a ≡ y.mark t
   -- where nothing is shared nothing is kept
   pub none_kept : (shares → ⊥) → more ≡ []

@@ -7,7 +7,7 @@ ghost use Rattle.ln_bound.specs.declared.fitted.Two.{Two as Kind};
 ghost use Rattle.ln_bound.specs.declared.fitted.Width.{Width as Wide};
 ghost use Rattle.ln_code.specs.Engine.{op_of};
 ghost use Rattle.ln_code.specs.StackCode.{IsCode, Style, after_left, after_right, division, factors, line, power_of, raised_to, with_division};
-ghost use Rattle.ln_code.specs.Walk.{Gives, KeptIn, MayKeep, Puts, Wrote, after_division, left_by, trimmed};
+ghost use Rattle.ln_code.specs.Walk.{Gives, KeptIn, MayKeep, Puts, Wrote, after_division, left_by, after_excess};
 ghost use Rattle.ln_code.specs.declared.op.Op.TheVariants.{Push as PushOp, Neg as NegOp};
 
 use crate::draft::Draft;
@@ -119,7 +119,7 @@ pub trait Marks {
 
     // A power without its last factor has the bound that is left of the product before it, and the power 1 that of its base.
     ghost powers: { (m : Self) (t : Typed) (n : ℕ) (w : Wide) → 1 ≤ n → (style m).mark (raised_to t (suc n) w) ≡
-        trimmed (style m) ((style m).raw (raised_to t (suc n) w)) };
+        after_excess (style m) ((style m).raw (raised_to t (suc n) w)) };
 
     ghost first: { (m : Self) (t : Typed) (n : ℕ) (p : Range) (w : Wide) → good m (TPow t n p w) → (style m).mark (raised_to t 1 w) ≡ (style m).mark t };
 }
@@ -159,7 +159,7 @@ fn put_divided<M: Marks>(
 ) -> Result<M::Bound, NoMemory>
     requires { M.divides (M.told b) ((M.style m.now).excess (M.told b)) }
     ensures { IfOk result (Gives M.told draft.old draft.new (with_division (M.style m.now) op (M.told b))
-        (trimmed (M.style m.now) (M.told b))) }
+        (after_excess (M.style m.now) (M.told b))) }
 {
     put::<M>(draft, op, b)?;
     put_division(draft, m, m.excess(b), b)
@@ -179,7 +179,7 @@ fn put_factor<M: Marks>(
     requires power { M.told p ≡ (M.style m.now).mark (raised_to (typed x.now) j w) }
     requires base { M.told a ≡ (M.style m.now).mark (typed x.now) }
     ensures { IfOk result (Gives M.told draft.old draft.new (factors (M.style m.now) (typed x.now) w j 1)
-        (trimmed (M.style m.now) ((M.style m.now).raw (raised_to (typed x.now) (suc j) w)))) }
+        (after_excess (M.style m.now) ((M.style m.now).raw (raised_to (typed x.now) (suc j) w)))) }
 {
     put::<M>(draft, Op::Get(64), a)?;
     let b = m.factor(x, w, j, p, a);

@@ -3,7 +3,7 @@ use Rattle.std.specs.Prelude.{◌≡◌, ℕ, List, [], ◌∷◌, Option, Some,
 use Rattle.ln_interval.specs.Range.{Range}
 use Rattle.ln_bound.specs.declared.fitted.Width.{Width}
 use Rattle.ln_bound.specs.Typed.{Typed, TNum, TInput, TLet, TNeg, TTwo, TPow}
-use Rattle.ln_code.specs.Walk.{AreNumbers}
+use Rattle.ln_code.specs.Walk.{AreKeptNumbers}
 use Rattle.ln_lower.specs.declared.distinct.Key.{Key}
 use Rattle.ln_lower.specs.declared.distinct.KeyOp.{KeyOp}
 use Rattle.ln_lower.specs.declared.distinct.KeyOp.TheVariants.{Number, Variable, Name, Opposite, Both, Raised}
@@ -23,7 +23,7 @@ IsNumberOf ks k (TPow t n p w) = (a : ℕ) × (slice_get ks k ≡ Some (key (Rai
 
 -- these numbers are these trees, one by one
 abbrev pub AreNumbersOf : List Key → List ℕ → List Typed → Type 0
-AreNumbersOf ks = AreNumbers (IsNumberOf ks)
+AreNumbersOf ks = AreKeptNumbers (IsNumberOf ks)
 
 -- the second list has what the first has, at the same numbers
 abbrev pub Extends : List Key → List Key → Type 0

@@ -25,7 +25,7 @@ PowersFit (TTwo k s t p w) = PowersFit s × PowersFit t
 PowersFit (TPow t n p w) = PowersFit t × (magnitude (power (pair t) n) ≤ most) × (power (pair t) 1 ≡ pair t)
 
 -- what is known of a lowered block: the rules that it follows, its value, what it pushes, its locals, and its operations
-pub record IsLowered (vars : List VarInfo) (a : Pairs) (lets : List Typed) (t : Typed) (b : Code) : Type 0 where
+pub record IsLoweredBlock (vars : List VarInfo) (a : Pairs) (lets : List Typed) (t : Typed) (b : Code) : Type 0 where
   pub exponents : b.exps ≡ a
   pub block : IsBlock b
   pub follows : FollowsRules vars b

@@ -15,7 +15,7 @@ ghost use Rattle.ln_code.specs.Kept.{AreOfSites, FollowsRules, IsBlock};
 ghost use Rattle.ln_code.specs.Nodes.{IsNodeOf};
 ghost use Rattle.ln_lower.specs.Nodes.{KeepsLets, PushNodes, pushed_by};
 ghost use Rattle.ln_lower.specs.StackCode.{IsCodeOf};
-ghost use Rattle.ln_lower.specs.Lowered.{IsLowered, PowersFit};
+ghost use Rattle.ln_lower.specs.Lowered.{IsLoweredBlock, PowersFit};
 ghost use Rattle.ln_lower.specs.declared.distinct.Key.{Key};
 ghost use Rattle.ln_lower.specs.Distinct.{AreNumbersOf, IsNumberOf};
 ghost use Rattle.ln_lower.specs.Wrote.{Drafted, PutsLet, PutsLets};
@@ -138,7 +138,7 @@ fn lowered(
     requires few { length lets.now ≤ 64 }
     requires lets { AreSound s.now.vars [] (map typed lets.now) }
     requires root { Sound s.now.vars (map typed lets.now) (typed t.now) }
-    ensures { IfOk result (λ b. IsLowered s.now.vars a.now (map typed lets.now) (typed t.now) b) }
+    ensures { IfOk result (λ b. IsLoweredBlock s.now.vars a.now (map typed lets.now) (typed t.now) b) }
 {
     let Draft { code, kept: _kept } = written(alloc, lets.as_slice(), t)?;
     finished(alloc, a, code.built())

@@ -8,7 +8,7 @@ use Rattle.ln_names.specs.declared.faults.NamesStop.{NamesStop}
 use Rattle.ln_names.specs.declared.faults.NamesStop.TheVariants as stop
 use Rattle.ln_names.specs.Rules.{fault_at}
 use Rattle.ln_names.specs.Visits.{Visit, visit, first_fault, or_later, file_visits}
-use Rattle.ln_names.specs.First.{Clean, IsFirst, StopsAt, StopsNames}
+use Rattle.ln_names.specs.First.{Clean, IsFirst, NamesStopAt, StopsNames}
 use Rattle.ln_names.proofs.Walking.{first_append}
 
 here : (bytes : List ℕ) (v : Visit) (vs : List Visit) (a : Fault) (f : Found) → fault_at bytes v.use_of v.at ≡ Some a
@@ -60,7 +60,7 @@ first_of bytes vs f r =
     rw (r.stands, first_append bytes r.before (visit r.use_of f.at ∷ r.after), a, b) refl
 
 -- a stop at the first fault of a file's tokens is one at the file's first fault
-pub stops_names : (bytes : List ℕ) (ts : List Token) (is : List Item) (e : NamesStop) → StopsAt (first_fault bytes (file_visits ts is)) e
+pub stops_names : (bytes : List ℕ) (ts : List Token) (is : List Item) (e : NamesStop) → NamesStopAt (first_fault bytes (file_visits ts is)) e
     → StopsNames bytes ts is e
 stops_names bytes ts is (stop.Found f) h = is_first bytes (file_visits ts is) f h
 stops_names bytes ts is (stop.NoMemory e) h = tt

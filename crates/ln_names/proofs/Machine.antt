@@ -20,8 +20,8 @@ use Rattle.ln_names.specs.declared.nodes.Waiting.TheVariants.{Open, For}
 use Rattle.ln_names.specs.declared.roles.Role.{Role}
 use Rattle.ln_names.specs.declared.roles.Role.TheVariants.{Value, AfterCaret, Bare, Input, AfterDot, Operator, Caret}
 use Rattle.ln_names.specs.declared.nodes.Node.{Node}
-use Rattle.ln_names.specs.Machine.{strength, Machine, machine, settle, settled, wait, closed, enclose}
-use Rattle.ln_names.specs.Machine.{step_by, step, read}
+use Rattle.ln_names.specs.Machine.{binding, Machine, machine, settle, settled, wait, closed, enclose}
+use Rattle.ln_names.specs.Machine.{step_by, machine_step, read}
 use Rattle.ln_names.specs.Nodes.{postfix, Begins, AreNodes}
 use Rattle.ln_names.proofs.Trees.{Judged, judge, judged, judge_by, judges, judges_visits}
 
@@ -46,7 +46,7 @@ lower2 (For Difference at ∷ ws) ns = refl
 abbrev is_low : ℕ → List Waiting → Bool
 is_low b [] = true
 is_low b (Open ∷ ws) = true
-is_low b (For p at ∷ ws) = nat_lt (strength p) b
+is_low b (For p at ∷ ws) = nat_lt (binding p) b
 
 -- then nothing settles
 low_settles : (b : ℕ) (ws : List Waiting) (ns : List Node) → is_low b ws ≡ true → settle b ws ns ≡ machine ws ns
@@ -302,7 +302,7 @@ tokens_of ts s n {i = i} {j = j} d h b =
 
 -- the step of a loop over tokens: what is read of the remaining ones is what is read of all
 pub read_next : (bytes : List ℕ) (ts : List Token) (s : Scope) (k to : ℕ) (m n x : Machine) → k < to → read bytes ts s k (to - k) m ≡ x
-    → n ≡ step bytes ts s k m → read bytes ts s (k + 1) (to - (k + 1)) n ≡ x
+    → n ≡ machine_step bytes ts s k m → read bytes ts s (k + 1) (to - (k + 1)) n ≡ x
 read_next bytes ts s k to m n x h l q = let e : to - k ≡ suc (to - suc k) = omega arith in rw (q, add-one k) (rw e at l)
 
 -- the end of a loop over the tokens of an expression: what is settled are its nodes

@@ -16,9 +16,9 @@ use Rattle.ln_names.specs.declared.faults.Found.{Found}
 use Rattle.ln_names.specs.declared.faults.NamesStop.{NamesStop}
 use Rattle.ln_names.specs.declared.faults.NamesStop.TheVariants as stop
 use Rattle.ln_names.proofs.Lists.{item_at}
-use Rattle.ln_names.specs.First.{StopsAt}
+use Rattle.ln_names.specs.First.{NamesStopAt}
 use Rattle.ln_names.specs.declared.nodes.Body.{Body}
-use Rattle.ln_names.specs.Nodes.{Paired}
+use Rattle.ln_names.specs.Nodes.{ArePairedBy}
 use Rattle.ln_names.specs.Rules.{fault_at, Scope, scope, PredName}
 use Rattle.ln_names.specs.Visits.{Visit, visit, or_later, first_fault, visits_by, expr_visits, token_visits, role_at, is_node_at, nodes}
 use Rattle.ln_names.specs.Visits.{arg_visits, let_visits, value_visits, nodes_before, value_nodes, body_visits, item_visits, file_visits}
@@ -101,25 +101,25 @@ nodes_more ts ls i n m d h a b =
     rw (add-one, t, sum_by-append (λ (l : RawLet). value_nodes ts l.value)) (omega arith)
 
 -- a stop at the first of two lists is one at both, and one at the second where the first has no fault
-pub stops_first : (x y : Option Found) (e : NamesStop) → StopsAt x e → StopsAt (first_or x y) e
+pub stops_first : (x y : Option Found) (e : NamesStop) → NamesStopAt x e → NamesStopAt (first_or x y) e
 stops_first x y (stop.Found f) h = rw h refl
 stops_first x y (stop.NoMemory e) h = tt
 
-pub stops_later : (x y : Option Found) (e : NamesStop) → x ≡ None → StopsAt y e → StopsAt (first_or x y) e
+pub stops_later : (x y : Option Found) (e : NamesStop) → x ≡ None → NamesStopAt y e → NamesStopAt (first_or x y) e
 stops_later x y e n h = rw n h
 
 -- a stop at an element is a stop at all
 pub stops : {A : Type 0} (bytes : List ℕ) (f : List A → A → List Visit) (xs : List A) (i : ℕ) (d : A) (e : NamesStop) → i < length xs
-    → Left bytes f xs i → StopsAt (first_fault bytes (f (take i xs) (get_or xs i d))) e → StopsAt (first_fault bytes (visits_by f [] xs)) e
+    → Left bytes f xs i → NamesStopAt (first_fault bytes (f (take i xs) (get_or xs i d))) e → NamesStopAt (first_fault bytes (visits_by f [] xs)) e
 stops bytes f xs i d (stop.Found x) h l n = stopped bytes f xs i d x h l n
 stops bytes f xs i d (stop.NoMemory x) h l n = tt
 
 -- and so is one at a token
 pub token_stops : (bytes : List ℕ) (ts : List Token) (s : Scope) (n k to : ℕ) (x : Option Found) (e : NamesStop) → k < to →
     first_fault bytes (expr_visits ts s n k (to - k)) ≡ x →
-    StopsAt (first_fault bytes (token_visits ts s n k (role_at ts k))) e → StopsAt x e
+    NamesStopAt (first_fault bytes (token_visits ts s n k (role_at ts k))) e → NamesStopAt x e
 token_stops bytes ts s n k to x e h l d =
-    subst (λ (o : Option Found). StopsAt o e) (sym (token_unrolled bytes ts s n k to h) ∙ l) (stops_first _ _ e d)
+    subst (λ (o : Option Found). NamesStopAt o e) (sym (token_unrolled bytes ts s n k to h) ∙ l) (stops_first _ _ e d)
 
 -- the parts of a predicate
 pub body_parts : (bytes : List ℕ) (ts : List Token) (is : List Item) (args : List RawArg) (ls : List RawLet) (root : Places) →
@@ -151,17 +151,17 @@ items_walked bytes ts is i x h e l n =
 -- the end of `file_nodes` at an item with a stop: it is the file's
 pub items_stop : (bytes : List ℕ) (ts : List Token) (is : List RawItem) (i : ℕ) (x : RawItem) (e : NamesStop) → i < length is
     → x ≡ get_or is i x → Left bytes (item_visits ts) (items is) i
-    → StopsAt (first_fault bytes (item_visits ts (items (take i is)) (item x))) e → StopsAt (first_fault bytes (file_visits ts (items is))) e
+    → NamesStopAt (first_fault bytes (item_visits ts (items (take i is)) (item x))) e → NamesStopAt (first_fault bytes (file_visits ts (items is))) e
 items_stop bytes ts is i x e h q l n =
     let len = length-map is item in
     let a = items_at bytes ts is i x q _ refl in
-    stops bytes (item_visits ts) (items is) i (item x) e (omega arith) l (subst (λ (o : Option Found). StopsAt o e) (sym a) n)
+    stops bytes (item_visits ts) (items is) i (item x) e (omega arith) l (subst (λ (o : Option Found). NamesStopAt o e) (sym a) n)
 
 -- ---- lists that go together
 
 -- one more of each
-pub paired_more : {A B : Type 0} (P : List A → A → B → Type 0) (before xs : List A) (ys : List B) (x : A) (y : B) → Paired P before xs ys
-    → P (before ++ xs) x y → Paired P before (xs ++ (x ∷ [])) (ys ++ (y ∷ []))
+pub paired_more : {A B : Type 0} (P : List A → A → B → Type 0) (before xs : List A) (ys : List B) (x : A) (y : B) → ArePairedBy P before xs ys
+    → P (before ++ xs) x y → ArePairedBy P before (xs ++ (x ∷ [])) (ys ++ (y ∷ []))
 paired_more {A} P before [] [] x y p h = (subst (λ (w : List A). P w x y) (append-nil before) h, tt)
 paired_more P before [] (z ∷ ys) x y p h = absurd p
 paired_more P before (w ∷ xs) [] x y p h = absurd p
@@ -172,12 +172,12 @@ paired_more {A} P before (w ∷ xs) (z ∷ ys) x y p h = (
 
 -- the step of a loop that gives each element its companion
 pub paired_next : {A B : Type 0} (P : List A → A → B → Type 0) (xs : List A) (ys : List B) (i : ℕ) (d : A) (y : B) → i < length xs
-    → Paired P [] (take i xs) ys → P (take i xs) (get_or xs i d) y → Paired P [] (take (i + 1) xs) (ys ++ (y ∷ []))
+    → ArePairedBy P [] (take i xs) ys → P (take i xs) (get_or xs i d) y → ArePairedBy P [] (take (i + 1) xs) (ys ++ (y ∷ []))
 paired_next P xs ys i d y l p h = let t = take-suc xs i d l in rw (add-one, t) (paired_more P [] (take i xs) ys (get_or xs i d) y p h)
 
 -- the step of `file_nodes`: one item's nodes more
 pub items_next : (P : List Item → Item → Body → Type 0) (is : List RawItem) (bs : List Body) (i : ℕ) (x : RawItem) (b : Body) → i < length is
-    → x ≡ get_or is i x → Paired P [] (take i (items is)) bs → P (items (take i is)) (item x) b → Paired P [] (take (i + 1) (items is)) (bs ++ (b ∷ []))
+    → x ≡ get_or is i x → ArePairedBy P [] (take i (items is)) bs → P (items (take i is)) (item x) b → ArePairedBy P [] (take (i + 1) (items is)) (bs ++ (b ∷ []))
 items_next P is bs i x b l e p h =
     let len = length-map is item in
     paired_next P (items is) bs i (item x) b (omega arith) p (rw (item_at is i x e, take-map item i is) h)

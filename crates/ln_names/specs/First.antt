@@ -31,9 +31,9 @@ abbrev pub NoFault : List ℕ → List Token → List Item → Type 0
 NoFault bytes ts is = Clean bytes (file_visits ts is)
 
 -- a stop at this first fault, or out of memory
-abbrev pub StopsAt : Option Found → NamesStop → Type 0
-StopsAt o (stop.Found f) = o ≡ Some f
-StopsAt o (stop.NoMemory e) = Unit {0}
+abbrev pub NamesStopAt : Option Found → NamesStop → Type 0
+NamesStopAt o (stop.Found f) = o ≡ Some f
+NamesStopAt o (stop.NoMemory e) = Unit {0}
 
 -- a stop at the first fault of a file with these tokens and items, or out of memory
 abbrev pub StopsNames : List ℕ → List Token → List Item → NamesStop → Type 0

@@ -20,11 +20,11 @@ use Rattle.ln_names.specs.Visits.{role_at}
 use Rattle.ln_names.specs.Nodes.{node, named, input_of}
 
 -- how tightly an operation binds its operands
-abbrev pub strength : Operation → ℕ
-strength Negation = 3
-strength Product = 2
-strength Sum = 1
-strength Difference = 1
+abbrev pub binding : Operation → ℕ
+binding Negation = 3
+binding Product = 2
+binding Sum = 1
+binding Difference = 1
 
 -- the nodes whose operands were read, and the operations and parentheses that wait, the last first
 pub record Machine : Type 0 where
@@ -44,7 +44,7 @@ emit_if m (Some n) = machine m.waiting (m.nodes ++ (n ∷ []))
 abbrev pub settle : ℕ → List Waiting → List Node → Machine
 settle b [] ns = machine [] ns
 settle b (Open ∷ ws) ns = machine (Open ∷ ws) ns
-settle b (For p at ∷ ws) ns = if nat_lt (strength p) b then machine (For p at ∷ ws) ns else settle b ws (ns ++ (node (what.Apply p) at ∷ []))
+settle b (For p at ∷ ws) ns = if nat_lt (binding p) b then machine (For p at ∷ ws) ns else settle b ws (ns ++ (node (what.Apply p) at ∷ []))
 
 -- the same of a machine
 abbrev pub settled : ℕ → Machine → Machine
@@ -62,16 +62,16 @@ wait m w = machine (w ∷ m.waiting) m.nodes
 -- an operation comes: what binds its left operand at least as tightly is settled; a negation has none
 abbrev pub operate : Operation → Span → Machine → Machine
 operate Negation at m = wait m (For Negation at)
-operate p at m = wait (settled (strength p) m) (For p at)
+operate p at m = wait (settled (binding p) m) (For p at)
 
 -- what waits but for the last
-abbrev pub outer : List Waiting → List Waiting
-outer [] = []
-outer (w ∷ ws) = ws
+abbrev pub waiting_outside : List Waiting → List Waiting
+waiting_outside [] = []
+waiting_outside (w ∷ ws) = ws
 
 -- the parenthesis that waits is closed
 abbrev pub closed : Machine → Machine
-closed m = machine (outer m.waiting) m.nodes
+closed m = machine (waiting_outside m.waiting) m.nodes
 
 -- a parenthesis; any other token is nothing
 abbrev pub enclose : Option Kind → Machine → Machine
@@ -94,14 +94,14 @@ step_by bytes ts s k (Some (Operator p)) m = operate p (span_at ts k) m
 step_by bytes ts s k (Some r) m = emit_if m (node_at bytes ts s k r)
 
 -- the token at place k
-abbrev pub step : List ℕ → List Token → Scope → ℕ → Machine → Machine
-step bytes ts s k m = step_by bytes ts s k (role_at ts k) m
+abbrev pub machine_step : List ℕ → List Token → Scope → ℕ → Machine → Machine
+machine_step bytes ts s k m = step_by bytes ts s k (role_at ts k) m
 
 -- n tokens from place k on
 abbrev pub read : List ℕ → List Token → Scope → ℕ → ℕ → Machine → Machine
 read bytes ts s k zero m = m
-read bytes ts s k (suc n) m = read bytes ts s (suc k) n (step bytes ts s k m)
+read bytes ts s k (suc n) m = read bytes ts s (suc k) n (machine_step bytes ts s k m)
 
 -- the machine that a reading is: what waits last is first
-abbrev pub view : Reading → Machine
-view r = machine (reverse r.waiting.items) r.nodes
+abbrev pub machine_in : Reading → Machine
+machine_in r = machine (reverse r.waiting.items) r.nodes

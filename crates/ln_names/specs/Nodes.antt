@@ -24,13 +24,13 @@ abbrev pub node : What → Span → Node
 node w at = record { what = w; at = at }
 
 -- a bare name: an earlier let, else a param argument; the rules on names see to it that there is one
-abbrev pub name_of : List ℕ → Scope → Span → Option ℕ → What
-name_of bytes s at (Some j) = what.Let j
-name_of bytes s at None = what.Input (unwrap_or (arg_place bytes (Some Param) s.args at) 0) 0
+abbrev pub name_node_of : List ℕ → Scope → Span → Option ℕ → What
+name_node_of bytes s at (Some j) = what.Let j
+name_node_of bytes s at None = what.Input (unwrap_or (arg_place bytes (Some Param) s.args at) 0) 0
 
 -- what a bare name stands for
 abbrev pub named : List ℕ → Scope → Span → What
-named bytes s at = name_of bytes s at (let_place bytes s.lets at)
+named bytes s at = name_node_of bytes s at (let_place bytes s.lets at)
 
 -- what an input stands for: a site argument and a coordinate of its site type
 abbrev pub input_of : List ℕ → Scope → Span → Span → What
@@ -58,15 +58,15 @@ abbrev pub AreNodes : List ℕ → List Token → Scope → Places → List Node
 AreNodes bytes ts s p ns = (e : Tree) → Derives ts SumOf p.from p.to e → Is ts p.to Semi → Begins ts p.from → ns ≡ postfix bytes s e []
 
 -- each element of a list, with those before it, and its companion in another list
-abbrev pub Paired : {A B : Type 0} → (List A → A → B → Type 0) → List A → List A → List B → Type 0
-Paired P before [] [] = Unit {0}
-Paired P before [] (y ∷ ys) = ⊥
-Paired P before (x ∷ xs) [] = ⊥
-Paired P before (x ∷ xs) (y ∷ ys) = P before x y × Paired P (before ++ (x ∷ [])) xs ys
+abbrev pub ArePairedBy : {A B : Type 0} → (List A → A → B → Type 0) → List A → List A → List B → Type 0
+ArePairedBy P before [] [] = Unit {0}
+ArePairedBy P before [] (y ∷ ys) = ⊥
+ArePairedBy P before (x ∷ xs) [] = ⊥
+ArePairedBy P before (x ∷ xs) (y ∷ ys) = P before x y × ArePairedBy P (before ++ (x ∷ [])) xs ys
 
 -- the nodes of each let, which speaks of the lets before it
 abbrev pub LetsNodes : List ℕ → List Token → List Item → List RawArg → List RawLet → List (List Node) → Type 0
-LetsNodes bytes ts is args ls vs = Paired (λ before l v. AreNodes bytes ts (scope is args before) l.value v) [] ls vs
+LetsNodes bytes ts is args ls vs = ArePairedBy (λ before l v. AreNodes bytes ts (scope is args before) l.value v) [] ls vs
 
 -- the nodes of a predicate's lets and of its sign expression
 pub record PredNodes (bytes : List ℕ) (ts : List Token) (is : List Item) (args : List RawArg) (ls : List RawLet) (sign : Places) (b : Body) : Type 0 where
@@ -80,4 +80,4 @@ BodyIs bytes ts before i b = Unit {0}
 
 -- the nodes of the items of a file
 abbrev pub BodiesAre : List ℕ → List Token → List Item → List Body → Type 0
-BodiesAre bytes ts is bs = Paired (BodyIs bytes ts) [] is bs
+BodiesAre bytes ts is bs = ArePairedBy (BodyIs bytes ts) [] is bs

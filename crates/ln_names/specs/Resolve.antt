@@ -22,11 +22,11 @@ abbrev pub let_place : List ℕ → List RawLet → Span → Option ℕ
 let_place bytes lets at = position_from (λ l. same bytes l.name at) 0 lets
 
 -- is the item of this kind, if a kind is asked for?
-abbrev pub is_of : Option ItemKind → Item → Bool
-is_of None i = true
-is_of (Some Site) i = is_site i
-is_of (Some Param) i = is_param i
-is_of (Some Pred) i = is_pred i
+abbrev pub is_of_kind : Option ItemKind → Item → Bool
+is_of_kind None i = true
+is_of_kind (Some Site) i = is_site i
+is_of_kind (Some Param) i = is_param i
+is_of_kind (Some Pred) i = is_pred i
 
 -- is the argument of this kind, if a kind is asked for?
 abbrev pub is_arg : Option ArgKind → RawArg → Bool

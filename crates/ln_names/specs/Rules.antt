@@ -97,19 +97,19 @@ is_param_arg a = a.is_param
 
 -- a name or node that is one too many, and its fault: a file has at most 16 site types, params and predicates each, a site type 32 coordinates,
 -- a predicate 5 site arguments, 8 param arguments, 64 lets and 2,048 nodes
-abbrev pub excess : Use → Bool × Fault
-excess (SiteName before) = (count_by is_site before == 16, Limit Sites)
-excess (ParamName before) = (count_by is_param before == 16, Limit Params)
-excess (PredName before) = (count_by is_pred before == 16, Limit Predicates)
-excess (CoordName before) = (length before == 32, Limit Coords)
-excess (LetName args before) = (length before == 64, Limit Lets)
-excess (ArgSite items before) = (count_by is_site_arg before == 5, Limit SiteArgs)
-excess (ArgParam items before name) = (count_by is_param_arg before == 8, Limit ParamArgs)
-excess (NumberNode before) = (before == 2048, Limit Nodes)
-excess (NameNode before s) = (before == 2048, Limit Nodes)
-excess (InputNode before s) = (before == 2048, Limit Nodes)
-excess (OperatorNode before) = (before == 2048, Limit Nodes)
-excess u = (false, Limit Nodes)
+abbrev pub count_rule : Use → Bool × Fault
+count_rule (SiteName before) = (count_by is_site before == 16, Limit Sites)
+count_rule (ParamName before) = (count_by is_param before == 16, Limit Params)
+count_rule (PredName before) = (count_by is_pred before == 16, Limit Predicates)
+count_rule (CoordName before) = (length before == 32, Limit Coords)
+count_rule (LetName args before) = (length before == 64, Limit Lets)
+count_rule (ArgSite items before) = (count_by is_site_arg before == 5, Limit SiteArgs)
+count_rule (ArgParam items before name) = (count_by is_param_arg before == 8, Limit ParamArgs)
+count_rule (NumberNode before) = (before == 2048, Limit Nodes)
+count_rule (NameNode before s) = (before == 2048, Limit Nodes)
+count_rule (InputNode before s) = (before == 2048, Limit Nodes)
+count_rule (OperatorNode before) = (before == 2048, Limit Nodes)
+count_rule u = (false, Limit Nodes)
 
 -- a name that stands before: site types, params and predicates share one space of names, as do the arguments and lets of a predicate
 abbrev pub is_twice : List ℕ → Use → Span → Bool
@@ -167,7 +167,7 @@ rules bytes u at =
     ((is_number u && nat_lt most_literal (number bytes at), Limit Literal) ∷
     ((is_end u && (nat_lt most_end (number bytes at) || is_under_low bytes u), Limit RangeEnd) ∷
     ((is_exponent u && nat_lt 16 (number bytes at), Limit Exponent) ∷
-    (excess u ∷
+    (count_rule u ∷
     ((is_twice bytes u at, Named Twice) ∷
     ((is_unknown bytes u at, Named Unknown) ∷ []))))))
 

@@ -1,6 +1,6 @@
 //! Reads the nodes of an expression in one pass over its tokens, without recursion.
 ghost use Rattle.std.specs.Prelude.{◌≡◌, OnOk, IfOk, true, []};
-ghost use Rattle.ln_names.specs.Machine.{machine, emit_if, settled, wait, operate, enclose, strength, view, Settles};
+ghost use Rattle.ln_names.specs.Machine.{machine, emit_if, settled, wait, operate, enclose, binding, machine_in, Settles};
 
 use crate::nodes::{Node, Operation, Waiting, What};
 use ln_base::{NoMemory, Seq, Span};
@@ -15,8 +15,8 @@ pub struct Reading {
 }
 
 // How tightly an operation binds its operands.
-fn strength(p: Operation) -> u8
-    ensures { result ≡ strength p }
+fn binding(p: Operation) -> u8
+    ensures { result ≡ binding p }
 {
     match p {
         Operation::Negation => 3,
@@ -28,7 +28,7 @@ fn strength(p: Operation) -> u8
 impl Reading {
     /// Nothing was read.
     pub fn new(alloc: Global) -> Reading
-        ensures { view result ≡ machine [] [] }
+        ensures { machine_in result ≡ machine [] [] }
     {
         Reading {
             nodes: Seq::new(alloc),
@@ -38,7 +38,7 @@ impl Reading {
 
     /// Appends a node, if there is one.
     pub fn emit(&mut self, node: Option<Node>) -> Result<(), NoMemory>
-        ensures { OnOk result (view self.new ≡ emit_if (view self.old) node) }
+        ensures { OnOk result (machine_in self.new ≡ emit_if (machine_in self.old) node) }
     {
         if let Some(node) = node {
             self.nodes.push(node)?;
@@ -48,7 +48,7 @@ impl Reading {
 
     /// An operation or a parenthesis waits.
     pub fn wait(&mut self, w: Waiting) -> Result<(), NoMemory>
-        ensures { OnOk result (view self.new ≡ wait (view self.old) w) }
+        ensures { OnOk result (machine_in self.new ≡ wait (machine_in self.old) w) }
     {
         self.waiting.push(w)?;
         Ok(())
@@ -56,11 +56,11 @@ impl Reading {
 
     // What waited last is a node, where it is an operation that binds at least this tightly; or else it waits again.
     fn finish(&mut self, w: Waiting, bar: u8) -> Result<bool, NoMemory>
-        ensures settles { IfOk result (λ more. Settles more bar (wait (view self.old) w) (view self.new)) }
+        ensures settles { IfOk result (λ more. Settles more bar (wait (machine_in self.old) w) (machine_in self.new)) }
         ensures rest { IfOk result (λ more. more ≡ true → self.new.waiting.items ≡ self.old.waiting.items) }
     {
         match w {
-            Waiting::For(p, at) if strength(p) >= bar => {
+            Waiting::For(p, at) if binding(p) >= bar => {
                 self.nodes.push(Node {
                     what: What::Apply(p),
                     at,
@@ -76,7 +76,7 @@ impl Reading {
 
     /// Operations that wait and bind at least this tightly are nodes.
     pub fn settle(&mut self, bar: u8) -> Result<(), NoMemory>
-        ensures { OnOk result (view self.new ≡ settled bar (view self.old)) }
+        ensures { OnOk result (machine_in self.new ≡ settled bar (machine_in self.old)) }
     {
         'waiting: while let Some(w) = self.waiting.pop() {
             if !self.finish(w, bar)? {
@@ -88,17 +88,17 @@ impl Reading {
 
     /// An operation comes.
     pub fn operate(&mut self, p: Operation, at: Span) -> Result<(), NoMemory>
-        ensures { OnOk result (view self.new ≡ operate p at (view self.old)) }
+        ensures { OnOk result (machine_in self.new ≡ operate p at (machine_in self.old)) }
     {
         if !matches!(p, Operation::Negation) {
-            self.settle(strength(p))?;
+            self.settle(binding(p))?;
         }
         self.wait(Waiting::For(p, at))
     }
 
     /// A parenthesis comes, or another token that is nothing.
     pub fn enclose(&mut self, kind: Option<Kind>) -> Result<(), NoMemory>
-        ensures { OnOk result (view self.new ≡ enclose kind (view self.old)) }
+        ensures { OnOk result (machine_in self.new ≡ enclose kind (machine_in self.old)) }
     {
         match kind {
             Some(Kind::ParL) => self.wait(Waiting::Open),

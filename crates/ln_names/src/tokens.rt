@@ -6,7 +6,7 @@ ghost use Rattle.ln_names.specs.Numbers.{number, end_value, signed, most_literal
 ghost use Rattle.ln_names.specs.Rules.{fault_at, first_row, SiteName, ParamName, PredName, CoordName, LowEnd, HighEnd, ArgName, ArgSite};
 ghost use Rattle.ln_names.specs.Rules.{ArgParam, LetName, NumberNode, NameNode, InputNode, InputCoord, OperatorNode, ExponentOf, has_let};
 ghost use Rattle.ln_names.specs.Nodes.{named, input_of};
-ghost use Rattle.ln_names.specs.Resolve.{visible, is_of, is_arg};
+ghost use Rattle.ln_names.specs.Resolve.{visible, is_of_kind, is_arg};
 
 use crate::faults::{Fault, LimitWhat, NameWhat};
 use crate::nodes::What;
@@ -30,8 +30,8 @@ fn long_name(bytes: &[u8], at: Span) -> bool
 }
 
 // Is the item of this kind, if a kind is asked for?
-fn is_of(kind: Option<ItemKind>, i: &RawItem) -> bool
-    ensures { result ≡ is_of kind (item i.now) }
+fn is_of_kind(kind: Option<ItemKind>, i: &RawItem) -> bool
+    ensures { result ≡ is_of_kind kind (item i.now) }
 {
     match kind {
         None => true,
@@ -42,10 +42,10 @@ fn is_of(kind: Option<ItemKind>, i: &RawItem) -> bool
 }
 
 fn any_of(bytes: &[u8], before: &[RawItem], kind: Option<ItemKind>, at: Span) -> bool
-    ensures { result ≡ list_any (λ i. is_of kind (item i) && same bytes.now (item_name (item i)) at) before.now }
+    ensures { result ≡ list_any (λ i. is_of_kind kind (item i) && same bytes.now (item_name (item i)) at) before.now }
 {
     'each: for i in before {
-        if is_of(kind, i) && same(bytes, i.name(), at) {
+        if is_of_kind(kind, i) && same(bytes, i.name(), at) {
             return true;
         }
     }
@@ -54,17 +54,17 @@ fn any_of(bytes: &[u8], before: &[RawItem], kind: Option<ItemKind>, at: Span) ->
 
 // Does one of the items have this name?
 fn declared(bytes: &[u8], before: &[RawItem], kind: Option<ItemKind>, at: Span) -> bool
-    ensures { result ≡ list_any (λ i. is_of kind i && same bytes.now (item_name i) at) (items before.now) }
+    ensures { result ≡ list_any (λ i. is_of_kind kind i && same bytes.now (item_name i) at) (items before.now) }
 {
     any_of(bytes, before, kind, at)
 }
 
 fn count(before: &[RawItem], kind: Option<ItemKind>) -> usize
-    ensures { result ≡ count_by (is_of kind) (items before.now) }
+    ensures { result ≡ count_by (is_of_kind kind) (items before.now) }
 {
     let mut n = 0usize;
     'each: for i in before {
-        n += usize::from(is_of(kind, i));
+        n += usize::from(is_of_kind(kind, i));
     }
     n
 }
@@ -84,7 +84,7 @@ fn named_item(
     at: Span,
 ) -> Option<Fault>
     ensures { result ≡ first_row ((nat_lt 32 (length (text bytes.now at)), Fault.Limit LimitWhat.NameLength)
-        ∷ (count_by (is_of (Some kind)) (items before.now) == 16, Fault.Limit limit)
+        ∷ (count_by (is_of_kind (Some kind)) (items before.now) == 16, Fault.Limit limit)
         ∷ (list_any (λ i. same bytes.now (item_name i) at) (items before.now), Fault.Named NameWhat.Twice) ∷ []) }
 {
     if long_name(bytes, at) {

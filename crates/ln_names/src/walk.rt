@@ -4,9 +4,9 @@ ghost use Rattle.ln_lex.specs.declared.token.Token.{Token as Tok};
 ghost use Rattle.ln_syntax.specs.Raw.{Item, items, item, span_at};
 ghost use Rattle.ln_names.specs.declared.faults.Found.{Found as Fnd};
 ghost use Rattle.ln_names.specs.Along.{JudgesInOrder};
-ghost use Rattle.ln_names.specs.First.{FirstFault, NoFault, StopsAt, StopsNames};
+ghost use Rattle.ln_names.specs.First.{FirstFault, NoFault, NamesStopAt, StopsNames};
 ghost use Rattle.ln_names.specs.Limits.{FaultlessIsWithin};
-ghost use Rattle.ln_names.specs.Machine.{step, node_at, view};
+ghost use Rattle.ln_names.specs.Machine.{machine_step, node_at, machine_in};
 ghost use Rattle.ln_names.specs.Nodes.{AreNodes, LetsNodes, PredNodes, BodyIs, BodiesAre};
 ghost use Rattle.ln_names.specs.Rules.{fault_at, SiteName, ParamName, PredName};
 ghost use Rattle.ln_names.specs.Resolve.{visible};
@@ -65,7 +65,7 @@ fn file_nodes(
 ) -> Result<Seq<Body>, NamesStop>
     ensures fine { OnOk result (first_fault bytes.now (file_visits ts.now (items its.now)) ≡ None) }
     ensures nodes { IfOk result (λ bs. BodiesAre bytes.now ts.now (items its.now) bs) }
-    ensures err { IfErr result (StopsAt (first_fault bytes.now (file_visits ts.now (items its.now)))) }
+    ensures err { IfErr result (NamesStopAt (first_fault bytes.now (file_visits ts.now (items its.now)))) }
 {
     let mut bodies = Seq::new(alloc);
     for (i, it) in its.iter().enumerate() {
@@ -83,7 +83,7 @@ fn item_nodes(
 ) -> Result<Body, NamesStop>
     ensures fine { OnOk result (first_fault bytes.now (item_visits ts.now (items before.now) (item it.now)) ≡ None) }
     ensures nodes { IfOk result (λ b. BodyIs bytes.now ts.now (items before.now) (item it.now) b) }
-    ensures err { IfErr result (StopsAt (first_fault bytes.now (item_visits ts.now (items before.now) (item it.now)))) }
+    ensures err { IfErr result (NamesStopAt (first_fault bytes.now (item_visits ts.now (items before.now) (item it.now)))) }
 {
     match it {
         RawItem::Site(name, coords) => {
@@ -132,7 +132,7 @@ fn head_fault(bytes: &[u8], before: &[RawItem], name: Span, args: &[RawArg]) -> 
 // The fault as a stop, if there is one.
 fn passed(fault: Option<Found>) -> Result<(), NamesStop>
     ensures fine { OnOk result (fault ≡ None) }
-    ensures err { IfErr result (StopsAt fault) }
+    ensures err { IfErr result (NamesStopAt fault) }
 {
     match fault {
         None => Ok(()),
@@ -152,7 +152,7 @@ fn pred_nodes(
 ) -> Result<Body, NamesStop>
     ensures fine { OnOk result (first_fault bytes.now (body_visits ts.now (items its.now) args.now lets.now root) ≡ None) }
     ensures nodes { IfOk result (λ b. PredNodes bytes.now ts.now (items its.now) args.now lets.now root b) }
-    ensures err { IfErr result (StopsAt (first_fault bytes.now (body_visits ts.now (items its.now) args.now lets.now root))) }
+    ensures err { IfErr result (NamesStopAt (first_fault bytes.now (body_visits ts.now (items its.now) args.now lets.now root))) }
 {
     let values = lets_nodes(alloc, bytes, ts, its, args, lets)?;
     let seen = Visible {
@@ -219,7 +219,7 @@ fn lets_nodes(
     ensures nodes { IfOk result (λ v. LetsNodes bytes.now ts.now (items its.now) args.now lets.now v.lets) }
     ensures count { IfOk result (λ v. v.count ≡ nodes_before ts.now lets.now) }
     ensures few { IfOk result (λ v. v.count ≤ 2048) }
-    ensures err { IfErr result (StopsAt (first_fault bytes.now (visits_by (let_visits ts.now (items its.now) args.now) [] lets.now))) }
+    ensures err { IfErr result (NamesStopAt (first_fault bytes.now (visits_by (let_visits ts.now (items its.now) args.now) [] lets.now))) }
 {
     let mut values = Seq::new(alloc);
     let mut n = 0;
@@ -254,7 +254,7 @@ fn let_nodes(
     ensures nodes { IfOk result (λ v. AreNodes bytes.now ts.now (visible seen.entry) l.value v.nodes) }
     ensures count { IfOk result (λ v. v.count ≡ n + value_nodes ts.now l.value) }
     ensures few { IfOk result (λ v. v.count ≤ 2048) }
-    ensures err { IfErr result (StopsAt (first_fault bytes.now
+    ensures err { IfErr result (NamesStopAt (first_fault bytes.now
         (let_visits ts.now (items seen.entry.before.now) seen.entry.args.now seen.entry.lets.now l))) }
 {
     if let Some(fault) = tokens::let_name(bytes, seen.args, seen.lets, l.name) {
@@ -283,7 +283,7 @@ fn value_nodes(
     ensures nodes { IfOk result (λ v. AreNodes bytes.now ts.now (visible seen.entry) p v.nodes) }
     ensures count { IfOk result (λ v. v.count ≡ n + value_nodes ts.now p) }
     ensures few { IfOk result (λ v. v.count ≤ 2048) }
-    ensures err { IfErr result (StopsAt (first_fault bytes.now (value_visits ts.now (visible seen.entry) n p))) }
+    ensures err { IfErr result (NamesStopAt (first_fault bytes.now (value_visits ts.now (visible seen.entry) n p))) }
 {
     let mut reading = Reading::new(alloc);
     let mut count = n;
@@ -309,10 +309,10 @@ fn token_read(
     requires few { n ≤ 2048 }
     requires place { k < usize.MAX }
     ensures fine { OnOk result (first_fault bytes.now (token_visits ts.now (visible seen.entry) n k (role_at ts.now k)) ≡ None) }
-    ensures step { OnOk result (view reading.new ≡ step bytes.now ts.now (visible seen.entry) k (view reading.old)) }
+    ensures step { OnOk result (machine_in reading.new ≡ machine_step bytes.now ts.now (visible seen.entry) k (machine_in reading.old)) }
     ensures count { IfOk result (λ m. m ≡ n + is_node_at (role_at ts.now k)) }
     ensures few { IfOk result (λ m. m ≤ 2048) }
-    ensures err { IfErr result (StopsAt (first_fault bytes.now (token_visits ts.now (visible seen.entry) n k (role_at ts.now k)))) }
+    ensures err { IfErr result (NamesStopAt (first_fault bytes.now (token_visits ts.now (visible seen.entry) n k (role_at ts.now k)))) }
 {
     let Some(role) = role_at(ts, k) else {
         reading.enclose(kind_at(ts, k))?;

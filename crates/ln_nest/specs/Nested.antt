@@ -12,16 +12,16 @@ is_positive zero = false
 is_positive (suc n) = true
 
 -- the vector with e less of variable v
-abbrev pub less : ℕ → ℕ → List ℕ → List ℕ
-less e v [] = []
-less e zero (n ∷ m) = (n - e) ∷ m
-less e (suc v) (n ∷ m) = n ∷ less e v m
+abbrev pub lessened : ℕ → ℕ → List ℕ → List ℕ
+lessened e v [] = []
+lessened e zero (n ∷ m) = (n - e) ∷ m
+lessened e (suc v) (n ∷ m) = n ∷ lessened e v m
 
 -- the terms with variable v, divided by its power e
 abbrev pub divided : ℕ → ℕ → List Term → List Term
 divided e v [] = []
 divided e v (t ∷ f) = if is_positive (exponent_of v t.exponents)
-    then record { exponents = less e v t.exponents; factor = t.factor } ∷ divided e v f else divided e v f
+    then record { exponents = lessened e v t.exponents; factor = t.factor } ∷ divided e v f else divided e v f
 
 -- the terms without variable v
 abbrev pub free_of : ℕ → List Term → List Term
@@ -60,8 +60,8 @@ least_power v b [] = b
 least_power v b (t ∷ f) = least_power v (if is_positive (exponent_of v t.exponents) then min b (exponent_of v t.exponents) else b) f
 
 -- the power of variable v by which the terms that have it are divided at once: their least one from 8 on, else the first
-abbrev pub at_once : ℕ → List Term → ℕ
-at_once v f = if nat_le 8 (least_power v 126 f) then least_power v 126 f else 1
+abbrev pub power_at_once : ℕ → List Term → ℕ
+power_at_once v f = if nat_le 8 (least_power v 126 f) then least_power v 126 f else 1
 
 -- is a power the square of its half, and not a product with the variable?
 abbrev pub is_square : ℕ → Bool
@@ -75,8 +75,8 @@ power (suc k) v e = if nat_le e 1 then Input v else (if is_square e then Pow (po
 -- by powers of variable v, in at most d steps; inner has the variables after it
 abbrev pub horner : (List Term → Tree) → ℕ → ℕ → List Term → Tree
 horner inner v zero f = inner f
-horner inner v (suc d) f = joined (power (at_once v f) v (at_once v f)) (horner inner v d (divided (at_once v f) v f)) (inner (free_of v f))
-    (divided (at_once v f) v f) (free_of v f)
+horner inner v (suc d) f = joined (power (power_at_once v f) v (power_at_once v f)) (horner inner v d (divided (power_at_once v f) v f)) (inner (free_of v f))
+    (divided (power_at_once v f) v f) (free_of v f)
 
 -- the variables from v on, of which there are k, with exponents of at most d
 abbrev pub nested : ℕ → ℕ → ℕ → List Term → Tree

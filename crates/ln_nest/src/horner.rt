@@ -18,7 +18,7 @@ ghost use Rattle.ln_nest.specs.Lean.{AreLean, HasNoZero, largest};
 ghost use Rattle.ln_nest.specs.Nested.{horner, is_number, is_square, nested, nested_form, power as variable_power};
 ghost use Rattle.ln_nest.specs.View.{Has, IsScaled, product_of, scale, square_of, terms_in};
 
-use crate::work::{Work, at_once, constant, parted, work_of};
+use crate::work::{Work, power_at_once, constant, parted, work_of};
 use ln_base::NoMemory;
 use ln_bound::size::{input, negated, number, two};
 use ln_bound::{FitOp, Fitted, Two, Width};
@@ -169,7 +169,7 @@ fn by_powers(
     if b == 0 {
         return nest_from(alloc, vars, d, v + 1, terms);
     }
-    let e = at_once(terms.as_slice(), v);
+    let e = power_at_once(terms.as_slice(), v);
     let (with, without) = parted(alloc, v, e, terms)?;
     if with.is_empty() {
         return nest_from(alloc, vars, d, v + 1, without);

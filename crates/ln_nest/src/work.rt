@@ -3,7 +3,7 @@ ghost use Rattle.std.specs.Prelude.{◌≡◌, ◌≤◌, min, nat_lt, true, IfO
 ghost use Rattle.ln_bound.specs.Light.{most};
 ghost use Rattle.ln_tree.specs.Exps.{IsRising, vector};
 ghost use Rattle.ln_poly.specs.Sparse.{AreRising, terms_of};
-ghost use Rattle.ln_nest.specs.Nested.{at_once, divided, exponent_of, free_of, is_positive, least_power, less, total};
+ghost use Rattle.ln_nest.specs.Nested.{power_at_once, divided, exponent_of, free_of, is_positive, least_power, lessened, total};
 ghost use Rattle.ln_nest.specs.View.{terms_in, abs_total};
 
 use ln_base::NoMemory;
@@ -60,7 +60,7 @@ fn has(term: &Work, v: usize) -> bool
 // Divides a term that has variable v by its power e.
 fn lower(term: &mut Work, v: usize, e: u8)
     requires { is_positive (exponent_of v term.old.exponents.items) ≡ true }
-    ensures exponents { term.new.exponents.items ≡ less e v term.old.exponents.items }
+    ensures exponents { term.new.exponents.items ≡ lessened e v term.old.exponents.items }
     ensures factor { term.new.factor ≡ term.old.factor }
 {
     term.exponents[v] = term.exponents[v].saturating_sub(e);
@@ -94,8 +94,8 @@ fn least(terms: &[Work], v: usize, b: u8) -> u8
 }
 
 /// The power of variable v by which the terms that have it are divided at once.
-pub fn at_once(terms: &[Work], v: usize) -> u8
-    ensures { result ≡ at_once v (terms_in terms.now) }
+pub fn power_at_once(terms: &[Work], v: usize) -> u8
+    ensures { result ≡ power_at_once v (terms_in terms.now) }
 {
     let e = least(terms, v, 126);
     if 8 <= e { e } else { 1 }

@@ -11,7 +11,7 @@ use Rattle.ln_syntax.specs.declared.raw.Places.{Places}
 use Rattle.ln_syntax.specs.Raw.{Item, SiteItem, ParamItem, PredItem, Is, text, same}
 use Rattle.ln_syntax.specs.Expression.{Tree, TNum, TName, TInput, TNeg, TAdd, TSub, TMul, TPow, Derives, Sum}
 use Rattle.ln_names.specs.Numbers.{number, end_value}
-use Rattle.ln_names.specs.Nodes.{Paired}
+use Rattle.ln_names.specs.Nodes.{ArePairedBy}
 use Rattle.ln_names.specs.Rules.{Scope, scope, is_site_arg, is_param_arg, coords_at}
 use Rattle.ln_tree.specs.Formula.{Formula, FNum, FInput, FName, FNeg, FAdd, FSub, FMul, FPow}
 use Rattle.ln_tree.specs.Table.{CoordOf, SiteOf, ArgOf, SiteArg, ParamArg, PredOf, TableOf}
@@ -65,7 +65,7 @@ pub record Says (bytes : List ℕ) (ts : List Token) (s : Scope) (p : Places) (x
 
 -- the lets say these formulas, each after the lets before it
 abbrev pub LetsSay : List ℕ → List Token → List Item → List RawArg → List RawLet → List RawLet → List Formula → Type 0
-LetsSay bytes ts is args before ls xs = Paired (λ before l x. Says bytes ts (scope is args before) l.value x) before ls xs
+LetsSay bytes ts is args before ls xs = ArePairedBy (λ before l x. Says bytes ts (scope is args before) l.value x) before ls xs
 
 -- an argument: the param of its name, or a site of the type after its colon
 abbrev pub arg_said : List ℕ → List Item → RawArg → Bool → ArgOf

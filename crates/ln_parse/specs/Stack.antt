@@ -9,10 +9,10 @@ use Rattle.ln_names.specs.declared.nodes.Operation.TheVariants.{Negation, Sum, D
 use Rattle.ln_tree.specs.Formula.{Formula, FNum, FInput, FName, FNeg, FAdd, FSub, FMul, FPow}
 
 -- an operation on two operands
-abbrev pub two : Operation → Span → Formula → Formula → Formula
-two Sum at f g = FAdd at f g
-two Difference at f g = FSub at f g
-two p at f g = FMul at f g
+abbrev pub on_two : Operation → Span → Formula → Formula → Formula
+on_two Sum at f g = FAdd at f g
+on_two Difference at f g = FSub at f g
+on_two p at f g = FMul at f g
 
 -- the negation of the top of a stack
 abbrev pub negated : Span → List Formula → List Formula
@@ -26,7 +26,7 @@ raised n at (f ∷ fs) = FPow at f n ∷ fs
 
 -- an operation on its two last formulas
 abbrev pub combined : Operation → Span → List Formula → List Formula
-combined p at (g ∷ f ∷ fs) = two p at f g ∷ fs
+combined p at (g ∷ f ∷ fs) = on_two p at f g ∷ fs
 combined p at fs = fs
 
 -- the stack after a node, the last operand first
@@ -50,15 +50,15 @@ arity (Power n) = 1
 arity w = 0
 
 -- names are places that a byte counts
-abbrev pub is_small : What → Type 0
-is_small (Let j) = j < 256
-is_small (Input a c) = (a < 256) × (c < 256)
-is_small w = Unit {0}
+abbrev pub is_small_power : What → Type 0
+is_small_power (Let j) = j < 256
+is_small_power (Input a c) = (a < 256) × (c < 256)
+is_small_power w = Unit {0}
 
 -- nodes whose operands are there bring one stack to another
 abbrev pub Brings : List Node → List Formula → List Formula → Type 0
 Brings [] fs gs = fs ≡ gs
-Brings (n ∷ ns) fs gs = (arity n.what ≤ length fs) × is_small n.what × Brings ns (applied n fs) gs
+Brings (n ∷ ns) fs gs = (arity n.what ≤ length fs) × is_small_power n.what × Brings ns (applied n fs) gs
 
 -- the nodes are those of one formula
 abbrev pub AreOne : List Node → Type 0

@@ -2,7 +2,7 @@
 ghost use Rattle.std.specs.Prelude.{◌≡◌, ◌≤◌, ◌<◌, [], ◌∷◌, length, map, reverse, IfOk, OnOk};
 ghost use Rattle.ln_base.specs.declared.span.Span.{Span as SpanOf};
 ghost use Rattle.ln_tree.specs.Formula.{Formula, formula, node_formula, FInput};
-ghost use Rattle.ln_parse.specs.Stack.{applied, arity, negated, combined, raised, two, is_small, Brings, AreOne};
+ghost use Rattle.ln_parse.specs.Stack.{applied, arity, negated, combined, raised, on_two, is_small_power, Brings, AreOne};
 
 use ln_base::{NoMemory, Span};
 use ln_names::{Node as Step, Operation, What};
@@ -24,7 +24,7 @@ pub fn expression(alloc: Global, nodes: &[Step]) -> Result<Expr, NoMemory>
 // A node takes the place of its operands.
 fn apply(alloc: Global, operands: &mut Vec<Expr>, node: Step) -> Result<(), NoMemory>
     requires there { arity node.what ≤ length operands.old.items }
-    requires small { is_small node.what }
+    requires small { is_small_power node.what }
     ensures { OnOk result (reverse (map formula operands.new.items) ≡ applied node (reverse (map formula operands.old.items))) }
 {
     match node.what {
@@ -85,13 +85,13 @@ fn combine(alloc: Global, operands: &mut Vec<Expr>, p: Operation, at: Span) -> R
 {
     let y = operands.pop().unwrap();
     let x = operands.pop().unwrap();
-    let node = two(alloc, p, x, y)?;
+    let node = on_two(alloc, p, x, y)?;
     leaf(operands, at, node)
 }
 
 // An operation on two operands, each in a box.
-fn two(alloc: Global, p: Operation, x: Expr, y: Expr) -> Result<Node, NoMemory>
-    ensures { IfOk result (λ n. (at : SpanOf) → node_formula at n ≡ two p at (formula x) (formula y)) }
+fn on_two(alloc: Global, p: Operation, x: Expr, y: Expr) -> Result<Node, NoMemory>
+    ensures { IfOk result (λ n. (at : SpanOf) → node_formula at n ≡ on_two p at (formula x) (formula y)) }
 {
     let x = Box::new(alloc, x)?;
     let y = Box::new(alloc, y)?;

@@ -52,8 +52,8 @@ abbrev pub IsFactor : ℤ → Type 0
 IsFactor z = (z ≢ pos 0) × (unsigned_abs z < 2 ^ 127)
 
 -- the lexicographic order of monomials
-abbrev pub Precedes : Pairs → Pairs → Type 0
-Precedes a b = pairs_cmp a b ≡ Less
+abbrev pub ComesBefore : Pairs → Pairs → Type 0
+ComesBefore a b = pairs_cmp a b ≡ Less
 
 -- the monomials rise in their lexicographic order, so no two terms have the same
 abbrev pub AreSorted : Sparse → Type 0

@@ -58,9 +58,9 @@ impl<const N: usize> Ordered for Key<N> {
 }
 
 impl Ordered for Exps {
-    ghost use Rattle.ln_poly.specs.Sparse.{Precedes};
+    ghost use Rattle.ln_poly.specs.Sparse.{ComesBefore};
 
-    ghost IsBefore = { Precedes };
+    ghost IsBefore = { ComesBefore };
 
     fn compare(&self, other: &Exps) -> Ordering {
         self.cmp(other)

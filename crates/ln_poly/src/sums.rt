@@ -5,7 +5,7 @@ ghost use Rattle.std.specs.List.{AllWithin};
 ghost use Rattle.std.specs.Ordering.{is_lt};
 ghost use Rattle.ln_tree.specs.Exps.{pairs_cmp};
 ghost use Rattle.ln_poly.specs.Merge.{IsMerge};
-ghost use Rattle.ln_poly.specs.Sparse.{AreBelow, IsPoly, Precedes, coefficient_at, size_of};
+ghost use Rattle.ln_poly.specs.Sparse.{AreBelow, IsPoly, ComesBefore, coefficient_at, size_of};
 ghost use Rattle.ln_poly.specs.Sums.{IsSpread, Spreads};
 
 use crate::merge::merged;
@@ -98,7 +98,7 @@ fn both(
     more: Vec<(Exps, i128)>,
 ) -> Result<Vec<(Exps, i128)>, NoMemory>
     requires { size_of f.items + size_of more.items < 2 ^ 127 }
-    ensures { IfOk result (λ h. IsMerge Precedes f.items more.items h.items) }
+    ensures { IfOk result (λ h. IsMerge ComesBefore f.items more.items h.items) }
 {
     if more.is_empty() {
         return Ok(f);

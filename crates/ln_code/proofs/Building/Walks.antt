@@ -9,7 +9,7 @@ use Rattle.ln_bound.specs.Typed.{Typed, TInput, TNeg, TPow, TTwo}
 use Rattle.ln_code.specs.Engine.{Line}
 use Rattle.ln_code.specs.StackCode.{IsCode, Style, after_left, after_right, again, factors, keep, keeping, line, name, number, opposite, power_of, raised, raised_to}
 use Rattle.ln_code.specs.StackCode.{two, variable, with_division, zeroth}
-use Rattle.ln_code.specs.Walk.{AreNumbers, Coded, Gives, MayKeep, Puts, Wrote, plain, told_line, trimmed}
+use Rattle.ln_code.specs.Walk.{AreKeptNumbers, Coded, Gives, MayKeep, Puts, Wrote, plain, told_line, after_excess}
 use Rattle.ln_code.specs.declared.draft.Draft.{Draft}
 use Rattle.ln_code.specs.declared.op.Op.TheVariants.{Get, Input, Mul, Neg, Push}
 
@@ -73,7 +73,7 @@ puts_again told y is_number shares a b t j k z unique s i n g = record {
   none_kept = λ f. refl;
 }
   where
-    kept_at : (ns : List ℕ) (ts : List Typed) (i : ℕ) → AreNumbers is_number ns ts → slice_get ns i ≡ Some k → slice_get ts i ≡ Some t
+    kept_at : (ns : List ℕ) (ts : List Typed) (i : ℕ) → AreKeptNumbers is_number ns ts → slice_get ns i ≡ Some k → slice_get ts i ≡ Some t
     kept_at [] ts i a e = cc
     kept_at (m ∷ ms) [] i a e = absurd a
     kept_at (m ∷ ms) (u ∷ us) zero a e =
@@ -99,22 +99,22 @@ puts_leaf told y is_number shares a b t lines z h e w = record {
 -- a variable
 pub puts_variable : {A B : Type 0} (told : A → B) (y : Style B) (is_number : ℕ → Typed → Type 0) (shares : Type 0) (a b : Draft A) (t : Typed)
     (v : ℕ) (p : Range) (w : Width) (r x z : A) → t ≡ TInput v p w → told r ≡ y.raw t → told z ≡ y.mark t
-    → Gives told a b (with_division y (Input v) (told r)) (trimmed y (told r)) x → Puts told y is_number shares a b t z
+    → Gives told a b (with_division y (Input v) (told r)) (after_excess y (told r)) x → Puts told y is_number shares a b t z
 puts_variable told y is_number shares a b t v p w r x z e f h g =
     let l : Wrote told a b (with_division y (Input v) (y.raw t)) [] = subst (λ c. Wrote told a b (with_division y (Input v) c) []) f g.wrote in
     puts_leaf told y is_number shares a b t (with_division y (Input v) (y.raw t)) z
     (λ kept. subst (λ u. IsCode y kept u (with_division y (Input v) (y.raw u)) [] true) (sym e) (variable v p w)) h l
 
 -- numbers of trees in two lists, one after the other
-pub all_append : (is_number : ℕ → Typed → Type 0) (ms ns : List ℕ) (ts us : List Typed) → AreNumbers is_number ms ts → AreNumbers is_number ns us
-    → AreNumbers is_number (ms ++ ns) (ts ++ us)
+pub all_append : (is_number : ℕ → Typed → Type 0) (ms ns : List ℕ) (ts us : List Typed) → AreKeptNumbers is_number ms ts → AreKeptNumbers is_number ns us
+    → AreKeptNumbers is_number (ms ++ ns) (ts ++ us)
 all_append is_number [] ns [] us a b = b
 all_append is_number [] ns (t ∷ ts) us a b = absurd a
 all_append is_number (m ∷ ms) ns [] us a b = absurd a
 all_append is_number (m ∷ ms) ns (t ∷ ts) us a b = (a.0, all_append is_number ms ns ts us a.1 b)
 
 -- there are as many numbers as trees
-pub all_length : (is_number : ℕ → Typed → Type 0) (ns : List ℕ) (ts : List Typed) → AreNumbers is_number ns ts → length ns ≡ length ts
+pub all_length : (is_number : ℕ → Typed → Type 0) (ns : List ℕ) (ts : List Typed) → AreKeptNumbers is_number ns ts → length ns ≡ length ts
 all_length is_number [] [] a = refl
 all_length is_number [] (t ∷ ts) a = absurd a
 all_length is_number (n ∷ ns) [] a = absurd a
@@ -127,7 +127,7 @@ module _ {A B : Type 0} (told : A → B) (y : Style B) (is_number : ℕ → Type
     pub lines : List (Line B)
     pub more : List ℕ
     pub wrote : Wrote told a b lines more
-    pub coded : (kept : List Typed) → AreNumbers is_number a.kept kept → Coded y is_number kept t lines more true
+    pub coded : (kept : List Typed) → AreKeptNumbers is_number a.kept kept → Coded y is_number kept t lines more true
     pub none_kept : (shares → ⊥) → more ≡ []
 
   -- and then it is kept, or not
@@ -145,7 +145,7 @@ module _ {A B : Type 0} (told : A → B) (y : Style B) (is_number : ℕ → Type
     none_kept = λ f. absurd (f h.0);
   }
     where
-      coded : (kept : List Typed) → AreNumbers is_number a.kept kept
+      coded : (kept : List Typed) → AreKeptNumbers is_number a.kept kept
           → Coded y is_number kept t (x.lines ++ keeping y.none (65 + length b.kept) (y.mark t)) (x.more ++ (k ∷ [])) false
       coded kept are =
           let q = x.coded kept are in
@@ -174,7 +174,7 @@ module _ {A B : Type 0} (told : A → B) (y : Style B) (is_number : ℕ → Type
     none_kept = λ f. rw (x.none_kept f, r.none_kept f) refl;
   }
     where
-      coded : (kept : List Typed) → AreNumbers is_number a.kept kept
+      coded : (kept : List Typed) → AreKeptNumbers is_number a.kept kept
           → Coded y is_number kept (TTwo o t u p w) (x.lines ++ (after_left y o t u ++ (r.lines ++ after_right y o t u p w))) (x.more ++ r.more) true
       coded kept are =
           let q = x.coded kept are in

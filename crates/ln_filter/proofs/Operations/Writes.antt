@@ -11,7 +11,7 @@ use Rattle.ln_code.specs.declared.op.Triple.{Triple}
 use Rattle.ln_code.specs.Engine.{Line}
 use Rattle.ln_code.specs.Kept.{no_triple}
 use Rattle.ln_code.specs.StackCode.{line}
-use Rattle.ln_code.specs.Walk.{AreNumbers, Coded, Puts, told_line}
+use Rattle.ln_code.specs.Walk.{AreKeptNumbers, Coded, Puts, told_line}
 use Rattle.ln_code.proofs.Building.Walks.{plain_code}
 use Rattle.ln_filter.specs.Lines.{filter_lines, let_lines}
 use Rattle.ln_filter.specs.Style.{filter_style}
@@ -25,7 +25,7 @@ told_same : (xs : List (Line Triple)) → map (told_line (λ (a : Triple). a)) x
 told_same [] = refl
 told_same (x ∷ xs) = ap (λ l. x ∷ l) (told_same xs)
 
-no_numbers : (is_number : ℕ → Typed → Type 0) (ts : List Typed) → AreNumbers is_number [] ts → ts ≡ []
+no_numbers : (is_number : ℕ → Typed → Type 0) (ts : List Typed) → AreKeptNumbers is_number [] ts → ts ≡ []
 no_numbers is_number [] h = refl
 no_numbers is_number (t ∷ ts) h = absurd h
 

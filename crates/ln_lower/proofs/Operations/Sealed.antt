@@ -39,7 +39,7 @@ use Rattle.ln_code.specs.Nodes.{IsLetNode, IsNodeOf}
 use Rattle.ln_lower.specs.Nodes.{PushNodes, pushed_by, HasPolynomial, KeepsLets}
 use Rattle.ln_lower.specs.declared.distinct.Key.{Key}
 use Rattle.ln_code.specs.Kept.{nothing}
-use Rattle.ln_lower.specs.Lowered.{IsLowered, PowersFit}
+use Rattle.ln_lower.specs.Lowered.{IsLoweredBlock, PowersFit}
 use Rattle.ln_lower.specs.StackCode.{IsCodeOf, block_style}
 use Rattle.ln_lower.specs.Wrote.{Drafted}
 use Rattle.ln_code.proofs.Following.Same.{Same}
@@ -124,7 +124,7 @@ top_is o v k a b = let e : Some v ≡ Some k = sym a ∙ b in cc
 -- code of sound lets and of a sound tree after them is a lowered block
 lowered_is : (vars : List VarInfo) (code : Code) (t : Typed) (lets : List Typed) (all : List (Line Range)) → IsCodeOf lets t all
     → SoundBlock vars lets t → code.depth ≡ 2048 → lines_of code.ops code.pairs ≡ all → length code.ops ≡ length code.pairs
-    → IsLowered vars code.exps lets t code
+    → IsLoweredBlock vars code.exps lets t code
 lowered_is vars code t lets all w s d e b =
     let deep : 2048 ≤ code.depth = omega (arith, d) in
     let at : Setting = record { vars = vars; depth = code.depth; is_node = IsNodeOf lets t } in
@@ -166,7 +166,7 @@ sealed_from a d = record { exps = a; ops = d.ops; pairs = map range d.bounds; de
 -- a block that is sealed from the operations of sound lets and a sound tree is a lowered one
 pub sealed : (vars : List VarInfo) (a : Pairs) (t : Typed) (lets : List Fitted) (d : Draft Pair) (b : Built Pair) → length lets ≤ 64
     → AreSound vars [] (map typed lets) → Sound vars (map typed lets) t → ((ks : List Key) × Drafted ks (map typed lets) t d)
-    → lines_of b.ops b.bounds ≡ d.code → length b.ops ≡ length b.bounds → IsLowered vars a (map typed lets) t (sealed_from a b)
+    → lines_of b.ops b.bounds ≡ d.code → length b.ops ≡ length b.bounds → IsLoweredBlock vars a (map typed lets) t (sealed_from a b)
 sealed vars a t lets d b few sound root x e n =
     let v = x.1.lets in
     let w = x.1.root in

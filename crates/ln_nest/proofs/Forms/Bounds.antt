@@ -6,14 +6,14 @@ use Rattle.std.proofs.Math.Nat.{mul-le-mul_left, one-le-mul, one-le-pow}
 use Rattle.ln_algebra.specs.Terms.{Term}
 use Rattle.ln_algebra.specs.Weights.{monomial_weight, weighted_sum}
 use Rattle.ln_nest.specs.Lean.{HasNoZero}
-use Rattle.ln_nest.specs.Nested.{exponent_of, is_positive, less, divided, free_of, total}
+use Rattle.ln_nest.specs.Nested.{exponent_of, is_positive, lessened, divided, free_of, total}
 use Rattle.ln_nest.specs.View.{abs_total}
 use Rattle.ln_nest.proofs.Terms.Parts.{HavePower, by_parts}
 use Rattle.ln_nest.proofs.Terms.Powers.{power_sum}
 
 -- a monomial with the power e of variable v weighs w v to the e times the one with e less of it
 less_weight : (w : ℕ → ℕ) (e v : ℕ) (m : List ℕ) → is_positive (exponent_of v m) ≡ true → e ≤ exponent_of v m
-    → monomial_weight w m ≡ w v ^ e * monomial_weight w (less e v m)
+    → monomial_weight w m ≡ w v ^ e * monomial_weight w (lessened e v m)
 less_weight w e v [] p l = cc
 less_weight w e zero (k ∷ m) p l =
     let q : e + (k - e) ≡ k = omega (arith, l) in

@@ -6,7 +6,7 @@ use Rattle.ln_algebra.specs.Vector.{degree}
 use Rattle.ln_bound.specs.declared.fitted.Two.TheVariants.{Plus, Minus, Times}
 use Rattle.ln_bound.specs.Typed.{Typed, TNum, TInput, TLet, TNeg, TTwo, TPow, cost, need, untyped}
 use Rattle.ln_poly.proofs.TermLists.Fewest.{EachHas}
-use Rattle.ln_nest.specs.Nested.{exponent_of, less, divided, free_of, at_once, joined, horner, nested, power, scaled}
+use Rattle.ln_nest.specs.Nested.{exponent_of, lessened, divided, free_of, power_at_once, joined, horner, nested, power, scaled}
 use Rattle.ln_nest.proofs.Terms.Parts.{HavePower, at_once_is, by_parts, each_divided, each_free, nested_has}
 use Rattle.ln_nest.proofs.Terms.Powers.{power_has}
 use Rattle.ln_nest.proofs.Terms.Scaled.{scaled_cases}
@@ -62,7 +62,7 @@ allowance [] = 0
 allowance (t ∷ f) = 3 * degree t.exponents + 2 + allowance f
 
 -- with e less of v the degree is e less
-less_degree : (e v : ℕ) (m : List ℕ) → e ≤ exponent_of v m → degree m ≡ e + degree (less e v m)
+less_degree : (e v : ℕ) (m : List ℕ) → e ≤ exponent_of v m → degree m ≡ e + degree (lessened e v m)
 less_degree e v [] l = omega (arith, l)
 less_degree e zero (k ∷ m) l = omega (arith, l)
 less_degree e (suc v) (k ∷ m) l = let ih = less_degree e v m l in omega (arith, ih)
@@ -160,11 +160,11 @@ horner_need : (v k : ℕ) (inner : List Term → Tree) → IsShallow k inner →
 horner_need v k inner is zero d f a = let r = is d f a in omega (arith, r)
 horner_need v k inner is (suc b) zero f a =
     let o = at_once_is v f in
-    let q = none_divided (at_once v f) v f o.0 o.2 a in
+    let q = none_divided (power_at_once v f) v f o.0 o.2 a in
     let r = is 0 (free_of v f) (free_degrees v 0 f a) in
     rw q (omega (arith, r))
 horner_need v k inner is (suc b) (suc d) f a =
-    let e = at_once v f in
+    let e = power_at_once v f in
     let o = at_once_is v f in
     let r = is (suc d) (free_of v f) (free_degrees v (suc d) f a) in
     let s = horner_need v k inner is b d (divided e v f) (divided_degrees e v d f o.0 o.2 a) in

@@ -9,9 +9,9 @@ use Rattle.ln_algebra.proofs.Expanded.Expansion.{Over-expanded, expanded, times,
 use Rattle.ln_algebra.proofs.Expanded.Normal.{normal_is}
 use Rattle.ln_poly.proofs.TermLists.Bounded.{length-times_term}
 use Rattle.ln_nest.specs.Lean.{AreLean, AreUnder, IsLean}
-use Rattle.ln_nest.specs.Nested.{exponent_of, less, divided, free_of, total, joined, nested, power, scaled}
+use Rattle.ln_nest.specs.Nested.{exponent_of, lessened, divided, free_of, total, joined, nested, power, scaled}
 use Rattle.ln_nest.proofs.Terms.Scaled.{expanded_scaled, inputs_scaled, scaled_cases}
-use Rattle.ln_nest.proofs.Terms.Parts.{HavePower, by_parts, exponent-here, exponent-less, length-power_vector, nested_has, plus-power_vector, plus_zeros, power_vector, power_vector-one, zeros-power}
+use Rattle.ln_nest.proofs.Terms.Parts.{HavePower, by_parts, exponent-here, exponent-lessened, length-power_vector, nested_has, plus-power_vector, plus_zeros, power_vector, power_vector-one, zeros-power}
 use Rattle.ln_nest.proofs.Terms.Powers.{expanded_power, inputs_power, power_has}
 use Rattle.ln_nest.proofs.Forms.Costs.{parts_length}
 
@@ -93,15 +93,15 @@ under_free : (v : ℕ) (top : ℕ → ℕ) (f : List Term) → AreUnder top f �
 under_free v top f = by_parts 1 v (λ f g h. AreUnder top f → AreUnder top h) (λ a. tt) (λ t f g h e ih a. ih a.1) (λ t f g h e ih a. (a.0, ih a.1)) f
 
 -- with e less of v a vector is under limits with e less
-less_under : (e v : ℕ) (top : ℕ → ℕ) (m : List ℕ) → ((w : ℕ) → exponent_of w m ≤ top w) → (w : ℕ) → exponent_of w (less e v m) ≤ less_at e v top w
+less_under : (e v : ℕ) (top : ℕ → ℕ) (m : List ℕ) → ((w : ℕ) → exponent_of w m ≤ top w) → (w : ℕ) → exponent_of w (lessened e v m) ≤ less_at e v top w
 less_under e v top m a w = by_case (cases_eq w v)
   where
-    by_case : (w ≡ v) ⊎ (w ≡ v → ⊥) → exponent_of w (less e v m) ≤ less_at e v top w
+    by_case : (w ≡ v) ⊎ (w ≡ v → ⊥) → exponent_of w (lessened e v m) ≤ less_at e v top w
     by_case (inl q) =
         let s = exponent-here e v m in
-        let c : exponent_of w (less e v m) ≡ exponent_of w m - e = rw q s in
+        let c : exponent_of w (lessened e v m) ≡ exponent_of w m - e = rw q s in
         omega (arith, less_here e v top w q, c, a w)
-    by_case (inr n) = omega (arith, less_other e v top w n, exponent-less e v w m, a w)
+    by_case (inr n) = omega (arith, less_other e v top w n, exponent-lessened e v w m, a w)
 
 -- so are the divided terms
 under_divided : (e v : ℕ) (top : ℕ → ℕ) (f : List Term) → AreUnder top f → AreUnder (less_at e v top) (divided e v f)

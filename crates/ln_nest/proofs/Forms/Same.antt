@@ -7,7 +7,7 @@ use Rattle.ln_algebra.proofs.Expanded.Sums.{sum_over-append}
 use Rattle.ln_algebra.proofs.Expanded.Shift.{sum_splits-within, product_is}
 use Rattle.ln_algebra.proofs.Expanded.Product.{factor_at-times}
 use Rattle.ln_algebra.proofs.Expanded.Expansion.{expanded, times, times_term, Over-expanded}
-use Rattle.ln_nest.specs.Nested.{at_once, divided, free_of, joined, horner, nested, power, scaled}
+use Rattle.ln_nest.specs.Nested.{power_at_once, divided, free_of, joined, horner, nested, power, scaled}
 use Rattle.ln_nest.proofs.Terms.Powers.{expanded_power}
 use Rattle.ln_nest.proofs.Terms.Scaled.{expanded_scaled}
 use Rattle.ln_nest.proofs.Terms.Parts.{HavePower, at_once_is, length-power_vector, power_vector, AllFit, AllAt, parts_sum, free_fit, divided_fit, divided_at, none_fit, fit_at, fit_over, constants_sum}
@@ -83,7 +83,7 @@ horner_is : (n v d : ℕ) (inner : List Term → Tree) → ((g : List Term) → 
     → (b : ℕ) (f : List Term) → AllFit n v d f → AllAt v b f → Same n (expanded n (horner inner v b f)) f
 horner_is n v d inner is zero f a u = is f (none_fit n v d f a u)
 horner_is n v d inner is (suc b) f a u =
-    let e = at_once v f in
+    let e = power_at_once v f in
     let o = at_once_is v f in
     joined_is n v e d f o.0 o.1 o.2 a (horner inner v b (divided e v f)) (inner (free_of v f)) (divided e v f) (free_of v f) refl refl
     (horner_is n v d inner is b (divided e v f) (divided_fit n v e d f o.2 a) (divided_at v e b f o.0 o.2 u))

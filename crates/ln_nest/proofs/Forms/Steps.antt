@@ -24,7 +24,7 @@ use Rattle.ln_bound.specs.Widths.{least}
 use Rattle.ln_bound.proofs.Soundness.ExactLaws.{exact_range}
 use Rattle.ln_poly.proofs.Loads.Weighing.{size-some}
 use Rattle.ln_nest.specs.declared.work.Work.{Work}
-use Rattle.ln_nest.specs.Nested.{at_once, divided, free_of, is_square, joined, horner, nested, power, scaled, total}
+use Rattle.ln_nest.specs.Nested.{power_at_once, divided, free_of, is_square, joined, horner, nested, power, scaled, total}
 use Rattle.ln_nest.specs.View.{Has, IsScaled, abs_total, opposite_of, plus_of, product_of, scale, square_of, term_in, terms_in, times_of}
 use Rattle.ln_nest.proofs.Terms.Scaled.{product_cases}
 use Rattle.ln_nest.specs.Lean.{HasNoZero}
@@ -362,12 +362,12 @@ is_some n ws e l r = eqb-false n 0 (sym e) (l ∙ ap length r)
 
 -- ---- where the forms of the code and of the definition meet
 -- b + 1 steps are a step, by the power at once
-pub at_count : (vars : List VarInfo) (inner : List Term → Tree) (v b e c n : ℕ) (f : List Term) (t : Typed) → c ≡ suc b → e ≡ at_once v f
+pub at_count : (vars : List VarInfo) (inner : List Term → Tree) (v b e c n : ℕ) (f : List Term) (t : Typed) → c ≡ suc b → e ≡ power_at_once v f
     → Has vars t (step inner v b e f) n → Has vars t (horner inner v c f) n
 at_count vars inner v b e c n f t q r h = rw q (subst (λ k. Has vars t (step inner v b k f) n) r h)
 
 -- the code's power is one that the terms have
-pub code_power : (v e : ℕ) (f : List Term) → e ≡ at_once v f → (1 ≤ e) × (e ≤ 126) × HavePower e v f
+pub code_power : (v e : ℕ) (f : List Term) → e ≡ power_at_once v f → (1 ≤ e) × (e ≤ 126) × HavePower e v f
 code_power v e f r = rw r (at_once_is v f)
 
 -- the sum of the factors is within 2^127 - 1

@@ -9,12 +9,12 @@ use Rattle.ln_algebra.specs.Tree.{Num, Tree}
 use Rattle.ln_algebra.proofs.Expanded.Expansion.{zeros, unit_vector, times_term, length-zeros}
 use Rattle.ln_algebra.proofs.Expanded.Ring.{one_mul}
 use Rattle.ln_poly.proofs.TermLists.Fewest.{EachHas}
-use Rattle.ln_nest.specs.Nested.{exponent_of, is_positive, less, divided, free_of, horner, joined, nested, total, least_power, at_once, power}
+use Rattle.ln_nest.specs.Nested.{exponent_of, is_positive, lessened, divided, free_of, horner, joined, nested, total, least_power, power_at_once, power}
 
 -- ---- by induction
 -- a term divided by the power e of v
 abbrev pub less_term : ℕ → ℕ → Term → Term
-less_term e v t = record { exponents = less e v t.exponents; factor = t.factor }
+less_term e v t = record { exponents = lessened e v t.exponents; factor = t.factor }
 
 -- what holds of no term holds of all terms, those divided by v^e and those without v, where it stays with a further term of either kind
 pub by_parts : (e v : ℕ) (P : List Term → List Term → List Term → Type 0) → P [] [] []
@@ -38,7 +38,7 @@ abbrev pub HavePower : ℕ → ℕ → List Term → Type 0
 HavePower e v f = EachHas (HasPower e v) f
 
 -- where P gives Q of a vector with e less of v, each divided term has Q
-pub each_divided : (e v : ℕ) (P Q : List ℕ → Type 0) → ((m : List ℕ) → is_positive (exponent_of v m) ≡ true → e ≤ exponent_of v m → P m → Q (less e v m))
+pub each_divided : (e v : ℕ) (P Q : List ℕ → Type 0) → ((m : List ℕ) → is_positive (exponent_of v m) ≡ true → e ≤ exponent_of v m → P m → Q (lessened e v m))
     → (f : List Term) → HavePower e v f → EachHas P f → EachHas Q (divided e v f)
 each_divided e v P Q l f =
     by_parts e v (λ f g h. HavePower e v f → EachHas P f → EachHas Q g) (λ c a. tt) (λ t f g h q ih c a. (l t.exponents q (c.0 q) a.0, ih c.1 a.1))
@@ -82,7 +82,7 @@ first_power v [] = tt
 first_power v (t ∷ f) = ((λ q. positive-some (exponent_of v t.exponents) q), first_power v f)
 
 -- so it is with the power at once
-pub at_once_is : (v : ℕ) (f : List Term) → (1 ≤ at_once v f) × (at_once v f ≤ 126) × HavePower (at_once v f) v f
+pub at_once_is : (v : ℕ) (f : List Term) → (1 ≤ power_at_once v f) × (power_at_once v f ≤ 126) × HavePower (power_at_once v f) v f
 at_once_is v f = by_case (nat_le 8 (least_power v 126 f))
   where
     by_case : (b : Bool) → let e = if b then least_power v 126 f else 1 in (1 ≤ e) × (e ≤ 126) × HavePower e v f
@@ -96,7 +96,7 @@ module _ (n : ℕ) (P : List Term → Tree → Type 0) (number : (f : List Term)
   by_powers : (v : ℕ) (inner : List Term → Tree) → v < n → ((g : List Term) → P g (inner g)) → (d : ℕ) (f : List Term) → P f (horner inner v d f)
   by_powers v inner l is zero f = is f
   by_powers v inner l is (suc d) f =
-      let e = at_once v f in
+      let e = power_at_once v f in
       step v e f (horner inner v d (divided e v f)) (inner (free_of v f)) l (at_once_is v f) (by_powers v inner l is d (divided e v f)) (is (free_of v f))
 
   -- it holds of the whole tree
@@ -160,7 +160,7 @@ plus-power_vector (suc n) zero a b = ap (λ m. (a + b) ∷ m) (plus_zeros n (zer
 plus-power_vector (suc n) (suc v) a b = ap (λ m. 0 ∷ m) (plus-power_vector n v a b)
 
 -- a vector that has the power e of variable v is e more of it than the one with e less
-pub plus_less : (n e v : ℕ) (m : List ℕ) → length m ≡ n → e ≤ exponent_of v m → plus (power_vector n v e) (less e v m) ≡ m
+pub plus_less : (n e v : ℕ) (m : List ℕ) → length m ≡ n → e ≤ exponent_of v m → plus (power_vector n v e) (lessened e v m) ≡ m
 plus_less zero e v [] h l = refl
 plus_less zero e v (k ∷ m) h l = absurd (omega arith)
 plus_less (suc n) e v [] h l = absurd (omega arith)
@@ -168,24 +168,24 @@ plus_less (suc n) e zero (k ∷ m) h l = let q : e + (k - e) ≡ k = omega (arit
 plus_less (suc n) e (suc v) (k ∷ m) h l = let q : 0 + k ≡ k = omega arith in rw (q, plus_less n e v m (omega arith) l) refl
 
 -- it has as many exponents
-pub length-less : (e v : ℕ) (m : List ℕ) → length (less e v m) ≡ length m
-length-less e v [] = refl
-length-less e zero (n ∷ m) = refl
-length-less e (suc v) (n ∷ m) = ap suc (length-less e v m)
+pub length-lessened : (e v : ℕ) (m : List ℕ) → length (lessened e v m) ≡ length m
+length-lessened e v [] = refl
+length-lessened e zero (n ∷ m) = refl
+length-lessened e (suc v) (n ∷ m) = ap suc (length-lessened e v m)
 
 -- that of v is e less
-pub exponent-here : (e v : ℕ) (m : List ℕ) → exponent_of v (less e v m) ≡ exponent_of v m - e
+pub exponent-here : (e v : ℕ) (m : List ℕ) → exponent_of v (lessened e v m) ≡ exponent_of v m - e
 exponent-here e v [] = omega arith
 exponent-here e zero (n ∷ m) = refl
 exponent-here e (suc v) (n ∷ m) = exponent-here e v m
 
 -- none is more
-pub exponent-less : (e v w : ℕ) (m : List ℕ) → exponent_of w (less e v m) ≤ exponent_of w m
-exponent-less e v w [] = omega arith
-exponent-less e zero zero (n ∷ m) = omega arith
-exponent-less e zero (suc w) (n ∷ m) = omega arith
-exponent-less e (suc v) zero (n ∷ m) = omega arith
-exponent-less e (suc v) (suc w) (n ∷ m) = exponent-less e v w m
+pub exponent-lessened : (e v w : ℕ) (m : List ℕ) → exponent_of w (lessened e v m) ≤ exponent_of w m
+exponent-lessened e v w [] = omega arith
+exponent-lessened e zero zero (n ∷ m) = omega arith
+exponent-lessened e zero (suc w) (n ∷ m) = omega arith
+exponent-lessened e (suc v) zero (n ∷ m) = omega arith
+exponent-lessened e (suc v) (suc w) (n ∷ m) = exponent-lessened e v w m
 
 -- ---- the two parts
 -- at each monomial, v^e times the divided terms and the terms without v have factors that add up to that of all terms
@@ -218,11 +218,11 @@ free_fit n v d =
     each_free v (Fit n v d) (Fit n (suc v) d) (λ m e a. record { long = a.long; clear = clear_more v m a.clear e; most = a.most })
 
 -- with e less of v
-less_fit : (n v e d : ℕ) (m : List ℕ) → Fit n v d m → Fit n v d (less e v m)
+less_fit : (n v e d : ℕ) (m : List ℕ) → Fit n v d m → Fit n v d (lessened e v m)
 less_fit n v e d m a = record {
-  long = length-less e v m ∙ a.long;
-  clear = λ w l. let c = a.clear w l in let g = exponent-less e v w m in omega (arith, c, g);
-  most = λ w. let c = a.most w in let g = exponent-less e v w m in omega (arith, c, g);
+  long = length-lessened e v m ∙ a.long;
+  clear = λ w l. let c = a.clear w l in let g = exponent-lessened e v w m in omega (arith, c, g);
+  most = λ w. let c = a.most w in let g = exponent-lessened e v w m in omega (arith, c, g);
 }
 
 -- the divided terms fit as the terms do

@@ -5,7 +5,7 @@ use Rattle.std.proofs.lemmas.Bool.Decides.{nat_tests}
 use Rattle.std.proofs.lemmas.List.{map-append}
 use Rattle.ln_algebra.specs.Terms.{Term}
 use Rattle.ln_nest.specs.declared.work.Work.{Work}
-use Rattle.ln_nest.specs.Nested.{exponent_of, is_positive, less, divided, free_of}
+use Rattle.ln_nest.specs.Nested.{exponent_of, is_positive, lessened, divided, free_of}
 use Rattle.ln_tree.specs.Exps.{Pairs, exponent, exponents_from, vector}
 use Rattle.ln_nest.specs.View.{term_in, terms_in}
 use Rattle.ln_nest.proofs.Terms.Parts.{by_parts, less_term}
@@ -34,7 +34,7 @@ within zero (n ∷ m) h = omega arith
 within (suc v) (n ∷ m) h = let r = within v m h in omega (arith, r)
 
 -- where the exponent is written as e less, the vector has e less
-pub set_is : (e v : ℕ) (m : List ℕ) (x : ℕ) → x ≡ slice_index_or m v x → v < length m → slice_set m v (x - e) ≡ less e v m
+pub set_is : (e v : ℕ) (m : List ℕ) (x : ℕ) → x ≡ slice_index_or m v x → v < length m → slice_set m v (x - e) ≡ lessened e v m
 set_is e v [] x q h = absurd (omega arith)
 set_is e zero (n ∷ m) x q h = let f : x ≡ n = q in rw f refl
 set_is e (suc v) (n ∷ m) x q h = ap (λ t. n ∷ t) (set_is e v m x q (omega arith))
@@ -61,7 +61,7 @@ free_one v ws w x e = ap (free_of v) (map-append term_in ws (w ∷ [])) ∙ free
 
 -- a term with v goes to the divided ones
 pub with_step : (e v : ℕ) (items news : List Work) (lower : Work) (seen : List Work) (term : Work) → news ≡ items ++ (lower ∷ [])
-    → lower.exponents.items ≡ less e v term.exponents.items → lower.factor ≡ term.factor → terms_in items ≡ divided e v (terms_in seen)
+    → lower.exponents.items ≡ lessened e v term.exponents.items → lower.factor ≡ term.factor → terms_in items ≡ divided e v (terms_in seen)
     → is_positive (exponent_of v term.exponents.items) ≡ true → terms_in news ≡ divided e v (terms_in (seen ++ (term ∷ [])))
 with_step e v items news lower seen term r p q i h =
     ap terms_in r ∙ map-append term_in items (lower ∷ []) ∙ rw (i, p, q) (sym (divided_one e v seen term (less_term e v (term_in term) ∷ []) (rw h refl)))

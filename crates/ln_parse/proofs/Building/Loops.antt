@@ -14,7 +14,7 @@ use Rattle.ln_names.specs.Rules.{scope, is_site_arg, coords_of}
 use Rattle.ln_names.specs.Limits.{Each}
 use Rattle.ln_names.specs.declared.nodes.Body.{Body}
 use Rattle.ln_names.specs.declared.nodes.Node.{Node}
-use Rattle.ln_names.specs.Nodes.{Paired, AreNodes, LetsNodes}
+use Rattle.ln_names.specs.Nodes.{ArePairedBy, AreNodes, LetsNodes}
 use Rattle.ln_lex.specs.declared.token.Token.{Token}
 use Rattle.ln_tree.specs.Formula.{Formula}
 use Rattle.ln_names.proofs.Lists.{place_below, item_at}
@@ -64,13 +64,13 @@ is_narrow bytes is args ls f a l =
     record { args = a; lets = l; coords = λ at. let h = few_of bytes is (find (λ a. is_site_arg a && same bytes a.name at) args) f in omega arith }
 
 -- lists that go together are equally long
-pub paired_length : {A B : Type 0} (P : List A → A → B → Type 0) (before xs : List A) (ys : List B) → Paired P before xs ys → length xs ≡ length ys
+pub paired_length : {A B : Type 0} (P : List A → A → B → Type 0) (before xs : List A) (ys : List B) → ArePairedBy P before xs ys → length xs ≡ length ys
 paired_length P before [] [] p = refl
 paired_length P before [] (y ∷ ys) p = absurd p
 paired_length P before (x ∷ xs) [] p = absurd p
 paired_length P before (x ∷ xs) (y ∷ ys) p = ap suc (paired_length P (before ++ (x ∷ [])) xs ys p.1)
 
-paired_get : {A B : Type 0} (P : List A → A → B → Type 0) (before xs : List A) (ys : List B) (i : ℕ) (d : A) (e : B) → Paired P before xs ys
+paired_get : {A B : Type 0} (P : List A → A → B → Type 0) (before xs : List A) (ys : List B) (i : ℕ) (d : A) (e : B) → ArePairedBy P before xs ys
     → i < length xs → P (before ++ take i xs) (get_or xs i d) (get_or ys i e)
 paired_get P before [] ys i d e p l = absurd (omega arith)
 paired_get P before (x ∷ xs) [] i d e p l = absurd p
@@ -80,19 +80,19 @@ paired_get {A} P before (x ∷ xs) (y ∷ ys) (suc i) d e p l =
     (paired_get P (before ++ (x ∷ [])) xs ys i d e p.1 (omega arith))
 
 -- an element of one has its companion in the other
-pub paired_at : {A B : Type 0} (P : List A → A → B → Type 0) (xs : List A) (ys : List B) (i : ℕ) (d : A) (y : B) → Paired P [] xs ys
+pub paired_at : {A B : Type 0} (P : List A → A → B → Type 0) (xs : List A) (ys : List B) (i : ℕ) (d : A) (y : B) → ArePairedBy P [] xs ys
     → i < length ys → y ≡ get_or ys i y → P (take i xs) (get_or xs i d) y
 paired_at {B = B} P xs ys i d y p l q =
     let n = paired_length P [] xs ys p in
     subst (λ (w : B). P (take i xs) (get_or xs i d) w) (sym q) (paired_get P [] xs ys i d y p (omega arith))
 
 -- there are as many bodies as items
-pub bodies_length : (P : List Item → Item → Body → Type 0) (its : List RawItem) (bs : List Body) → Paired P [] (items its) bs → length its ≡ length bs
+pub bodies_length : (P : List Item → Item → Body → Type 0) (its : List RawItem) (bs : List Body) → ArePairedBy P [] (items its) bs → length its ≡ length bs
 bodies_length P its bs p = let n = length-map its item in let m = paired_length P [] (items its) bs p in omega arith
 
 -- and each has its own
 pub body_index : (P : List Item → Item → Body → Type 0) (its : List RawItem) (bs : List Body) (i : ℕ) (x : RawItem) (y : Body)
-    → Paired P [] (items its) bs → i < length its → x ≡ get_or its i x → y ≡ get_or bs i y → P (items (take i its)) (item x) y
+    → ArePairedBy P [] (items its) bs → i < length its → x ≡ get_or its i x → y ≡ get_or bs i y → P (items (take i its)) (item x) y
 body_index P its bs i x y p l q r =
     let m = item_at its i x q in
     let t : take i (items its) ≡ items (take i its) = take-map item i its in

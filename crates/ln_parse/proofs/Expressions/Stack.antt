@@ -19,10 +19,10 @@ use Rattle.ln_tree.specs.declared.expr.Expr.{Expr}
 use Rattle.ln_tree.specs.Formula.{Formula, formula}
 use Rattle.ln_parse.specs.Says.{resolved, Says}
 use Rattle.ln_parse.specs.Ready.{IsNarrow, ReadyValue}
-use Rattle.ln_parse.specs.Stack.{applied_by, applied, arity, is_small, Brings, AreOne}
+use Rattle.ln_parse.specs.Stack.{applied_by, applied, arity, is_small_power, Brings, AreOne}
 use Rattle.ln_parse.proofs.Building.Places.{position_is, place_is}
 
-more : (xs : List Node) (n : Node) (fs gs : List Formula) → Brings xs fs gs → (arity n.what ≤ length gs) × is_small n.what
+more : (xs : List Node) (n : Node) (fs gs : List Formula) → Brings xs fs gs → (arity n.what ≤ length gs) × is_small_power n.what
     → Brings (xs ++ (n ∷ [])) fs (applied n gs)
 more [] n fs gs h k = rw h (k.0, k.1, refl)
 more (x ∷ xs) n fs gs h k = (h.0, h.1, more xs n (applied x fs) gs h.2 k)
@@ -32,7 +32,7 @@ small_by p xs None l h = omega arith
 small_by p xs (Some n) l h = let b = place_below p 0 xs n h in omega arith
 
 module _ (bytes : List ℕ) (s : Scope) (narrow : IsNarrow bytes s) where
-  name_small : (at : Span) (o : Option ℕ) → let_place bytes s.lets at ≡ o → (arity (nodes.name_of bytes s at o) ≤ 0) × is_small (nodes.name_of bytes s at o)
+  name_small : (at : Span) (o : Option ℕ) → let_place bytes s.lets at ≡ o → (arity (nodes.name_of bytes s at o) ≤ 0) × is_small_power (nodes.name_of bytes s at o)
   name_small at (Some j) h = (omega arith, small_by (λ l. same bytes l.name at) s.lets (Some j) narrow.lets h)
   name_small at None h = (
     omega arith,
@@ -90,7 +90,7 @@ module _ (ns : List Node) (i : ℕ) (d : Node) (xs : List Expr) (left : Left ns 
   next hs q gs b = let e = rw (drop-cons ns i d l) at (left gs b) in rw (q, add-one i) e.2
 
   -- what the next node needs
-  pub needs : AreOne ns → (arity (get_or ns i d).what ≤ length xs) × is_small (get_or ns i d).what
+  pub needs : AreOne ns → (arity (get_or ns i d).what ≤ length xs) × is_small_power (get_or ns i d).what
   needs r =
       let e = rw (drop-cons ns i d l) at (left (r.0 ∷ []) r.1) in
       let n = formulas_length xs in (omega (arith, e.0, n), e.1)

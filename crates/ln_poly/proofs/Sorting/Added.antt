@@ -10,7 +10,7 @@ use Rattle.std.specs.declared.cmp.Ordering.{Ordering}
 use Rattle.ln_algebra.specs.Vector.{same_vector}
 use Rattle.ln_tree.specs.Exps.{IsAbove, IsRising, Pairs, pairs_cmp, pairs_cmp-total, same_pairs-is, same_pairs-ties, vector}
 use Rattle.ln_poly.specs.Merge.{AreInOrder, HaveFactors, IsMerge, passing, weight_of}
-use Rattle.ln_poly.specs.Sparse.{AreBelow, AreSorted, IsFactor, IsPoly, Precedes, Sparse, coefficient_at, part_at, size_of}
+use Rattle.ln_poly.specs.Sparse.{AreBelow, AreSorted, IsFactor, IsPoly, ComesBefore, Sparse, coefficient_at, part_at, size_of}
 use Rattle.ln_poly.proofs.Sorting.Merges.{merge-factors, merge-in_order, merge-keys, merge-passing, merge-weight, merges}
 use Rattle.ln_poly.proofs.TermLists.Coefficients.{coefficient_at-cons, coefficient_at-nil, size-cons, size-nil}
 
@@ -26,51 +26,51 @@ pub size-weight : (f : Sparse) → size_of f ≡ weight_of f
 size-weight [] = size-nil
 size-weight (t ∷ f) = omega (arith, size-weight f, size-cons t f)
 
-in_order : (f : Sparse) → IsStrictlySortedBy (on (λ (t : Pairs × ℤ). t.0) pairs_cmp) f → AreInOrder Precedes f
+in_order : (f : Sparse) → IsStrictlySortedBy (on (λ (t : Pairs × ℤ). t.0) pairs_cmp) f → AreInOrder ComesBefore f
 unfolding IsStrictlySortedBy
 in_order [] s = tt
 in_order (t ∷ f) s = (s.0, in_order f s.1)
 
-sorted : (f : Sparse) → AreInOrder Precedes f → IsStrictlySortedBy (on (λ (t : Pairs × ℤ). t.0) pairs_cmp) f
+sorted : (f : Sparse) → AreInOrder ComesBefore f → IsStrictlySortedBy (on (λ (t : Pairs × ℤ). t.0) pairs_cmp) f
 unfolding IsStrictlySortedBy
 sorted [] s = tt
 sorted (t ∷ f) s = (s.0, sorted f s.1)
 
 -- the order of two monomials
-pub pairs-ranked : (a b : Pairs) (r : Ordering) → r ≡ pairs_cmp a b → MatchOrdering r (Precedes a b) (a ≡ b) (Precedes b a)
+pub pairs-ranked : (a b : Pairs) (r : Ordering) → r ≡ pairs_cmp a b → MatchOrdering r (ComesBefore a b) (a ≡ b) (ComesBefore b a)
 pairs-ranked a b Less e = sym e
 pairs-ranked a b Equal e = same_pairs-is a b (same_pairs-ties a b ∙ ap is_eq (sym e))
 pairs-ranked a b Greater e = pairs_cmp-total.antisymm b a ∙ ap ordering_reverse (sym e)
 
-pairs-total : (a b : Pairs) → Precedes a b ⊎ ((a ≡ b) ⊎ Precedes b a)
+pairs-total : (a b : Pairs) → ComesBefore a b ⊎ ((a ≡ b) ⊎ ComesBefore b a)
 pairs-total a b = by_case (pairs_cmp a b) (pairs-ranked a b (pairs_cmp a b) refl) where
-  by_case : (r : Ordering) → MatchOrdering r (Precedes a b) (a ≡ b) (Precedes b a) → Precedes a b ⊎ ((a ≡ b) ⊎ Precedes b a)
+  by_case : (r : Ordering) → MatchOrdering r (ComesBefore a b) (a ≡ b) (ComesBefore b a) → ComesBefore a b ⊎ ((a ≡ b) ⊎ ComesBefore b a)
   by_case Less l = inl l
   by_case Equal l = inr (inl l)
   by_case Greater l = inr (inr l)
 
 -- ---- what is merged is the sum
-module _ (f g h : Sparse) (m : IsMerge Precedes f g h) where
+module _ (f g h : Sparse) (m : IsMerge ComesBefore f g h) where
   pub merged-coefficient : (n : ℕ) (k : List ℕ) → coefficient_at n h k ≡ coefficient_at n f k +ℤ coefficient_at n g k
   merged-coefficient n k = omega (
     arith,
     ints,
-    merge-passing Precedes (λ e. same_vector (vector n e) k) f g h m,
+    merge-passing ComesBefore (λ e. same_vector (vector n e) k) f g h m,
     coefficient-passing n k f,
     coefficient-passing n k g,
     coefficient-passing n k h,
   )
 
   pub merged-size : size_of h ≤ size_of f + size_of g
-  merged-size = omega (arith, merge-weight Precedes f g h m, size-weight f, size-weight g, size-weight h)
+  merged-size = omega (arith, merge-weight ComesBefore f g h m, size-weight f, size-weight g, size-weight h)
 
   pub merged-sorted : AreSorted f → AreSorted g → AreSorted h
-  merged-sorted a b = sorted h (merge-in_order Precedes pairs_cmp-total.trans f g h m (in_order f a) (in_order g b))
+  merged-sorted a b = sorted h (merge-in_order ComesBefore pairs_cmp-total.trans f g h m (in_order f a) (in_order g b))
 
   -- what holds of each monomial of both holds of each
   pub merged-all : (P : Pairs → Type 0) → All (λ t. P t.0) f → All (λ t. P t.0) g → All (λ t. P t.0) h
   merged-all P a b = All-from_recursion (λ (t : Pairs × ℤ). P t.0) h
-      (merge-keys Precedes P f g h m (recursion_from_All (λ (t : Pairs × ℤ). P t.0) f a) (recursion_from_All (λ (t : Pairs × ℤ). P t.0) g b))
+      (merge-keys ComesBefore P f g h m (recursion_from_All (λ (t : Pairs × ℤ). P t.0) f a) (recursion_from_All (λ (t : Pairs × ℤ). P t.0) g b))
 
 -- ---- a sum exists
 have-factors : (f : Sparse) → All (λ t. IsFactor t.1) f → HaveFactors f
@@ -92,7 +92,7 @@ pub record HasSum (f g : Sparse) : Type 0 where
 -- the sum of two polynomials
 pub sum-exists : (f g : Sparse) → IsPoly f → IsPoly g → size_of f + size_of g < 2 ^ 127 → HasSum f g
 sum-exists f g p q room =
-    let m = merges Precedes pairs-total f g in
+    let m = merges ComesBefore pairs-total f g in
     let s = merged-size f g m.terms m.merge in
     record {
       poly = m.terms;
@@ -101,7 +101,7 @@ sum-exists f g p q room =
       form = record {
         sorted = merged-sorted f g m.terms m.merge p.sorted q.sorted;
         rising = merged-all f g m.terms m.merge IsRising p.rising q.rising;
-        factors = are-factors m.terms (merge-factors Precedes f g m.terms m.merge (have-factors f p.factors) (have-factors g q.factors))
+        factors = are-factors m.terms (merge-factors ComesBefore f g m.terms m.merge (have-factors f p.factors) (have-factors g q.factors))
             (omega (arith, s, room));
       };
       below = λ k. merged-all f g m.terms m.merge (λ e. IsAbove e k);

@@ -8,7 +8,7 @@ use Rattle.std.proofs.lemmas.List.{get_or_default, take_all, take_more}
 use Rattle.std.proofs.lemmas.List.Elements.{All-pop, All-push}
 use Rattle.ln_tree.specs.Exps.{Pairs, same_pairs, same_pairs-is}
 use Rattle.ln_poly.specs.Merge.{IsMerge}
-use Rattle.ln_poly.specs.Sparse.{AreSorted, Precedes, Sparse, coefficient_at, exps_of, size_of}
+use Rattle.ln_poly.specs.Sparse.{AreSorted, ComesBefore, Sparse, coefficient_at, exps_of, size_of}
 use Rattle.ln_poly.specs.Sums.{IsSpread, Spreads, added, added_at, begun, missed}
 use Rattle.ln_poly.proofs.Sorting.Added.{merged-all, merged-coefficient, merged-size, merged-sorted}
 use Rattle.ln_poly.proofs.Sorting.Gathering.{exps-added, same-all, same-sorted}
@@ -59,7 +59,7 @@ module _ (old : Sparse) where
   spread-sorted _ _ _ begun h = h
   spread-sorted _ _ _ (added g f more t i l e s) h = spread-sorted g f more s (sorted-pop g t h).0
   spread-sorted _ _ _ (missed g f more t s) h = let a = sorted-pop g t h in
-      sorted-push more t (spread-sorted g f more s a.0) (spread-all (λ e. Precedes e t.0) g f more s a.1)
+      sorted-push more t (spread-sorted g f more s a.0) (spread-all (λ e. ComesBefore e t.0) g f more s a.1)
 
   -- in `spread` there is room to add the next term
   pub spread-room : (g f more : Sparse) (i : ℕ) (t : Pairs × ℤ) (k : ℕ) → IsSpread old (take i g) f more → i < length g → t ≡ get_or g i t
@@ -77,7 +77,7 @@ module _ (old : Sparse) where
   spread-end g f more i l s = subst (λ z. IsSpread old z f more) (take_all i g l) s
 
 -- ---- the sum of f and g, where both are handed on
-module _ (f g old more h f' g' : Sparse) (a : f' ≡ f) (b : g' ≡ g) (s : IsSpread f' g' old more) (m : IsMerge Precedes old more h) where
+module _ (f g old more h f' g' : Sparse) (a : f' ≡ f) (b : g' ≡ g) (s : IsSpread f' g' old more) (m : IsMerge ComesBefore old more h) where
   pub sum-coefficient : (n : ℕ) (k : List ℕ) → coefficient_at n h k ≡ coefficient_at n f k +ℤ coefficient_at n g k
   sum-coefficient n k = omega (
     arith,

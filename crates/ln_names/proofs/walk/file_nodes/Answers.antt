@@ -1,7 +1,7 @@
 use Rattle.std.proofs.Common.{List, [], refl, subst}
 use Rattle.std.proofs.lemmas.Result.{err_from_is_err_and}
 use Rattle.ln_syntax.specs.Raw.{Item}
-use Rattle.ln_names.specs.Nodes.{Paired, BodyIs}
+use Rattle.ln_names.specs.Nodes.{ArePairedBy, BodyIs}
 use Rattle.ln_names.proofs.Walking.{items_walked, items_stop, items_next, items_done, items_taken}
 use Rattle.ln_names.proofs.walk.file_nodes.Goals as goal
 
@@ -27,5 +27,5 @@ returns-clause-fine c = items_done c.args.bytes.now c.args.ts.now c.args.its.now
 
 pub returns-clause-nodes : goal.returns-clause-nodes
 returns-clause-nodes c =
-    subst (λ (w : List Item). Paired (BodyIs c.args.bytes.now c.args.ts.now) [] w c.loop-i.bodies)
+    subst (λ (w : List Item). ArePairedBy (BodyIs c.args.bytes.now c.args.ts.now) [] w c.loop-i.bodies)
     (items_taken c.args.its.now c.loop-i.i c.loop-i-test.false) c.loop-i.invariant.1
