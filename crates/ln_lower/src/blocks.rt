@@ -118,13 +118,16 @@ fn written(alloc: Global, lets: &[Fitted], t: &Fitted) -> Result<Draft<Pair>, No
     drafted(alloc, &distinct, lets, numbers.as_slice(), t, k)
 }
 
-// The block of these operations, which computes the derivative of these exponents.
+// The block of these operations, which computes the derivative of these exponents: copies without spare room, since lists that are cut where
+// they lie leave holes between the lists of tens of thousands of blocks.
 fn finished(alloc: Global, a: &Exps, code: Built<Pair>) -> Result<Block, NoMemory>
     requires { IsBlock (record { exps = a.now; ops = code.ops; pairs = map range code.bounds; depth = 2048 }) }
     ensures { IfOk result (λ b. b ≡ record { exps = a.now; ops = code.ops; pairs = map range code.bounds; depth = 2048 }) }
 {
     let exps = a.copy(alloc)?;
-    Ok(Block::seal(exps, code.ops, code.bounds, 2048))
+    let ops = code.ops.as_slice().to_vec(alloc)?;
+    let bounds = code.bounds.as_slice().to_vec(alloc)?;
+    Ok(Block::seal(exps, Seq::from_vec(ops), Seq::from_vec(bounds), 2048))
 }
 
 // The block of a tree with its lets, and what is known of it.
