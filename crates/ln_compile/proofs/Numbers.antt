@@ -12,10 +12,19 @@ use Rattle.ln_compile.specs.Compiled.{AreNumbered}
 pub within_at : (ps : List Pred) (i : ℕ) (p : PredOf) → slice_get (map pred_of ps) i ≡ Some p → i < length ps
 within_at ps i p e = subst (λ n. i < n) (length-map ps pred_of) (slice_get_within (map pred_of ps) i p e)
 
+-- the predicate with its number
+pub number_at : (ps : List Pred) (i : ℕ) (p : Pred) → slice_get ps i ≡ Some p → slice_get (map pred_of ps) i ≡ Some (pred_of p)
+number_at ps i p e = slice_get-map pred_of ps i ∙ ap (option_map pred_of) e
+
 -- and the predicate in memory with this number stands for it
 pub same_at : (ps : List Pred) (i : ℕ) (p : Pred) (q : PredOf) → slice_get ps i ≡ Some p
     → slice_get (map pred_of ps) i ≡ Some q → q ≡ pred_of p
-same_at ps i p q e f = sym (same_Some (pred_of p) q (sym (slice_get-map pred_of ps i ∙ ap (option_map pred_of) e) ∙ f))
+same_at ps i p q e f = sym (same_Some (pred_of p) q (sym (number_at ps i p e) ∙ f))
+
+-- what holds of a predicate in memory holds of the one with its number
+pub holds_at : (P : PredOf → Type 0) (ps : List Pred) (i : ℕ) (p : Pred) → slice_get ps i ≡ Some p → P (pred_of p) → (q : PredOf)
+    → slice_get (map pred_of ps) i ≡ Some q → P q
+holds_at P ps i p e h q f = subst P (sym (same_at ps i p q e f)) h
 
 -- the numbers are within
 pub numbers_within : (ps : List Pred) (is : List ℕ) (preds : List PredOf) → AreNumbered (map pred_of ps) is preds

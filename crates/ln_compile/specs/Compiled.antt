@@ -1,6 +1,8 @@
 -- What a source is compiled to: the program and the stage count of each predicate.
-use Rattle.std.specs.Prelude.{◌≡◌, ◌≢◌, All, ℕ, ◌+◌, ◌<◌, ◌^◌, List, [], ◌∷◌, length, map, slice_get, ℤ, Option, Some, None, position, bytes_eq}
+use Rattle.std.specs.Prelude.{◌≡◌, ◌≢◌, All, ℕ, ◌+◌, ◌<◌, ◌^◌, List, [], ◌∷◌, length, map, slice_get, ℤ, Option, Some, None, IfSome, position, bytes_eq}
+use Rattle.std.specs.List.{AllZip}
 use Rattle.ln_algebra.specs.Orders.{BySmallest}
+use Rattle.ln_algebra.specs.Tree.{InputsBelow}
 use Rattle.ln_tree.specs.declared.pred.Pred.{Pred}
 use Rattle.ln_tree.specs.declared.table.Table.{Table}
 use Rattle.ln_tree.specs.declared.shape.VarInfo.{VarInfo}
@@ -15,10 +17,12 @@ use Rattle.ln_poly.specs.Derivative.{IsDerivative}
 use Rattle.ln_poly.specs.Expansion.{IsNormal}
 use Rattle.ln_poly.specs.Sparse.{Sparse, terms_of}
 use Rattle.ln_stage.specs.Lists.{AreStageLists, first_seen, stage_count}
-use Rattle.ln_code.specs.Carried.{Carries, vectors}
+use Rattle.ln_code.specs.Carried.{Carries, CarriesWhole, vectors}
+use Rattle.ln_code.specs.Kept.{FollowsFilterRules}
 use Rattle.ln_code.specs.Lists.{lists_of}
 use Rattle.ln_code.specs.Part.{Code, FilterCode, Part, filter_value, lines_of, ops_in_filter}
-use Rattle.ln_due.specs.Small.{PushesSmall}
+use Rattle.ln_due.specs.Derivative.{IsDerivativeBlock}
+use Rattle.ln_due.specs.Small.{FilterPushesSmall, PushesSmall}
 use Rattle.ln_filter.specs.Steady.{HasFilter}
 use Rattle.ln_filter.specs.Truncated.{root_number, root_triple}
 use Rattle.ln_lower.specs.StackCode.{IsCodeOf}
@@ -73,6 +77,18 @@ IsFilterOf p (Some f) =
       error = (root_triple p.vars (lets_of p) (own_root p)).e;
     }))
 
+-- the filter is the predicate's, and the block its own: each follows the rules, and stands for each normal polynomial of the predicate's root; what
+-- they push has at most 1,024 terms and no exponent above 127, and together they have fewer than 2^21 operations
+pub record IsBeginningOf (p : PredOf) (o : Option FilterCode) (b : Code) : Type 0 where
+  pub filter : IsFilterOf p o
+  pub own : IsOwn p b
+  pub inputs : InputsBelow (length p.vars) (root_of p)
+  pub rules : IfSome o (FollowsFilterRules p.vars)
+  pub whole : (f : Sparse) → IsNormal (length p.vars) (root_of p) f → IfSome o (CarriesWhole p.vars (terms_of (length p.vars) f))
+  pub block : (f : Sparse) → IsNormal (length p.vars) (root_of p) f → IsDerivativeBlock p.vars f b
+  pub pushes : IfSome o (FilterPushesSmall p.vars)
+  pub short : ops_in_filter o + length b.ops < 2 ^ 21
+
 -- the part is the program of the predicate: it is over the predicate's variables, with the predicate's filter; it carries the
 -- predicate's root, with the lets in place of their names, by the smallest infinitesimal that differs; it begins with the
 -- source's own tree, and each other block is made from the nested form of its derivative, both with exact ranges and the least
@@ -93,10 +109,7 @@ pub record IsProgramOf (p : PredOf) (part : Part) : Type 0 where
 
 -- one program for each predicate, in order
 abbrev pub AreProgramsOf : List PredOf → List Part → Type 0
-AreProgramsOf [] [] = Unit {0}
-AreProgramsOf [] (c ∷ cs) = ⊥
-AreProgramsOf (p ∷ ps) [] = ⊥
-AreProgramsOf (p ∷ ps) (c ∷ cs) = IsProgramOf p c × AreProgramsOf ps cs
+AreProgramsOf = AllZip IsProgramOf
 
 -- n is the stage count of the predicate: the number of stages in the lists of all orders of its sites, taken together
 pub record IsStageCount (p : PredOf) (n : ℕ) : Type 0 where
@@ -106,13 +119,6 @@ pub record IsStageCount (p : PredOf) (n : ℕ) : Type 0 where
   pub are_lists : AreStageLists p.sites p.vars poly lists
   pub count : n ≡ stage_count lists
 
--- one stage count for each predicate, in order
-abbrev pub AreStageCounts : List PredOf → List ℕ → Type 0
-AreStageCounts [] [] = Unit {0}
-AreStageCounts [] (n ∷ ns) = ⊥
-AreStageCounts (p ∷ ps) [] = ⊥
-AreStageCounts (p ∷ ps) (n ∷ ns) = IsStageCount p n × AreStageCounts ps ns
-
 -- n is the stage count of predicate number i
 abbrev pub IsStageCountAt : List PredOf → ℕ → ℕ → Type 0
 IsStageCountAt ps i n = (p : PredOf) → slice_get ps i ≡ Some p → IsStageCount p n
@@ -121,24 +127,23 @@ IsStageCountAt ps i n = (p : PredOf) → slice_get ps i ≡ Some p → IsStageCo
 abbrev pub IsProgramAt : List PredOf → ℕ → Part → Type 0
 IsProgramAt ps i part = (p : PredOf) → slice_get ps i ≡ Some p → IsProgramOf p part
 
+-- the filter and the block are those of predicate number i
+abbrev pub IsBeginningAt : List PredOf → ℕ → Option FilterCode × Code → Type 0
+IsBeginningAt ps i b = (p : PredOf) → slice_get ps i ≡ Some p → IsBeginningOf p b.0 b.1
+
 -- the predicates with these numbers
 abbrev pub AreNumbered : List PredOf → List ℕ → List PredOf → Type 0
-AreNumbered table [] [] = Unit {0}
-AreNumbered table [] (p ∷ ps) = ⊥
-AreNumbered table (i ∷ is) [] = ⊥
-AreNumbered table (i ∷ is) (p ∷ ps) = (slice_get table i ≡ Some p) × AreNumbered table is ps
+AreNumbered table = AllZip (λ i p. slice_get table i ≡ Some p)
 
 -- the number of the first predicate of a name
 abbrev pub pred_number : List ℕ → List Pred → Option ℕ
 pred_number name preds = position (λ p. bytes_eq (name_bytes p.name) name) preds
 
--- a source whose predicates have no fault: its table and its stage counts
+-- a source whose predicates have no fault: its table
 pub record CheckedOf : Type 0 where
   pub table : Table
-  pub counts : List ℕ
 
--- a compiled source: its table, its programs and its stage counts
+-- a compiled source: its table and its programs
 pub record CompiledOf : Type 0 where
   pub table : Table
   pub programs : List Part
-  pub counts : List ℕ

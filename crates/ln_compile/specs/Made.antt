@@ -1,12 +1,13 @@
--- Blocks as they are made.
+-- Blocks as they are made, and what is kept of a predicate.
 use Rattle.std.specs.Prelude.{ℕ, ◌≤◌, List, length}
 use Rattle.ln_tree.specs.Exps.{Pairs}
 use Rattle.ln_tree.specs.Table.{PredOf}
 use Rattle.ln_poly.specs.Sparse.{Sparse}
 use Rattle.ln_code.specs.Part.{Code}
 use Rattle.ln_due.specs.Blocks.{AreBlocksOf}
-use Rattle.ln_compile.specs.Compiled.{AreStageCounts, IsFromExact, IsOwn}
-use Rattle.ln_compile.specs.Accepted.{AreSound}
+use Rattle.ln_stage.specs.Accepted.{IsExpanded}
+use Rattle.ln_compile.specs.declared.counted.Counted.{Counted}
+use Rattle.ln_compile.specs.Compiled.{IsFromExact, IsOwn, IsStageCount}
 
 -- blocks for these exponents, of which the first is the predicate's own
 pub record AreOwnBlocks (p : PredOf) (f : Sparse) (exps : List Pairs) (blocks : List Code) : Type 0 where
@@ -15,7 +16,7 @@ pub record AreOwnBlocks (p : PredOf) (f : Sparse) (exps : List Pairs) (blocks : 
   pub small : length first.ops ≤ 524352
   pub made : AreBlocksOf (IsFromExact p.vars f) p.vars f first exps blocks
 
--- these predicates have no fault, and these are their stage counts
-pub record AreCounted (ps : List PredOf) (ns : List ℕ) : Type 0 where
-  pub sound : AreSound ps
-  pub counts : AreStageCounts ps ns
+-- what is kept of an accepted predicate: its normal polynomial and its stage count
+pub record IsCounted (p : PredOf) (c : Counted) : Type 0 where
+  pub expanded : IsExpanded p c.poly
+  pub count : IsStageCount p c.count

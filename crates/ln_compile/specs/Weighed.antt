@@ -1,6 +1,7 @@
 -- Sources that are accepted by the weights of their nodes: a narrower rule, in which each node of the source is tested by its
 -- weight, in place of its range, its size and the weight of the whole.
-use Rattle.std.specs.Prelude.{◌≡◌, true, ℕ, List, [], ◌∷◌, length, map}
+use Rattle.std.specs.Prelude.{◌≡◌, true, ℕ, List, length, map}
+use Rattle.std.specs.List.{AllByRecursion}
 use Rattle.ln_base.specs.declared.span.Span.{Span}
 use Rattle.ln_tree.specs.Fits.{is_fit, lets_fit}
 use Rattle.ln_tree.specs.Formula.{tree}
@@ -24,8 +25,7 @@ pub record IsSoundByWeight (p : PredOf) : Type 0 where
 
 -- none of them has
 abbrev pub AreSoundByWeight : List PredOf → Type 0
-AreSoundByWeight [] = Unit {0}
-AreSoundByWeight (p ∷ ps) = IsSoundByWeight p × AreSoundByWeight ps
+AreSoundByWeight = AllByRecursion IsSoundByWeight
 
 -- the source has this table, and no predicate of it has a fault by weight
 pub record AcceptedByWeight (bytes : List ℕ) (t : TableOf) : Type 0 where

@@ -1,16 +1,14 @@
-//! Tests a predicate for each of its faults, and makes its normal polynomial and its stages on the way.
-ghost use Rattle.std.specs.Prelude.{◌≢◌, ◌≤◌, All, [], length, IfErr, IfOk, OnOk};
+//! Tests a predicate for each of its faults: it is accepted, with its normal polynomial and its stages, or refused.
+ghost use Rattle.std.specs.Prelude.{◌≡◌, ◌≤◌, All, length, IfErr, IfOk, OnOk};
 ghost use Rattle.ln_algebra.specs.Vector.{total_degree};
 ghost use Rattle.ln_algebra.specs.Weights.{weighted_sum};
-ghost use Rattle.ln_base.specs.Limits.{most_stages, most_weight};
 ghost use Rattle.ln_tree.specs.Exps.{vector};
 ghost use Rattle.ln_tree.specs.Table.{pred_of};
 ghost use Rattle.ln_bound.specs.Light.{AreLight, most};
 ghost use Rattle.ln_bound.specs.Value.{weights};
 ghost use Rattle.ln_poly.specs.Expansion.{HaveFewTerms, IsNormal};
 ghost use Rattle.ln_poly.specs.Sparse.{terms_of};
-ghost use Rattle.ln_stage.specs.Lists.{stage_count, stage_weight};
-ghost use Rattle.ln_stage.specs.Staged.{AreStagesOf, vectors_of};
+ghost use Rattle.ln_stage.specs.Staged.{AreStagesOf};
 ghost use Rattle.ln_compile.specs.Accepted.{IsHeavyFault, IsSound, expanded_of, loaded_of, root_of};
 ghost use Rattle.ln_compile.specs.Refused.{StopsPred};
 
@@ -19,13 +17,13 @@ use ln_base::limits::{MOST_STAGES, MOST_WEIGHT};
 use ln_bound::BoundStop;
 use ln_bound::weigh::weigh;
 use ln_poly::{Poly, PolyStop, heft, normal};
-use ln_stage::{StageStop, Stages, stages};
+use ln_stage::{Accepted, StageStop, Stages, stages};
 use ln_tree::Pred;
 use std::alloc::Global;
 
 // Tests the ranges and sizes of the nodes of predicate number k.
 #[tactic(auto, using(crate::proofs::Refusing::Judging::bound_stops))]
-pub(crate) fn measured(alloc: Global, k: u8, p: &Pred) -> Result<(), Refusal>
+fn measured(alloc: Global, k: u8, p: &Pred) -> Result<(), Refusal>
     ensures light { OnOk result (AreLight (loaded_of (pred_of p.now))) }
     ensures err { IfErr result (λ r. StopsPred k (pred_of p.now) r) }
 {
@@ -38,10 +36,11 @@ pub(crate) fn measured(alloc: Global, k: u8, p: &Pred) -> Result<(), Refusal>
 
 // The normal polynomial of predicate number k.
 #[tactic(auto, using(crate::proofs::Refusing::Judging::terms_stops))]
-pub(crate) fn expanded(alloc: Global, k: u8, p: &Pred) -> Result<Poly, Refusal>
+fn expanded(alloc: Global, k: u8, p: &Pred) -> Result<Poly, Refusal>
     requires light { AreLight (loaded_of (pred_of p.now)) }
     ensures few { OnOk result (HaveFewTerms (length p.now.shape.vars) (expanded_of (pred_of p.now))) }
     ensures normal { IfOk result (λ f. IsNormal (length p.now.shape.vars) (root_of (pred_of p.now)) f) }
+    ensures terms { IfOk result (λ f. length f ≤ 1024) }
     ensures degrees { IfOk result (λ f. All (λ t. total_degree (vector (length p.now.shape.vars) t.0) ≤ 126) f) }
     ensures err { IfErr result (λ r. StopsPred k (pred_of p.now) r) }
 {
@@ -53,7 +52,7 @@ pub(crate) fn expanded(alloc: Global, k: u8, p: &Pred) -> Result<Poly, Refusal>
 }
 
 // Tests the weight of predicate number k as a whole; f is its normal polynomial.
-pub(crate) fn weighed(k: u8, p: &Pred, f: &Poly) -> Result<(), Refusal>
+fn weighed(k: u8, p: &Pred, f: &Poly) -> Result<(), Refusal>
     requires light { AreLight (loaded_of (pred_of p.now)) }
     requires few { HaveFewTerms (length p.now.shape.vars) (expanded_of (pred_of p.now)) }
     requires normal { IsNormal (length p.now.shape.vars) (root_of (pred_of p.now)) f.now }
@@ -68,16 +67,13 @@ pub(crate) fn weighed(k: u8, p: &Pred, f: &Poly) -> Result<(), Refusal>
 }
 
 // The stages of predicate number k, whose normal polynomial is f.
-pub(crate) fn staged(alloc: Global, k: u8, p: &Pred, f: &Poly) -> Result<Stages, Refusal>
+fn staged(alloc: Global, k: u8, p: &Pred, f: &Poly) -> Result<Stages, Refusal>
     requires light { AreLight (loaded_of (pred_of p.now)) }
     requires few { HaveFewTerms (length p.now.shape.vars) (expanded_of (pred_of p.now)) }
     requires whole { IsHeavyFault (pred_of p.now) → ⊥ }
     requires normal { IsNormal (length p.now.shape.vars) (root_of (pred_of p.now)) f.now }
     ensures sound { OnOk result (IsSound (pred_of p.now)) }
-    ensures some { OnOk result (f.now ≢ []) }
     ensures stages { IfOk result (λ st. AreStagesOf p.now.shape.sites p.now.shape.vars f.now st) }
-    ensures count { IfOk result (λ st. stage_count (vectors_of (length p.now.shape.vars) st) ≤ most_stages) }
-    ensures weight { IfOk result (λ st. stage_weight (length p.now.shape.vars) f.now (vectors_of (length p.now.shape.vars) st) ≤ most_weight) }
     ensures err { IfErr result (λ r. StopsPred k (pred_of p.now) r) }
 {
     match stages(alloc, f, &p.shape, MOST_STAGES, MOST_WEIGHT) {
@@ -86,4 +82,16 @@ pub(crate) fn staged(alloc: Global, k: u8, p: &Pred, f: &Poly) -> Result<Stages,
         Err(StageStop::Stages) => Err(Refusal::Stages(k, p.at)),
         Err(StageStop::NoMemory(e)) => Err(Refusal::NoMemory(e)),
     }
+}
+
+/// Predicate number k, where it has no fault; else its fault.
+pub(crate) fn judged(alloc: Global, k: u8, p: &Pred) -> Result<Accepted<'_>, Refusal>
+    ensures pred { IfOk result (λ a. a.pred ≡ p.now) }
+    ensures err { IfErr result (λ r. StopsPred k (pred_of p.now) r) }
+{
+    measured(alloc, k, p)?;
+    let f = expanded(alloc, k, p)?;
+    weighed(k, p, &f)?;
+    let st = staged(alloc, k, p, &f)?;
+    Ok(Accepted::seal(p, f, st))
 }

@@ -14,15 +14,14 @@
 
 pub mod blocks;
 pub mod checked;
+pub(crate) mod counted;
 pub mod due;
 pub(crate) mod judge;
 pub mod laws;
-pub(crate) mod polynomial;
 pub(crate) mod program;
 pub(crate) mod programs;
 pub mod refusal;
 pub mod source;
-pub(crate) mod symmetry;
 
 pub use checked::{Checked, check};
 pub use refusal::Refusal;

@@ -1,116 +1,93 @@
 //! Predicates, judged one after the other, and compiled.
-ghost use Rattle.std.specs.Prelude.{◌≡◌, ◌≤◌, true, All, length, map, IfErr, IfOk, OnOk};
-ghost use Rattle.ln_algebra.specs.Vector.{total_degree};
+ghost use Rattle.std.specs.Prelude.{◌≡◌, ◌≤◌, ◌<◌, true, Some, length, map, slice_get, IfErr, IfOk};
+ghost use Rattle.std.specs.List.{AllZip};
 ghost use Rattle.ln_base.specs.Limits.{most_stages};
-ghost use Rattle.ln_tree.specs.Exps.{vector};
 ghost use Rattle.ln_tree.specs.Table.{pred_of};
 ghost use Rattle.ln_tree.specs.Whole.{differ};
-ghost use Rattle.ln_bound.specs.Light.{AreLight};
-ghost use Rattle.ln_poly.specs.Expansion.{HaveFewTerms, IsNormal};
-ghost use Rattle.ln_compile.specs.Accepted.{AreSound, IsSound, expanded_of, loaded_of, root_of};
-ghost use Rattle.ln_compile.specs.Compiled.{AreProgramsOf, IsProgramOf, IsStageCount};
-ghost use Rattle.ln_compile.specs.Made.{AreCounted};
+ghost use Rattle.ln_stage.specs.Accepted.{IsExpanded};
+ghost use Rattle.ln_compile.specs.Compiled.{AreProgramsOf, IsProgramOf};
+ghost use Rattle.ln_compile.specs.Made.{IsCounted};
 ghost use Rattle.ln_compile.specs.Refused.{StopsPred, StopsPreds};
 
-use crate::judge::{expanded, measured, staged, weighed};
+use crate::counted::Counted;
+use crate::judge::judged;
 use crate::program::program;
 use crate::refusal::Refusal;
 use ln_base::{NoMemory, Seq};
 use ln_code::{Program, Programs};
 use ln_poly::Poly;
+use ln_stage::Accepted;
 use ln_tree::Pred;
 use std::alloc::Global;
 
-// The stage count of predicate number k, whose normal polynomial is f. Its stages are dropped before it is returned.
-fn counted_of(alloc: Global, k: u8, p: &Pred, f: &Poly) -> Result<u64, Refusal>
-    requires light { AreLight (loaded_of (pred_of p.now)) }
-    requires few { HaveFewTerms (length p.now.shape.vars) (expanded_of (pred_of p.now)) }
-    requires normal { IsNormal (length p.now.shape.vars) (root_of (pred_of p.now)) f.now }
-    ensures sound { OnOk result (IsSound (pred_of p.now)) }
-    ensures count { IfOk result (λ n. IsStageCount (pred_of p.now) n) }
-    ensures err { IfErr result (λ r. StopsPred k (pred_of p.now) r) }
+// What is kept of an accepted predicate. Its stages are dropped.
+fn kept(a: Accepted<'_>) -> Counted
+    ensures { IsCounted (pred_of a.entry.pred) result }
 {
-    weighed(k, p, f)?;
-    let st = staged(alloc, k, p, f)?;
-    Ok(st.count())
+    let count = a.stages().count();
+    let (poly, stages) = a.into_parts();
+    drop(stages);
+    Counted { count, poly }
 }
 
-// The stage count of predicate number k.
-fn counted(alloc: Global, k: u8, p: &Pred) -> Result<u64, Refusal>
-    ensures sound { OnOk result (IsSound (pred_of p.now)) }
-    ensures count { IfOk result (λ n. IsStageCount (pred_of p.now) n) }
+// What is kept of predicate number k.
+fn counted(alloc: Global, k: u8, p: &Pred) -> Result<Counted, Refusal>
+    ensures counted { IfOk result (IsCounted (pred_of p.now)) }
     ensures err { IfErr result (λ r. StopsPred k (pred_of p.now) r) }
 {
-    measured(alloc, k, p)?;
-    let f = expanded(alloc, k, p)?;
-    counted_of(alloc, k, p, &f)
+    let a = judged(alloc, k, p)?;
+    Ok(kept(a))
 }
 
-/// The stage counts of the predicates of a table; else the fault of the first that has one.
-pub(crate) fn counts(alloc: Global, preds: &[Pred]) -> Result<Seq<u64>, Refusal>
+/// What is kept of the predicates of a table; else the fault of the first that has one.
+pub(crate) fn all_counted(alloc: Global, preds: &[Pred]) -> Result<Seq<Counted>, Refusal>
     requires { length preds.now ≤ 16 }
-    ensures counted { IfOk result (λ ns. AreCounted (map pred_of preds.now) ns) }
+    ensures counted { IfOk result (λ cs. AllZip IsCounted (map pred_of preds.now) cs) }
     ensures err { IfErr result (λ r. StopsPreds (map pred_of preds.now) r) }
 {
-    let mut counts = Seq::new(alloc);
+    let mut all = Seq::new(alloc);
     'each: for (k, p) in preds.iter().enumerate() {
-        let count = counted(alloc, k as u8, p)?;
-        counts.push(count)?;
+        let one = counted(alloc, k as u8, p)?;
+        all.push(one)?;
     }
-    Ok(counts)
+    Ok(all)
 }
 
-// The program of a predicate with this normal polynomial, or why there is none.
-fn compiled_of(alloc: Global, p: &Pred, f: &Poly) -> Result<Program, Refusal>
-    requires light { AreLight (loaded_of (pred_of p.now)) }
-    requires few { HaveFewTerms (length p.now.shape.vars) (expanded_of (pred_of p.now)) }
-    requires normal { IsNormal (length p.now.shape.vars) (root_of (pred_of p.now)) f.now }
-    requires degrees { All (λ t. total_degree (vector (length p.now.shape.vars) t.0) ≤ 126) f.now }
-    ensures program { IfOk result (λ c. IsProgramOf (pred_of p.now) c) }
-    ensures name { IfOk result (λ c. c.shape.name ≡ p.now.shape.name) }
-    ensures small { IfOk result (λ c. length c.blocks ≤ most_stages) }
-    ensures err { IfErr result (λ r. StopsPred 0 (pred_of p.now) r) }
+/// The predicate of a number among several, and what is kept of it.
+pub(crate) fn at<'a>(preds: &'a [Pred], counted: &'a [Counted], i: usize) -> (&'a Pred, &'a Counted)
+    requires counted { AllZip IsCounted (map pred_of preds.now) counted.now }
+    requires within { i < length preds.now }
+    ensures pred { slice_get preds.now i ≡ Some result.0.now }
+    ensures counted { IsCounted (pred_of result.0.now) result.1.now }
 {
-    weighed(0, p, f)?;
-    let st = staged(alloc, 0, p, f)?;
-    let program = program(alloc, p, f, st)?;
-    Ok(program)
+    (&preds[i], &counted[i])
 }
 
-// The program of a predicate, or why there is none.
-fn compiled(alloc: Global, p: &Pred) -> Result<Program, Refusal>
-    ensures program { IfOk result (λ c. IsProgramOf (pred_of p.now) c) }
-    ensures name { IfOk result (λ c. c.shape.name ≡ p.now.shape.name) }
-    ensures small { IfOk result (λ c. length c.blocks ≤ most_stages) }
-    ensures err { IfErr result (λ r. StopsPred 0 (pred_of p.now) r) }
-{
-    measured(alloc, 0, p)?;
-    let f = expanded(alloc, 0, p)?;
-    compiled_of(alloc, p, &f)
-}
-
-/// The program of a predicate that has no fault.
-pub(crate) fn program_of(alloc: Global, p: &Pred) -> Result<Program, NoMemory>
-    requires { IsSound (pred_of p.now) }
-    ensures program { IfOk result (λ c. IsProgramOf (pred_of p.now) c) }
-    ensures name { IfOk result (λ c. c.shape.name ≡ p.now.shape.name) }
+/// The program of a predicate without a fault, from its polynomial. Its stages are listed once more.
+pub(crate) fn program_of(alloc: Global, p: &Pred, f: &Poly) -> Result<Program, NoMemory>
+    requires { IsExpanded (pred_of p.now) f.now }
+    ensures program { IfOk result (IsProgramOf (pred_of p.now)) }
     ensures small { IfOk result (λ c. length c.blocks ≤ most_stages) }
 {
-    match compiled(alloc, p) {
-        Ok(program) => Ok(program),
-        Err(r) => Err(r.memory()),
-    }
+    let f = f.copy(alloc)?;
+    let a = Accepted::listed(alloc, p, f)?;
+    program(alloc, a)
 }
 
-/// The programs of the predicates of a table, whose names differ and none of which has a fault.
-pub(crate) fn programs(alloc: Global, preds: &[Pred]) -> Result<Programs, NoMemory>
-    requires sound { AreSound (map pred_of preds.now) }
+/// The programs of the predicates of a table, whose names differ.
+pub(crate) fn programs(
+    alloc: Global,
+    preds: &[Pred],
+    counted: &[Counted],
+) -> Result<Programs, NoMemory>
+    requires counted { AllZip IsCounted (map pred_of preds.now) counted.now }
     requires names { differ (map (λ p. p.shape_name) (map pred_of preds.now)) ≡ true }
     ensures { IfOk result (λ cs. AreProgramsOf (map pred_of preds.now) cs) }
 {
     let mut programs = Programs::new(alloc);
-    'each: for p in preds {
-        let program = program_of(alloc, p)?;
+    'each: for i in 0..preds.len() {
+        let (p, c) = at(preds, counted, i);
+        let program = program_of(alloc, p, &c.poly)?;
         programs.push(program)?;
     }
     Ok(programs)

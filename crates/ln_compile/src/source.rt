@@ -6,7 +6,9 @@ ghost use Rattle.ln_compile.specs.Accepted.{Accepted};
 ghost use Rattle.ln_compile.specs.Compiled.{AreProgramsOf, IsStageCountAt, pred_number};
 ghost use Rattle.ln_compile.specs.Refused.{IsRefusal, IsTheOne, IsUnaccepted};
 
-use crate::checked::{check, count_at, found};
+use crate::checked::{check, found};
+use crate::counted::Counted;
+use crate::programs::at;
 use crate::refusal::Refusal;
 use ln_base::Seq;
 use ln_code::Programs;
@@ -22,7 +24,7 @@ pub struct Compiled {
     pub table: Table,
     /// The programs of its predicates, in order.
     pub programs: Programs,
-    counts: Seq<u64>,
+    counted: Seq<Counted>,
 }
 
 impl Model for Compiled {
@@ -30,17 +32,19 @@ impl Model for Compiled {
     ghost use Rattle.std.specs.Coded.{codes};
     ghost use Rattle.ln_tree.specs.contracts.expr.Node as node;
     ghost use Rattle.ln_tree.specs.Table.{pred_of};
-    ghost use Rattle.ln_compile.specs.Compiled.{AreProgramsOf, AreStageCounts, CompiledOf};
+    ghost use Rattle.std.specs.List.{AllZip};
+    ghost use Rattle.ln_compile.specs.Compiled.{AreProgramsOf, CompiledOf};
+    ghost use Rattle.ln_compile.specs.Made.{IsCounted};
 
     ghost Value = { CompiledOf };
 
     ghost coded = { Prim.hlevel (codes, node.the_row.coded) };
 
-    ghost view = { λ c. record { table = c.table; programs = c.programs; counts = c.counts } };
+    ghost view = { λ c. record { table = c.table; programs = c.programs } };
 
     ghost invariant = { λ c. record {
       made : AreProgramsOf (map pred_of c.table.preds) c.programs;
-      counted : AreStageCounts (map pred_of c.table.preds) c.counts;
+      counted : AllZip IsCounted (map pred_of c.table.preds) c.counted;
     } };
 }
 
@@ -72,7 +76,9 @@ impl Compiled {
         requires { i < length self.now.table.preds }
         ensures { IsStageCountAt (map pred_of self.now.table.preds) i result }
     {
-        count_at(self.table.preds.as_slice(), self.counts.as_slice(), i)
+        at(self.table.preds.as_slice(), self.counted.as_slice(), i)
+            .1
+            .count
     }
 }
 
@@ -87,10 +93,10 @@ pub fn compile(alloc: Global, bytes: &[u8]) -> Result<Compiled, Refusal>
 {
     let checked = check(alloc, bytes)?;
     let programs = checked.programs(alloc)?;
-    let (table, counts) = checked.into_parts();
+    let (table, counted) = checked.into_parts();
     Ok(Compiled {
         table,
         programs,
-        counts,
+        counted,
     })
 }

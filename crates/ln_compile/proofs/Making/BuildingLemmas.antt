@@ -1,7 +1,9 @@
 -- The programs of a table's predicates, one after the other.
 use Rattle.std.proofs.Common.{◌≡◌, ℕ, ◌+◌, ◌<◌, ◌≤◌, zero, suc, true, false, List, [], ◌∷◌, ◌++◌, length, map, take, drop, get_or, refl, ap}
-use Rattle.std.proofs.Common.{sym, subst, ◌∙◌, arith, Some}
-use Rattle.std.specs.Prelude.{◌≢◌, All, AllPairs, bytes_eq, slice_get}
+use Rattle.std.proofs.Common.{sym, subst, ◌∙◌, arith}
+use Rattle.std.specs.Prelude.{◌≢◌, All, AllPairs, bytes_eq}
+use Rattle.std.specs.List.{AllZip}
+use Rattle.std.proofs.lemmas.Slice.Zip.{all_zipped_more}
 use Rattle.std.proofs.lemmas.List.{drop_more, length-map, map-append, take-append-drop, take_more}
 use Rattle.std.proofs.lemmas.List.Elements.{All-cons, All-nil}
 use Rattle.std.proofs.lemmas.List.Kept.{AllPairs-cons}
@@ -20,51 +22,36 @@ use Rattle.ln_stage.specs.Lists.{stage_count}
 use Rattle.ln_stage.specs.Staged.{count_numbers}
 use Rattle.ln_code.specs.Kept.{ArePrograms}
 use Rattle.ln_code.specs.Part.{Part}
-use Rattle.ln_compile.specs.Accepted.{AreSound, IsSound}
-use Rattle.ln_compile.specs.Compiled.{AreProgramsOf, AreStageCounts, IsProgramAt, IsProgramOf, IsStageCount}
-use Rattle.ln_compile.specs.Made.{AreCounted}
-use Rattle.ln_compile.proofs.Refusing.Judging.{judged_more}
+use Rattle.ln_compile.specs.declared.counted.Counted.{Counted}
+use Rattle.ln_compile.specs.Accepted.{AreSound}
+use Rattle.ln_compile.specs.Compiled.{AreProgramsOf, IsProgramAt, IsProgramOf}
+use Rattle.ln_compile.specs.Made.{IsCounted}
 
 -- ---- one more
-programs-more : (ps : List PredOf) (cs : List Part) (p : PredOf) (c : Part) → AreProgramsOf ps cs → IsProgramOf p c
-    → AreProgramsOf (ps ++ p ∷ []) (cs ++ c ∷ [])
-programs-more [] [] p c h l = (l, tt)
-programs-more [] (d ∷ cs) p c h l = absurd h
-programs-more (q ∷ ps) [] p c h l = absurd h
-programs-more (q ∷ ps) (d ∷ cs) p c h l = (h.0, programs-more ps cs p c h.1 l)
-
-counts-more : (ps : List PredOf) (ns : List ℕ) (p : PredOf) (n : ℕ) → AreStageCounts ps ns → IsStageCount p n → AreStageCounts (ps ++ p ∷ []) (ns ++ n ∷ [])
-counts-more [] [] p n h l = (l, tt)
-counts-more [] (m ∷ ns) p n h l = absurd h
-counts-more (q ∷ ps) [] p n h l = absurd h
-counts-more (q ∷ ps) (m ∷ ns) p n h l = (h.0, counts-more ps ns p n h.1 l)
-
 front-more : (preds : List Pred) (i : ℕ) (p : Pred) → i < length preds → p ≡ get_or preds i p
     → map pred_of (take (i + 1) preds) ≡ map pred_of (take i preds) ++ pred_of p ∷ []
 front-more preds i p h e = ap (map pred_of) (take_more preds i p h ∙ ap (λ q. take i preds ++ q ∷ []) (sym e)) ∙ map-append pred_of (take i preds) (p ∷ [])
 
--- the step of the loop in `programs`: one more program, of the next predicate
-pub compiled-more : (preds : List Pred) (i : ℕ) (p : Pred) (cs ds : List Part) (c : Part) → i < length preds → p ≡ get_or preds i p → ds ≡ cs ++ c ∷ []
-    → IsProgramOf (pred_of p) c → AreProgramsOf (map pred_of (take i preds)) cs → AreProgramsOf (map pred_of (take (i + 1) preds)) ds
-compiled-more preds i p cs ds c h e q o b =
+-- the step of a loop over the predicates: one thing more, of the next predicate
+pub zipped-more : {X : Type 0} (R : PredOf → X → Type 0) (preds : List Pred) (i : ℕ) (p : Pred) (xs ys : List X) (x : X) → i < length preds
+    → p ≡ get_or preds i p → ys ≡ xs ++ x ∷ [] → R (pred_of p) x → AllZip R (map pred_of (take i preds)) xs → AllZip R (map pred_of (take (i + 1) preds)) ys
+zipped-more R preds i p xs ys x h e q r a =
     let f : map pred_of (take i preds) ++ pred_of p ∷ [] ≡ map pred_of (take (i + 1) preds) = sym (front-more preds i p h e) in
-    subst (λ (ps : List PredOf). AreProgramsOf ps ds) f (rw q (programs-more (map pred_of (take i preds)) cs (pred_of p) c b o))
+    subst (λ (ps : List PredOf). AllZip R ps ys) f (rw q (all_zipped_more R (map pred_of (take i preds)) xs (pred_of p) x a r))
 
--- the step of the loop in `counts`: the next predicate has no fault, and its stage count is appended
-pub counted-more : (preds : List Pred) (i : ℕ) (p : Pred) (ns ms : List ℕ) (n : ℕ) → i < length preds → p ≡ get_or preds i p → ms ≡ ns ++ n ∷ []
-    → IsSound (pred_of p) → IsStageCount (pred_of p) n → AreCounted (map pred_of (take i preds)) ns → AreCounted (map pred_of (take (i + 1) preds)) ms
-counted-more preds i p ns ms n h e r s k b =
-    let f : map pred_of (take i preds) ++ pred_of p ∷ [] ≡ map pred_of (take (i + 1) preds) = sym (front-more preds i p h e) in
-    record {
-      sound = judged_more preds i p h e b.sound s;
-      counts = subst (λ (ps : List PredOf). AreStageCounts ps ms) f (rw r (counts-more (map pred_of (take i preds)) ns (pred_of p) n b.counts k));
-    }
+-- what is said of the predicates, of one by its number
+pub zipped-at : {X : Type 0} (R : PredOf → X → Type 0) (preds : List Pred) (xs : List X) (i : ℕ) (p : Pred) (x : X) → AllZip R (map pred_of preds) xs
+    → i < length preds → p ≡ get_or preds i p → x ≡ get_or xs i x → R (pred_of p) x
+zipped-at R [] xs i p x a h e f = absurd (omega (arith, h))
+zipped-at R (q ∷ ps) [] i p x a h e f = absurd a
+zipped-at R (q ∷ ps) (y ∷ ys) zero p x a h e f = subst (λ (r : Pred). R (pred_of r) x) (sym e) (subst (R (pred_of q)) (sym f) a.0)
+zipped-at R (q ∷ ps) (y ∷ ys) (suc i) p x a h e f = zipped-at R ps ys i p x a.1 (omega (arith, h)) e f
 
--- each of several predicates without a fault has none
-pub sound-at : (preds : List Pred) (i : ℕ) (p : Pred) → i < length preds → p ≡ get_or preds i p → AreSound (map pred_of preds) → IsSound (pred_of p)
-sound-at [] i p h e s = absurd (omega (arith, h))
-sound-at (q ∷ ps) zero p h e s = subst (λ (r : Pred). IsSound (pred_of r)) (sym e) s.0
-sound-at (q ∷ ps) (suc i) p h e s = sound-at ps i p (omega (arith, h)) e s.1
+-- predicates with stage counts have no fault
+pub counted-sound : (ps : List PredOf) (cs : List Counted) → AllZip IsCounted ps cs → AreSound ps
+counted-sound [] cs a = tt
+counted-sound (p ∷ ps) [] a = absurd a
+counted-sound (p ∷ ps) (c ∷ cs) a = (a.0.expanded.sound, counted-sound ps cs a.1)
 
 -- ---- names
 -- a name differs from each of these
@@ -90,7 +77,7 @@ names-apart (p ∷ ps) (c ∷ cs) n h a =
 
 -- the name of the next predicate differs from those of the programs before it
 pub name-new : (preds : List Pred) (i : ℕ) (p : Pred) (cs : List Part) (m : Name) → i < length preds → p ≡ get_or preds i p
-    → differ (map (λ q. q.shape_name) (map pred_of preds)) ≡ true → m ≡ p.shape.name
+    → differ (map (λ q. q.shape_name) (map pred_of preds)) ≡ true → name_bytes m ≡ name_bytes p.shape.name
     → AreProgramsOf (map pred_of (take i preds)) cs → All (λ c. name_bytes c.shape.name ≢ name_bytes m) cs
 name-new preds i p cs m h e d q b =
     let here : drop i preds ≡ p ∷ drop (i + 1) preds = drop_more preds i p h ∙ ap (λ z. z ∷ drop (i + 1) preds) (sym e) in
@@ -108,35 +95,6 @@ name-new preds i p cs m h e d q b =
 pub counted-numbers : (g : ℕ → List ℕ) (ls : List (List ℕ)) → count_numbers ls ≡ stage_count (map (λ list. map g list) ls)
 counted-numbers g [] = refl
 counted-numbers g (l ∷ ls) = omega (arith, counted-numbers g ls, length-map l g)
-
--- what holds of a predicate holds of the one of its number
-pub pred-at : (P : PredOf → Type 0) (preds : List Pred) (i : ℕ) (p : Pred) → i < length preds → p ≡ get_or preds i p → P (pred_of p)
-    → (q : PredOf) → slice_get (map pred_of preds) i ≡ Some q → P q
-pred-at P [] i p h e o q f = absurd (omega (arith, h))
-pred-at P (x ∷ ps) zero p h e o q f =
-    let d : pred_of x ≡ q = cc in
-    subst P d (subst (λ (y : Pred). P (pred_of y)) e o)
-pred-at P (x ∷ ps) (suc i) p h e o q f = pred-at P ps i p (omega (arith, h)) e o q f
-
--- the program of a predicate, by its number
-pub program-at : (preds : List Pred) (i : ℕ) (p : Pred) (c : Part) → i < length preds → p ≡ get_or preds i p → IsProgramOf (pred_of p) c
-    → (q : PredOf) → slice_get (map pred_of preds) i ≡ Some q → IsProgramOf q c
-program-at preds i p c = pred-at (λ q. IsProgramOf q c) preds i p
-
--- the stage count of a predicate, by its number
-pub count-at : (ps : List PredOf) (ns : List ℕ) (i : ℕ) → AreStageCounts ps ns → (p : PredOf) → slice_get ps i ≡ Some p → IsStageCount p (get_or ns i 0)
-count-at [] [] i h p e = cc
-count-at [] (n ∷ ns) i h p e = absurd h
-count-at (q ∷ ps) [] i h p e = absurd h
-count-at (q ∷ ps) (n ∷ ns) zero h p e = let d : q ≡ p = cc in subst (λ (r : PredOf). IsStageCount r n) d h.0
-count-at (q ∷ ps) (n ∷ ns) (suc i) h p e = count-at ps ns i h.1 p e
-
--- there are as many stage counts as predicates
-pub as-many-counts : (ps : List PredOf) (ns : List ℕ) → AreStageCounts ps ns → length ns ≡ length ps
-as-many-counts [] [] h = refl
-as-many-counts [] (n ∷ ns) h = absurd h
-as-many-counts (p ∷ ps) [] h = absurd h
-as-many-counts (p ∷ ps) (n ∷ ns) h = ap suc (as-many-counts ps ns h.1)
 
 -- ---- the names of a table's predicates differ
 differ-behind : (us vs : List (List ℕ)) → Differ (us ++ vs) → Differ vs

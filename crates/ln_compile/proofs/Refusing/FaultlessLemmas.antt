@@ -11,6 +11,7 @@ use Rattle.ln_compile.specs.declared.refusal.Refusal.TheVariants.{Bound, Stages,
 use Rattle.ln_compile.specs.Accepted.{AreSound, IsSound, expanded_of, loaded_of}
 use Rattle.ln_compile.specs.Refused.{IsFirstFault, IsPredFault, bound, heavy, of_pred, stages, terms, token_of, zero}
 use Rattle.ln_compile.specs.Faultless.{FaultlessIsAccepted}
+use Rattle.ln_compile.proofs.Refusing.Judging.{all-more}
 
 -- ---- nodes
 light-more : (done : List (Span × ℕ)) (n : Span × ℕ) → AreLight done → n.1 ≤ most → AreLight (done ++ n ∷ [])
@@ -54,14 +55,10 @@ sound-one k p nay =
     }
 
 -- ---- predicates
-sound-more : (done : List PredOf) (p : PredOf) → AreSound done → IsSound p → AreSound (done ++ p ∷ [])
-sound-more [] p s h = (h, tt)
-sound-more (x ∷ done) p s h = (s.0, sound-more done p s.1 h)
-
 sound-from : (done rest : List PredOf) → AreSound done → ((r : Refusal) → IsFirstFault (done ++ rest) r → ⊥) → AreSound rest
 sound-from done [] s nay = tt
 sound-from done (p ∷ rest) s nay =
-    (here, sound-from (done ++ p ∷ []) rest (sound-more done p s here) (λ r f. nay r (subst (λ ps. IsFirstFault ps r) (append_assoc done (p ∷ []) rest) f)))
+    (here, sound-from (done ++ p ∷ []) rest (all-more IsSound done p s here) (λ r f. nay r (subst (λ ps. IsFirstFault ps r) (append_assoc done (p ∷ []) rest) f)))
   where
     here : IsSound p
     here = sound-one (length done) p (λ r f. nay r (record { before = done; pred = p; after = rest; stands = refl; sound = s; fault = f }))

@@ -1,7 +1,8 @@
 -- The predicates of a table, judged one after the other.
 use Rattle.std.proofs.Common.{◌≡◌, inl, inr, ℕ, ◌+◌, ◌<◌, ◌≤◌, zero, suc, List, [], ◌∷◌, ◌++◌, length, map, take, drop, get_or, refl, ap}
 use Rattle.std.proofs.Common.{sym, subst, ◌∙◌, arith}
-use Rattle.std.proofs.lemmas.List.{drop_more, map-append, take-append-drop, take_more}
+use Rattle.std.specs.List.{AllByRecursion}
+use Rattle.std.proofs.lemmas.List.{drop_more, map-append, take-append-drop}
 use Rattle.ln_base.specs.declared.span.Span.{Span}
 use Rattle.ln_algebra.specs.Tree.{Tree}
 use Rattle.ln_algebra.proofs.Bounding.Weights.{weighted-least, IsCollected-Once}
@@ -30,17 +31,9 @@ use Rattle.ln_compile.specs.Refused.{token_of, zero as zero_root}
 use Rattle.ln_poly.proofs.Derivations.Combined.{everywhere}
 
 -- one more
-sound-more : (ps : List PredOf) (p : PredOf) → AreSound ps → IsSound p → AreSound (ps ++ p ∷ [])
-sound-more [] p h l = (l, tt)
-sound-more (q ∷ ps) p h l = (h.0, sound-more ps p h.1 l)
-
--- the step of a loop over the predicates: the next one has no fault either
-pub judged_more : (preds : List Pred) (i : ℕ) (p : Pred) → i < length preds → p ≡ get_or preds i p → AreSound (map pred_of (take i preds))
-    → IsSound (pred_of p) → AreSound (map pred_of (take (i + 1) preds))
-judged_more preds i p h e s l =
-    let f : map pred_of (take (i + 1) preds) ≡ map pred_of (take i preds) ++ pred_of p ∷ [] =
-    ap (map pred_of) (take_more preds i p h ∙ ap (λ q. take i preds ++ q ∷ []) (sym e)) ∙ map-append pred_of (take i preds) (p ∷ []) in
-    subst AreSound (sym f) (sound-more (map pred_of (take i preds)) (pred_of p) s l)
+pub all-more : {X : Type 0} (P : X → Type 0) (xs : List X) (x : X) → AllByRecursion P xs → P x → AllByRecursion P (xs ++ x ∷ [])
+all-more P [] x h l = (l, tt)
+all-more P (y ∷ xs) x h l = (h.0, all-more P xs x h.1 l)
 
 length-front : (preds : List Pred) (i : ℕ) → i < length preds → length (map pred_of (take i preds)) ≡ i
 length-front [] i h = absurd (omega arith)

@@ -1,5 +1,5 @@
 -- A source has one result.
-use Rattle.std.proofs.Common.{None, ◌≡◌, inl, inr, ℕ, ◌<◌, ◌≤◌, List, [], ◌∷◌, ◌++◌, length, suc, refl, ap, sym, subst, ◌∙◌, arith}
+use Rattle.std.proofs.Common.{◌≡◌, inl, inr, ℕ, ◌<◌, ◌≤◌, List, [], ◌∷◌, ◌++◌, length, suc, refl, ap, sym, subst, ◌∙◌, arith}
 use Rattle.std.specs.List.{AllByRecursion}
 use Rattle.ln_base.specs.declared.span.Span.{Span}
 use Rattle.ln_algebra.specs.Tree.{Tree}
@@ -10,7 +10,7 @@ use Rattle.ln_parse.proofs.Settling.OneAnswer.{no_fault, one_fault, one_table}
 use Rattle.ln_compile.specs.declared.refusal.Refusal.{Refusal}
 use Rattle.ln_compile.specs.declared.refusal.Refusal.TheVariants.{Bound, Terms}
 use Rattle.ln_compile.specs.Accepted.{Accepted, AreSound, IsSound, expanded_of, loaded_of}
-use Rattle.ln_compile.specs.Refused.{IsFirstFault, IsPredFault, IsRefusal, IsRefusedFor, IsTheOne, IsUnaccepted, StopsPred, span_of}
+use Rattle.ln_compile.specs.Refused.{IsFirstFault, IsPredFault, IsRefusal, IsRefusedFor, IsTheOne, IsUnaccepted}
 use Rattle.ln_compile.specs.Refused.{bound, heavy, of_pred, of_text, refusal_of, stages, terms, zero}
 
 -- ---- the first that isn't good
@@ -100,24 +100,15 @@ no_pred k p r (heavy l t h) s = s.whole h
 no_pred k p r (zero l t w z) s = s.nonzero z
 no_pred k p r (stages l t w z f) s = s.staged f
 
--- a predicate without a fault stops only when out of memory, which has no place
-pub memory_alone : (k : ℕ) (p : PredOf) (r : Refusal) → StopsPred k p r → IsSound p → span_of r ≡ None
-memory_alone k p r (inl f) s = absurd (no_pred k p r f s)
-memory_alone k p r (inr e) s = ap span_of e
-
-sounds : (ps : List PredOf) → AreSound ps → AllByRecursion IsSound ps
-sounds [] s = tt
-sounds (p ∷ ps) s = (s.0, sounds ps s.1)
-
 preds_one : (ps : List PredOf) (r s : Refusal) → IsFirstFault ps r → IsFirstFault ps s → r ≡ s
 preds_one ps r s f g =
-    let e = first_one IsSound f.before g.before f.pred g.pred f.after g.after (sym f.stands ∙ g.stands) (sounds f.before f.sound)
-    (sounds g.before g.sound) (no_pred (length f.before) f.pred r f.fault) (no_pred (length g.before) g.pred s g.fault) in
+    let e = first_one IsSound f.before g.before f.pred g.pred f.after g.after (sym f.stands ∙ g.stands) f.sound g.sound
+    (no_pred (length f.before) f.pred r f.fault) (no_pred (length g.before) g.pred s g.fault) in
     pred_one (length g.before) g.pred r s (subst (λ k. IsPredFault k g.pred r) e.1 (subst (λ p. IsPredFault (length f.before) p r) e.0 f.fault)) g.fault
 
 no_preds : (ps : List PredOf) (r : Refusal) → AreSound ps → IsFirstFault ps r → ⊥
 no_preds ps r s f =
-    no_pred (length f.before) f.pred r f.fault (all_good IsSound f.before f.pred f.after (sounds (f.before ++ f.pred ∷ f.after) (subst AreSound f.stands s)))
+    no_pred (length f.before) f.pred r f.fault (all_good IsSound f.before f.pred f.after (subst AreSound f.stands s))
 
 -- ---- sources
 -- a source is refused for one thing

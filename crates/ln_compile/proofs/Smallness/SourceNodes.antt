@@ -29,7 +29,7 @@ few-left n [] ys f = tt
 few-left n (x ∷ xs) ys f = (f.0, few-left n xs ys f.1)
 
 -- and the second
-pub few-right : (n : ℕ) (xs ys : List (Span × Tree)) → HaveFewTerms n (xs ++ ys) → HaveFewTerms n ys
+few-right : (n : ℕ) (xs ys : List (Span × Tree)) → HaveFewTerms n (xs ++ ys) → HaveFewTerms n ys
 few-right n [] ys f = f
 few-right n (x ∷ xs) ys f = few-right n xs ys f.1
 
@@ -53,7 +53,7 @@ module _ (n : ℕ) (vars : List VarInfo) where
   few-three a b c f = (few-left n a b (few-left n (a ++ b) c f), (few-right n a b (few-left n (a ++ b) c f), few-right n (a ++ b) c f))
 
   -- each node of a formula has few terms, where all that is expanded has
-  pub node-few : (ls : List Tree) (f : Formula) (e : Tree) → HaveFewTerms n (expanded vars ls f) → NodeIn ls (tree vars f) e → HasTooManyTerms n e → ⊥
+  node-few : (ls : List Tree) (f : Formula) (e : Tree) → HaveFewTerms n (expanded vars ls f) → NodeIn ls (tree vars f) e → HasTooManyTerms n e → ⊥
   node-few ls (FNum at c) e f q h = told (inlined ls (tree vars (FNum at c))) e f.0 q h
   node-few ls (FInput at a c) e f q h = told (inlined ls (tree vars (FInput at a c))) e f.0 q h
   node-few ls (FName at j) e f q h = told (inlined ls (tree vars (FName at j))) e f.0 q h

@@ -1,24 +1,25 @@
 use Rattle.ln_compile.proofs.Making.ProgramLemmas.{few-blocks, is-program, is-program-of}
 use Rattle.ln_compile.proofs.program.program.Goals as goal
 
+pub filter-requires : goal.filter-requires
+filter-requires c = rw c.pred-p.ensures.value (record { light = c.pred-p.ensures.kept.expanded.sound.light })
+
 pub join-requires : goal.join-requires
 join-requires c =
-    let r = c.requires in
-    rw (c.in_ok-shape.ensures, c.into_segments-segments.ensures) (is-program c.args.p.now c.args.f.now c.args.st c.in_ok-blocks.blocks r.light r.normal
-    r.some r.stages r.count r.stage_weight c.in_ok-blocks.ensures c.in_ok-filter.filter c.in_ok-filter.ensures.filter c.in_ok-filter.ensures.rules
-    (c.in_ok-filter.ensures.whole c.args.f.now r.normal) c.in_ok-filter.ensures.small (c.in_ok-filter.ensures.pushes r.terms))
+    let a = c.args.a in let k = c.pred-p.ensures.kept in let e = rw c.pred-p.ensures.value at c.in_ok-filter.ensures in
+    rw (c.in_ok-shape.ensures, c.pred-p.ensures.value, c.into_segments-segments.ensures, c.into_parts-poly.ensures.stages)
+    (is-program a.pred a.poly a.stages k c.in_ok-blocks.blocks c.in_ok-blocks.ensures c.in_ok-filter.filter e.filter e.rules
+    (e.whole a.poly k.expanded.normal) e.small (e.pushes k.expanded.sound.few))
 
 pub returns-clause-program : goal.returns-clause-program
 returns-clause-program c =
-    let r = c.requires in
-    rw (c.join.ensures, c.in_ok-shape.ensures, c.into_segments-segments.ensures)
-    (is-program-of c.args.p.now c.args.f.now c.args.st c.in_ok-blocks.blocks r.light r.normal r.some r.stages r.count
-    r.stage_weight c.in_ok-blocks.ensures c.in_ok-filter.filter c.in_ok-filter.ensures.filter c.in_ok-filter.ensures.rules
-    (c.in_ok-filter.ensures.whole c.args.f.now r.normal) c.in_ok-filter.ensures.small (c.in_ok-filter.ensures.pushes r.terms))
+    let a = c.args.a in let k = c.pred-p.ensures.kept in let e = rw c.pred-p.ensures.value at c.in_ok-filter.ensures in
+    rw (c.join.ensures, c.in_ok-shape.ensures, c.pred-p.ensures.value, c.into_segments-segments.ensures, c.into_parts-poly.ensures.stages)
+    (is-program-of a.pred a.poly a.stages k c.in_ok-blocks.blocks c.in_ok-blocks.ensures c.in_ok-filter.filter e.filter e.rules
+    (e.whole a.poly k.expanded.normal) e.small (e.pushes k.expanded.sound.few))
 
 pub returns-clause-small : goal.returns-clause-small
 returns-clause-small c =
-    let r = c.requires in
-    rw c.join.ensures (few-blocks c.args.p.now c.args.f.now c.args.st c.in_ok-blocks.blocks r.light r.normal r.some r.stages
-    r.count r.stage_weight c.in_ok-blocks.ensures c.in_ok-filter.filter c.in_ok-filter.ensures.filter c.in_ok-filter.ensures.rules
-    (c.in_ok-filter.ensures.whole c.args.f.now r.normal) c.in_ok-filter.ensures.small (c.in_ok-filter.ensures.pushes r.terms))
+    let a = c.args.a in let k = c.pred-p.ensures.kept in let e = rw c.pred-p.ensures.value at c.in_ok-filter.ensures in
+    rw c.join.ensures (few-blocks a.pred a.poly a.stages k c.in_ok-blocks.blocks c.in_ok-blocks.ensures c.in_ok-filter.filter e.filter e.rules
+    (e.whole a.poly k.expanded.normal) e.small (e.pushes k.expanded.sound.few))

@@ -4,4 +4,4 @@ use Rattle.ln_compile.specs.Compiled.{AreProgramsOf}
 use Rattle.ln_compile.proofs.programs.programs.Given as goal
 
 abbrev pub invariant-each : goal.invariant-each
-invariant-each l = AreProgramsOf (map pred_of (take l.p-index l.preds)) l.programs
+invariant-each l = AreProgramsOf (map pred_of (take l.i l.preds)) l.programs

@@ -1,11 +1,11 @@
-use Rattle.std.proofs.Common.{ap, arith, length}
+-- Answers to the goals of `symmetry` in src/checked.rt.
+use Rattle.ln_compile.specs.Symmetry.{IsSymmetryOf}
+use Rattle.ln_compile.proofs.Numbers.{holds_at, number_at}
+use Rattle.ln_compile.proofs.Smallness.Polynomials.{symmetry-is}
 use Rattle.ln_compile.proofs.checked.Checked.symmetry.Goals as goal
 
-pub symmetry_at-requires-clause-sound : goal.symmetry_at-requires-clause-sound
-symmetry_at-requires-clause-sound c = rw c.as_slice.ensures c.self.invariant.sound
-
-pub symmetry_at-requires-clause-within : goal.symmetry_at-requires-clause-within
-symmetry_at-requires-clause-within c = rw c.as_slice.ensures (omega (arith, ap (λ v. length v.table.preds) c.self.view_is, c.requires))
-
 pub returns : goal.returns
-returns c = rw (← c.self.view_is) (rw c.as_slice.ensures at c.symmetry_at.ensures)
+returns c = holds_at (λ p. IsSymmetryOf p c.symmetry_of.result) c.args.self.now.table.preds c.args.i c.pred.result.now c.pred.ensures
+    (symmetry-is c.pred.result.now c.in_ok-f.f c.symmetry_of.result
+    (c.in_ok-f.ensures _ (number_at c.args.self.now.table.preds c.args.i c.pred.result.now c.pred.ensures)).normal
+    c.symmetry_of.ensures.found c.symmetry_of.ensures.none)

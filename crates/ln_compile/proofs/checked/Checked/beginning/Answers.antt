@@ -1,0 +1,11 @@
+use Rattle.std.proofs.lemmas.Result.{IfOk-weaker}
+use Rattle.ln_compile.specs.Compiled.{IsBeginningOf}
+use Rattle.ln_compile.proofs.Numbers.{holds_at}
+use Rattle.ln_compile.proofs.checked.Checked.beginning.Goals as goal
+
+pub beginning-requires : goal.beginning-requires
+beginning-requires c = c.at.ensures.counted.expanded.sound
+
+pub returns : goal.returns
+returns c = IfOk-weaker c.beginning.result _ _ (λ b h.
+    holds_at (λ p. IsBeginningOf p b.0 b.1) c.args.self.now.table.preds c.args.i c.at.result.0.now c.at.ensures.pred h) c.beginning.ensures
