@@ -1,6 +1,6 @@
 -- Programs by total degree first.
 -- Source: Yap, "Symbolic treatment of geometric degeneracies" (1990): one of his admissible orders of infinitesimals.
-use Rattle.std.specs.Prelude.{◌≡◌, ◌≢◌, ℕ, ◌+◌, ◌<◌, ◌≤◌, ◌^◌, All, List, [], length, map, take, slice_get, Some, IfSome}
+use Rattle.std.specs.Prelude.{◌≡◌, ◌≢◌, ℕ, ◌+◌, ◌<◌, ◌≤◌, ◌^◌, All, List, [], length, map, take, slice_get, Option, Some, IfSome}
 use Rattle.ln_algebra.specs.Orders.{ByDegree}
 use Rattle.ln_algebra.specs.Terms.{IsNormalOf}
 use Rattle.ln_algebra.specs.Tree.{InputsBelow, Tree}
@@ -16,14 +16,15 @@ use Rattle.ln_order.specs.Orders.{IsOrderOf}
 use Rattle.ln_poly.specs.Sparse.{AreBelow, IsPoly, Sparse, terms_of}
 use Rattle.ln_stage.specs.Lists.{AreStageListsIn, Passes, first_seen, stage_count, stage_weight}
 use Rattle.ln_code.specs.Carried.{Carries, CarriesDerivative, CarriesWhole, vectors}
-use Rattle.ln_code.specs.Kept.{IsProgram}
+use Rattle.ln_code.specs.Kept.{FollowsFilterRules, IsProgram}
 use Rattle.ln_code.specs.Lists.{lists_of, segment_of}
-use Rattle.ln_code.specs.Part.{Code, Part, ops_in_filter}
+use Rattle.ln_code.specs.Part.{Code, FilterCode, Part, ops_in_filter}
 use Rattle.ln_code.specs.Verdict.{IsVerdict}
 use Rattle.ln_code.specs.declared.verdict.Verdict.{Verdict}
+use Rattle.ln_due.specs.Derivative.{IsDerivativeBlock}
 use Rattle.ln_due.specs.Due.{Due, Filtering}
 use Rattle.ln_due.specs.DueLaw.{FilterDoes}
-use Rattle.ln_due.specs.Small.{PushesSmall}
+use Rattle.ln_due.specs.Small.{FilterPushesSmall, PushesSmall}
 use Rattle.ln_graded.specs.declared.stop.GradedStop.{GradedStop}
 use Rattle.ln_graded.specs.declared.stop.GradedStop.TheVariants.{Stages, NoMemory}
 
@@ -50,19 +51,33 @@ pub record Begins (s : Shape) (f : Sparse) (p : Part) : Type 0 where
   pub small : PushesSmall p
   pub short : ops_in_filter p.filter + length own.ops < 2 ^ 21
 
--- q is p by total degree: it has p's filter and block 0; its lists are the stage lists of f by total degree, and its blocks' exponents
--- the distinct members of the lists in order of first sight; it carries each closed expression whose normal polynomial f is; what
+-- a program by total degree of f can begin with this filter and this block 0: the block has no exponents and computes f, the filter, if there is
+-- one, follows the rules and stands for f, what it pushes is small, and together they have fewer than 2^21 operations
+pub record CanBegin (s : Shape) (f : Sparse) (filter : Option FilterCode) (own : Code) : Type 0 where
+  pub plain : own.exps ≡ []
+  pub block : IsDerivativeBlock s.vars f own
+  pub rules : IfSome filter (FollowsFilterRules s.vars)
+  pub whole : IfSome filter (CarriesWhole s.vars (terms_of (length s.vars) f))
+  pub pushes : IfSome filter (FilterPushesSmall s.vars)
+  pub short : ops_in_filter filter + length own.ops < 2 ^ 21
+
+-- q is a program by total degree with this filter and this block 0: its lists are the stage lists of f by total degree, and its blocks'
+-- exponents the distinct members of the lists in order of first sight; it carries each closed expression whose normal polynomial f is; what
 -- its blocks and its filter push is small; and nothing is at the prefixes that are no whole order
-pub record IsGraded (s : Shape) (f : Sparse) (p q : Part) : Type 0 where
+pub record IsGradedFrom (s : Shape) (f : Sparse) (o : Option FilterCode) (b : Option Code) (q : Part) : Type 0 where
   pub shape : q.shape ≡ s
-  pub filter : q.filter ≡ p.filter
-  pub first : slice_get q.blocks 0 ≡ slice_get p.blocks 0
+  pub filter : q.filter ≡ o
+  pub first : slice_get q.blocks 0 ≡ b
   pub lists : AreStageListsIn ByDegree s.sites s.vars f (map (vectors q) (lists_of q))
   pub sight : map (λ c. vector (length s.vars) c.exps) q.blocks ≡ first_seen (map (vectors q) (lists_of q))
   pub carries : (e : Tree) → InputsBelow (length s.vars) e → IsNormalOf (length s.vars) e (terms_of (length s.vars) f) →
       Carries ByDegree q e (terms_of (length s.vars) f)
   pub small : PushesSmall q
   pub whole : (o : List ℕ) (j : ℕ) → IsOrderOf s.sites o → j < s.sites → segment_of q (take j o) ≡ []
+
+-- q is p by total degree: it has p's filter and block 0
+abbrev pub IsGraded : Shape → Sparse → Part → Part → Type 0
+IsGraded s f p q = IsGradedFrom s f p.filter (slice_get p.blocks 0) q
 
 -- the lists of the program have at most this many stages, of at most this weight
 pub record IsWithin (s : Shape) (f : Sparse) (limit heavy : ℕ) (q : Part) : Type 0 where

@@ -17,5 +17,5 @@ pub mod program;
 pub mod stop;
 
 pub use laws::{graded_is_due, graded_lists_are_one};
-pub use program::graded;
+pub use program::{graded, graded_from};
 pub use stop::GradedStop;

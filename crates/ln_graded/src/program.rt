@@ -5,7 +5,7 @@ ghost use Rattle.ln_code.specs.Kept.{IsProgram};
 ghost use Rattle.ln_stage.specs.Graded.{AreGradedStagesOf};
 ghost use Rattle.ln_stage.specs.Lists.{stage_count, stage_weight};
 ghost use Rattle.ln_stage.specs.Staged.{vectors_of};
-ghost use Rattle.ln_graded.specs.Graded.{Begins, IsGradable, IsGraded, IsWithin, StopsFor};
+ghost use Rattle.ln_graded.specs.Graded.{Begins, CanBegin, IsGradable, IsGraded, IsGradedFrom, IsWithin, StopsFor};
 
 use crate::blocks::FromNested;
 use crate::stop::GradedStop;
@@ -56,23 +56,52 @@ fn first_block(alloc: Global, p: &Program) -> Result<Block, NoMemory>
     p.blocks()[0].copy(alloc)
 }
 
-// The program with these stages.
-fn joined(alloc: Global, f: &Poly, s: &Shape, p: &Program, st: Stages) -> Result<Program, NoMemory>
+// The program with this filter, this block 0 and these stages.
+fn joined(
+    alloc: Global,
+    f: &Poly,
+    s: &Shape,
+    begin: (Option<FilterBlock>, Block),
+    st: Stages,
+) -> Result<Program, NoMemory>
     requires poly { IsGradable s.now.vars f.now }
-    requires begins { Begins s.now f.now p.now }
+    requires begins { CanBegin s.now f.now begin.0 begin.1 }
     requires stages { AreGradedStagesOf s.now.sites s.now.vars f.now st }
     requires weight { stage_weight (length s.now.vars) f.now (vectors_of (length s.now.vars) st) ≤ most_weight }
-    ensures program { IfOk result (IsGraded s.now f.now p.now) }
+    ensures program { IfOk result (IsGradedFrom s.now f.now begin.0 (Some begin.1)) }
     ensures within { IfOk result (IsWithin s.now f.now (stage_count (vectors_of (length s.now.vars) st))
         (stage_weight (length s.now.vars) f.now (vectors_of (length s.now.vars) st))) }
 {
-    let first = first_block(alloc, p)?;
+    let (filter, first) = begin;
     let made = blocks_after(alloc, &FromNested {}, f, s, first, st.all_exps());
     let segments = st.into_segments();
     let blocks = made?;
     let shape = s.copy(alloc)?;
-    let filter = filter(alloc, p)?;
     Ok(Program::join(shape, filter, blocks, segments))
+}
+
+/// The program by total degree of the predicate over this shape whose normal polynomial is f, with this filter and this block 0 of it. Its list
+/// is whole where an order of the sites is.
+///
+/// `Stages` means that the count of the stages in the lists of all orders exceeds `most`, or that their weight exceeds `heavy`.
+pub fn graded_from(
+    alloc: Global,
+    f: &Poly,
+    s: &Shape,
+    begin: (Option<FilterBlock>, Block),
+    most: u64,
+    heavy: u64,
+) -> Result<Program, GradedStop>
+    requires poly { IsGradable s.now.vars f.now }
+    requires begins { CanBegin s.now f.now begin.0 begin.1 }
+    requires heavy { heavy ≤ most_weight }
+    ensures program { IfOk result (IsGradedFrom s.now f.now begin.0 (Some begin.1)) }
+    ensures within { IfOk result (IsWithin s.now f.now most heavy) }
+    ensures err { IfErr result (StopsFor s.now f.now most heavy) }
+{
+    let st = staged(alloc, f, s, most, heavy)?;
+    let program = joined(alloc, f, s, begin, st)?;
+    Ok(program)
 }
 
 /// The program by total degree of the predicate over this shape whose normal polynomial is f and whose program is p: with p's filter
@@ -94,7 +123,7 @@ pub fn graded(
     ensures within { IfOk result (IsWithin s.now f.now most heavy) }
     ensures err { IfErr result (StopsFor s.now f.now most heavy) }
 {
-    let st = staged(alloc, f, s, most, heavy)?;
-    let program = joined(alloc, f, s, p, st)?;
-    Ok(program)
+    let first = first_block(alloc, p)?;
+    let filter = filter(alloc, p)?;
+    graded_from(alloc, f, s, (filter, first), most, heavy)
 }

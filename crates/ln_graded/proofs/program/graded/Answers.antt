@@ -1,15 +1,15 @@
-use Rattle.std.proofs.Common.{arith, length}
-use Rattle.ln_stage.specs.Lists.{stage_count, stage_weight}
-use Rattle.ln_stage.specs.Staged.{vectors_of}
-use Rattle.ln_graded.proofs.Joining.{within-more}
+use Rattle.std.proofs.lemmas.Result.{IfOk-weaker}
+use Rattle.ln_graded.proofs.Joining.{can-begin, same-graded, some-block}
 use Rattle.ln_graded.proofs.program.graded.Goals as goal
 
-pub joined-requires-clause-weight : goal.joined-requires-clause-weight
-joined-requires-clause-weight c = omega (arith, c.in_ok-st.ensures.weight, c.requires.heavy)
+pub first_block-requires : goal.first_block-requires
+first_block-requires c = some-block c.args.s.now c.args.f.now c.args.p.now c.requires.begins
 
-pub returns-clause-within : goal.returns-clause-within
-returns-clause-within c =
-    let s = c.args.s.now in
-    let e = c.in_ok-st.ensures in
-    within-more s c.args.f.now (stage_count (vectors_of (length s.vars) c.in_ok-st.st)) (stage_weight (length s.vars) c.args.f.now
-    (vectors_of (length s.vars) c.in_ok-st.st)) c.args.most c.args.heavy c.in_ok-program.program e.count e.weight c.in_ok-program.ensures.within
+pub graded_from-requires-clause-begins : goal.graded_from-requires-clause-begins
+graded_from-requires-clause-begins c =
+    let e = c.in_ok-first.ensures in
+    rw c.in_ok-filter.ensures (can-begin c.args.s.now c.args.f.now c.args.p.now c.in_ok-first.first c.requires.begins e.first e.kept)
+
+pub returns-clause-program : goal.returns-clause-program
+returns-clause-program c = IfOk-weaker c.graded_from.result _ _ (λ q g. same-graded c.args.s.now c.args.f.now c.args.p.now q _ _
+    c.in_ok-filter.ensures c.in_ok-first.ensures.first g) c.graded_from.ensures.program

@@ -1,23 +1,15 @@
-use Rattle.std.proofs.Common.{◌∙◌, ap, length}
+use Rattle.std.proofs.Common.{length}
 use Rattle.ln_algebra.specs.Orders.{ByDegree}
 use Rattle.ln_stage.specs.Staged.{vectors_of}
 use Rattle.ln_stage.proofs.Sights.Members as members
-use Rattle.ln_code.specs.Part.{Code}
-use Rattle.ln_graded.proofs.Joining.{is-graded, is-program, is-within, own-block, own-is, some-block}
+use Rattle.ln_graded.proofs.Joining.{is-graded, is-program, is-within}
 use Rattle.ln_graded.proofs.program.joined.Goals as goal
 
-pub first_block-requires : goal.first_block-requires
-first_block-requires c = some-block c.args.s.now c.args.f.now c.args.p.now c.requires.begins
-
 pub blocks_after-made-requires-clause-block : goal.blocks_after-made-requires-clause-block
-blocks_after-made-requires-clause-block c =
-    let e = c.in_ok-first.ensures in
-    own-block c.args.s.now c.args.f.now c.args.p.now c.in_ok-first.first c.requires.begins e.first e.kept
+blocks_after-made-requires-clause-block c = c.requires.begins.block
 
 pub blocks_after-made-requires-clause-plain : goal.blocks_after-made-requires-clause-plain
-blocks_after-made-requires-clause-plain c =
-    ap (λ (d : Code). d.exps) (own-is c.args.s.now c.args.f.now c.args.p.now c.in_ok-first.first c.requires.begins c.in_ok-first.ensures.first)
-    ∙ c.requires.begins.plain
+blocks_after-made-requires-clause-plain c = c.requires.begins.plain
 
 pub blocks_after-made-requires-clause-begins : goal.blocks_after-made-requires-clause-begins
 blocks_after-made-requires-clause-begins c =
@@ -36,21 +28,18 @@ blocks_after-made-requires-clause-sites c =
 
 pub join-requires : goal.join-requires
 join-requires c =
-    let r = c.requires in let e = c.in_ok-first.ensures in
-    rw (c.in_ok-shape.ensures, c.in_ok-filter.ensures, c.into_segments-segments.ensures)
-    (is-program c.args.s.now c.args.f.now c.args.p.now c.args.st c.in_ok-blocks.blocks r.poly r.begins e.kept r.stages r.weight
-    c.in_ok-first.first e.first (rw c.all_exps.ensures at c.in_ok-blocks.ensures))
+    let r = c.requires in let g = c.args.begin in
+    rw (c.in_ok-shape.ensures, c.into_segments-segments.ensures) (is-program c.args.s.now c.args.f.now g.0 g.1 c.args.st c.in_ok-blocks.blocks
+    r.poly r.begins r.stages r.weight (rw c.all_exps.ensures at c.in_ok-blocks.ensures))
 
 pub returns-clause-program : goal.returns-clause-program
 returns-clause-program c =
-    let r = c.requires in let e = c.in_ok-first.ensures in
-    rw (c.join.ensures, c.in_ok-shape.ensures, c.in_ok-filter.ensures, c.into_segments-segments.ensures)
-    (is-graded c.args.s.now c.args.f.now c.args.p.now c.args.st c.in_ok-blocks.blocks r.poly r.begins e.kept r.stages r.weight
-    c.in_ok-first.first e.first (rw c.all_exps.ensures at c.in_ok-blocks.ensures))
+    let r = c.requires in let g = c.args.begin in
+    rw (c.join.ensures, c.in_ok-shape.ensures, c.into_segments-segments.ensures) (is-graded c.args.s.now c.args.f.now g.0 g.1 c.args.st c.in_ok-blocks.blocks
+    r.poly r.begins r.stages r.weight (rw c.all_exps.ensures at c.in_ok-blocks.ensures))
 
 pub returns-clause-within : goal.returns-clause-within
 returns-clause-within c =
-    let r = c.requires in let e = c.in_ok-first.ensures in
-    rw (c.join.ensures, c.in_ok-shape.ensures, c.in_ok-filter.ensures, c.into_segments-segments.ensures)
-    (is-within c.args.s.now c.args.f.now c.args.p.now c.args.st c.in_ok-blocks.blocks r.poly r.begins e.kept r.stages r.weight
-    c.in_ok-first.first e.first (rw c.all_exps.ensures at c.in_ok-blocks.ensures))
+    let r = c.requires in let g = c.args.begin in
+    rw (c.join.ensures, c.in_ok-shape.ensures, c.into_segments-segments.ensures) (is-within c.args.s.now c.args.f.now g.0 g.1 c.args.st c.in_ok-blocks.blocks
+    r.poly r.begins r.stages r.weight (rw c.all_exps.ensures at c.in_ok-blocks.ensures))
