@@ -7,35 +7,35 @@ use Rattle.std.proofs.lemmas.List.{flat_map_more}
 use Rattle.std.proofs.lemmas.List.Elements.{All-push, All-weaker, All-contains, Contains-push}
 use Rattle.std.proofs.lemmas.List.Elements.{Contains-append_left}
 use Rattle.std.proofs.lemmas.List.Quantifiers.{all_pairs_push}
-use Rattle.ln_edges.specs.Pairs.{Pair, pair, Precedes, ArePairs, ArePairsBefore, SoFar, AreLines}
+use Rattle.ln_edges.specs.Pairs.{Pair, pair, PairPrecedes, ArePairs, ArePairsBefore, SoFar, AreLines}
 
 -- ---- the order
-irreflexive : (a : Pair) → Precedes a a → ⊥
+irreflexive : (a : Pair) → PairPrecedes a a → ⊥
 irreflexive a (inl h) = absurd (omega (arith, h))
 irreflexive a (inr h) = absurd (omega (arith, h.1))
 
-asymmetric : (a b : Pair) → Precedes a b → Precedes b a → ⊥
+asymmetric : (a b : Pair) → PairPrecedes a b → PairPrecedes b a → ⊥
 asymmetric a b (inl h) (inl k) = absurd (omega (arith, h, k))
 asymmetric a b (inl h) (inr k) = absurd (omega (arith, h, k.0))
 asymmetric a b (inr h) (inl k) = absurd (omega (arith, h.0, k))
 asymmetric a b (inr h) (inr k) = absurd (omega (arith, h.1, k.1))
 
-later : (e : Pair) (i j : ℕ) → Precedes e (pair i j) → Precedes e (pair i (j + 1))
+later : (e : Pair) (i j : ℕ) → PairPrecedes e (pair i j) → PairPrecedes e (pair i (j + 1))
 later e i j (inl h) = inl h
 later e i j (inr h) = inr (h.0, omega (arith, h.1))
 
-upto : (k l i j : ℕ) → Precedes (pair k l) (pair i (j + 1)) → Precedes (pair k l) (pair i j) ⊎ (pair k l ≡ pair i j)
+upto : (k l i j : ℕ) → PairPrecedes (pair k l) (pair i (j + 1)) → PairPrecedes (pair k l) (pair i j) ⊎ (pair k l ≡ pair i j)
 upto k l i j (inl h) = inl (inl h)
 upto k l i j (inr h) = elim (cases_lt l j) [
   | inl q ↦ inl (inr (h.0, q))
   | inr q ↦ inr (let e : l ≡ j = omega (arith, h.1, q) in ap (λ (n : ℕ). pair n l) h.0 ∙ ap (pair i) e)
 ]
 
-past : (e : Pair) (i n : ℕ) → Precedes e (pair i n) → Precedes e (pair (i + 1) 0)
+past : (e : Pair) (i n : ℕ) → PairPrecedes e (pair i n) → PairPrecedes e (pair (i + 1) 0)
 past e i n (inl h) = inl (omega (arith, h))
 past e i n (inr h) = inl (omega (arith, h.0))
 
-within : (k l i n : ℕ) → l < n → Precedes (pair k l) (pair (i + 1) 0) → Precedes (pair k l) (pair i n)
+within : (k l i n : ℕ) → l < n → PairPrecedes (pair k l) (pair (i + 1) 0) → PairPrecedes (pair k l) (pair i n)
 within k l i n b (inl h) = elim (cases_lt k i) [
   | inl q ↦ inl q
   | inr q ↦ inr (omega (arith, h, q), b)
@@ -47,23 +47,23 @@ within k l i n b (inr h) = absurd (omega (arith, h.1))
 pub before_more : (claim : ℕ → ℕ → Type 0) (i j : ℕ) (xs : List Pair) → claim i j → ArePairsBefore claim i j xs
     → ArePairsBefore claim i (j + 1) (xs ++ pair i j ∷ [])
 before_more claim i j xs c b = record {
-  each = All-push (λ e. claim e.from e.to × Precedes e (pair i (j + 1))) xs (pair i j)
-      (All-weaker (λ e. claim e.from e.to × Precedes e (pair i j))
-      (λ e. claim e.from e.to × Precedes e (pair i (j + 1)))
+  each = All-push (λ e. claim e.from e.to × PairPrecedes e (pair i (j + 1))) xs (pair i j)
+      (All-weaker (λ e. claim e.from e.to × PairPrecedes e (pair i j))
+      (λ e. claim e.from e.to × PairPrecedes e (pair i (j + 1)))
       (λ e h. (h.0, later e i j h.1)) xs b.each) (c, inr (refl, omega arith));
   all = λ k l h p. elim (upto k l i j p) [
     | inl q ↦ Contains-append_left xs (pair i j ∷ []) (pair k l) (b.all k l h q)
     | inr q ↦ subst (Contains (xs ++ pair i j ∷ [])) (sym q) (Contains-push xs (pair i j))
   ];
-  rising = all_pairs_push Precedes xs (pair i j) b.rising (λ k d h. (b.each k d h).1);
+  rising = all_pairs_push PairPrecedes xs (pair i j) b.rising (λ k d h. (b.each k d h).1);
 }
 
 -- the pairs from place i have all been taken where the second place is past the end of each
 pub before_next : (claim : ℕ → ℕ → Type 0) (i n : ℕ) (xs : List Pair) → ((k l : ℕ) → claim k l → l < n)
     → ArePairsBefore claim i n xs → ArePairsBefore claim (i + 1) 0 xs
 before_next claim i n xs f b = record {
-  each = All-weaker (λ e. claim e.from e.to × Precedes e (pair i n))
-      (λ e. claim e.from e.to × Precedes e (pair (i + 1) 0))
+  each = All-weaker (λ e. claim e.from e.to × PairPrecedes e (pair i n))
+      (λ e. claim e.from e.to × PairPrecedes e (pair (i + 1) 0))
       (λ e h. (h.0, past e i n h.1)) xs b.each;
   all = λ k l h p. b.all k l h (within k l i n (f k l h) p);
   rising = b.rising;
@@ -73,7 +73,7 @@ before_next claim i n xs f b = record {
 pub before_all : (claim : ℕ → ℕ → Type 0) (n : ℕ) (xs : List Pair) → ((k l : ℕ) → claim k l → k < n)
     → ArePairsBefore claim n 0 xs → ArePairs claim xs
 before_all claim n xs f b = record {
-  each = All-weaker (λ e. claim e.from e.to × Precedes e (pair n 0)) (λ e. claim e.from e.to) (λ e h. h.0) xs b.each;
+  each = All-weaker (λ e. claim e.from e.to × PairPrecedes e (pair n 0)) (λ e. claim e.from e.to) (λ e h. h.0) xs b.each;
   all = λ k l h. b.all k l h (inl (f k l h));
   rising = b.rising;
 }
@@ -98,26 +98,26 @@ in_head x xs = (0, omega arith, refl)
 in_tail : (x e : Pair) (xs : List Pair) → Contains xs e → Contains (x ∷ xs) e
 in_tail x e xs (k, h, q) = (suc k, omega (arith, h), q)
 
-head_first : (y x : Pair) (ys : List Pair) → AllPairs Precedes (y ∷ ys) → Contains ys x → Precedes y x
-head_first y x ys r (k, h, e) = subst (Precedes y) e (r 0 (suc k) x (omega arith) (omega (arith, h)))
+head_first : (y x : Pair) (ys : List Pair) → AllPairs PairPrecedes (y ∷ ys) → Contains ys x → PairPrecedes y x
+head_first y x ys r (k, h, e) = subst (PairPrecedes y) e (r 0 (suc k) x (omega arith) (omega (arith, h)))
 
-tail_rising : (y : Pair) (ys : List Pair) → AllPairs Precedes (y ∷ ys) → AllPairs Precedes ys
+tail_rising : (y : Pair) (ys : List Pair) → AllPairs PairPrecedes (y ∷ ys) → AllPairs PairPrecedes ys
 tail_rising y ys r = λ i j d h k. r (suc i) (suc j) d (omega (arith, h)) (omega (arith, k))
 
-same_head : (x y : Pair) (xs ys : List Pair) → AllPairs Precedes (x ∷ xs) → AllPairs Precedes (y ∷ ys)
+same_head : (x y : Pair) (xs ys : List Pair) → AllPairs PairPrecedes (x ∷ xs) → AllPairs PairPrecedes (y ∷ ys)
     → (y ≡ x) ⊎ Contains ys x → (x ≡ y) ⊎ Contains xs y → x ≡ y
 same_head x y xs ys r s (inl e) d = sym e
 same_head x y xs ys r s (inr c) (inl e) = e
 same_head x y xs ys r s (inr c) (inr d) = absurd (asymmetric x y (head_first x y xs r d) (head_first y x ys s c))
 
 -- a member after the head is after the other head
-behind_head : (x y e : Pair) (xs ys : List Pair) → x ≡ y → AllPairs Precedes (x ∷ xs) → Contains xs e
+behind_head : (x y e : Pair) (xs ys : List Pair) → x ≡ y → AllPairs PairPrecedes (x ∷ xs) → Contains xs e
     → (y ≡ e) ⊎ Contains ys e → Contains ys e
 behind_head x y e xs ys q r c (inl p) =
-    absurd (irreflexive x (subst (Precedes x) (sym (q ∙ p)) (head_first x e xs r c)))
+    absurd (irreflexive x (subst (PairPrecedes x) (sym (q ∙ p)) (head_first x e xs r c)))
 behind_head x y e xs ys q r c (inr d) = d
 
-one_list : (xs ys : List Pair) → AllPairs Precedes xs → AllPairs Precedes ys
+one_list : (xs ys : List Pair) → AllPairs PairPrecedes xs → AllPairs PairPrecedes ys
     → ((e : Pair) → Contains xs e → Contains ys e) → ((e : Pair) → Contains ys e → Contains xs e) → xs ≡ ys
 one_list [] [] r s f g = refl
 one_list [] (y ∷ ys) r s f g = let c = g y (in_head y ys) in absurd (omega (arith, c.1))

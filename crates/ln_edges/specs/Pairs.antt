@@ -11,20 +11,20 @@ abbrev pub pair : ℕ → ℕ → Pair
 pair i j = record { from = i; to = j }
 
 -- by the first place and then the second
-abbrev pub Precedes : Pair → Pair → Type 0
-Precedes a b = (a.from < b.from) ⊎ ((a.from ≡ b.from) × (a.to < b.to))
+abbrev pub PairPrecedes : Pair → Pair → Type 0
+PairPrecedes a b = (a.from < b.from) ⊎ ((a.from ≡ b.from) × (a.to < b.to))
 
 -- these are the pairs of which the claim holds: each one is there, and they rise
 pub record ArePairs (claim : ℕ → ℕ → Type 0) (pairs : List Pair) : Type 0 where
   pub each : All (λ e. claim e.from e.to) pairs
   pub all : (i j : ℕ) → claim i j → Contains pairs (pair i j)
-  pub rising : AllPairs Precedes pairs
+  pub rising : AllPairs PairPrecedes pairs
 
 -- those of them that precede a pair
 pub record ArePairsBefore (claim : ℕ → ℕ → Type 0) (i j : ℕ) (pairs : List Pair) : Type 0 where
-  pub each : All (λ e. claim e.from e.to × Precedes e (pair i j)) pairs
-  pub all : (k l : ℕ) → claim k l → Precedes (pair k l) (pair i j) → Contains pairs (pair k l)
-  pub rising : AllPairs Precedes pairs
+  pub each : All (λ e. claim e.from e.to × PairPrecedes e (pair i j)) pairs
+  pub all : (k l : ℕ) → claim k l → PairPrecedes (pair k l) (pair i j) → Contains pairs (pair k l)
+  pub rising : AllPairs PairPrecedes pairs
 
 -- a text that begins so and goes on with the lines of the pairs that precede i and j
 pub record SoFar (claim : ℕ → ℕ → Type 0) (line : Pair → List ℕ) (start : List ℕ) (i j : ℕ)
