@@ -18,7 +18,7 @@ ghost use Rattle.ln_nest.specs.Lean.{AreLean, HasNoZero, largest};
 ghost use Rattle.ln_nest.specs.Nested.{horner, is_number, is_square, nested, nested_form, power as variable_power};
 ghost use Rattle.ln_nest.specs.View.{Has, IsScaled, product_of, scale, square_of, terms_in};
 
-use crate::work::{Work, power_at_once, constant, parted, work_of};
+use crate::work::{Work, constant, parted, power_at_once, work_of};
 use ln_base::NoMemory;
 use ln_bound::size::{input, negated, number, two};
 use ln_bound::{FitOp, Fitted, Two, Width};

@@ -12,11 +12,11 @@ ghost use Rattle.ln_tree.specs.Names.{name_bytes};
 ghost use Rattle.ln_cert.specs.Listing.{parts_of};
 
 use crate::case::Case;
-use crate::version::Version;
 use crate::kinds::{block, block_op, decide, end, filter, filter_op, no_filter, order, range_op};
 use crate::progress::{At, Progress, is_at};
 use crate::ranged::Ends;
 use crate::stacks::empty;
+use crate::version::Version;
 use ln_base::lines::Source;
 use ln_base::{NoMemory, Seq};
 use ln_cert::{Entry, Part};

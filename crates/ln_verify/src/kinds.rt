@@ -13,13 +13,13 @@ ghost use Rattle.ln_cert.specs.declared.part.Part.TheVariants.{NoFilter, Filter,
 
 use crate::case::Case;
 use crate::derived::{is_derivative, is_whole};
-use crate::version::{Version, is_version};
 use crate::orders::is_next;
 use crate::progress::{At, Progress, before, is_at};
 use crate::ranged::{BlockStack, Ends, pair_of_bound, pair_of_ends};
 use crate::stacks::empty;
 use crate::steps::operate;
 use crate::triple::FilterStack;
+use crate::version::{Version, is_version};
 use ln_base::{NoMemory, Seq};
 use ln_code::{Op, Triple, are_of_sites, exps_of};
 use ln_tree::Exps;

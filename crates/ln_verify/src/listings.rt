@@ -10,8 +10,8 @@ ghost use Rattle.ln_verify.specs.declared.listings.Judged.TheVariants.{Valid, In
 
 use crate::case::Case;
 use crate::cases::case_of;
-use crate::version::Version;
 use crate::judge::judge;
+use crate::version::Version;
 use ln_base::NoMemory;
 use ln_base::lines::Held;
 use ln_cert::{Entry, ListStop, Listing, listing_lines};

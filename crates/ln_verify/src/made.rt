@@ -13,12 +13,12 @@ ghost use Rattle.ln_verify.specs.Values.{IsFor, IsMade};
 ghost use Rattle.ln_verify.specs.Versions.{version_of};
 
 use crate::allowed::{input_size, joined_size, variable};
-use crate::version::Version;
 use crate::joined::joined;
 use crate::limits::Limits;
 use crate::shared_poly;
 use crate::shared_poly::{SharedPoly, opposite, power};
 use crate::value::Value;
+use crate::version::Version;
 use ln_base::NoMemory;
 use ln_bound::{Two, Width};
 use ln_interval::pair::MOST;

@@ -9,10 +9,10 @@ ghost use Rattle.ln_verify.specs.BlockRules.{balanced};
 ghost use Rattle.ln_verify.specs.Rules.{AreEnds, IsRule, in_range};
 
 use crate::allowed::{covers_input, covers_number, is_allowed, is_covered, joined_pair};
-use crate::version::Version;
 use crate::limits::Limits;
 use crate::stacks::Stack;
 use crate::value::Value;
+use crate::version::Version;
 use ln_bound::{Two, Width};
 use ln_interval::Pair;
 use ln_interval::pair::MOST;

@@ -10,11 +10,11 @@ ghost use Rattle.ln_verify.specs.Works.{StackStep};
 ghost use Rattle.ln_code.specs.Engine.{op_of};
 
 use crate::case::Case;
-use crate::version::Version;
 use crate::limits::Limits;
 use crate::made::{again, cut, input, minus, number, two};
 use crate::stacks::{Stack, local, pop, push, put};
 use crate::value::Value;
+use crate::version::Version;
 use ln_base::NoMemory;
 use ln_bound::{Two, Width};
 use ln_code::Op;

@@ -7,10 +7,10 @@ ghost use Rattle.ln_bound.specs.Widths.{no_wider};
 ghost use Rattle.ln_code.specs.FilterRules.{covers, error_after, push_error};
 ghost use Rattle.ln_verify.specs.Joined.{two_covers};
 
-use crate::version::Version;
 use crate::limits::Limits;
 use crate::stacks::Stack;
 use crate::value::Value;
+use crate::version::Version;
 use ln_bound::{Two, Width};
 use ln_code::{Triple, error_after, shifted};
 use ln_tree::VarInfo;
