@@ -24,6 +24,6 @@ pub record AcceptedOf : Type 0 where
   pub stages : Staged
 
 -- the predicate has no fault; the polynomial is its own, and the stages are those of the polynomial
-pub record IsAccepted (a : AcceptedOf) : Type 0 where
+pub record IsAcceptedPred (a : AcceptedOf) : Type 0 where
   pub expanded : IsExpanded (pred_of a.pred) a.poly
   pub stages : AreStagesOf a.pred.shape.sites a.pred.shape.vars a.poly a.stages

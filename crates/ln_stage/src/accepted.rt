@@ -3,7 +3,7 @@ ghost use Rattle.std.specs.Prelude.{◌≡◌, ◌≢◌, [], ℕ, List, IfOk, l
 ghost use Rattle.ln_base.specs.Limits.{most_stages, most_weight};
 ghost use Rattle.ln_tree.specs.Table.{pred_of};
 ghost use Rattle.ln_poly.specs.Sparse.{AreBelow};
-ghost use Rattle.ln_stage.specs.Accepted.{IsAccepted, IsExpanded};
+ghost use Rattle.ln_stage.specs.Accepted.{IsAcceptedPred, IsExpanded};
 ghost use Rattle.ln_stage.specs.Lists.{AreStageLists, Passes};
 ghost use Rattle.ln_stage.specs.Sound.{IsSound};
 ghost use Rattle.ln_stage.specs.Staged.{AreStagesOf};
@@ -30,7 +30,7 @@ pub struct Accepted<'a> {
 impl<'a> Model for Accepted<'a> {
     ghost use Rattle.std.specs.Coded.{codes};
     ghost use Rattle.ln_tree.specs.contracts.expr.Node as node;
-    ghost use Rattle.ln_stage.specs.Accepted.{AcceptedOf, IsAccepted};
+    ghost use Rattle.ln_stage.specs.Accepted.{AcceptedOf, IsAcceptedPred};
 
     ghost Value = { AcceptedOf };
 
@@ -38,7 +38,7 @@ impl<'a> Model for Accepted<'a> {
 
     ghost view = { λ a. record { pred = a.pred.now; poly = a.poly; stages = a.stages } };
 
-    ghost invariant = { λ a. IsAccepted (record { pred = a.pred.now; poly = a.poly; stages = a.stages }) };
+    ghost invariant = { λ a. IsAcceptedPred (record { pred = a.pred.now; poly = a.poly; stages = a.stages }) };
 }
 
 // The normal polynomial of a predicate without a fault.
@@ -102,7 +102,7 @@ impl<'a> Accepted<'a> {
     /// The predicate.
     pub fn pred(&self) -> &'a Pred
         ensures value { result.now ≡ self.now.pred }
-        ensures kept { IsAccepted self.now }
+        ensures kept { IsAcceptedPred self.now }
     {
         self.pred
     }
@@ -110,7 +110,7 @@ impl<'a> Accepted<'a> {
     /// Its normal polynomial.
     pub fn poly(&self) -> &Poly
         ensures value { result.now ≡ self.now.poly }
-        ensures kept { IsAccepted self.now }
+        ensures kept { IsAcceptedPred self.now }
     {
         &self.poly
     }
@@ -118,7 +118,7 @@ impl<'a> Accepted<'a> {
     /// The stages of the polynomial.
     pub fn stages(&self) -> &Stages
         ensures value { result.now ≡ self.now.stages }
-        ensures kept { IsAccepted self.now }
+        ensures kept { IsAcceptedPred self.now }
     {
         &self.stages
     }
@@ -127,7 +127,7 @@ impl<'a> Accepted<'a> {
     pub fn into_parts(self) -> (Poly, Stages)
         ensures poly { result.0 ≡ self.entry.poly }
         ensures stages { result.1 ≡ self.entry.stages }
-        ensures kept { IsAccepted self.entry }
+        ensures kept { IsAcceptedPred self.entry }
     {
         let Accepted { poly, stages, .. } = self;
         (poly, stages)

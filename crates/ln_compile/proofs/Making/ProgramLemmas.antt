@@ -15,7 +15,7 @@ use Rattle.ln_poly.specs.Expansion.{IsNormal, closed_lets}
 use Rattle.ln_poly.specs.Sparse.{Sparse, terms_of}
 use Rattle.ln_poly.proofs.Expansions.Lets.{root-light}
 use Rattle.ln_poly.proofs.Loads.Sizing.{pred-expands}
-use Rattle.ln_stage.specs.Accepted.{IsAccepted}
+use Rattle.ln_stage.specs.Accepted.{IsAcceptedPred}
 use Rattle.ln_stage.specs.Lists.{AreStageLists, all_covering, first_seen, stage_count, stage_weight}
 use Rattle.ln_stage.specs.Staged.{AreStagesOf, Staged, block_vector, vectors_of}
 use Rattle.ln_code.specs.Carried.{CarriesWhole, stage_at, vectors}
@@ -36,7 +36,7 @@ use Rattle.ln_compile.proofs.Making.MakingLemmas.{own-exact}
 few-ops : (first ops cover len : ℕ) → first ≤ 1048640 → ops ≤ 524352 + 4096 * cover + 68 * len → cover ≤ most_weight → len ≤ most_stages → first + ops < 2 ^ 32
 few-ops first ops cover len f h k l = omega (arith, f, h, k, l)
 
-module _ (p : Pred) (f : Sparse) (st : Staged) (k : IsAccepted (record { pred = p; poly = f; stages = st })) (blocks : List Code)
+module _ (p : Pred) (f : Sparse) (st : Staged) (k : IsAcceptedPred (record { pred = p; poly = f; stages = st })) (blocks : List Code)
     (ours : AreOwnBlocks (pred_of p) f st.exps blocks) (filter : Option FilterCode) (own : IsFilterOf (pred_of p) filter)
     (rules : IfSome filter (FollowsFilterRules p.shape.vars)) (whole : IfSome filter (CarriesWhole p.shape.vars (terms_of (length p.shape.vars) f)))
     (short : ops_in_filter filter ≤ 1048640) (pushes : IfSome filter (FilterPushesSmall p.shape.vars)) where

@@ -16,9 +16,9 @@ use crate::frame::status::{Early, End};
 use crate::frame::stop::{Stop, Why, put_text, say};
 use ln_base::{Console, NoMemory};
 use ln_rows::Rows;
+use ln_stage::Accepted;
 use ln_trace::{Judged, TraceLines, TraceStop, judge_lines, trace_lines};
 use ln_tree::{Pred, Table};
-use ln_verify::cases::case_of;
 use std::alloc::Global;
 
 // Returns what is judged of the lines of a trace.
@@ -32,9 +32,9 @@ fn judged(
     requires second { lines.old.line ≡ 2 }
     ensures { IfOk result (λ j. AreJudged (pred_of p.now) rows.old lines.old j) }
 {
-    let case = case_of(alloc, p)?;
-    let judged = judge_lines(alloc, p, &case.poly, &case.stages, rows, lines);
-    drop(case);
+    let a = Accepted::of(alloc, p)?;
+    let judged = judge_lines(alloc, p, a.poly(), a.stages(), rows, lines);
+    drop(a);
     judged
 }
 

@@ -25,7 +25,7 @@ use ln_base::limits::{MOST_GRADED, MOST_WEIGHT};
 use ln_base::{Console, Span};
 use ln_code::Program;
 use ln_compile::Checked;
-use ln_graded::{GradedStop, graded};
+use ln_graded::{GradedStop, graded_from};
 use std::alloc::Global;
 
 // Returns the program by total degree of the predicate with this number, from 0; or none, where it has too many stages in that order.
@@ -37,8 +37,8 @@ fn graded_program(alloc: Global, c: &Checked, i: usize) -> Result<Program, Grade
         → HasFewGraded p → ⊥) }
 {
     let f = c.polynomial(alloc, i)?;
-    let p = c.program(alloc, i)?;
-    graded(alloc, &f, p.shape(), &p, MOST_GRADED, MOST_WEIGHT)
+    let begin = c.beginning(alloc, i)?;
+    graded_from(alloc, &f, &c.pred(i).shape, begin, MOST_GRADED, MOST_WEIGHT)
 }
 
 // Returns the place of the name of the predicate with this number, from 0.

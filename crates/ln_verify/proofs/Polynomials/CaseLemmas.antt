@@ -11,12 +11,12 @@ use Rattle.ln_order.specs.declared.order.Order.{Order}
 use Rattle.ln_order.specs.Orders.{orders_of}
 use Rattle.ln_order.specs.Places.{order_places}
 use Rattle.ln_poly.specs.Sparse.{AreBelow, terms_of}
-use Rattle.ln_stage.specs.Accepted.{AcceptedOf, IsAccepted}
+use Rattle.ln_stage.specs.Accepted.{AcceptedOf, IsAcceptedPred}
 use Rattle.ln_stage.specs.Staged.{AreStagesOf}
 use Rattle.ln_stage.proofs.Accepting.{light-whole}
 use Rattle.ln_verify.specs.Here.{IsCase}
 
-pub case_is : (a : AcceptedOf) (p : Pred) (s : Shape) (os : List Order) → a.pred ≡ p → IsAccepted a → s ≡ p.shape
+pub case_is : (a : AcceptedOf) (p : Pred) (s : Shape) (os : List Order) → a.pred ≡ p → IsAcceptedPred a → s ≡ p.shape
     → map order_places os ≡ orders_of p.shape.sites → IsCase (record { shape = s; poly = a.poly; stages = a.stages; orders = os })
 case_is a p s os q k e o =
     let here : a.pred.shape ≡ s = ap (λ (z : Pred). z.shape) q ∙ sym e in
