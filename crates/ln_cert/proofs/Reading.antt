@@ -2,6 +2,4 @@
 pub mod FirstWords
 pub mod OneLine
 pub mod Walk
-pub mod Sound
 pub mod Whole
-pub mod Gathered

@@ -1,4 +1,2 @@
 -- Words of a line of a listing.
-pub mod Lists
 pub mod Plain
-pub mod Certificates

@@ -1,5 +1,4 @@
 -- The listing of programs, and its lines, appended one after the other.
-pub mod Putting
 pub mod Rules
 pub mod Wrote
 pub mod Forms

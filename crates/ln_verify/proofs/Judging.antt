@@ -1,7 +1,5 @@
 -- Lines, subjects and lists of a listing, one after the other.
-pub mod OrderLines
 pub mod Places
 pub mod Put
 pub mod Wholes
 pub mod Subjects
-pub mod Texts

@@ -13,12 +13,28 @@ use Rattle.ln_cert.specs.declared.part.State.{State}
 use Rattle.ln_cert.specs.declared.part.Verb.{Verb}
 use Rattle.ln_cert.specs.Text.{IsBound, IsExponent, IsLine, IsNumber, IsOp, IsRange, IsTriple, args_of, certificate, exponent_word, part_kind, number_words}
 use Rattle.ln_cert.specs.Text.{range_words, takes_off, triple_words, verb_of, word_of, words_of, Each, IsPlace}
-use Rattle.ln_cert.specs.Reading.{HasArgs, IsRead, NoArgs, Refuses, after, good, kind_in, may, next_of}
+use Rattle.ln_cert.specs.Reading.{HasArgs, IsRead, NoArgs, Refuses, after, good, kind_in, may, next_of, list_rules}
 use Rattle.ln_base.proofs.Texts.Halves.{same_exponent}
 use Rattle.ln_cert.proofs.Reading.FirstWords.{complete, one_kind, sound}
-use Rattle.ln_cert.proofs.Texts.Lists.{same_front}
 use Rattle.ln_base.proofs.Texts.Lists.{head, rest, same_map}
-use Rattle.ln_base.proofs.Texts.Numbers.{decimal_injective, signed_injective}
+use Rattle.ln_base.proofs.Texts.Numbers.{decimal_injective, signed_injective, no_byte}
+use Rattle.ln_base.proofs.Forms.Colon.{same_before}
+use Rattle.ln_base.proofs.Texts.Lines.{words_line_end}
+use Rattle.ln_base.specs.Forms.Form.{AreSound, Finish}
+use Rattle.ln_cert.specs.declared.part.State.TheVariants.{Top, Opened, InFilter, Planned, InBlock, Blocks, Orders}
+use Rattle.ln_cert.proofs.Texts.Plain.{args_plain, first_plain, read_words}
+
+-- ---- up to a colon
+
+-- a place isn't written as a colon
+pub no_colon : (n : ℕ) → n ≤ 4 → decimal n ≡ codes ":" → ⊥
+no_colon n h e = omega (arith, (no_byte n 58 [] (omega arith) e).1)
+
+-- the places before a colon, and what follows it, are known
+pub same_front : (ps qs : List ℕ) (r s : List (List ℕ)) → Each IsPlace ps → Each IsPlace qs
+    → map decimal ps ++ codes ":" ∷ r ≡ map decimal qs ++ codes ":" ∷ s → (ps ≡ qs) × (r ≡ s)
+same_front ps qs r s p q e =
+    same_before decimal IsPlace no_colon (λ x y h k i. decimal_injective x y (omega (arith, h)) (omega (arith, k)) i) ps qs r s p q e
 
 -- ---- operations
 -- operations of the same verb with the same number are the same, and so are the words after the number
@@ -203,3 +219,30 @@ pub no_numbers : (all : List (List ℕ)) (sites : List ℕ) (behind : List (List
 no_numbers all sites behind p e f (Order ps xs) h =
     let s = same_front ps sites (map decimal xs) behind h.range.0 p (sym h.args ∙ e) in f xs h.range.1 (sym s.1)
 no_numbers all sites behind p e f q h = absurd (let k = h.kind in cc)
+
+ordered : (v : ℕ) → Finish (list_rules v) Blocks
+ordered v = record { last = Order [] (0 ∷ []) ∷ Done ∷ []; ranges = ((tt, (omega arith, tt), omega arith), (tt, tt)); leads = refl }
+
+planned : (v : ℕ) → Finish (list_rules v) Planned
+unfolding ordered
+planned v = record { last = Block 0 [] ∷ End ∷ (ordered v).last; ranges = ((omega arith, tt), (tt, (ordered v).ranges)); leads = refl }
+
+-- lines that end a listing from a state
+finish : (v : ℕ) (s : State) → Finish (list_rules v) s
+unfolding ordered planned
+finish v Top = record { last = []; ranges = tt; leads = refl }
+finish v Opened = record { last = NoFilter ∷ (planned v).last; ranges = (tt, (planned v).ranges); leads = refl }
+finish v InFilter = record { last = Decide ∷ (planned v).last; ranges = (tt, (planned v).ranges); leads = refl }
+finish v Planned = planned v
+finish v InBlock = record { last = End ∷ (ordered v).last; ranges = (tt, (ordered v).ranges); leads = refl }
+finish v Blocks = ordered v
+finish v Orders = record { last = Done ∷ []; ranges = (tt, tt); leads = refl }
+
+-- the rules of listings are as the reader of lines needs them
+pub list_sound : (v : ℕ) → AreSound (list_rules v)
+list_sound v = record {
+  read = read_words;
+  alone = λ p rest q. words_line_end (word_of (part_kind p)) (args_of p) rest (first_plain (part_kind p), args_plain p q);
+  one = same_line v;
+  finish = finish v;
+}

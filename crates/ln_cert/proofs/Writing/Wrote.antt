@@ -1,6 +1,6 @@
 -- Lines appended one after the other.
-use Rattle.std.proofs.Common.{◌≡◌, ℕ, zero, suc, ◌+◌, ◌≤◌, ◌<◌, List, [], ◌∷◌, ◌++◌, length, get_or, drop, map, Some, refl, sym, ap, ◌∙◌}
-use Rattle.std.proofs.Common.{subst, arith, append_assoc, append-nil, drop-cons}
+use Rattle.std.proofs.Common.{◌≡◌, ℕ, zero, suc, ◌+◌, ◌≤◌, ◌<◌, List, [], ◌∷◌, ◌++◌, length, get_or, drop, map, Some, refl, sym, ap, ◌∙◌, subst, arith}
+use Rattle.std.proofs.Common.{append_assoc, append-nil, drop-cons, ℤ, ◌^◌, unsigned_abs, Bool, false, Option, None, IfNone}
 use Rattle.std.proofs.lemmas.List.{drop_all}
 use Rattle.ln_interval.specs.declared.pair.Pair.{Pair}
 use Rattle.ln_interval.specs.View.{range}
@@ -9,11 +9,15 @@ use Rattle.ln_code.specs.declared.op.Triple.{Triple}
 use Rattle.ln_code.specs.Engine.{Line}
 use Rattle.ln_code.specs.Part.{Code, FilterCode, lines_of}
 use Rattle.ln_cert.specs.declared.part.Part.{Part}
-use Rattle.ln_cert.specs.declared.part.Part.TheVariants.{Filter, Decide, Block, RangeOp, End}
-use Rattle.ln_base.specs.Lines.{joined}
-use Rattle.ln_cert.specs.Text.{Each, IsLine, text_of}
-use Rattle.ln_cert.specs.Writing.{PutsLine}
+use Rattle.ln_cert.specs.declared.part.Part.TheVariants.{Filter, Decide, Block, RangeOp, End, Order}
+use Rattle.ln_base.specs.Lines.{joined, parted}
+use Rattle.ln_cert.specs.Text.{Each, IsLine, text_of, certificate, range_words, triple_words, IsRange, takes_off}
+use Rattle.ln_cert.specs.Writing.{PutsLine, Puts}
 use Rattle.ln_cert.specs.Written.{InBlock, WroteParts, block_lines, filter_line, filter_parts, range_line}
+use Rattle.std.specs.Prelude.{codes, decimal, if◌then◌else◌}
+use Rattle.std.specs.Fmt.{signed_decimal}
+use Rattle.ln_cert.specs.declared.part.Verb.{Verb}
+use Rattle.ln_base.proofs.Texts.Putting.{line_is, signed_put, puts_then}
 
 -- no lines were appended to a text that is the same
 pub nothing : (a : List ℕ) → WroteParts a a []
@@ -146,3 +150,50 @@ pub block_wrote : (n : ℕ) (c : Code) (old new : List ℕ) → WroteBlock n c o
 block_wrote n c old new w =
     let x : List Part = map range_line (lines_of c.ops c.pairs) in
     after old w.after_head new (Block n c.exps ∷ []) (x ++ End ∷ []) w.head (after w.after_head w.after_lines new x (End ∷ []) w.lines w.end)
+
+shown : (v : Verb) (ws : List (List ℕ)) → takes_off v ≡ false → certificate v ws ≡ ws
+shown v ws e = ap (λ (t : Bool). if t then [] else ws) e
+
+-- where no two ends were read of words, they are no certificate of an operation that takes nothing off
+pub no_ends : (v : Verb) (ws : List (List ℕ)) (o : Option (ℤ × ℤ)) → takes_off v ≡ false →
+    IfNone o ((l u : ℤ) → unsigned_abs l < 2 ^ 127 → unsigned_abs u < 2 ^ 127 → ws ≡ range_words l u → ⊥) →
+    IfNone o ((l u : ℤ) → IsRange v l u → ws ≡ certificate v (range_words l u) → ⊥)
+no_ends v ws (Some x) e f = tt
+no_ends v ws None e f = λ l u r q. f l u r.0 r.1 (q ∙ shown v (range_words l u) e)
+
+-- three numbers, appended one after the other, are a triple
+pub triple_put : (a b c d : List ℕ) (t : Triple) → Puts a b (λ r. decimal t.k ∷ r) → Puts b c (λ r. decimal t.h ∷ r) → Puts c d (λ r. decimal t.e ∷ r)
+    → Puts a d (λ r. triple_words t ++ r)
+triple_put a b c d t p q r =
+    puts_then p (puts_then q r)
+
+-- two numbers, appended one after the other, are the ends of a range
+pub ends_put : (a b c : List ℕ) (l u x y : ℤ) → Puts a b (λ r. signed_decimal x ∷ r) → x ≡ l → Puts b c (λ r. signed_decimal y ∷ r) → y ≡ u
+    → Puts a c (λ r. range_words l u ++ r)
+ends_put a b c l u x y p e q f = puts_then (signed_put a b x l p e) (signed_put b c y u q f)
+
+-- a certificate was appended, and so was that with equal ends
+pub certificate_put : (a b : List ℕ) (v : Verb) (l u x y : ℤ) → Puts a b (λ r. certificate v (range_words x y) ++ r) → x ≡ l → y ≡ u
+    → Puts a b (λ r. certificate v (range_words l u) ++ r)
+certificate_put a b v l u x y p e f =
+    subst (λ z. Puts a b (λ r. certificate v (range_words z u) ++ r)) e (subst (λ z. Puts a b (λ r. certificate v (range_words x z) ++ r)) f p)
+
+-- the parts of an `order` line were appended one after the other: its word, the places, a colon, the list and a line feed
+pub record PutOrder (old new ps xs : List ℕ) : Type 0 where
+  pub after_word : List ℕ
+  pub after_places : List ℕ
+  pub after_colon : List ℕ
+  pub after_list : List ℕ
+  pub word : after_word ≡ old ++ codes "order"
+  pub places : Puts after_word after_places (λ r. map decimal ps ++ r)
+  pub colon : Puts after_places after_colon (λ r. codes ":" ∷ r)
+  pub list : Puts after_colon after_list (λ r. map decimal xs ++ r)
+  pub end : new ≡ after_list ++ (10 ∷ [])
+
+-- its parts, one after the other, are an `order` line
+pub order_line : (old new ps xs : List ℕ) → PutOrder old new ps xs → PutsLine old new (Order ps xs)
+order_line old new ps xs o =
+    let m : Puts o.after_word o.after_list (λ r. map decimal ps ++ (codes ":" ∷ (map decimal xs ++ r))) =
+    puts_then o.places (puts_then o.colon o.list) in
+    line_is old o.after_word o.after_list new (codes "order") (λ r. map decimal ps ++ (codes ":" ∷ (map decimal xs ++ r))) o.word m o.end
+    ∙ ap (λ z. old ++ (parted (codes "order" ∷ (map decimal ps ++ (codes ":" ∷ z))) ++ (10 ∷ []))) (append-nil (map decimal xs))

@@ -1,10 +1,10 @@
 -- One operation: from what stack and locals in code do to what every state that they are for does, in a block and in a filter alike.
 use Rattle.std.proofs.Common.{◌≡◌, ℕ, ◌<◌, ◌≤◌, suc, Bool, true, false, List, [], ◌∷◌, ◌++◌, length, reverse, get_or, refl, sym, ap, arith, subst, ◌∙◌}
-use Rattle.std.specs.Prelude.{◌==◌, nat_le, Option, Some, None, slice_set}
+use Rattle.std.specs.Prelude.{◌==◌, nat_le, Option, Some, None, slice_set, replicate}
 use Rattle.std.proofs.lemmas.Bool.{eqb-true, leb-true, le-leb}
 use Rattle.std.proofs.lemmas.Bool.Decides.{nat_tests}
 use Rattle.std.proofs.lemmas.Grind.{get_or-set_at}
-use Rattle.std.proofs.lemmas.List.{get_or-set_other, length-reverse, length-set, reverse-append}
+use Rattle.std.proofs.lemmas.List.{get_or-set_other, length-reverse, length-set, reverse-append, get_or-replicate, length-replicate}
 use Rattle.std.proofs.lemmas.Option.{same_Some}
 use Rattle.ln_algebra.specs.Tree.{Tree}
 use Rattle.ln_bound.specs.declared.fitted.Two.{Two}
@@ -17,7 +17,7 @@ use Rattle.ln_code.specs.Kept.{stores}
 use Rattle.ln_code.specs.Numbers.{with_local}
 use Rattle.ln_code.proofs.Engines.Follow.{when_some}
 use Rattle.ln_due.specs.Small.{IsSmall}
-use Rattle.ln_verify.specs.Line.{PushedSmall}
+use Rattle.ln_verify.specs.Line.{PushedSmall, fresh}
 use Rattle.ln_verify.specs.Values.{Paired, Came, IsLocal, IsMade, IsState, PushedOnto}
 
 module _ {X K : Type 0} (R : X → K → Type 0) where
@@ -156,3 +156,11 @@ module _ {B X K : Type 0} (R : X → K → Type 0) (tree : K → Tree) (n : ℕ)
                 (local-set R before s.locals j y x o.top (y == j) refl k o.for_it (i.locals y w));
           },
         )
+
+-- an empty stack, with 256 locals that aren't set, is for the state before the first line
+pub empty-state : {X K : Type 0} (R : X → K → Type 0) (xs : List X) (ls : List (Option X)) → xs ≡ [] → ls ≡ replicate 256 None → IsState R xs ls fresh
+empty-state {X} R xs ls e l = record {
+  stack = rw e tt;
+  size = ap length l ∙ length-replicate {A = Option X} 256 None;
+  locals = λ j k. subst (λ (o : Option X). IsLocal R o None) (sym (ap (λ zs. get_or zs j None) l ∙ get_or-replicate 256 j None None k)) tt;
+}

@@ -1,31 +1,42 @@
 -- Listings of a table: its subjects, and the two results.
-use Rattle.std.proofs.Common.{◌≡◌, ◌↔◌, ℕ, ◌<◌, ◌≤◌, ◌+◌, Bool, List, [], ◌∷◌, ◌++◌, length, map, take, get_or, refl, sym, ◌∙◌}
-use Rattle.std.proofs.Common.{ap, arith, subst, if◌then◌else◌}
-use Rattle.std.specs.Prelude.{All, None, Option, Some}
-use Rattle.std.proofs.lemmas.Bool.{ne_eqb}
+use Rattle.std.proofs.Common.{◌≡◌, ◌↔◌, ℕ, ◌<◌, ◌≤◌, ◌+◌, Bool, List, [], ◌∷◌, ◌++◌, length, map, take, get_or, refl, sym, ◌∙◌, ap, arith, subst, if◌then◌else◌}
+use Rattle.std.proofs.Common.{◌==◌, ◌&&◌, true, nat_lt}
+use Rattle.std.specs.Prelude.{All, None, Option, Some, Err, IfErr, Ok, Result, nat_le, count_by, bytes_eq}
+use Rattle.std.proofs.lemmas.Bool.{ne_eqb, and_parts}
 use Rattle.std.proofs.lemmas.List.{length-map, take_all, take_more}
 use Rattle.std.proofs.lemmas.List.Elements.{All-nil, All-push}
-use Rattle.ln_base.specs.Limits.{most_file}
+use Rattle.ln_base.specs.Limits.{most_file, most_tokens}
 use Rattle.ln_base.proofs.Forms.Walk.{few_lines}
 use Rattle.ln_tree.specs.declared.pred.Pred.{Pred}
 use Rattle.ln_tree.specs.declared.shape.Shape.{Shape}
 use Rattle.ln_tree.specs.Names.{name_bytes}
-use Rattle.ln_tree.specs.Table.{PredOf, pred_of}
+use Rattle.ln_tree.specs.Table.{PredOf, pred_of, CoordOf, SiteOf}
 use Rattle.ln_poly.specs.Expansion.{IsNormal}
 use Rattle.ln_poly.specs.OfPred.{root_of}
 use Rattle.ln_cert.specs.declared.part.Entry.{Entry}
-use Rattle.ln_cert.specs.Listing.{Kept, Listed, parts_of}
+use Rattle.ln_cert.specs.Listing.{Kept, Listed, parts_of, AreNumbered, IsFormFault, ListText}
 use Rattle.ln_cert.specs.Reading.{list_rules}
 use Rattle.ln_verify.specs.BlockRules.{Version, version_1, version_2}
 use Rattle.ln_verify.specs.Here.{IsAnswer, IsCase, subject_of, subjects_of}
 use Rattle.ln_verify.specs.Judge.{IsFirstFault, IsValid}
 use Rattle.ln_verify.specs.Line.{Subject}
-use Rattle.ln_verify.specs.Verified.{AreSubjectsOf, IsFaultFor, IsSubjectOf, IsValidFor, judged_of, rules_of}
+use Rattle.ln_verify.specs.Verified.{AreSubjectsOf, IsFaultFor, IsSubjectOf, IsValidFor, judged_of, rules_of, IsTextFaultFor, IsValidTextFor, form, rule}
+use Rattle.ln_verify.specs.Verified.{PartsAreNamed}
 use Rattle.ln_verify.specs.declared.case.Case.{Case}
 use Rattle.ln_verify.specs.declared.listings.Judged.{Judged}
 use Rattle.ln_verify.specs.declared.listings.Judged.TheVariants.{Valid, Invalid}
 use Rattle.ln_verify.proofs.Validity.One.{one-answer}
 use Rattle.ln_stage.proofs.Results.SamePoly.{one-normal}
+use Rattle.ln_cert.specs.declared.part.Part.{Part}
+use Rattle.ln_base.specs.declared.lines.stop.TextStop.{TextStop as ListStop}
+use Rattle.ln_base.specs.declared.lines.stop.TextStop.TheVariants.{Form}
+use Rattle.ln_cert.specs.Stop.{Stops}
+use Rattle.ln_cert.specs.Unread.{AreLeft, HaveEntries, IsOpened, Unread}
+use Rattle.ln_cert.proofs.Reading.Whole.{no_text, one_fault, one_text}
+use Rattle.std.specs.List.{list_all}
+use Rattle.std.proofs.lemmas.Slice.Eq.{bytes_eq-Decides}
+use Rattle.ln_tree.specs.Whole.{differ, is_range, site_whole, is_one_of, is_site_said, is_param_said, arg_name, vars_behind, same_vars, nesting, pred_whole}
+use Rattle.ln_tree.specs.Whole.{item_names, text_tokens}
 
 -- ---- a predicate has one subject
 subject-one : (p : PredOf) (s t : Subject) → IsSubjectOf p s → IsSubjectOf p t → s ≡ t
@@ -140,3 +151,121 @@ entries-few l k = omega (
   few_lines (list_rules l.version) k.bytes (parts_of l.entries) k.text.text,
   length-map l.entries (λ (e : Entry). e.part),
 )
+
+-- the result is right about bytes for these predicates
+abbrev pub IsRightText : List PredOf → List ℕ → Judged → Type 0
+IsRightText ps bs j = ((j ≡ Valid) ↔ IsValidTextFor ps bs) × ((n : ℕ) → (j ≡ Invalid n) ↔ IsTextFaultFor ps bs n)
+
+-- what is judged of a listing is judged of its version and its lines
+module _ (ps : List PredOf) (bs : List ℕ) (l : Listed) (t : ListText bs l.version (parts_of l.entries)) where
+  as-one : (k : Listed) → ListText bs k.version (parts_of k.entries) → (P : ℕ → List Part → Type 0) → P k.version (parts_of k.entries)
+      → P l.version (parts_of l.entries)
+  as-one k x P p =
+      let e = one_text bs k.version l.version (parts_of k.entries) (parts_of l.entries) x t in
+      subst (P l.version) e.1 (subst (λ (n : ℕ). P n (parts_of k.entries)) e.0 p)
+
+  text-valid : IsValidTextFor ps bs → IsValidFor ps l
+  text-valid h = record {
+    subjects = h.valid.subjects;
+    those = h.valid.those;
+    valid = as-one h.listing h.text (λ n xs. IsValid (rules_of n) h.valid.subjects xs) h.valid.valid;
+  }
+
+  text-fault : (n : ℕ) → IsTextFaultFor ps bs n → IsFaultFor ps l n
+  text-fault n (form f) = absurd (no_text bs n l.version (parts_of l.entries) f t)
+  text-fault n (rule k x f) =
+      record { subjects = f.subjects; those = f.those; fault = as-one k x (λ m xs. IsFirstFault (rules_of m) f.subjects xs n) f.fault }
+
+  -- a result that is right about a listing is right about the bytes of its text
+  pub text-right : (j : Judged) → IsRight ps l j → IsRightText ps bs j
+  text-right j r = (
+    (λ q. record { listing = l; text = t; valid = r.0.0 q }, λ k. r.0.1 (text-valid k)),
+    λ n. (λ q. rule l t ((r.1 n).0 q), λ f. (r.1 n).1 (text-fault n f)),
+  )
+
+-- where the form fails, the result is right that says so: the bytes are no listing, and this is their only first fault
+module _ (ps : List PredOf) (bs : List ℕ) (m : ℕ) (f : IsFormFault bs m) where
+  same : (n : ℕ) → IsTextFaultFor ps bs n → m ≡ n
+  same n (form g) = one_fault bs m n f g
+  same n (rule k t g) = absurd (no_text bs m k.version (parts_of k.entries) f t)
+
+  -- the result `Invalid` with the line at which they stop being a listing
+  pub form-right : IsRightText ps bs (Invalid m)
+  form-right = (
+    (λ q. cc, λ k. absurd (no_text bs m k.listing.version (parts_of k.listing.entries) f k.text)),
+    λ n. (λ q. let i : m ≡ n = cc in form (subst (IsFormFault bs) i f), λ k. ap Invalid (same n k)),
+  )
+
+-- what stops the reader of lines is a form fault
+pub form-of : {L : Type 0} (bs : List ℕ) (r : Result L ListStop) (e : ListStop) (at : ℕ) → r ≡ Err e → e ≡ Form at
+    → IfErr r (λ x. Stops bs x) → IsFormFault bs at
+form-of bs (Ok l) e at i j h = cc
+form-of bs (Err x) e at i j h = let k : x ≡ Form at = cc in (subst (Stops bs) k h).0
+
+-- lines as entries, of which the first has this number
+abbrev numbered : ℕ → List Part → List Entry
+numbered n [] = []
+numbered n (p ∷ ps) = record { line = n; part = p } ∷ numbered (n + 1) ps
+
+parts-back : (n : ℕ) (ps : List Part) → parts_of (numbered n ps) ≡ ps
+parts-back n [] = refl
+parts-back n (p ∷ ps) = ap (λ (xs : List Part). p ∷ xs) (parts-back (n + 1) ps)
+
+are-numbered : (n : ℕ) (ps : List Part) → AreNumbered n (numbered n ps)
+are-numbered n [] = tt
+are-numbered n (p ∷ ps) = (refl, are-numbered (n + 1) ps)
+
+-- where the lines of an opened listing were judged with the cases that were made, the result is right about the bytes
+pub verified-lines : (ps : List PredOf) (bs : List ℕ) (u : Unread) (v : Version) (cs xs : List Case) (o : Option ℕ) (j : Judged) → IsOpened bs u
+    → v ≡ rules_of u.version → AreSubjectsOf ps (subjects_of cs) → xs ≡ cs → j ≡ judged_of o
+    → ((es : List Entry) → HaveEntries u es → IsAnswer v (subjects_of xs) (parts_of es) o) → IsRightText ps bs j
+verified-lines ps bs u v cs xs o j w e those a q h =
+    let es : List Entry = numbered 2 w.parts in
+    let l : Listed = record { version = u.version; entries = es } in
+    let b : w.parts ≡ parts_of es = sym (parts-back 2 w.parts) in
+    text-right ps bs l (subst (ListText bs u.version) b w.listing) j (verified ps l v cs xs es o j e those a refl q
+    (h es (subst (AreLeft u) b w.left, subst (λ (n : ℕ). AreNumbered n es) (sym w.second) (are-numbered 2 w.parts))))
+
+-- the shape of a predicate of a table has its name
+shape-named : (S : List SiteOf) (P : List CoordOf) (p : PredOf) → pred_whole S P p ≡ true → p.shape_name ≡ p.name
+shape-named S P p h =
+    let t1 = bytes_eq p.shape_name p.name in
+    let t2 = nat_lt 0 (length p.args) in
+    let t3 = list_all (is_one_of (length S) (length P)) p.args in
+    let t4 = nat_le (count_by is_site_said p.args) 5 in
+    let t5 = nat_le (count_by is_param_said p.args) 8 in
+    let t6 = p.sites == count_by is_site_said p.args in
+    let t7 = same_vars p.vars (vars_behind S P 0 0 p.args) in
+    let t8 = differ (map (arg_name P) p.args ++ p.let_names) in
+    let t9 = list_all (λ e. nat_le (nesting 0 e) 64) p.lets in
+    let j = and_parts (t1 && t2 && t3 && t4 && t5 && t6 && t7 && t8 && t9) (nat_le (nesting 0 p.root) 64) h in
+    let i = and_parts (t1 && t2 && t3 && t4 && t5 && t6 && t7 && t8) t9 j.0 in
+    let g = and_parts (t1 && t2 && t3 && t4 && t5 && t6 && t7) t8 i.0 in
+    let f = and_parts (t1 && t2 && t3 && t4 && t5 && t6) t7 g.0 in
+    let e = and_parts (t1 && t2 && t3 && t4 && t5) t6 f.0 in
+    let d = and_parts (t1 && t2 && t3 && t4) t5 e.0 in
+    let c = and_parts (t1 && t2 && t3) t4 d.0 in
+    let b = and_parts (t1 && t2) t3 c.0 in
+    let a = and_parts t1 t2 b.0 in
+    (bytes_eq-Decides p.shape_name p.name).0 a.0
+
+each-named : (S : List SiteOf) (P : List CoordOf) (ps : List PredOf) (ss : List Subject) → list_all (pred_whole S P) ps ≡ true → AreSubjectsOf ps ss
+    → map (λ (s : Subject). s.name) ss ≡ map (λ (p : PredOf). p.name) ps
+each-named S P [] [] h a = refl
+each-named S P (p ∷ ps) (s ∷ ss) h a =
+    let q = and_parts (pred_whole S P p) (list_all (pred_whole S P) ps) h in
+    let here : s.name ≡ p.name = a.0.name ∙ shape-named S P p q.0 in
+    let rest = each-named S P ps ss q.1 a.1 in
+    λ i. here i ∷ rest i
+each-named S P ps ss h a = absurd a
+
+-- in a table the name by which a part is judged is that of its predicate
+pub parts-named : PartsAreNamed
+parts-named t ss h a =
+    let t1 = list_all site_whole t.sites in
+    let t2 = list_all is_range t.params in
+    let t3 = list_all (pred_whole t.sites t.params) t.preds in
+    let d = and_parts (t1 && t2 && t3 && differ (item_names t)) (nat_le (text_tokens t) most_tokens) h in
+    let c = and_parts (t1 && t2 && t3) (differ (item_names t)) d.0 in
+    let b = and_parts (t1 && t2) t3 c.0 in
+    each-named t.sites t.params t.preds ss b.1 a

@@ -3,13 +3,13 @@ use Rattle.std.proofs.Common.{◌≡◌, ◌↔◌, ℕ, ◌≤◌, ◌<◌, ◌
 use Rattle.std.specs.Prelude.{◌==◌, Option, IsTrue}
 use Rattle.std.proofs.lemmas.Bool.{eqb-true}
 use Rattle.std.proofs.lemmas.List.{get_or_push, length-append, length-reverse}
-use Rattle.ln_algebra.specs.Terms.{IsNormalOf, derived}
+use Rattle.ln_algebra.specs.Terms.{IsNormalOf, derived, factor_at}
 use Rattle.ln_algebra.specs.Tree.{Tree}
 use Rattle.ln_tree.specs.Exps.{IsAbove, Pairs, vector}
 use Rattle.ln_bound.specs.declared.fitted.Width.TheVariants.{W64}
 use Rattle.ln_bound.specs.Widths.{limit}
 use Rattle.ln_poly.specs.Expansion.{IsNormal}
-use Rattle.ln_poly.specs.Sparse.{terms_of}
+use Rattle.ln_poly.specs.Sparse.{terms_of, AreBelow, IsPoly, Sparse, coefficient_at}
 use Rattle.ln_code.specs.Engine.{State}
 use Rattle.ln_code.specs.FilterRules.{FilterKnown}
 use Rattle.ln_code.specs.Rules.{Known}
@@ -22,6 +22,9 @@ use Rattle.ln_verify.specs.Works.{BlockStack, FilterStack, IsBlockStack, IsFilte
 use Rattle.ln_verify.specs.declared.ranged.Ranged.{Ranged}
 use Rattle.ln_code.specs.declared.op.Triple.{Triple}
 use Rattle.ln_verify.proofs.Engines.Steps.{for-length}
+use Rattle.ln_poly.proofs.TermLists.Products.{over-terms}
+use Rattle.ln_poly.proofs.Derivations.Several.{over-vector}
+use Rattle.ln_stage.proofs.Results.SamePoly.{one-normal}
 
 -- the last of a list with one more at the end is that one
 pub last-is : (xs es : List Pairs) (a d : Pairs) → xs ≡ es ++ a ∷ [] → get_or xs (length xs - 1) d ≡ a
@@ -97,3 +100,23 @@ filter_stack-decides p b s x ok l e i w h =
       λ t. record { left = o.0; one = o.1; whole = r.0 t; narrow = omega (arith, z, w) },
       λ q. r.1 (subst (λ (k : FilterKnown). IsNormalOf n k.tree (terms_of n p.poly)) (heads-same q.left o.0 s.stack q.one o.1) q.whole),
     )
+
+-- `decide`: the polynomial is the predicate's exactly where the two are one list
+pub decide-same : (n : ℕ) (t : Tree) (g f : Sparse) → IsNormal n t g → IsPoly f → AreBelow n f → (g ≡ f) ↔ IsNormalOf n t (terms_of n f)
+decide-same n t g f h p b =
+    (λ e. subst (λ (z : Sparse). IsNormalOf n t (terms_of n z)) e h.normal, λ k. one-normal n t g f h (record { normal = k; form = p; below = b }))
+
+-- `end`: the polynomial is the scaled derivative exactly where it is the list that was worked out for it
+pub end-same : (n : ℕ) (t : Tree) (g h f : Sparse) (a : Pairs) → IsNormal n t g → IsPoly h → AreBelow n h →
+    ((m : List ℕ) → length m ≡ n → coefficient_at n h m ≡ factor_at (derived (vector n a) (terms_of n f)) m) →
+    (g ≡ h) ↔ IsNormalOf n t (derived (vector n a) (terms_of n f))
+unfolding coefficient_at
+end-same n t g h f a q p b d = (λ e. to e, λ k. back k)
+  where
+    to : g ≡ h → IsNormalOf n t (derived (vector n a) (terms_of n f))
+    to e =
+        let z : IsNormal n t h = subst (IsNormal n t) e q in
+        record { over = over-vector n a (terms_of n f) (over-terms n f); coefficients = λ m l. sym (d m l) ∙ z.normal.coefficients m l }
+
+    back : IsNormalOf n t (derived (vector n a) (terms_of n f)) → g ≡ h
+    back k = one-normal n t g h q (record { normal = record { over = over-terms n h; coefficients = λ m l. d m l ∙ k.coefficients m l }; form = p; below = b })

@@ -1,7 +1,7 @@
 -- Answers to the goals of `ends` in src/args.rt.
 use Rattle.std.proofs.Common.{sym, ◌∙◌}
 use Rattle.ln_base.specs.Lines.{words_from}
-use Rattle.ln_cert.proofs.Texts.Certificates.{no_ends}
+use Rattle.ln_cert.proofs.Writing.Wrote.{no_ends}
 use Rattle.ln_cert.proofs.args.ends.Goals as goal
 
 pub returns-else-takes_off-clause-none : goal.returns-else-takes_off-clause-none

@@ -1,8 +1,7 @@
 -- Answers to the goals of `order` in src/line.rt.
 use Rattle.std.proofs.Common.{refl}
 use Rattle.ln_base.specs.Lines.{words_from}
-use Rattle.ln_cert.proofs.Reading.OneLine.{no_list, no_numbers}
-use Rattle.ln_cert.proofs.Texts.Lists.{no_colon}
+use Rattle.ln_cert.proofs.Reading.OneLine.{no_list, no_numbers, no_colon}
 use Rattle.ln_cert.proofs.line.order.Goals as goal
 
 pub items_to_colon-requires : goal.items_to_colon-requires

@@ -3,7 +3,7 @@ use Rattle.std.proofs.lemmas.Int.{to_z-of_z}
 use Rattle.std.proofs.Common.{rules}
 use Rattle.std.specs.Int.{w128}
 use Rattle.std.specs.Prelude.{FitsSigned}
-use Rattle.ln_cert.proofs.Writing.Putting.{ends_put}
+use Rattle.ln_cert.proofs.Writing.Wrote.{ends_put}
 use Rattle.ln_cert.proofs.put.put_ends.Goals as goal
 
 pub returns : goal.returns

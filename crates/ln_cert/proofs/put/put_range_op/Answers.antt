@@ -5,7 +5,7 @@ use Rattle.std.specs.Int.{w128}
 use Rattle.std.specs.Prelude.{FitsSigned}
 use Rattle.ln_cert.specs.Text.{block_word, certificate, number_words, range_words}
 use Rattle.ln_base.specs.Lines.{parted}
-use Rattle.ln_cert.proofs.Writing.Putting.{certificate_put}
+use Rattle.ln_cert.proofs.Writing.Wrote.{certificate_put}
 use Rattle.ln_base.proofs.Texts.Putting.{line_two}
 use Rattle.ln_cert.proofs.put.put_range_op.Goals as goal
 

@@ -1,7 +1,7 @@
 -- Answers to the goals of `put_triple` in src/put.rt.
 use Rattle.std.proofs.lemmas.Result.{IfOk-weaker}
 use Rattle.ln_base.proofs.Texts.Putting.{number_put}
-use Rattle.ln_cert.proofs.Writing.Putting.{triple_put}
+use Rattle.ln_cert.proofs.Writing.Wrote.{triple_put}
 use Rattle.ln_cert.proofs.put.put_triple.Goals as goal
 
 pub returns : goal.returns

@@ -1,6 +1,6 @@
 -- Answers to the goals of `entries_of` in src/read.rt.
 use Rattle.std.proofs.Common.{rules}
-use Rattle.ln_cert.proofs.Reading.Gathered.{gathered_more}
+use Rattle.ln_cert.proofs.Reading.Whole.{gathered_more}
 use Rattle.ln_cert.proofs.read.entries_of.Goals as goal
 
 pub lines-preserved : goal.lines-preserved

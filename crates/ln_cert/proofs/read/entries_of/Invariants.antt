@@ -1,6 +1,6 @@
 -- The loop over lines of `entries_of` in src/read.rt.
 use Rattle.std.proofs.Common.{length}
-use Rattle.ln_cert.proofs.Reading.Gathered.{Gathered}
+use Rattle.ln_cert.proofs.Reading.Whole.{Gathered}
 use Rattle.ln_cert.proofs.read.entries_of.Given as goal
 
 abbrev pub invariant-lines : goal.invariant-lines

@@ -2,7 +2,7 @@
 use Rattle.std.proofs.Common.{◌∷◌, ap, drop, rules, ◌∙◌}
 use Rattle.ln_base.specs.Lines.{lines}
 use Rattle.ln_cert.specs.Stop.{Stops}
-use Rattle.ln_cert.proofs.Reading.Sound.{list_sound}
+use Rattle.ln_cert.proofs.Reading.OneLine.{list_sound}
 use Rattle.ln_cert.proofs.Reading.Whole.{open_first, opened, other_first, stops}
 use Rattle.ln_cert.proofs.read.listing_lines.Goals as goal
 

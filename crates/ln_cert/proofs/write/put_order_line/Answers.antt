@@ -4,7 +4,7 @@ use Rattle.ln_order.specs.Places.{order_places}
 use Rattle.ln_code.specs.Lists.{list_of}
 use Rattle.ln_cert.specs.Writing.{Puts}
 use Rattle.ln_cert.proofs.Writing.Programmed.{order_wrote, places_put}
-use Rattle.ln_cert.proofs.Writing.Putting.{PutOrder, order_line}
+use Rattle.ln_cert.proofs.Writing.Wrote.{PutOrder, order_line}
 use Rattle.ln_cert.proofs.write.put_order_line.Goals as goal
 
 pub returns : goal.returns

@@ -1,7 +1,7 @@
 -- Answers to the goals of `is_derivative` in src/derived.rt.
 use Rattle.std.proofs.Common.{ℕ, length, subst, sym, ◌∙◌}
 use Rattle.ln_tree.specs.Exps.{IsAbove, Pairs}
-use Rattle.ln_verify.proofs.Polynomials.Closing.{end-same}
+use Rattle.ln_verify.proofs.Polynomials.Closes.{end-same}
 use Rattle.ln_verify.proofs.Values.Ranges.{not-true}
 use Rattle.ln_verify.proofs.derived.is_derivative.Goals as goal
 

@@ -1,6 +1,6 @@
 -- Answers to the goals of `is_whole` in src/derived.rt.
 use Rattle.std.proofs.Common.{length}
-use Rattle.ln_verify.proofs.Polynomials.Closing.{decide-same}
+use Rattle.ln_verify.proofs.Polynomials.Closes.{decide-same}
 use Rattle.ln_verify.proofs.derived.is_whole.Goals as goal
 
 pub returns : goal.returns

@@ -1,6 +1,6 @@
 -- Answers to the goals of `minus` in src/joined.rt.
 use Rattle.std.proofs.Common.{arith}
-use Rattle.ln_verify.proofs.Polynomials.Joins.{minus-joined, turned-size}
+use Rattle.ln_verify.proofs.Polynomials.Negations.{minus-joined, turned-size}
 use Rattle.ln_verify.proofs.joined.minus.Goals as goal
 
 pub add-requires : goal.add-requires

@@ -1,5 +1,5 @@
 -- Answers to the goals of `plus` in src/joined.rt.
-use Rattle.ln_verify.proofs.Polynomials.Joins.{plus-joined}
+use Rattle.ln_verify.proofs.Polynomials.Negations.{plus-joined}
 use Rattle.ln_verify.proofs.joined.plus.Goals as goal
 
 pub returns : goal.returns

@@ -5,8 +5,7 @@ use Rattle.ln_bound.specs.declared.fitted.Two.TheVariants.{Times}
 use Rattle.ln_poly.proofs.Expansions.Normals.{mul-normal}
 use Rattle.ln_poly.specs.Sparse.{Sparse}
 use Rattle.ln_verify.specs.Joined.{Joined}
-use Rattle.ln_verify.proofs.Polynomials.Fitting.{all-powers, fits-at, misfit-large}
-use Rattle.ln_verify.proofs.Polynomials.Small.{product-large}
+use Rattle.ln_verify.proofs.Polynomials.Fitting.{all-powers, fits-at, misfit-large, product-large}
 use Rattle.ln_verify.proofs.Values.Ranges.{not-true}
 use Rattle.ln_verify.proofs.joined.within.Goals as goal
 

@@ -52,6 +52,6 @@ returns g c =
     let t = rw c.in_default.is at c.in_ok-taken.ensures in
     λ es h.
     let m = c.lines.invariant es h in
-    reached_stops _ _ _ (parts_of es) (parts_of m.rest) _ m.reached _ _ (ap parts_of (t.0 m.rest m.left)) (c.number.ensures ∙ t.1)
+    reached_stops _ _ _ (parts_of es) (parts_of m.rest) _ m.reached _ _ (ap parts_of (t.0 m.rest m.left)) (c.number-2.ensures ∙ t.1)
     (here-lacks (version_of c.args.version) (subjects_of c.args.cases.now) c.lines.state
     (λ o. not-true _ (sym c.if-is_over.false ∙ c.is_over.ensures.1 (o.0, o.1 ∙ length-map c.args.cases.now subject_of))))

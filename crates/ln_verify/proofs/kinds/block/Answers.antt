@@ -8,7 +8,7 @@ use Rattle.ln_verify.specs.Here.{subject_of}
 use Rattle.ln_verify.specs.Rules.{in_range}
 use Rattle.ln_verify.specs.Values.{IsFor}
 use Rattle.ln_verify.proofs.Engines.AtSpots.{block-refused, opened}
-use Rattle.ln_verify.proofs.Engines.Empty.{empty-state}
+use Rattle.ln_verify.proofs.Engines.Steps.{empty-state}
 use Rattle.ln_verify.proofs.Values.Ranges.{not-true}
 use Rattle.ln_verify.proofs.kinds.block.Goals as goal
 

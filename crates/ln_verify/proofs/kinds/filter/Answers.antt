@@ -1,6 +1,6 @@
 -- Answers to the goals of `filter` in src/kinds.rt.
 use Rattle.ln_verify.proofs.Engines.AtSpots.{named-filter}
-use Rattle.ln_verify.proofs.Engines.Empty.{empty-state}
+use Rattle.ln_verify.proofs.Engines.Steps.{empty-state}
 use Rattle.ln_verify.specs.Rules.{in_triple}
 use Rattle.ln_verify.specs.Values.{IsFor}
 use Rattle.ln_verify.proofs.kinds.filter.Goals as goal

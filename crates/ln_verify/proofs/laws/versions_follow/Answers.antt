@@ -1,7 +1,6 @@
 -- Answers to the goals of `versions_follow` in src/laws.rt.
 use Rattle.std.proofs.Common.{refl}
-use Rattle.ln_verify.proofs.Engines.OnBounds.{is-on-bounds}
-use Rattle.ln_verify.proofs.Engines.Versions.{version-1-follows}
+use Rattle.ln_verify.proofs.Engines.Versions.{is-on-bounds, version-1-follows}
 use Rattle.ln_verify.proofs.laws.versions_follow.Goals as goal
 
 pub returns-clause-bounds : goal.returns-clause-bounds

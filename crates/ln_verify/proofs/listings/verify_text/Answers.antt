@@ -6,7 +6,7 @@ use Rattle.ln_cert.specs.Listing.{IsFormFault}
 use Rattle.ln_verify.specs.Here.{subjects_of}
 use Rattle.ln_verify.specs.Verified.{AreSubjectsOf, rules_of}
 use Rattle.ln_verify.specs.Versions.{version_of}
-use Rattle.ln_verify.proofs.Judging.Texts.{form-of, form-right, verified-lines}
+use Rattle.ln_verify.proofs.Judging.Subjects.{form-of, form-right, verified-lines}
 use Rattle.ln_verify.proofs.listings.verify_text.Goals as goal
 
 pub returns-in-Err-Form : goal.returns-in-Err-Form

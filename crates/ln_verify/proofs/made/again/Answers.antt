@@ -4,7 +4,7 @@ use Rattle.ln_poly.specs.Expansion.{IsNormal}
 use Rattle.ln_poly.specs.Sparse.{Sparse}
 use Rattle.std.specs.Prelude.{None}
 use Rattle.ln_verify.specs.Values.{IsFor, IsMade}
-use Rattle.ln_verify.proofs.Values.Made.{exact, made, nothing}
+use Rattle.ln_verify.proofs.Values.Ranges.{exact, made, nothing}
 use Rattle.ln_verify.proofs.made.again.Goals as goal
 
 pub returns-in_default : goal.returns-in_default

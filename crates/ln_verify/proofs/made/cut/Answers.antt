@@ -2,7 +2,7 @@
 use Rattle.std.proofs.Common.{refl, subst, sym}
 use Rattle.std.specs.Prelude.{None}
 use Rattle.ln_verify.specs.Values.{IsFor, IsMade}
-use Rattle.ln_verify.proofs.Values.Made.{exact, made, nothing}
+use Rattle.ln_verify.proofs.Values.Ranges.{exact, made, nothing}
 use Rattle.ln_verify.proofs.made.cut.Goals as goal
 
 pub returns-in_default : goal.returns-in_default

@@ -4,7 +4,7 @@ use Rattle.std.proofs.lemmas.Option.{slice_get_within}
 use Rattle.ln_algebra.specs.Tree.{Input}
 use Rattle.ln_poly.proofs.Expansions.Normals.{input-at}
 use Rattle.ln_verify.specs.Versions.{version_of}
-use Rattle.ln_verify.proofs.Values.Made.{exact, input-heavy, made, nothing}
+use Rattle.ln_verify.proofs.Values.Ranges.{exact, input-heavy, made, nothing}
 use Rattle.ln_verify.proofs.made.input.Goals as goal
 
 pub returns-in_default : goal.returns-in_default

@@ -1,7 +1,7 @@
 -- Answers to the goals of `kept` in src/made.rt.
 use Rattle.std.proofs.Common.{arith, refl, subst, sym}
 use Rattle.ln_due.specs.Small.{IsSmall}
-use Rattle.ln_verify.proofs.Polynomials.Small.{few-small, many-large}
+use Rattle.ln_verify.proofs.Polynomials.Fitting.{few-small, many-large}
 use Rattle.ln_verify.proofs.made.kept.Goals as goal
 
 pub returns-then-count-gt1024 : goal.returns-then-count-gt1024

@@ -6,7 +6,7 @@ use Rattle.ln_poly.proofs.TermLists.Negating.{size-negated}
 use Rattle.ln_poly.proofs.Expansions.Normals.{neg-normal}
 use Rattle.std.specs.Prelude.{None}
 use Rattle.ln_verify.specs.Values.{IsFor, IsMade}
-use Rattle.ln_verify.proofs.Values.Made.{exact, made, nothing}
+use Rattle.ln_verify.proofs.Values.Ranges.{exact, made, nothing}
 use Rattle.ln_verify.proofs.made.minus.Goals as goal
 
 pub kept-requires-clause-heavy : goal.kept-requires-clause-heavy

@@ -6,7 +6,7 @@ use mir.Syntax.{w128}
 use Rattle.ln_algebra.specs.Tree.{Num}
 use Rattle.ln_poly.proofs.Expansions.Normals.{number-normal}
 use Rattle.ln_verify.specs.Rules.{IsRule}
-use Rattle.ln_verify.proofs.Values.Made.{exact, made, nothing, number-heavy}
+use Rattle.ln_verify.proofs.Values.Ranges.{exact, made, nothing, number-heavy}
 use Rattle.ln_verify.proofs.made.number.Goals as goal
 
 pub returns-in_default : goal.returns-in_default

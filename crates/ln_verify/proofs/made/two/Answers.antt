@@ -3,8 +3,8 @@ use Rattle.std.proofs.Common.{arith, subst, sym}
 use Rattle.std.specs.Prelude.{None}
 use Rattle.ln_bound.specs.Typed.{bound_of, two_of}
 use Rattle.ln_verify.specs.Values.{IsFor, IsMade}
-use Rattle.ln_verify.proofs.Polynomials.Joins.{bound-within}
-use Rattle.ln_verify.proofs.Values.Made.{capped, large, made, nothing}
+use Rattle.ln_verify.proofs.Polynomials.Negations.{bound-within}
+use Rattle.ln_verify.proofs.Values.Ranges.{capped, large, made, nothing}
 use Rattle.ln_verify.proofs.made.two.Goals as goal
 
 pub returns-in_default : goal.returns-in_default

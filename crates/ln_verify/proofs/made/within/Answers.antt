@@ -1,5 +1,5 @@
 -- Answers to the goals of `within` in src/made.rt.
-use Rattle.ln_verify.proofs.Values.Made.{on-some, small-enough, too-large}
+use Rattle.ln_verify.proofs.Values.Ranges.{on-some, small-enough, too-large}
 use Rattle.ln_verify.proofs.made.within.Goals as goal
 
 pub returns-then-size-gt-MOST-clause-rule : goal.returns-then-size-gt-MOST-clause-rule

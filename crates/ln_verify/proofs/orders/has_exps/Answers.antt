@@ -2,7 +2,7 @@
 use Rattle.std.proofs.Common.{◌≡◌, ℕ, ◌≤◌, false, [], arith}
 use Rattle.std.specs.Prelude.{nat_lt}
 use Rattle.ln_tree.specs.Exps.{same_pairs}
-use Rattle.ln_verify.proofs.Judging.OrderLines.{has-vector, no-block}
+use Rattle.ln_verify.proofs.Judging.Wholes.{has-vector, no-block}
 use Rattle.std.proofs.lemmas.Bool.Decides.{nat_tests}
 use Rattle.ln_verify.proofs.orders.has_exps.Goals as goal
 

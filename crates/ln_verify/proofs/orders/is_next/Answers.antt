@@ -10,7 +10,7 @@ use Rattle.ln_order.specs.Places.{order_places}
 use Rattle.ln_order.proofs.Listing.OrdersLemmas.{member-is}
 use Rattle.ln_verify.specs.Here.{subject_of}
 use Rattle.ln_verify.specs.Orders.{SameStages}
-use Rattle.ln_verify.proofs.Judging.OrderLines.{numbers-are, order-at, order-none, tested}
+use Rattle.ln_verify.proofs.Judging.Wholes.{numbers-are, order-at, order-none, tested}
 use Rattle.ln_verify.proofs.Values.Ranges.{not-true}
 use Rattle.ln_verify.proofs.orders.is_next.Goals as goal
 

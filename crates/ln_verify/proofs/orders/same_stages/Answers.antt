@@ -2,7 +2,7 @@
 use Rattle.std.proofs.Common.{◌≡◌, ◌↔◌, ◌<◌, [], true, get_or, length, arith, sym, ◌∙◌, subst, refl}
 use Rattle.ln_tree.specs.Exps.{IsAbove, Pairs}
 use Rattle.ln_verify.specs.Orders.{HasVector}
-use Rattle.ln_verify.proofs.Judging.OrderLines.{decides-end, decides-next, decides-stop, same-length}
+use Rattle.ln_verify.proofs.Judging.Wholes.{decides-end, decides-next, decides-stop, same-length}
 use Rattle.ln_verify.proofs.Values.Ranges.{not-true}
 use Rattle.ln_verify.proofs.orders.same_stages.Goals as goal
 

@@ -1,7 +1,7 @@
 -- States the invariant of the loop of `same_stages`: whether all blocks have the exponents of their stages is decided by the remaining ones.
 use Rattle.std.proofs.Common.{◌≡◌, ℕ, All, length}
 use Rattle.ln_tree.specs.Exps.{IsAbove}
-use Rattle.ln_verify.proofs.Judging.OrderLines.{Decides}
+use Rattle.ln_verify.proofs.Judging.Wholes.{Decides}
 use Rattle.ln_verify.proofs.orders.same_stages.Given as goal
 
 abbrev pub invariant-stages : goal.invariant-stages

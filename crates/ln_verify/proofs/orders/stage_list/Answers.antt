@@ -2,7 +2,7 @@
 use Rattle.std.proofs.Common.{ℕ, take}
 use Rattle.ln_order.specs.Places.{order_places}
 use Rattle.ln_stage.specs.Staged.{segment_of}
-use Rattle.ln_verify.proofs.Judging.OrderLines.{list-more}
+use Rattle.ln_verify.proofs.Judging.Wholes.{list-more}
 use Rattle.ln_verify.proofs.orders.stage_list.Goals as goal
 
 pub places-preserved : goal.places-preserved

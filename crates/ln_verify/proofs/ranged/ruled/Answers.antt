@@ -1,8 +1,7 @@
 -- Answers to the goals of `ruled` in src/ranged.rt.
 use Rattle.std.proofs.Common.{◌∙◌, sym}
 use Rattle.ln_interval.specs.View.{range}
-use Rattle.ln_verify.proofs.Values.Limits.{is-ruled, not-ruled}
-use Rattle.ln_verify.proofs.Values.Ranges.{not-true}
+use Rattle.ln_verify.proofs.Values.Ranges.{is-ruled, not-ruled, not-true}
 use Rattle.ln_verify.proofs.ranged.ruled.Goals as goal
 
 pub returns-then-not-is_allowed : goal.returns-then-not-is_allowed

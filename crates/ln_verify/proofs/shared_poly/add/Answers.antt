@@ -3,7 +3,7 @@ use Rattle.std.proofs.Common.{arith}
 use Rattle.std.proofs.lemmas.Result.{IfOk-weaker}
 use Rattle.ln_poly.specs.Sparse.{Sparse}
 use Rattle.ln_verify.specs.Joined.{IsSum}
-use Rattle.ln_verify.proofs.Polynomials.Joins.{sum-turned}
+use Rattle.ln_verify.proofs.Polynomials.Negations.{sum-turned}
 use Rattle.ln_verify.proofs.shared_poly.add.Goals as goal
 
 pub add_to-requires : goal.add_to-requires

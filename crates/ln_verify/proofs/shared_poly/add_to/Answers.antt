@@ -3,7 +3,7 @@ use Rattle.std.proofs.Common.{◌≡◌, ◌∙◌, ap, arith, subst, sym}
 use Rattle.std.proofs.Math.IntN.{◌+ℤ◌}
 use Rattle.ln_poly.specs.Sparse.{AreBelow, IsPoly, Sparse, coefficient_at, size_of}
 use Rattle.ln_verify.specs.Signed.{signed}
-use Rattle.ln_verify.proofs.Polynomials.Signs.{below-bare, below-signed, poly-signed, size-signed, sum-signed}
+use Rattle.ln_verify.proofs.Polynomials.Negations.{below-bare, below-signed, poly-signed, size-signed, sum-signed}
 use Rattle.ln_verify.proofs.shared_poly.add_to.Goals as goal
 
 pub sum-requires : goal.sum-requires

@@ -1,7 +1,7 @@
 -- Answers to the goals of `opposite` in src/shared_poly.rt.
 use Rattle.std.proofs.Common.{◌∙◌, ap}
 use Rattle.ln_poly.specs.Sparse.{Sparse, negated}
-use Rattle.ln_verify.proofs.Polynomials.Signs.{opposite-signed}
+use Rattle.ln_verify.proofs.Polynomials.Negations.{opposite-signed}
 use Rattle.ln_verify.proofs.shared_poly.opposite.Goals as goal
 
 pub returns : goal.returns

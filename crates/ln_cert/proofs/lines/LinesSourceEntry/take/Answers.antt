@@ -1,6 +1,6 @@
 -- Answers to the goals of `take` of `Lines` in src/lines.rt.
 use Rattle.std.proofs.lemmas.Result.{IfOk-weaker}
-use Rattle.ln_cert.proofs.Reading.Gathered.{takes_entry}
+use Rattle.ln_cert.proofs.Reading.Whole.{takes_entry}
 use Rattle.ln_cert.proofs.lines.LinesSourceEntry.take.Goals as goal
 
 pub returns : goal.returns

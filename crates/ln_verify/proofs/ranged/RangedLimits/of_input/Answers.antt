@@ -11,7 +11,7 @@ use Rattle.ln_code.specs.Engine.{next}
 use Rattle.ln_code.specs.Rules.{known}
 use Rattle.ln_verify.specs.Rules.{IsRule, in_range}
 use Rattle.ln_verify.specs.Versions.{version_of}
-use Rattle.ln_verify.proofs.Values.Limits.{no-ends, not-fit, the-ends}
+use Rattle.ln_verify.proofs.Values.Ranges.{no-ends, not-fit, the-ends}
 use Rattle.ln_verify.proofs.ranged.RangedLimits.of_input.Goals as goal
 
 pub returns-in_default : goal.returns-in_default

@@ -6,7 +6,7 @@ use Rattle.ln_bound.specs.Widths.{least, wider}
 use Rattle.ln_bound.specs.declared.fitted.Width.{Width}
 use Rattle.ln_code.specs.Rules.{known}
 use Rattle.ln_verify.specs.Rules.{IsRule, in_range}
-use Rattle.ln_verify.proofs.Values.Limits.{no-ends, not-fit, the-ends}
+use Rattle.ln_verify.proofs.Values.Ranges.{no-ends, not-fit, the-ends}
 use Rattle.ln_verify.proofs.ranged.RangedLimits.of_local.Goals as goal
 
 pub returns-in_default : goal.returns-in_default

@@ -7,7 +7,7 @@ use Rattle.ln_interval.specs.View.{range}
 use Rattle.ln_bound.specs.Widths.{no_wider}
 use Rattle.ln_code.specs.Rules.{known}
 use Rattle.ln_verify.specs.Rules.{IsRule, in_range}
-use Rattle.ln_verify.proofs.Values.Limits.{no-ends, none-if, not-fit, the-ends}
+use Rattle.ln_verify.proofs.Values.Ranges.{no-ends, none-if, not-fit, the-ends}
 use Rattle.ln_verify.proofs.ranged.RangedLimits.of_minus.Goals as goal
 
 pub returns-in_default : goal.returns-in_default

@@ -6,7 +6,7 @@ use Rattle.ln_bound.specs.Typed.{bound_of, range_of, two_of}
 use Rattle.ln_bound.specs.Widths.{no_wider}
 use Rattle.ln_code.specs.Rules.{known}
 use Rattle.ln_verify.specs.Rules.{IsRule, in_range}
-use Rattle.ln_verify.proofs.Values.Limits.{no-ends, none-if, none-right, not-fit, the-ends}
+use Rattle.ln_verify.proofs.Values.Ranges.{no-ends, none-if, none-right, not-fit, the-ends}
 use Rattle.ln_bound.proofs.Soundness.ExactLaws.{two_ordered}
 use Rattle.ln_verify.proofs.ranged.RangedLimits.of_two.Goals as goal
 

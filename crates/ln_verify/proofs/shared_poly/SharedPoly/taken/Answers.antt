@@ -2,7 +2,7 @@
 use Rattle.std.proofs.Common.{◌∙◌, ap}
 use Rattle.ln_poly.specs.Sparse.{Sparse, negated}
 use Rattle.ln_verify.specs.Signed.{signed}
-use Rattle.ln_verify.proofs.Polynomials.Signs.{turned-over}
+use Rattle.ln_verify.proofs.Polynomials.Negations.{turned-over}
 use Rattle.ln_verify.proofs.shared_poly.SharedPoly.taken.Goals as goal
 
 pub returns : goal.returns

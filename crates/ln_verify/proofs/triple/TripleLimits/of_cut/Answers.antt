@@ -3,7 +3,7 @@ use Rattle.std.proofs.Common.{◌+◌, ◌/◌, ◌^◌}
 use Rattle.ln_code.specs.FilterRules.{error_after}
 use Rattle.ln_verify.specs.BlockRules.{triple_rules}
 use Rattle.ln_verify.specs.Rules.{in_triple}
-use Rattle.ln_verify.proofs.Values.Limits.{by-triple, covering}
+use Rattle.ln_verify.proofs.Values.Ranges.{by-triple, covering}
 use Rattle.ln_verify.proofs.triple.TripleLimits.of_cut.Goals as goal
 
 pub returns : goal.returns

@@ -9,7 +9,7 @@ use Rattle.ln_code.specs.FilterRules.{filter_known}
 use Rattle.ln_verify.specs.BlockRules.{triple_rules}
 use Rattle.ln_verify.specs.Rules.{IsRule, in_triple}
 use Rattle.ln_verify.specs.Versions.{version_of}
-use Rattle.ln_verify.proofs.Values.Limits.{by-triple, covering}
+use Rattle.ln_verify.proofs.Values.Ranges.{by-triple, covering}
 use Rattle.ln_verify.proofs.triple.TripleLimits.of_input.Goals as goal
 
 pub returns : goal.returns

@@ -1,7 +1,7 @@
 -- Answers to the goals of `of_local` in src/triple.rt.
 use Rattle.ln_verify.specs.BlockRules.{triple_rules}
 use Rattle.ln_verify.specs.Rules.{in_triple}
-use Rattle.ln_verify.proofs.Values.Limits.{by-triple, covering}
+use Rattle.ln_verify.proofs.Values.Ranges.{by-triple, covering}
 use Rattle.ln_verify.proofs.triple.TripleLimits.of_local.Goals as goal
 
 pub returns : goal.returns

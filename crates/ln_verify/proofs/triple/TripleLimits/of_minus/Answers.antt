@@ -3,7 +3,7 @@ use Rattle.std.proofs.Common.{refl, sym, ◌∙◌}
 use Rattle.ln_algebra.specs.Tree.{Neg}
 use Rattle.ln_verify.specs.BlockRules.{triple_rules}
 use Rattle.ln_verify.specs.Rules.{in_triple}
-use Rattle.ln_verify.proofs.Values.Limits.{by-triple, covering}
+use Rattle.ln_verify.proofs.Values.Ranges.{by-triple, covering}
 use Rattle.ln_verify.proofs.triple.TripleLimits.of_minus.Goals as goal
 
 pub returns-then-not-is_64 : goal.returns-then-not-is_64

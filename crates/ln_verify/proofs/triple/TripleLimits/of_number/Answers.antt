@@ -6,7 +6,7 @@ use mir.Syntax.{w128}
 use Rattle.ln_algebra.specs.Tree.{Num}
 use Rattle.ln_code.specs.FilterRules.{covers, push_error}
 use Rattle.ln_verify.specs.BlockRules.{triple_rules}
-use Rattle.ln_verify.proofs.Values.Limits.{by-triple, covering}
+use Rattle.ln_verify.proofs.Values.Ranges.{by-triple, covering}
 use Rattle.ln_verify.proofs.triple.TripleLimits.of_number.Goals as goal
 
 pub returns : goal.returns
