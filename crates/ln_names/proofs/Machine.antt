@@ -1,5 +1,6 @@
 -- An expression is read as its tree says.
-use Rattle.std.proofs.Common.{◌≡◌, ℕ, suc, ◌+◌, ◌-◌, ◌<◌, ◌≤◌, nat_lt, Bool, true, false, cond, List, [], ◌∷◌, Option, Some, None, refl, ap, sym, ◌∙◌, subst, arith, add-one}
+use Rattle.std.proofs.Common.{◌≡◌, ℕ, suc, ◌+◌, ◌-◌, ◌<◌, ◌≤◌, nat_lt, Bool, true, false, cond, List, [], ◌∷◌, Option, Some, None, refl, ap, sym, ◌∙◌}
+use Rattle.std.proofs.Common.{subst, arith, add-one}
 use Rattle.ln_base.specs.declared.span.Span.{Span}
 use Rattle.ln_lex.specs.declared.token.Token.{Token}
 use Rattle.ln_lex.specs.declared.token.Kind.{Kind}
@@ -160,7 +161,8 @@ module _ (bytes : List ℕ) (ts : List Token) (s : Scope) where
 
   -- how tokens of a sort are read
   abbrev Means : Sort → ℕ → ℕ → Tree → Type 0
-  Means (Factors f) i j e = (st to : State) → is_low 2 st.machine.waiting ≡ true → settles 2 to ≡ after f st → Behind ts i → Reads (settles 2) i j to (after e st)
+  Means (Factors f) i j e = (st to : State) → is_low 2 st.machine.waiting ≡ true → settles 2 to ≡ after f st → Behind ts i → Reads (settles 2) i j to
+      (after e st)
   Means (Terms f) i j e = (st to : State) → is_low 1 st.machine.waiting ≡ true → settles 1 to ≡ after f st → Behind ts i → Reads (settles 1) i j to (after e st)
   Means Unary i j e = Begins ts i → (st : State) → Reads (settles 3) i j st (after e st)
   Means Term i j e = Begins ts i → (st : State) → is_low 2 st.machine.waiting ≡ true → Reads (settles 2) i j st (after e st)
@@ -200,7 +202,8 @@ module _ (bytes : List ℕ) (ts : List Token) (s : Scope) where
       let last : stepped (suc (suc i)) (Some AfterDot) first ≡ after (TInput (span_at ts i) (span_at ts (suc (suc i)))) st = rw g refl in
       record {
         to = after (TInput (span_at ts i) (span_at ts (suc (suc i)))) st;
-        run = then (one (Some Input) (name_role true n f h) refl) (then (one None (ap (role_of ts (suc i)) d) (ap (λ k. state (enclose k first.machine) first.judged) d))
+        run = then (one (Some Input) (name_role true n f h) refl) (then (one None (ap (role_of ts (suc i)) d) (ap (λ k. state
+            (enclose k first.machine) first.judged) d))
             (one (Some AfterDot) (coord_role ts (suc i) d x) last));
         same = refl;
         end = behind Name x refl;
@@ -211,7 +214,8 @@ module _ (bytes : List ℕ) (ts : List Token) (s : Scope) where
       record {
         to = after t st;
         run = then (one None (ap (role_of ts i) n) (ap (λ k. state (enclose k st.machine) st.judged) n))
-            (then r.run (one None (ap (role_of ts j) c) (ap (λ k. state (enclose k r.to.machine) r.to.judged) c ∙ ap (λ x. state (closed x.machine) x.judged) r.same)));
+            (then r.run (one None (ap (role_of ts j) c) (ap (λ k. state (enclose k r.to.machine) r.to.judged) c ∙ ap (λ x. state
+            (closed x.machine) x.judged) r.same)));
         same = refl;
         end = behind ParR c refl;
       }
@@ -282,6 +286,7 @@ module _ (bytes : List ℕ) (ts : List Token) (s : Scope) where
     pub nodes : settled 1 (read bytes ts s i (j - i) (machine [] [])) ≡ machine [] (postfix bytes s e [])
     pub tokens : judges ts s i (j - i) o ≡ judged s e o
 
+  -- the tokens of an expression are read as its tree says
   pub read_as : {i j : ℕ} {e : Tree} (o : Judged) → Derives ts SumOf i j e → Is ts j Semi → Begins ts i → ReadAs i j e o
   read_as {i = i} {j = j} o d h f =
       let st = state (machine [] []) o in

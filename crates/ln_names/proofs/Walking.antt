@@ -105,6 +105,7 @@ pub stops_first : (x y : Option Found) (e : NamesStop) → NamesStopAt x e → N
 stops_first x y (stop.Found f) h = rw h refl
 stops_first x y (stop.NoMemory e) h = tt
 
+-- where the first has none, the fault of the second is the first of both
 pub stops_later : (x y : Option Found) (e : NamesStop) → x ≡ None → NamesStopAt y e → NamesStopAt (first_or x y) e
 stops_later x y e n h = rw n h
 
@@ -128,6 +129,7 @@ pub body_parts : (bytes : List ℕ) (ts : List Token) (is : List Item) (args : L
 body_parts bytes ts is args ls root =
     first_append bytes (visits_by (let_visits ts is args) [] ls) (value_visits ts (scope is args ls) (nodes_before ts ls) root)
 
+-- the first fault of a predicate is one of its name and arguments, or else one of its body
 pub pred_parts : (bytes : List ℕ) (ts : List Token) (is : List Item) (name : Span) (args : List RawArg) (ls : List RawLet) (root : Places) →
     first_fault bytes (item_visits ts is (PredItem name args ls root))
     ≡ first_or (first_fault bytes (visit (PredName is) name ∷ visits_by (arg_visits is) [] args)) (first_fault bytes (body_visits ts is args ls root))
@@ -177,7 +179,8 @@ paired_next P xs ys i d y l p h = let t = take-suc xs i d l in rw (add-one, t) (
 
 -- the step of `file_nodes`: one item's nodes more
 pub items_next : (P : List Item → Item → Body → Type 0) (is : List RawItem) (bs : List Body) (i : ℕ) (x : RawItem) (b : Body) → i < length is
-    → x ≡ get_or is i x → ArePairedBy P [] (take i (items is)) bs → P (items (take i is)) (item x) b → ArePairedBy P [] (take (i + 1) (items is)) (bs ++ (b ∷ []))
+    → x ≡ get_or is i x → ArePairedBy P [] (take i (items is)) bs → P (items (take i is)) (item x) b → ArePairedBy P [] (take (i + 1) (items is))
+    (bs ++ (b ∷ []))
 items_next P is bs i x b l e p h =
     let len = length-map is item in
     paired_next P (items is) bs i (item x) b (omega arith) p (rw (item_at is i x e, take-map item i is) h)
@@ -190,5 +193,6 @@ items_done bytes ts is i h l =
     let d : drop i (items is) ≡ [] = drop_all i (items is) (omega arith) in
     sym l ∙ rw d refl
 
+-- as many items as there are, or more, are all of them
 pub items_taken : (is : List RawItem) (i : ℕ) → length is ≤ i → take i (items is) ≡ items is
 items_taken is i h = let len = length-map is item in take_all i (items is) (omega arith)

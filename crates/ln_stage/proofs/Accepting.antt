@@ -50,8 +50,10 @@ module _ (p : PredOf) (f : Sparse) (s : IsSound p) (n : IsNormal (length p.vars)
     pub no-passes : Passes (length p.vars) f most_stages most_weight lists → ⊥
     no-passes h = s.staged (record { poly = f; normal = n; lists = lists; are_lists = a; passes = h })
 
+    -- so there are no more stages than the limit
     pub few-count : stage_count lists ≤ most_stages
     few-count = at-most (stage_count lists) most_stages (λ h. no-passes (inl h))
 
+    -- and no more weight
     pub few-weight : stage_weight (length p.vars) f lists ≤ most_weight
     few-weight = at-most (stage_weight (length p.vars) f lists) most_weight (λ h. no-passes (inr h))

@@ -1,5 +1,6 @@
 -- Drafts, one piece after the other.
-use Rattle.std.proofs.Common.{◌≡◌, ◌≢◌, ap₂, Bool, inl, inr, ℕ, true, false, ◌+◌, ◌-◌, List, [], ◌∷◌, ◌++◌, length, map, refl, zero, suc, ap, arith, ◌∙◌, sym, subst}
+use Rattle.std.proofs.Common.{◌≡◌, ◌≢◌, ap₂, Bool, inl, inr, ℕ, true, false, ◌+◌, ◌-◌, List, [], ◌∷◌, ◌++◌, length, map, refl, zero, suc, ap, arith}
+use Rattle.std.proofs.Common.{◌∙◌, sym, subst}
 use Rattle.std.proofs.Common.{append_assoc, append-nil}
 use Rattle.std.specs.Prelude.{Some, slice_get, pos}
 use Rattle.ln_bound.specs.declared.fitted.Width.{Width}
@@ -7,7 +8,8 @@ use Rattle.ln_bound.specs.declared.fitted.Two.{Two}
 use Rattle.ln_interval.specs.Range.{Range}
 use Rattle.ln_bound.specs.Typed.{Typed, TInput, TNeg, TPow, TTwo}
 use Rattle.ln_code.specs.Engine.{Line}
-use Rattle.ln_code.specs.StackCode.{IsCode, Style, after_left, after_right, again, factors, keep, keeping, line, name, number, opposite, power_of, raised, raised_to}
+use Rattle.ln_code.specs.StackCode.{IsCode, Style, after_left, after_right, again, factors, keep, keeping, line, name, number, opposite, power_of}
+use Rattle.ln_code.specs.StackCode.{raised, raised_to}
 use Rattle.ln_code.specs.StackCode.{two, variable, with_division, zeroth}
 use Rattle.ln_code.specs.Walk.{AreKeptNumbers, Coded, Gives, MayKeep, Puts, Wrote, plain, told_line, after_excess}
 use Rattle.ln_code.specs.declared.draft.Draft.{Draft}
@@ -153,6 +155,7 @@ module _ {A B : Type 0} (told : A → B) (y : Style B) (is_number : ℕ → Type
           (rw x.wrote.kept (all_append is_number a.kept x.more kept q.new are q.are))) in
           rw (← n) (record { new = q.new ++ (t ∷ []); are = all_append is_number x.more (k ∷ []) q.new (t ∷ []) q.are (s, tt); code = keep q.code })
 
+  -- a negation is done by its operand and its operation
   pub done_neg : (a b c : Draft A) (t : Typed) (p : Range) (w : Width) (z : A) → Puts told y is_number shares a b t z
       → Wrote told b c (line (Neg (y.at_width w)) (y.mark (TNeg t p w)) ∷ []) [] → Done a c (TNeg t p w)
   done_neg a b c t p w z x h = record {
@@ -163,6 +166,7 @@ module _ {A B : Type 0} (told : A → B) (y : Style B) (is_number : ℕ → Type
     none_kept = x.none_kept;
   }
 
+  -- an operation on two is done by its operands, what divides the left one, and its operation
   pub done_two : (a b c d e : Draft A) (o : Two) (t u : Typed) (p : Range) (w : Width) (z v : A) → Puts told y is_number shares a b t z
       → Wrote told b c (after_left y o t u) [] → Puts told y is_number shares c d u v → Wrote told d e (after_right y o t u p w) []
       → Done a e (TTwo o t u p w)
@@ -182,6 +186,7 @@ module _ {A B : Type 0} (told : A → B) (y : Style B) (is_number : ℕ → Type
           let s = r.coded (kept ++ q.new) (rw f (all_append is_number a.kept x.more kept q.new are q.are)) in
           record { new = q.new ++ s.new; are = all_append is_number x.more r.more q.new s.new q.are s.are; code = two o p w q.code s.code }
 
+  -- the power 0 is done by the number 1
   pub done_zeroth : (a b : Draft A) (t : Typed) (p : Range) (w : Width) → Wrote told a b (line (Push (pos 1)) (y.mark (TPow t 0 p w)) ∷ []) []
       → Done a b (TPow t 0 p w)
   done_zeroth a b t p w h = record {
@@ -192,6 +197,7 @@ module _ {A B : Type 0} (told : A → B) (y : Style B) (is_number : ℕ → Type
     none_kept = λ f. refl;
   }
 
+  -- any other power is done by its base and the factors after it
   pub done_power : (a b c : Draft A) (t : Typed) (n : ℕ) (p : Range) (w : Width) (z : A) → Puts told y is_number shares a b t z
       → Wrote told b c (power_of y t w n) [] → Done a c (TPow t (suc n) p w)
   done_power a b c t n p w z x h = record {

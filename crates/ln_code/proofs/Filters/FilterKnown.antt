@@ -261,7 +261,8 @@ held_minus w a x v y f q =
     rw (r.0, f.narrow) r.1
 
 -- the processor follows the machine
-pub bare_follows_roomy : (depth places : ℕ) (zs : List ℤ) → depth ≤ places → Follows (roomy zs depth) (bare zs places) (λ (a : Triple). a.k) IsNumber (LocalsStand IsNumber)
+pub bare_follows_roomy : (depth places : ℕ) (zs : List ℤ) → depth ≤ places → Follows (roomy zs depth) (bare zs places) (λ (a : Triple). a.k) IsNumber
+    (LocalsStand IsNumber)
 bare_follows_roomy depth places zs d = record {
   push = λ c a v q. held_says a (cut_by a.k c) v q;
   input = held_input zs;

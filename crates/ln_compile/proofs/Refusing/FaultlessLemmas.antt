@@ -57,8 +57,11 @@ sound-one k p nay =
 -- ---- predicates
 sound-from : (done rest : List PredOf) → AreSound done → ((r : Refusal) → IsFirstFault (done ++ rest) r → ⊥) → AreSound rest
 sound-from done [] s nay = tt
-sound-from done (p ∷ rest) s nay =
-    (here, sound-from (done ++ p ∷ []) rest (all-more IsSound done p s here) (λ r f. nay r (subst (λ ps. IsFirstFault ps r) (append_assoc done (p ∷ []) rest) f)))
+sound-from done (p ∷ rest) s nay = (
+  here,
+  sound-from (done ++ p ∷ []) rest (all-more IsSound done p s here) (λ r f. nay r (subst (λ ps. IsFirstFault ps r) (append_assoc done
+      (p ∷ []) rest) f)),
+)
   where
     here : IsSound p
     here = sound-one (length done) p (λ r f. nay r (record { before = done; pred = p; after = rest; stands = refl; sound = s; fault = f }))

@@ -122,7 +122,8 @@ module _ (r : Setting) (zs : List ℤ) where
   two_number : (lets : List Typed) (o : Two) (t u : Typed) (p : Range) (w : Width)
       → cut_by (excess (raw r.vars (triples_of r.vars lets) (TTwo o t u p w)).h)
       (result_of o (cut_by (align o (triple_in r.vars lets t) (triple_in r.vars lets u)) (number_in r.vars (values zs) lets t))
-      (cut_by (align o (triple_in r.vars lets u) (triple_in r.vars lets t)) (number_in r.vars (values zs) lets u))) ≡ number_in r.vars (values zs) lets (TTwo o t u p w)
+      (cut_by (align o (triple_in r.vars lets u) (triple_in r.vars lets t)) (number_in r.vars (values zs) lets u))) ≡ number_in r.vars
+      (values zs) lets (TTwo o t u p w)
   two_number lets Plus t u p w = refl
   two_number lets Minus t u p w = refl
   two_number lets Times t u p w = rw (cut_none (number_in r.vars (values zs) lets t), cut_none (number_in r.vars (values zs) lets u)) refl

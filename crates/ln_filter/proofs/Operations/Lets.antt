@@ -87,6 +87,7 @@ module _ (vars : List VarInfo) (x : ℕ → ℤ) where
   pub triple_front : (lets : List Typed) (t u : Typed) → NamesBelow (length lets) (untyped u) → triple_in vars (lets ++ (t ∷ [])) u ≡ triple_in vars lets u
   triple_front lets t u h = let f = front lets t u h in ap (λ ts. triple vars ts (untyped u)) (triples_snoc vars lets t) ∙ f.0
 
+  -- so is the number of a tree that names the earlier lets alone
   pub number_front : (lets : List Typed) (t u : Typed) → NamesBelow (length lets) (untyped u) → number_in (lets ++ (t ∷ [])) u ≡ number_in lets u
   number_front lets t u h =
       let l = lengths lets in
@@ -101,6 +102,7 @@ module _ (vars : List VarInfo) (x : ℕ → ℤ) where
       ap₂ (λ ts i. slice_index_or ts i no_triple) (triples_snoc vars lets t) (sym l.0)
       ∙ index_new (triples_of vars lets) (triple_in vars lets t) no_triple
 
+  -- and its number is that of the let
   pub number_last : (lets : List Typed) (t : Typed) (p : Range) (w : Width) → number_in (lets ++ (t ∷ [])) (TLet (length lets) p w) ≡ number_in lets t
   number_last lets t p w =
       let l = lengths lets in

@@ -355,7 +355,12 @@ first_stands : (r : Setting) (lets : List Typed) (t : Typed) (w : Width) (v : Fi
 first_stands r lets t w v x =
     let e : size_in lets t ^ 1 ≡ size_in lets t = (let a = pow-suc (size_in lets t) 0 in let b = pow-zero (size_in lets t) in
     let k : size_in lets t ^ 0 * size_in lets t ≡ 1 * size_in lets t = ap (λ m. m * size_in lets t) b in omega (arith, a, k)) in
-    record { triple = x.triple; fits = rw e x.fits; same = same_then v.tree (tree_in lets t) (tree.Pow (tree_in lets t) 1) x.same (same_first (tree_in lets t)) }
+    record {
+      triple = x.triple;
+      fits = rw e x.fits;
+      same = same_then v.tree (tree_in lets t) (tree.Pow (tree_in lets t) 1) x.same (same_first
+          (tree_in lets t));
+    }
 
 -- ---- one let more
 

@@ -53,6 +53,7 @@ two_are vars lets Plus t u p w = refl
 two_are vars lets Minus t u p w = refl
 two_are vars lets Times t u p w = refl
 
+-- the lines of a filter are the code of the tree in its style
 pub tree_code : (vars : List VarInfo) (lets : List Triple) (t : Typed)
     → IsCode (filter_style vars lets) [] t (filter_lines vars lets (untyped t)) [] true
 tree_code vars lets (TNum c p w) = number c p w

@@ -11,7 +11,8 @@ use Rattle.ln_poly.proofs.TermLists.Bounded.{length-times_term}
 use Rattle.ln_nest.specs.Lean.{AreLean, AreUnder, IsLean}
 use Rattle.ln_nest.specs.Nested.{exponent_of, lessened, divided, free_of, total, joined, nested, power, scaled}
 use Rattle.ln_nest.proofs.Terms.Scaled.{expanded_scaled, inputs_scaled, scaled_cases}
-use Rattle.ln_nest.proofs.Terms.Parts.{HavePower, by_parts, exponent-here, exponent-lessened, length-power_vector, nested_has, plus-power_vector, plus_zeros, power_vector, power_vector-one, zeros-power}
+use Rattle.ln_nest.proofs.Terms.Parts.{HavePower, by_parts, exponent-here, exponent-lessened, length-power_vector, nested_has, plus-power_vector}
+use Rattle.ln_nest.proofs.Terms.Parts.{plus_zeros, power_vector, power_vector-one, zeros-power}
 use Rattle.ln_nest.proofs.Terms.Powers.{expanded_power, inputs_power, power_has}
 use Rattle.ln_nest.proofs.Forms.Costs.{parts_length}
 

@@ -10,7 +10,8 @@ use Rattle.ln_algebra.proofs.Expanded.Expansion.{expanded, times, times_term, Ov
 use Rattle.ln_nest.specs.Nested.{power_at_once, divided, free_of, joined, horner, nested, power, scaled}
 use Rattle.ln_nest.proofs.Terms.Powers.{expanded_power}
 use Rattle.ln_nest.proofs.Terms.Scaled.{expanded_scaled}
-use Rattle.ln_nest.proofs.Terms.Parts.{HavePower, at_once_is, length-power_vector, power_vector, AllFit, AllAt, parts_sum, free_fit, divided_fit, divided_at, none_fit, fit_at, fit_over, constants_sum}
+use Rattle.ln_nest.proofs.Terms.Parts.{HavePower, at_once_is, length-power_vector, power_vector, AllFit, AllAt, parts_sum, free_fit, divided_fit}
+use Rattle.ln_nest.proofs.Terms.Parts.{divided_at, none_fit, fit_at, fit_over, constants_sum}
 
 -- the coefficients of two lists one after the other
 factor_at-append : (f g : List Term) (m : List ℕ) → factor_at (f ++ g) m ≡ factor_at f m +ℤ factor_at g m

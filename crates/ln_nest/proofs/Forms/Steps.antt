@@ -238,6 +238,7 @@ module _ (vars : List VarInfo) (v e : ℕ) (f : List Term) (o : (1 ≤ e) × (e 
   pub divided_some : (p : List Work) → terms_in p ≡ divided e v f → HasNoZero f → HasNoZero (terms_in p)
   divided_some p r z = rw r (parts_some e v f z).0
 
+  -- nor have those without v
   pub free_some : (q : List Work) → terms_in q ≡ free_of v f → HasNoZero f → HasNoZero (terms_in q)
   free_some q r z = rw r (parts_some e v f z).1
 

@@ -47,6 +47,7 @@ module _ (v : ℕ) (P : ℕ → Tree → Type 0) (one : P 1 (Input v)) (again : 
           subst (λ n. P n (Mul (power k v (e - 1)) (Input v))) r
           (again (e - 1) (power k v (e - 1)) (omega (arith, g)) (ih (e - 1) (omega (arith, g)) (omega (arith, h, g))))
 
+  -- each power has what the variable has, and what a square and a product with the variable have after it
   pub power_has : (k e : ℕ) → 1 ≤ e → e ≤ k + 1 → P e (power k v e)
   power_has zero e l h = let q : 1 ≡ e = omega (arith, l, h) in subst (λ n. P n (Input v)) q one
   power_has (suc k) e l h = more k e l h (power_has k)
@@ -55,6 +56,7 @@ module _ (v : ℕ) (P : ℕ → Tree → Type 0) (one : P 1 (Input v)) (again : 
 pub squares : (k v e : ℕ) → 2 ≤ e → is_square e ≡ true → power (suc k) v e ≡ Pow (power k v (e / 2)) 2
 squares k v e l q = let r : nat_le e 1 ≡ false = grind (arith, nat_tests) in rw (r, q) refl
 
+-- and else it is the power before it, times the variable
 pub multiplies : (k v e : ℕ) → 2 ≤ e → is_square e ≡ false → power (suc k) v e ≡ Mul (power k v (e - 1)) (Input v)
 multiplies k v e l q = let r : nat_le e 1 ≡ false = grind (arith, nat_tests) in rw (r, q) refl
 

@@ -62,6 +62,7 @@ ranged_good bytes name r w =
     and_from _ _ (and_from _ _ (ap not (in_order (end_value bytes r.low) (end_value bytes r.high) w.order))
     (above r.low.negative (number bytes r.low.at) w.low)) (below r.high.negative (number bytes r.high.at) w.high)
 
+-- the ranges of coordinates that are ready are ranges
 pub coords_good : (bytes : List ℕ) (before cs : List RawCoord) → Each (λ before c. ReadyCoord bytes c) before cs
     → list_all is_range (map (λ c. ranged bytes c.name c.range) cs) ≡ true
 coords_good bytes before [] e = refl

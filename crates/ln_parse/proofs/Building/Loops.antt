@@ -1,5 +1,6 @@
 -- What a loop has at each element.
-use Rattle.std.proofs.Common.{◌≡◌, ℕ, suc, ◌<◌, ◌≤◌, ◌&&◌, Bool, true, false, cond, List, [], ◌∷◌, ◌++◌, zero, length, get_or, take, append-nil, append_assoc, Option, Some, None}
+use Rattle.std.proofs.Common.{◌≡◌, ℕ, suc, ◌<◌, ◌≤◌, ◌&&◌, Bool, true, false, cond, List, [], ◌∷◌, ◌++◌, zero, length, get_or, take, append-nil}
+use Rattle.std.proofs.Common.{append_assoc, Option, Some, None}
 use Rattle.std.proofs.Common.{refl, ap, sym, subst, arith, length-take}
 use Rattle.std.specs.Prelude.{IfSome}
 use Rattle.std.specs.List.{list_all, find, position_from}
@@ -105,6 +106,7 @@ pub record LetAt (bytes : List ℕ) (ts : List Token) (is : List Item) (args : L
   pub one : AreOne y
   pub said : {x : Formula} → ((f : Formula) → Brings y [] (f ∷ []) → x ≡ f) → Says bytes ts (scope is args (take i ls)) (get_or ls i d).value x
 
+-- what is known of let i, by its nodes
 pub let_at : (bytes : List ℕ) (ts : List Token) (is : List Item) (args : List RawArg) (ls : List RawLet) (vs : List (List Node)) (i : ℕ) (d : RawLet)
     (y : List Node) → Each (ReadyLet bytes ts is args) [] ls → LetsNodes bytes ts is args ls vs → IsNarrow bytes (scope is args ls)
     → i < length vs → y ≡ get_or vs i y → LetAt bytes ts is args ls i d y

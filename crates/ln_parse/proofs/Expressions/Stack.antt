@@ -1,5 +1,6 @@
 -- Nodes in postfix order are the formula of their tree.
-use Rattle.std.proofs.Common.{◌≡◌, ℕ, ◌+◌, ◌≤◌, ◌<◌, ◌&&◌, List, [], ◌∷◌, ◌++◌, length, get_or, drop, drop-cons, add-one, map, reverse, Bool, Option, Some, None, refl, sym, ◌∙◌, subst, arith}
+use Rattle.std.proofs.Common.{◌≡◌, ℕ, ◌+◌, ◌≤◌, ◌<◌, ◌&&◌, List, [], ◌∷◌, ◌++◌, length, get_or, drop, drop-cons, add-one, map, reverse, Bool, Option}
+use Rattle.std.proofs.Common.{Some, None, refl, sym, ◌∙◌, subst, arith}
 use Rattle.std.specs.List.{position_from}
 use Rattle.std.specs.Prelude.{unwrap_or}
 use Rattle.std.proofs.lemmas.List.{length-reverse, length-map}
@@ -32,7 +33,8 @@ small_by p xs None l h = omega arith
 small_by p xs (Some n) l h = let b = place_below p 0 xs n h in omega arith
 
 module _ (bytes : List ℕ) (s : Scope) (narrow : IsNarrow bytes s) where
-  name_small : (at : Span) (o : Option ℕ) → let_place bytes s.lets at ≡ o → (arity (nodes.name_of bytes s at o) ≤ 0) × is_small_power (nodes.name_of bytes s at o)
+  name_small : (at : Span) (o : Option ℕ) → let_place bytes s.lets at ≡ o → (arity (nodes.name_of bytes s at o) ≤ 0) × is_small_power
+      (nodes.name_of bytes s at o)
   name_small at (Some j) h = (omega arith, small_by (λ l. same bytes l.name at) s.lets (Some j) narrow.lets h)
   name_small at None h = (
     omega arith,
@@ -81,6 +83,7 @@ Left ns i fs = (gs : List Formula) → Brings ns [] gs → Brings (drop i ns) fs
 abbrev pub formulas : List Expr → List Formula
 formulas xs = reverse (map formula xs)
 
+-- there are as many formulas as trees
 pub formulas_length : (xs : List Expr) → length (formulas xs) ≡ length xs
 formulas_length xs = length-reverse (map formula xs) ∙ length-map xs formula
 
@@ -102,6 +105,7 @@ module _ {bytes : List ℕ} {ts : List Token} {s : Scope} {p : Places} {ns : Lis
   value_brings = subst (λ (w : List Node). Brings w [] (resolved bytes s v.tree ∷ [])) (sym (a v.tree v.derives v.ends v.begins))
       (brings bytes s k v.tree [] [] [] refl)
 
+  -- they bring one formula
   pub value_one : AreOne ns
   value_one = (resolved bytes s v.tree, value_brings)
 

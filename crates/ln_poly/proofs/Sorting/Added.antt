@@ -51,6 +51,7 @@ pairs-total a b = by_case (pairs_cmp a b) (pairs-ranked a b (pairs_cmp a b) refl
 
 -- ---- what is merged is the sum
 module _ (f g h : Sparse) (m : IsMerge ComesBefore f g h) where
+  -- its coefficient is the sum of theirs
   pub merged-coefficient : (n : ℕ) (k : List ℕ) → coefficient_at n h k ≡ coefficient_at n f k +ℤ coefficient_at n g k
   merged-coefficient n k = omega (
     arith,
@@ -61,9 +62,11 @@ module _ (f g h : Sparse) (m : IsMerge ComesBefore f g h) where
     coefficient-passing n k h,
   )
 
+  -- its size is at most that of both
   pub merged-size : size_of h ≤ size_of f + size_of g
   merged-size = omega (arith, merge-weight ComesBefore f g h m, size-weight f, size-weight g, size-weight h)
 
+  -- it is sorted where both are
   pub merged-sorted : AreSorted f → AreSorted g → AreSorted h
   merged-sorted a b = sorted h (merge-in_order ComesBefore pairs_cmp-total.trans f g h m (in_order f a) (in_order g b))
 

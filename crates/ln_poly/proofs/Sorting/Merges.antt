@@ -73,6 +73,7 @@ module _ {K : Type 0} (Before : K → K → Type 0) where
     after-lower : (a b : K) (f : List (K × ℤ)) → Before a b → AllKeys (Before b) f → AllKeys (Before a) f
     after-lower a b f l o = keys-weaker (Before b) (Before a) f (λ c k. trans a b c l k) o
 
+    -- what is merged of two in order is in order
     pub merge-in_order : (f g h : List (K × ℤ)) → IsMerge Before f g h → AreInOrder Before f → AreInOrder Before g → AreInOrder Before h
     merge-in_order _ _ _ (left_over f) a b = a
     merge-in_order _ _ _ (right_over g) a b = b
@@ -104,6 +105,7 @@ module _ {K : Type 0} (Before : K → K → Type 0) where
       by_order (inr (inl e)) o = by_sum e (zero_cases (s.1 +ℤ t.1)) (r g)
       by_order (inr (inr l)) o = record { terms = t ∷ o.terms; merge = second s t f g o.terms l o.merge }
 
+    -- each two lists have what they are merged to
     pub merges : (f g : List (K × ℤ)) → HasMerge f g
     merges [] g = record { terms = g; merge = right_over g }
     merges (s ∷ f) g = merges-with s f (merges f) g

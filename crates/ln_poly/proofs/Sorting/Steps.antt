@@ -23,19 +23,6 @@ module _ {K : Type 0} (Before : K → K → Type 0) where
   after-set : (xs : List (K × ℤ)) (i : ℕ) (x : K × ℤ) → drop (i + 1) (set xs i x) ≡ drop (i + 1) xs
   after-set xs i x = drop-set-lt (i + 1) xs i x (omega arith)
 
-  -- nothing is merged yet
-  pub merging-begin : (out f g : List (K × ℤ)) → weight_of f + weight_of g < 2 ^ 127 → AreMerging Before out out f f g g 0 0 0
-  merging-begin out f g r = record {
-    merging = λ h m. m;
-    room = r;
-    out_long = refl;
-    first_long = refl;
-    second_long = refl;
-    few = omega arith;
-    within = omega arith;
-    within_second = omega arith;
-  }
-
   -- each step, where both lists have terms
   module _ (old out f0 f g0 g : List (K × ℤ)) (i j k : ℕ) (s t : K × ℤ) (a : s ≡ get_or f i s) (b : t ≡ get_or g j t)
       (m : AreMerging Before old out f0 f g0 g i j k) (l : i < length f) (r : j < length g) (long : length f0 + length g0 ≤ length old) where
@@ -75,10 +62,6 @@ module _ {K : Type 0} (Before : K → K → Type 0) where
 
     weight-g : weight_of (drop j g) ≡ unsigned_abs t.1 + weight_of (drop (j + 1) g)
     weight-g = ap weight_of from-g
-
-    -- there is room for the sum of both factors
-    pub sum-room : (d e : K × ℤ) → unsigned_abs (get_or f i d).1 + unsigned_abs (get_or g j e).1 < 2 ^ 127
-    sum-room d e = omega (arith, m.room, weight-f, weight-g, ap (λ z. unsigned_abs z.1) (at-f d), ap (λ z. unsigned_abs z.1) (at-g e))
 
     -- the next term is that of f
     pub merging-first : (x y d : K × ℤ) → Before (get_or f i s).0 (get_or g j t).0 → y ≡ get_or f i d

@@ -78,6 +78,7 @@ module _ (old : Sparse) where
 
 -- ---- the sum of f and g, where both are handed on
 module _ (f g old more h f' g' : Sparse) (a : f' ≡ f) (b : g' ≡ g) (s : IsSpread f' g' old more) (m : IsMerge ComesBefore old more h) where
+  -- its coefficient is the sum of theirs
   pub sum-coefficient : (n : ℕ) (k : List ℕ) → coefficient_at n h k ≡ coefficient_at n f k +ℤ coefficient_at n g k
   sum-coefficient n k = omega (
     arith,
@@ -88,13 +89,16 @@ module _ (f g old more h f' g' : Sparse) (a : f' ≡ f) (b : g' ≡ g) (s : IsSp
     ap (λ z. coefficient_at n z k) b,
   )
 
+  -- its size is at most that of both
   pub sum-size : size_of h ≤ size_of f + size_of g
   sum-size = omega (arith, merged-size old more h m, spread-size f' g' old more s, ap size_of a, ap size_of b)
 
+  -- it is sorted where both are
   pub sum-sorted : AreSorted f → AreSorted g → AreSorted h
   sum-sorted x y = merged-sorted old more h m (same-sorted f' old (subst AreSorted (sym a) x) (spread-exps f' g' old more s))
       (spread-sorted f' g' old more s (subst AreSorted (sym b) y))
 
+  -- what holds of each monomial of both holds of each of its own
   pub sum-all : (P : Pairs → Type 0) → All (λ t. P t.0) f → All (λ t. P t.0) g → All (λ t. P t.0) h
   sum-all P x y = merged-all old more h m P
       (same-all P f' old (spread-exps f' g' old more s) (subst (All (λ (t : Pairs × ℤ). P t.0)) (sym a) x))

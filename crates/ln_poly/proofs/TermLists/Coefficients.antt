@@ -30,11 +30,6 @@ coefficient_at-append n m (x ∷ xs) ys = omega (arith, ints, coefficient_at-app
 pub coefficient_at-push : (n : ℕ) (m : List ℕ) (xs : Sparse) (t : Pairs × ℤ) → coefficient_at n (xs ++ (t ∷ [])) m ≡ coefficient_at n xs m +ℤ part_at n t m
 coefficient_at-push n m xs t = omega (arith, ints, coefficient_at-append n m xs (t ∷ []), coefficient_at-cons n m t [], coefficient_at-nil n m)
 
--- the first i + 1 terms have the coefficient of the first i and what term i adds
-pub coefficient_at-more : (n : ℕ) (m : List ℕ) (xs : Sparse) (i : ℕ) (d : Pairs × ℤ) → i < length xs
-    → coefficient_at n (take (i + 1) xs) m ≡ coefficient_at n (take i xs) m +ℤ part_at n (get_or xs i d) m
-coefficient_at-more n m xs i d h = ap (λ z. coefficient_at n z m) (take_more xs i d h) ∙ coefficient_at-push n m (take i xs) (get_or xs i d)
-
 -- two terms with the same exponents add up to one
 pub part-sum : (n : ℕ) (m : List ℕ) (e : Pairs) (a b : ℤ) → part_at n (e, a +ℤ b) m ≡ part_at n (e, a) m +ℤ part_at n (e, b) m
 unfolding part_at

@@ -44,6 +44,7 @@ pub length-vector : (v n : ℕ) (a : Pairs) → length (exponents_from v n a) �
 length-vector v zero a = refl
 length-vector v (suc n) a = ap suc (length-vector (suc v) n a)
 
+-- the part of a product of two terms is that of its cell
 pub cell_is : (n : ℕ) (m : List ℕ) (s t x : Pairs × ℤ) → IsProduct x s t → part_at n x m ≡ cell_at n m s t
 unfolding part_at
 cell_is n m s t x p = rw (vector-plus 0 n s.0 t.0 x.0 p.exponents, p.factor) refl

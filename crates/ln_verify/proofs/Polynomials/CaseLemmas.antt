@@ -16,6 +16,7 @@ use Rattle.ln_stage.specs.Staged.{AreStagesOf}
 use Rattle.ln_stage.proofs.Accepting.{light-whole}
 use Rattle.ln_verify.specs.Here.{IsCase}
 
+-- an accepted predicate with the orders of its sites is a case
 pub case_is : (a : AcceptedOf) (p : Pred) (s : Shape) (os : List Order) → a.pred ≡ p → IsAcceptedPred a → s ≡ p.shape
     → map order_places os ≡ orders_of p.shape.sites → IsCase (record { shape = s; poly = a.poly; stages = a.stages; orders = os })
 case_is a p s os q k e o =

@@ -48,7 +48,8 @@ seal-requires c =
     rw (c.as_slice-vars.ensures, c.as_slice.ensures, c.new.ensures, c.in-Some.is) at c.in_ok-put_lets.ensures in
     let r : SteadyPut p.shape.vars c.in-Some.lets c.put_lets.new.draft c.put_steady.new.draft (untyped (typed p.root)) (Some c.in-Some-2.field-0) =
     rw (c.as_slice-vars.ensures, c.as_slice-in-Some.ensures, c.in-Some-2.is) at c.in_ok-put_steady-in-Some.ensures in
-    (sealed p c.new-draft.result c.put_lets.new.draft c.put_steady.new.draft c.in-Some.lets c.in-Some-2.field-0 _ (rw c.as_slice-vars.ensures at c.narrow.ensures) c.new-draft.ensures.code l r refl
+    (sealed p c.new-draft.result c.put_lets.new.draft c.put_steady.new.draft c.in-Some.lets c.in-Some-2.field-0 _
+    (rw c.as_slice-vars.ensures at c.narrow.ensures) c.new-draft.ensures.code l r refl
     c.built-code.ensures.lines c.built-code.ensures.bounded).filter
 
 pub returns-in-Some-2 : goal.returns-in-Some-2
@@ -58,6 +59,7 @@ returns-in-Some-2 c =
     rw (c.as_slice-vars.ensures, c.as_slice.ensures, c.new.ensures, c.in-Some.is) at c.in_ok-put_lets.ensures in
     let r : SteadyPut p.shape.vars c.in-Some.lets c.put_lets.new.draft c.put_steady.new.draft (untyped (typed p.root)) (Some c.in-Some-2.field-0) =
     rw (c.as_slice-vars.ensures, c.as_slice-in-Some.ensures, c.in-Some-2.is) at c.in_ok-put_steady-in-Some.ensures in
-    let x = sealed p c.new-draft.result c.put_lets.new.draft c.put_steady.new.draft c.in-Some.lets c.in-Some-2.field-0 _ (rw c.as_slice-vars.ensures at c.narrow.ensures) c.new-draft.ensures.code l r refl
+    let x = sealed p c.new-draft.result c.put_lets.new.draft c.put_steady.new.draft c.in-Some.lets c.in-Some-2.field-0 _
+    (rw c.as_slice-vars.ensures at c.narrow.ensures) c.new-draft.ensures.code l r refl
     c.built-code.ensures.lines c.built-code.ensures.bounded in
     rw c.seal.ensures x.planned

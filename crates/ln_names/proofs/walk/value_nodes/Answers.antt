@@ -18,7 +18,8 @@ loop-k-preserved c = record {
       c.in_ok-count.ensures.count;
   faults = token_walked c.args.bytes.now c.args.ts.now (visible c.args.seen) c.loop-k.count c.in_ok-count.count c.loop-k.k c.args.p.to _
       c.loop-k-test.true c.loop-k.invariant.faults c.in_ok-count.ensures.fine c.in_ok-count.ensures.count;
-  read = read_next c.args.bytes.now c.args.ts.now (visible c.args.seen) c.loop-k.k c.args.p.to (machine_in c.loop-k.reading) (machine_in c.token_read.new.reading) _
+  read = read_next c.args.bytes.now c.args.ts.now (visible c.args.seen) c.loop-k.k c.args.p.to (machine_in c.loop-k.reading)
+      (machine_in c.token_read.new.reading) _
       c.loop-k-test.true c.loop-k.invariant.read c.in_ok-count.ensures.step;
 }
 

@@ -21,7 +21,14 @@ powered-requires t c =
           c.requires.few,
           (
             c.requires.ordered,
-            (omega (arith, r.0), (omega (arith, r.0, r.1, c.requires.steps), lower_fits c.args.vars.now c.args.v (c.args.e / 2) c.args.e (omega (arith, r.1)) c.requires.small)),
+            (
+              omega (arith, r.0),
+              (
+                omega (arith, r.0, r.1, c.requires.steps),
+                lower_fits c.args.vars.now c.args.v (c.args.e / 2) c.args.e (omega
+                    (arith, r.1)) c.requires.small,
+              ),
+            ),
           ),
         ),
       ),
@@ -37,7 +44,14 @@ powered-requires-2 t c =
           c.requires.few,
           (
             c.requires.ordered,
-            (omega (arith, g), (omega (arith, g, c.requires.steps), lower_fits c.args.vars.now c.args.v (c.args.e - 1) c.args.e (omega arith) c.requires.small)),
+            (
+              omega (arith, g),
+              (
+                omega (arith, g, c.requires.steps),
+                lower_fits c.args.vars.now c.args.v (c.args.e - 1) c.args.e
+                    (omega arith) c.requires.small,
+              ),
+            ),
           ),
         ),
       ),

@@ -14,7 +14,8 @@ use Rattle.ln_nest.proofs.horner.+powers.Goals as goal
 pub by_powers-nest_from-requires-then-is_empty : goal.by_powers-nest_from-requires-then-is_empty
 by_powers-nest_from-requires-then-is_empty t c =
     let f = terms_in c.args.terms.items in
-    let o = code_power c.args.v c.power_at_once-e.result f (c.power_at_once-e.ensures ∙ ap (λ s. power_at_once c.args.v (terms_in s)) c.as_slice.ensures.value) in
+    let o = code_power c.args.v c.power_at_once-e.result f (c.power_at_once-e.ensures ∙ ap (λ s. power_at_once c.args.v
+    (terms_in s)) c.as_slice.ensures.value) in
     let w = free_weight c.args.vars.now c.args.v c.power_at_once-e.result f o most c.in_ok-with.without.items c.in_ok-with.ensures.without c.requires.weight in
     let z = free_some c.args.vars.now c.args.v c.power_at_once-e.result f o c.in_ok-with.without.items c.in_ok-with.ensures.without c.requires.some in
     (omega arith, (omega (arith, c.requires.variable), (c.requires.few, (c.requires.ordered, (z, w)))))
@@ -22,7 +23,8 @@ by_powers-nest_from-requires-then-is_empty t c =
 pub by_powers-nest_from-requires-2 : goal.by_powers-nest_from-requires-2
 by_powers-nest_from-requires-2 t c =
     let f = terms_in c.args.terms.items in
-    let o = code_power c.args.v c.power_at_once-e.result f (c.power_at_once-e.ensures ∙ ap (λ s. power_at_once c.args.v (terms_in s)) c.as_slice.ensures.value) in
+    let o = code_power c.args.v c.power_at_once-e.result f (c.power_at_once-e.ensures ∙ ap (λ s. power_at_once c.args.v
+    (terms_in s)) c.as_slice.ensures.value) in
     let w = free_weight c.args.vars.now c.args.v c.power_at_once-e.result f o most c.in_ok-with.without.items c.in_ok-with.ensures.without c.requires.weight in
     let z = free_some c.args.vars.now c.args.v c.power_at_once-e.result f o c.in_ok-with.without.items c.in_ok-with.ensures.without c.requires.some in
     (omega arith, (omega (arith, c.requires.variable), (c.requires.few, (c.requires.ordered, (z, w)))))
@@ -30,7 +32,8 @@ by_powers-nest_from-requires-2 t c =
 pub by_powers-by_powers-requires : goal.by_powers-by_powers-requires
 by_powers-by_powers-requires t c =
     let f = terms_in c.args.terms.items in
-    let o = code_power c.args.v c.power_at_once-e.result f (c.power_at_once-e.ensures ∙ ap (λ s. power_at_once c.args.v (terms_in s)) c.as_slice.ensures.value) in
+    let o = code_power c.args.v c.power_at_once-e.result f (c.power_at_once-e.ensures ∙ ap (λ s. power_at_once c.args.v
+    (terms_in s)) c.as_slice.ensures.value) in
     let w = divided_weight c.args.vars.now c.args.v c.power_at_once-e.result f o most c.in_ok-with.with.items c.in_ok-with.ensures.with c.requires.weight in
     let z = divided_some c.args.vars.now c.args.v c.power_at_once-e.result f o c.in_ok-with.with.items c.in_ok-with.ensures.with c.requires.some in
     (omega arith, (c.requires.variable, (c.requires.few, (c.requires.ordered, (z, w)))))
@@ -38,9 +41,11 @@ by_powers-by_powers-requires t c =
 pub by_powers-scaled-requires : goal.by_powers-scaled-requires
 by_powers-scaled-requires t c =
     let f = terms_in c.args.terms.items in
-    let o = code_power c.args.v c.power_at_once-e.result f (c.power_at_once-e.ensures ∙ ap (λ s. power_at_once c.args.v (terms_in s)) c.as_slice.ensures.value) in
+    let o = code_power c.args.v c.power_at_once-e.result f (c.power_at_once-e.ensures ∙ ap (λ s. power_at_once c.args.v
+    (terms_in s)) c.as_slice.ensures.value) in
     let n = is_some c.in_ok-with.with.len c.in_ok-with.with.items c.if-is_empty.ensures (omega (arith, c.in_ok-with.with.ok.0)) in
-    let p = power_fits c.args.vars.now c.args.v c.power_at_once-e.result f o c.in_ok-with.with.items n c.in_ok-with.ensures.with c.requires.some c.requires.weight in
+    let p = power_fits c.args.vars.now c.args.v c.power_at_once-e.result f o c.in_ok-with.with.items n c.in_ok-with.ensures.with
+    c.requires.some c.requires.weight in
     let q = scaled_fits c.args.vars.now c.args.v c.power_at_once-e.result f o c.in_ok-with.with.items (typed c.in_ok-h.h) _ c.in_ok-with.ensures.with
     c.in_ok-h.ensures c.requires.weight in
     record {
@@ -56,7 +61,8 @@ pub by_powers-two-requires : goal.by_powers-two-requires
 by_powers-two-requires t c =
     let f = terms_in c.args.terms.items in
     let inner = nested c.args.d (length c.args.vars.now - (c.args.v + 1)) (c.args.v + 1) in
-    let o = code_power c.args.v c.power_at_once-e.result f (c.power_at_once-e.ensures ∙ ap (λ s. power_at_once c.args.v (terms_in s)) c.as_slice.ensures.value) in
+    let o = code_power c.args.v c.power_at_once-e.result f (c.power_at_once-e.ensures ∙ ap (λ s. power_at_once c.args.v
+    (terms_in s)) c.as_slice.ensures.value) in
     sum_fits_most c.args.vars.now inner c.args.v (c.args.b - 1) c.power_at_once-e.result f o c.in_ok-with.with.items c.in_ok-with.without.items
     c.in_ok-with.ensures.with c.in_ok-with.ensures.without (typed c.in_ok-h.h) (typed c.in_ok-product.product) (typed c.in_ok-i.i) _ _
     c.in_ok-h.ensures c.in_ok-product.ensures c.in_ok-i.ensures c.requires.weight
@@ -90,7 +96,8 @@ by_powers-returns-then-is_empty t c =
     let q = c.power_at_once-e.ensures ∙ ap (λ s. power_at_once c.args.v (terms_in s)) c.as_slice.ensures.value in
     IfOk-weaker c.nest_from-then-is_empty.result _ _ (λ x p. at_count c.args.vars.now inner c.args.v (c.args.b - 1) c.power_at_once-e.result c.args.b _ f
     (typed x) (omega arith) q
-    (ends_free c.args.vars.now inner c.args.v (c.args.b - 1) c.power_at_once-e.result f (code_power c.args.v c.power_at_once-e.result f q) c.in_ok-with.with.items
+    (ends_free c.args.vars.now inner c.args.v (c.args.b - 1) c.power_at_once-e.result f
+    (code_power c.args.v c.power_at_once-e.result f q) c.in_ok-with.with.items
     c.in_ok-with.without.items c.in_ok-with.ensures.with c.in_ok-with.ensures.without (typed x)
     (is_empty c.in_ok-with.with.len c.in_ok-with.with.items c.if-is_empty.ensures (omega (arith, c.in_ok-with.with.ok.0))) p)) c.nest_from-then-is_empty.ensures
 
@@ -100,7 +107,8 @@ by_powers-returns-then-is_empty-2 t c =
     let inner = nested c.args.d (length c.args.vars.now - (c.args.v + 1)) (c.args.v + 1) in
     let q = c.power_at_once-e.ensures ∙ ap (λ s. power_at_once c.args.v (terms_in s)) c.as_slice.ensures.value in
     at_count c.args.vars.now inner c.args.v (c.args.b - 1) c.power_at_once-e.result c.args.b _ f (typed c.in_ok-product.product) (omega arith) q
-    (ends_product c.args.vars.now inner c.args.v (c.args.b - 1) c.power_at_once-e.result f (code_power c.args.v c.power_at_once-e.result f q) c.in_ok-with.with.items
+    (ends_product c.args.vars.now inner c.args.v (c.args.b - 1) c.power_at_once-e.result f
+    (code_power c.args.v c.power_at_once-e.result f q) c.in_ok-with.with.items
     c.in_ok-with.without.items c.in_ok-with.ensures.with c.in_ok-with.ensures.without (typed c.in_ok-h.h) (typed c.in_ok-product.product)
     (is_some c.in_ok-with.with.len c.in_ok-with.with.items c.if-is_empty.ensures (omega (arith, c.in_ok-with.with.ok.0)))
     (is_empty c.in_ok-with.without.len c.in_ok-with.without.items c.if-is_empty-2.ensures (omega (arith, c.in_ok-with.without.ok.0)))
@@ -112,7 +120,8 @@ by_powers-returns t c =
     let inner = nested c.args.d (length c.args.vars.now - (c.args.v + 1)) (c.args.v + 1) in
     let q = c.power_at_once-e.ensures ∙ ap (λ s. power_at_once c.args.v (terms_in s)) c.as_slice.ensures.value in
     IfOk-weaker c.two.result _ _ (λ x p. at_count c.args.vars.now inner c.args.v (c.args.b - 1) c.power_at_once-e.result c.args.b _ f (typed x) (omega arith) q
-    (ends_sum c.args.vars.now inner c.args.v (c.args.b - 1) c.power_at_once-e.result f (code_power c.args.v c.power_at_once-e.result f q) c.in_ok-with.with.items
+    (ends_sum c.args.vars.now inner c.args.v (c.args.b - 1) c.power_at_once-e.result f
+    (code_power c.args.v c.power_at_once-e.result f q) c.in_ok-with.with.items
     c.in_ok-with.without.items c.in_ok-with.ensures.with c.in_ok-with.ensures.without (typed c.in_ok-h.h) (typed c.in_ok-i.i)
     (typed c.in_ok-product.product) (typed x)
     (is_some c.in_ok-with.with.len c.in_ok-with.with.items c.if-is_empty.ensures (omega (arith, c.in_ok-with.with.ok.0)))

@@ -53,7 +53,8 @@ predicate-requires-clause-declared c =
 
 pub returns-clause-says : goal.returns-clause-says
 returns-clause-says c t s p =
-    preds_end c.args.s.now.bytes.now c.args.s.now.ts.now t c.args.s.now.items.now c.items.i (map pred_of c.items.preds) (omega arith) (c.items.invariant.says t s p)
+    preds_end c.args.s.now.bytes.now c.args.s.now.ts.now t c.args.s.now.items.now c.items.i (map pred_of c.items.preds) (omega arith)
+    (c.items.invariant.says t s p)
 
 pub items-preserved : goal.items-preserved
 items-preserved c =

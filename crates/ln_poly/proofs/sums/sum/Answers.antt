@@ -6,7 +6,14 @@ use Rattle.ln_poly.proofs.Sorting.Summing.{spread-size, sum-all, sum-coefficient
 use Rattle.ln_poly.proofs.sums.sum.Goals as goal
 
 pub both-requires : goal.both-requires
-both-requires c = omega (arith, c.requires, spread-size _ _ _ _ c.in_ok-more.ensures, ap size_of c.into_terms-terms.ensures.value, ap size_of c.terms.ensures.value)
+both-requires c = omega (
+  arith,
+  c.requires,
+  spread-size _ _ _ _ c.in_ok-more.ensures,
+  ap size_of c.into_terms-terms.ensures.value,
+  ap
+      size_of c.terms.ensures.value,
+)
 
 pub nonzero-requires-clause-small : goal.nonzero-requires-clause-small
 nonzero-requires-clause-small c = omega (
