@@ -33,8 +33,8 @@ small_by p xs None l h = omega arith
 small_by p xs (Some n) l h = let b = place_below p 0 xs n h in omega arith
 
 module _ (bytes : List ℕ) (s : Scope) (narrow : IsNarrow bytes s) where
-  name_small : (at : Span) (o : Option ℕ) → let_place bytes s.lets at ≡ o → (arity (nodes.name_of bytes s at o) ≤ 0) × is_small_power
-      (nodes.name_of bytes s at o)
+  name_small : (at : Span) (o : Option ℕ) → let_place bytes s.lets at ≡ o → (arity (nodes.name_node_of bytes s at o) ≤ 0) × is_small_power
+      (nodes.name_node_of bytes s at o)
   name_small at (Some j) h = (omega arith, small_by (λ l. same bytes l.name at) s.lets (Some j) narrow.lets h)
   name_small at None h = (
     omega arith,
@@ -42,7 +42,7 @@ module _ (bytes : List ℕ) (s : Scope) (narrow : IsNarrow bytes s) where
   )
 
   name_leaf : (at : Span) (fs : List Formula) (o : Option ℕ) → let_place bytes s.lets at ≡ o
-      → applied_by (nodes.name_of bytes s at o) at fs ≡ resolved bytes s (TName at) ∷ fs
+      → applied_by (nodes.name_node_of bytes s at o) at fs ≡ resolved bytes s (TName at) ∷ fs
   name_leaf at fs (Some j) h = let p = position_is (λ l. same bytes l.name at) s.lets (Some j) (sym h) in rw p refl
   name_leaf at fs None h =
       let p = position_is (λ l. same bytes l.name at) s.lets None (sym h) in
