@@ -7,9 +7,9 @@ use Rattle.ln_top.proofs.judges.audit.judged.Goals as goal
 
 pub returns : goal.returns
 returns c =
-    let k = rw c.in_ok-a.ensures at c.poly.ensures.kept.expanded.normal in
+    let n = rw c.in_ok-a.ensures at c.poly.ensures.kept.expanded.normal in
     then_both c.judge_lines-judged.result _ _ _ (λ j h k. judged_of c.args.p.now _ _ _ j
-    (light_by c.args.p.now c.requires.accepted.light).inputs (rw c.poly.ensures.value k) h k)
+    (light_by c.args.p.now c.requires.accepted.light).inputs (rw c.poly.ensures.value n) h k)
     c.judge_lines-judged.ensures.answer c.judge_lines-judged.ensures.count
 
 pub judge_lines-judged-requires-clause-case : goal.judge_lines-judged-requires-clause-case
