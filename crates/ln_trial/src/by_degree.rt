@@ -1,31 +1,21 @@
 //! Tests the limits within which a polynomial has a program by total degree.
 ghost use Rattle.std.specs.Prelude.{◌<◌, length};
-ghost use Rattle.ln_graded.specs.Graded.{Begins, IsGradable};
 
 use ln_base::limits::MOST_SOURCE;
 use ln_code::Program;
 use ln_compile::{Checked, check};
-use ln_graded::{GradedStop, graded};
-use ln_poly::Poly;
+use ln_graded::{GradedStop, graded_from};
 use ln_trial_programs::sample::ORIENT;
 use std::alloc::Global;
 use std::test::Fail;
 
-// The program by total degree of what a program and a polynomial stand for, with at most this many stages in all lists.
-fn made(alloc: Global, f: &Poly, p: &Program, most: u64) -> Result<Program, GradedStop>
-    requires poly { IsGradable p.now.shape.vars f.now }
-    requires begins { Begins p.now.shape f.now p.now }
-{
-    graded(alloc, f, p.shape(), p, most, 24)
-}
-
-// The same of the predicate with this number, from 0.
+// The program by total degree of the predicate with this number, from 0, with at most this many stages in all lists.
 fn made_of(alloc: Global, c: &Checked, i: usize, most: u64) -> Result<Program, GradedStop>
     requires { i < length c.now.table.preds }
 {
     let f = c.polynomial(alloc, i)?;
-    let p = c.program(alloc, i)?;
-    made(alloc, &f, &p, most)
+    let begin = c.beginning(alloc, i)?;
+    graded_from(alloc, &f, &c.pred(i).shape, begin, most, 24)
 }
 
 // How many blocks the program by total degree of the one predicate of a source has; why there is none; or none where the source is refused.

@@ -102,20 +102,25 @@ fn the_second_subtree_that_is_kept_is_in_local_66(rt: HostRuntime) -> Result<(),
 const SQUARE: &str =
     "site num { t: -10 .. 10; } predicate same(a: num, b: num) { sign (a.t + b.t) * (a.t + b.t); }";
 
-// Is it a sum that is computed once, kept in local 65 and multiplied by itself?
-fn are_shared(ops: &[Op]) -> bool {
-    match ops {
-        [
-            Op::Input(0),
-            Op::Input(1),
-            Op::Add(_),
-            Op::Set(65),
-            Op::Get(65),
-            Op::Get(65),
-            Op::Mul(_),
-        ] => true,
+// Is it a value that is kept in local 65?
+fn is_kept(op: Option<&Op>) -> bool {
+    match op {
+        Some(Op::Set(j)) => *j == 65,
         _ => false,
     }
+}
+
+// Is it the value in local 65?
+fn is_taken(op: Option<&Op>) -> bool {
+    match op {
+        Some(Op::Get(j)) => *j == 65,
+        _ => false,
+    }
+}
+
+// Is the sum computed once, kept in local 65 and multiplied by itself?
+fn are_shared(ops: &[Op]) -> bool {
+    ops.len() == 7 && is_kept(ops.get(3)) && is_taken(ops.get(4)) && is_taken(ops.get(5))
 }
 
 // Are they the operations of the first block of the first program?
