@@ -5,6 +5,7 @@ use ln_base::limits::MOST_SOURCE;
 use ln_code::Program;
 use ln_compile::{Checked, check};
 use ln_graded::{GradedStop, graded_from};
+use ln_poly::Poly;
 use ln_trial_programs::sample::ORIENT;
 use std::alloc::Global;
 use std::test::Fail;
@@ -13,7 +14,7 @@ use std::test::Fail;
 fn made_of(alloc: Global, c: &Checked, i: usize, most: u64) -> Result<Program, GradedStop>
     requires { i < length c.now.table.preds }
 {
-    let f = c.polynomial(alloc, i)?;
+    let f: Poly = c.polynomial(alloc, i)?;
     let begin = c.beginning(alloc, i)?;
     graded_from(alloc, &f, &c.pred(i).shape, begin, most, 24)
 }
