@@ -1,7 +1,8 @@
 //! The base of every crate: files and streams with their counts of faults (`outside`), in memory (`memory`), whole files and whole texts
 //! (`whole`), lists that contracts see as lists (`seq`), decimal numbers (`decimal`), places in a source (`span`, `place`), names (`word`) and
 //! signs (`sign`), the limits of what is accepted (`limits`). For texts of lines, such as listings and traces: the words of a line (`scan`),
-//! the numbers that words are (`numeral`), words appended (`put`), and the lines of a text of a form (`lines`).
+//! the numbers that words are (`numeral`), lists whose items are words (`items`), words appended (`put`), and the lines of a text of a form, one
+//! after the other (`lines`).
 //!
 //! What the crates above use: `read_whole` returns the bytes that a file contains, `put_all` writes all bytes to a stream, and a refusal has its
 //! cause, a count of faults that rose or a name that isn't there.

@@ -1,12 +1,13 @@
 -- Defines what fits a width of 64 or 128 bits, and which of two widths is the wider.
 use Rattle.std.specs.Prelude.{ℕ, Bool, true, false, nat_le, if◌then◌else◌}
+use Rattle.ln_interval.specs.Range.{most}
 use Rattle.ln_bound.specs.declared.fitted.Width.{Width}
 use Rattle.ln_bound.specs.declared.fitted.Width.TheVariants.{W64, W128}
 
 -- the largest absolute value of a width: 2^63 - 1, 2^127 - 1
 abbrev pub limit : Width → ℕ
 limit W64 = 9223372036854775807
-limit W128 = 170141183460469231731687303715884105727
+limit W128 = most
 
 -- the least width that fits b
 abbrev pub least : ℕ → Width

@@ -5,6 +5,7 @@ ghost use Rattle.ln_bound.specs.View.{typed};
 ghost use Rattle.ln_bound.specs.Widths.{limit, least, wider};
 
 use ln_interval::Pair;
+use ln_interval::pair::MOST;
 
 /// How wide a value is: 64 or 128 bits with a sign.
 #[derive(Clone, Copy, Debug, PartialEq, Eq, Hash)]
@@ -20,7 +21,7 @@ impl Width {
     {
         match self {
             Width::W64 => 9223372036854775807,
-            Width::W128 => 170141183460469231731687303715884105727,
+            Width::W128 => MOST,
         }
     }
 

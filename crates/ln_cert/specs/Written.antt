@@ -1,5 +1,6 @@
 -- The listing of compiled programs.
 use Rattle.std.specs.Prelude.{◌≡◌, ℕ, suc, pos, ◌<◌, ◌≤◌, ◌^◌, unsigned_abs, true, List, [], ◌∷◌, ◌++◌, length, map, Option, Some, None, IfSome}
+use Rattle.std.specs.List.{AllByRecursion}
 use Rattle.ln_interval.specs.Range.{Range}
 use Rattle.ln_tree.specs.declared.shape.VarInfo.{VarInfo}
 use Rattle.ln_tree.specs.Exps.{IsRising}
@@ -104,8 +105,7 @@ pub record IsListableBlock (c : Code) : Type 0 where
 
 -- each of these blocks can be listed
 abbrev pub AreListableBlocks : List Code → Type 0
-AreListableBlocks [] = Unit {0}
-AreListableBlocks (c ∷ cs) = IsListableBlock c × AreListableBlocks cs
+AreListableBlocks cs = AllByRecursion IsListableBlock cs
 
 -- each block of a program, and the stack of its filter
 pub record IsListable (p : Program) : Type 0 where

@@ -6,6 +6,7 @@ ghost use Rattle.ln_cert.specs.Listing.{IsFormFault, ListText};
 /// No bytes are two listings.
 ///
 /// By it a reader returns the one listing of the bytes, and what was written is read back.
+#[tactic(auto, using(crate::proofs::Reading::Whole::one_text))]
 pub fn one_listing()
     ensures { (bytes : List ℕ) (v w : ℕ) (xs ys : List AnyPart) → ListText bytes v xs → ListText bytes w ys → (v ≡ w) × (xs ≡ ys) }
 {}

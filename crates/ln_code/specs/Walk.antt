@@ -1,5 +1,5 @@
 -- What is written for a tree, in a style that a walk over the tree knows by its own marks.
-use Rattle.std.specs.Prelude.{◌≡◌, ◌⊎◌, ℕ, zero, suc, ◌+◌, Bool, List, [], ◌∷◌, ◌++◌, length, map, pos, Some, slice_get}
+use Rattle.std.specs.Prelude.{◌≡◌, ◌⊎◌, ℕ, zero, suc, ◌+◌, Bool, true, List, [], ◌∷◌, ◌++◌, length, map, pos, Some, slice_get}
 use Rattle.ln_bound.specs.Typed.{Typed, TNum, TInput, TLet, TNeg, TTwo, TPow}
 use Rattle.ln_code.specs.Engine.{Line}
 use Rattle.ln_code.specs.StackCode.{IsCode, Style, after_left, after_right, keeping, line, power_of, raised_to, with_division}
@@ -64,6 +64,20 @@ pub record Puts {A B : Type 0} (told : A → B) (y : Style B) (is_number : ℕ �
   pub bound : told a ≡ y.mark t
   -- where nothing is shared nothing is kept
   pub none_kept : (shares → ⊥) → more ≡ []
+
+-- the second draft has the operations of a tree more, of which the last one computes its value
+pub record Done {A B : Type 0} (told : A → B) (y : Style B) (is_number : ℕ → Typed → Type 0) (shares : Type 0) (before after : Draft A)
+    (t : Typed) : Type 0 where
+  pub lines : List (Line B)
+  pub more : List ℕ
+  pub wrote : Wrote told before after lines more
+  pub coded : (kept : List Typed) → AreKeptNumbers is_number before.kept kept → Coded y is_number kept t lines more true
+  pub none_kept : (shares → ⊥) → more ≡ []
+
+-- after a tree is computed its value may be kept, and a is its bound
+abbrev pub Keeps : {A B : Type 0} → (A → B) → Style B → (ℕ → Typed → Type 0) → Type 0 → Draft A → Draft A → Typed → A → Type 0
+Keeps {A = A} told y is_number shares mid after t a =
+    (before : Draft A) → Done told y is_number shares before mid t → Puts told y is_number shares before after t a
 
 -- number k, whose bound is b, is kept from here on, or nothing is written
 abbrev pub MayKeep : {A B : Type 0} → (A → B) → Style B → Type 0 → Draft A → Draft A → ℕ → B → Type 0

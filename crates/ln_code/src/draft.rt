@@ -1,11 +1,8 @@
 //! Defines drafts: operations as they are written, and which subtrees are kept.
-ghost use Rattle.std.specs.Prelude.{◌≡◌, ◌+◌, ◌∷◌, ◌++◌, [], IfSome, OnOk, ℕ, length, slice_get, Some};
-ghost use Rattle.ln_code.specs.Part.{lines_of};
-ghost use Rattle.ln_code.specs.StackCode.{line};
+ghost use Rattle.std.specs.Prelude.{◌≡◌, ◌+◌, [], ℕ, IfSome, slice_get, Some};
 
-use crate::builder::{Builder, Built};
-use crate::op::Op;
-use ln_base::{NoMemory, Seq};
+use crate::builder::Builder;
+use ln_base::Seq;
 use std::alloc::Global;
 
 /// Operations with what bounds each, and the numbers of the subtrees that are kept, from local 65 on.

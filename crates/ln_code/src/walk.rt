@@ -1,14 +1,14 @@
 //! Writes the stack code of trees, in any style.
-ghost use Rattle.std.specs.Prelude.{◌≡◌, ℕ, ◌+◌, ◌<◌, ◌≤◌, [], ◌∷◌, ◌++◌, true, IfOk, IfSome, OnOk, IsTrue, List, suc, slice_get, pos};
+ghost use Rattle.std.specs.Prelude.{◌≡◌, ℕ, ◌+◌, ◌<◌, ◌≤◌, [], ◌∷◌, IfOk, IfSome, OnOk, IsTrue, suc};
 ghost use Rattle.ln_interval.specs.Range.{Range};
-ghost use Rattle.ln_bound.specs.Typed.{Typed, TInput, TNeg, TNum, TTwo, TPow, cost, operation};
+ghost use Rattle.ln_bound.specs.Typed.{Typed, TInput, TNeg, TTwo, TPow, cost, operation};
 ghost use Rattle.ln_bound.specs.View.{typed};
 ghost use Rattle.ln_bound.specs.declared.fitted.Two.{Two as Kind};
 ghost use Rattle.ln_bound.specs.declared.fitted.Width.{Width as Wide};
 ghost use Rattle.ln_code.specs.Engine.{op_of};
-ghost use Rattle.ln_code.specs.StackCode.{IsCode, Style, after_left, after_right, division, factors, line, power_of, raised_to, with_division};
-ghost use Rattle.ln_code.specs.Walk.{Gives, KeptIn, MayKeep, Puts, Wrote, after_division, left_by, after_excess};
-ghost use Rattle.ln_code.specs.declared.op.Op.TheVariants.{Push as PushOp, Neg as NegOp};
+ghost use Rattle.ln_code.specs.StackCode.{Style, after_left, after_right, division, line, power_of, raised_to, with_division};
+ghost use Rattle.ln_code.specs.Walk.{Gives, Keeps, KeptIn, MayKeep, Puts, Wrote, after_division, left_by, after_excess};
+ghost use Rattle.ln_code.specs.declared.op.Op.TheVariants.{Get as GetOp, Mul as MulOp, Neg as NegOp};
 
 use crate::draft::Draft;
 use crate::op::Op;
@@ -57,8 +57,8 @@ pub trait Marks {
         ensures { told result ≡ (style self.now).mark (typed t.now) };
 
     /// The bound of a variable before it is divided.
-    fn input(&self, t: &Fitted) -> Self::Bound
-        requires { good self.now (typed t.now) }
+    fn input(&self, t: &Fitted, v: u8) -> Self::Bound
+        requires { (p : Range) × (w : Wide) × (typed t.now ≡ TInput v p w) }
         ensures value { told result ≡ (style self.now).raw (typed t.now) }
         ensures divides { divides (told result) ((style self.now).excess (told result)) };
 
@@ -165,103 +165,59 @@ fn put_divided<M: Marks>(
     put_division(draft, m, m.excess(b), b)
 }
 
-// One more factor: p is the bound of the power so far, a that of the base, which is in local 64.
+// One more factor, the base, whose bound is a and which is in local 64: the product is done in width w and has the bound b.
 fn put_factor<M: Marks>(
     draft: &mut Draft<M::Bound>,
     m: &M,
-    x: &Fitted,
     w: Width,
-    j: u8,
-    p: M::Bound,
     a: M::Bound,
+    b: M::Bound,
 ) -> Result<M::Bound, NoMemory>
-    requires good { (n : ℕ) × (q : Range) × M.good m.now (TPow (typed x.now) n q w) × (j + 1 ≤ n) }
-    requires power { M.told p ≡ (M.style m.now).mark (raised_to (typed x.now) j w) }
-    requires base { M.told a ≡ (M.style m.now).mark (typed x.now) }
-    ensures { IfOk result (Gives M.told draft.old draft.new (factors (M.style m.now) (typed x.now) w j 1)
-        (after_excess (M.style m.now) ((M.style m.now).raw (raised_to (typed x.now) (suc j) w)))) }
+    requires { M.divides (M.told b) ((M.style m.now).excess (M.told b)) }
+    ensures { IfOk result (Gives M.told draft.old draft.new
+        (line (GetOp 64) (M.told a) ∷ with_division (M.style m.now) (MulOp ((M.style m.now).at_width w)) (M.told b))
+        (after_excess (M.style m.now) (M.told b))) }
 {
     put::<M>(draft, Op::Get(64), a)?;
-    let b = m.factor(x, w, j, p, a);
     put_divided(draft, m, Op::Mul(m.width(w)), b)
 }
 
-// One more factor, after which the power has its own bound.
-fn put_next<M: Marks>(
-    draft: &mut Draft<M::Bound>,
-    m: &M,
-    x: &Fitted,
-    w: Width,
-    j: u8,
-    p: M::Bound,
-    a: M::Bound,
-) -> Result<M::Bound, NoMemory>
-    requires good { (n : ℕ) × (q : Range) × M.good m.now (TPow (typed x.now) n q w) × (j + 1 ≤ n) }
-    requires first { 1 ≤ j }
-    requires power { M.told p ≡ (M.style m.now).mark (raised_to (typed x.now) j w) }
-    requires base { M.told a ≡ (M.style m.now).mark (typed x.now) }
-    ensures { IfOk result (Gives M.told draft.old draft.new (factors (M.style m.now) (typed x.now) w j 1)
-        ((M.style m.now).mark (raised_to (typed x.now) (j + 1) w))) }
-{
-    put_factor(draft, m, x, w, j, p, a)
-}
-
-// From the power j, whose bound is p, n more factors; the base, whose bound is a, is in local 64.
-fn put_factors<M: Marks>(
-    draft: &mut Draft<M::Bound>,
-    m: &M,
-    x: &Fitted,
-    w: Width,
-    j: u8,
-    n: u8,
-    p: M::Bound,
-    a: M::Bound,
-) -> Result<M::Bound, NoMemory>
-    requires good { (k : ℕ) × (q : Range) × M.good m.now (TPow (typed x.now) k q w) × (j + n ≤ k) }
-    requires first { 1 ≤ j }
-    requires few { j + n ≤ 255 }
-    requires power { M.told p ≡ (M.style m.now).mark (raised_to (typed x.now) j w) }
-    requires base { M.told a ≡ (M.style m.now).mark (typed x.now) }
-    ensures { IfOk result (Gives M.told draft.old draft.new (factors (M.style m.now) (typed x.now) w j n)
-        ((M.style m.now).mark (raised_to (typed x.now) (j + n) w))) }
-{
-    if n == 0 {
-        return Ok(p);
-    }
-    let q = put_next(draft, m, x, w, j, p, a)?;
-    put_factors(draft, m, x, w, j + 1, n - 1, q, a)
-}
-
-// From the base on the stack, whose bound is a, to its power n + 1.
+// The power n + 1, after its base, whose bound is a.
 fn put_power<M: Marks>(
     draft: &mut Draft<M::Bound>,
     m: &M,
+    t: &Fitted,
     x: &Fitted,
-    w: Width,
     n: u8,
     a: M::Bound,
 ) -> Result<M::Bound, NoMemory>
-    requires good { (q : Range) × M.good m.now (TPow (typed x.now) (n + 1) q w) }
+    requires good { M.good m.now (typed t.now) }
+    requires is { (p : Range) × (typed t.now ≡ TPow (typed x.now) (suc n) p t.now.width) }
     requires few { n + 1 ≤ 255 }
     requires base { M.told a ≡ (M.style m.now).mark (typed x.now) }
-    ensures { IfOk result (Gives M.told draft.old draft.new (power_of (M.style m.now) (typed x.now) w n)
-        ((M.style m.now).mark (raised_to (typed x.now) (n + 1) w))) }
+    ensures { IfOk result (Gives M.told draft.old draft.new (power_of (M.style m.now) (typed x.now) t.now.width n)
+        ((M.style m.now).mark (typed t.now))) }
 {
     if n == 0 {
-        return Ok(a);
+        return Ok(m.left(t, a));
     }
     put::<M>(draft, Op::Set(64), m.none())?;
     put::<M>(draft, Op::Get(64), a)?;
-    put_factors(draft, m, x, w, 1, n, a, a)
+    let mut p = a;
+    'factors: for j in 0..n {
+        let b = m.factor(x, t.width, j + 1, p, a);
+        let q = put_factor(draft, m, t.width, a, b)?;
+        p = q;
+    }
+    Ok(m.left(t, p))
 }
 
-// Keeps the value on the stack, that of the subtree of this number, where a local is free.
+// Keeps the value on the stack, that of the subtree of this number, if it is shared and a local is free.
 fn keep<M: Marks>(draft: &mut Draft<M::Bound>, m: &M, k: usize, b: M::Bound) -> Result<(), NoMemory>
-    requires { M.shares m.now }
     ensures { OnOk result (MayKeep M.told (M.style m.now) (M.shares m.now) draft.old draft.new k (M.told b)) }
 {
     let n = draft.kept.len();
-    if n < 191 {
+    if n < 191 && m.is_shared(k) {
         put::<M>(draft, Op::Set(65 + n as u8), m.none())?;
         put::<M>(draft, Op::Get(65 + n as u8), b)?;
         draft.kept.push(k)?;
@@ -269,18 +225,19 @@ fn keep<M: Marks>(draft: &mut Draft<M::Bound>, m: &M, k: usize, b: M::Bound) -> 
     Ok(())
 }
 
-// Keeps the value on the stack, if its subtree is shared.
+// The end of a tree that is computed: its value may be kept.
 fn put_kept<M: Marks>(
     draft: &mut Draft<M::Bound>,
     m: &M,
+    t: &Fitted,
     k: usize,
     b: M::Bound,
 ) -> Result<M::Bound, NoMemory>
-    ensures { IfOk result (λ c. (c ≡ b) × MayKeep M.told (M.style m.now) (M.shares m.now) draft.old draft.new k (M.told b)) }
+    requires numbered { M.is_number m.now k (typed t.now) }
+    requires bound { M.told b ≡ (M.style m.now).mark (typed t.now) }
+    ensures { IfOk result (Keeps M.told (M.style m.now) (M.is_number m.now) (M.shares m.now) draft.old draft.new (typed t.now)) }
 {
-    if m.is_shared(k) {
-        keep(draft, m, k, b)?;
-    }
+    keep(draft, m, k, b)?;
     Ok(b)
 }
 
@@ -314,7 +271,7 @@ fn put_left<M: Marks>(
     Ok(())
 }
 
-// A leaf whose operation this is.
+// A tree whose operation this is: a leaf, or a tree that is kept.
 fn put_leaf<M: Marks>(
     draft: &mut Draft<M::Bound>,
     m: &M,
@@ -329,50 +286,6 @@ fn put_leaf<M: Marks>(
     Ok(b)
 }
 
-// A tree that is kept, in local j.
-fn put_again<M: Marks>(
-    draft: &mut Draft<M::Bound>,
-    m: &M,
-    t: &Fitted,
-    k: usize,
-    j: u8,
-) -> Result<M::Bound, NoMemory>
-    requires good { M.good m.now (typed t.now) }
-    requires numbered { M.is_number m.now k (typed t.now) }
-    requires local { KeptIn (M.shares m.now) (M.is_number m.now) draft.now.kept k j }
-    ensures { IfOk result (Puts M.told (M.style m.now) (M.is_number m.now) (M.shares m.now) draft.old draft.new (typed t.now)) }
-{
-    put_leaf(draft, m, t, Op::Get(j))
-}
-
-// A leaf that isn't divided.
-fn put_whole<M: Marks>(
-    draft: &mut Draft<M::Bound>,
-    m: &M,
-    t: &Fitted,
-    op: Op,
-) -> Result<M::Bound, NoMemory>
-    requires good { M.good m.now (typed t.now) }
-    requires leaf { (kept : List Typed) → IsCode (M.style m.now) kept (typed t.now) (line op ((M.style m.now).mark (typed t.now)) ∷ []) [] true }
-    ensures { IfOk result (Puts M.told (M.style m.now) (M.is_number m.now) (M.shares m.now) draft.old draft.new (typed t.now)) }
-{
-    put_leaf(draft, m, t, op)
-}
-
-// A number.
-fn put_number<M: Marks>(
-    draft: &mut Draft<M::Bound>,
-    m: &M,
-    t: &Fitted,
-    c: i128,
-) -> Result<M::Bound, NoMemory>
-    requires good { M.good m.now (typed t.now) }
-    requires is { (p : Range) × (w : Wide) × (typed t.now ≡ TNum c p w) }
-    ensures { IfOk result (Puts M.told (M.style m.now) (M.is_number m.now) (M.shares m.now) draft.old draft.new (typed t.now)) }
-{
-    put_whole(draft, m, t, Op::Push(c))
-}
-
 // A variable.
 fn put_input<M: Marks>(
     draft: &mut Draft<M::Bound>,
@@ -384,7 +297,7 @@ fn put_input<M: Marks>(
     requires is { (p : Range) × (w : Wide) × (typed t.now ≡ TInput v p w) }
     ensures { IfOk result (Puts M.told (M.style m.now) (M.is_number m.now) (M.shares m.now) draft.old draft.new (typed t.now)) }
 {
-    let b = put_divided(draft, m, Op::Input(v), m.input(t))?;
+    let b = put_divided(draft, m, Op::Input(v), m.input(t, v))?;
     Ok(m.left(t, b))
 }
 
@@ -440,26 +353,6 @@ fn op_of(t: &Fitted, w: Width) -> Op
     }
 }
 
-// The power n + 1, after its base, whose bound is a.
-fn put_raised<M: Marks>(
-    draft: &mut Draft<M::Bound>,
-    m: &M,
-    t: &Fitted,
-    x: &Fitted,
-    n: u8,
-    a: M::Bound,
-) -> Result<M::Bound, NoMemory>
-    requires good { M.good m.now (typed t.now) }
-    requires is { (p : Range) × (typed t.now ≡ TPow (typed x.now) (suc n) p t.now.width) }
-    requires few { n + 1 ≤ 255 }
-    requires base { M.told a ≡ (M.style m.now).mark (typed x.now) }
-    ensures { IfOk result (Gives M.told draft.old draft.new (power_of (M.style m.now) (typed x.now) t.now.width n)
-        ((M.style m.now).mark (typed t.now))) }
-{
-    let b = put_power(draft, m, x, t.width, n, a)?;
-    Ok(m.left(t, b))
-}
-
 // The number of the right operand, which costs less and may be written.
 fn second<M: Marks>(m: &M, t: &Fitted, x: &Fitted, y: &Fitted, k: usize) -> usize
     requires good { M.good m.now (typed t.now) }
@@ -484,32 +377,32 @@ pub fn put_tree<M: Marks>(
     ensures { IfOk result (Puts M.told (M.style m.now) (M.is_number m.now) (M.shares m.now) draft.old draft.new (typed t.now)) }
 {
     if let Some(j) = local_of(draft, m, k) {
-        return put_again(draft, m, t, k, j);
+        return put_leaf(draft, m, t, Op::Get(j));
     }
     match &t.op {
-        FitOp::Num(c) => put_number(draft, m, t, *c),
+        FitOp::Num(c) => put_leaf(draft, m, t, Op::Push(*c)),
         FitOp::Input(v) => put_input(draft, m, t, *v),
-        FitOp::Let(j) => put_whole(draft, m, t, Op::Get(*j)),
+        FitOp::Let(j) => put_leaf(draft, m, t, Op::Get(*j)),
         FitOp::Neg(x) => {
             let a = put_tree(draft, m, x, m.operand(k))?;
             let b = put_opposite(draft, m, t, a)?;
-            put_kept(draft, m, k, b)
+            put_kept(draft, m, t, k, b)
         }
         FitOp::Add(x, y) | FitOp::Sub(x, y) | FitOp::Mul(x, y) => {
             let a = put_tree(draft, m, x, m.operand(k))?;
             put_left(draft, m, t.operation(), x, y, a)?;
             let b = put_tree(draft, m, y, second(m, t, x, y, k))?;
             let c = put_two(draft, m, t, x, y, a, b)?;
-            put_kept(draft, m, k, c)
+            put_kept(draft, m, t, k, c)
         }
         FitOp::Pow(x, n) => {
             if *n == 0 {
                 let b = put_leaf(draft, m, t, Op::Push(1))?;
-                put_kept(draft, m, k, b)
+                put_kept(draft, m, t, k, b)
             } else {
                 let a = put_tree(draft, m, x, m.operand(k))?;
-                let b = put_raised(draft, m, t, x, *n - 1, a)?;
-                put_kept(draft, m, k, b)
+                let b = put_power(draft, m, t, x, *n - 1, a)?;
+                put_kept(draft, m, t, k, b)
             }
         }
     }

@@ -1,5 +1,5 @@
 -- What a source is compiled to: the program and the stage count of each predicate.
-use Rattle.std.specs.Prelude.{◌≡◌, ◌≢◌, All, ℕ, ◌+◌, ◌<◌, ◌^◌, List, [], ◌∷◌, length, map, slice_get, ℤ, Option, Some, None, IfSome, position, bytes_eq}
+use Rattle.std.specs.Prelude.{◌≡◌, ◌≢◌, All, ℕ, ◌+◌, ◌<◌, ◌^◌, List, [], length, map, slice_get, ℤ, Option, Some, None, IfSome, position, bytes_eq}
 use Rattle.std.specs.List.{AllZip}
 use Rattle.ln_algebra.specs.Orders.{BySmallest}
 use Rattle.ln_algebra.specs.Tree.{InputsBelow}

@@ -1,5 +1,5 @@
 -- Blocks as they are made, and what is kept of a predicate.
-use Rattle.std.specs.Prelude.{ℕ, ◌≤◌, List, length}
+use Rattle.std.specs.Prelude.{◌≤◌, List, length}
 use Rattle.ln_tree.specs.Exps.{Pairs}
 use Rattle.ln_tree.specs.Table.{PredOf}
 use Rattle.ln_poly.specs.Sparse.{Sparse}

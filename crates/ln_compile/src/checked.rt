@@ -12,7 +12,7 @@ ghost use Rattle.ln_compile.specs.Symmetry.{IsSymmetryAt};
 
 use crate::counted::Counted;
 use crate::program::beginning;
-use crate::programs::{all_counted, at, program_of, programs};
+use crate::programs::{accepted, all_counted, at, program_of, programs};
 use crate::refusal::{Refusal, refusal_of};
 use ln_base::{NoMemory, Seq};
 use ln_code::{Block, FilterBlock, Program, Programs};
@@ -138,6 +138,16 @@ impl Checked {
         ensures { IfOk result (IsPolynomialAt (map pred_of self.now.table.preds) i) }
     {
         self.at(i).1.poly.copy(alloc)
+    }
+
+    /// A predicate, by its number, with its normal polynomial and the stages of that. The polynomial is copied, and not expanded once more;
+    /// the stages are listed once more.
+    pub fn accepted(&self, alloc: Global, i: usize) -> Result<ln_stage::Accepted<'_>, NoMemory>
+        requires { i < length self.now.table.preds }
+        ensures { IfOk result (λ a. slice_get self.now.table.preds i ≡ Some a.pred) }
+    {
+        let (p, kept) = self.at(i);
+        accepted(alloc, p, &kept.poly)
     }
 
     /// The symmetry of a predicate, by its number: whether its sites are of one type and each exchange of two of them turns its sign, or keeps

@@ -63,14 +63,22 @@ pub(crate) fn at<'a>(preds: &'a [Pred], counted: &'a [Counted], i: usize) -> (&'
     (&preds[i], &counted[i])
 }
 
-/// The program of a predicate without a fault, from its polynomial. Its stages are listed once more.
+/// A predicate without a fault, with its polynomial, which is copied. Its stages are listed once more.
+pub(crate) fn accepted<'a>(alloc: Global, p: &'a Pred, f: &Poly) -> Result<Accepted<'a>, NoMemory>
+    requires { IsExpanded (pred_of p.now) f.now }
+    ensures { IfOk result (λ a. a.pred ≡ p.now) }
+{
+    let f = f.copy(alloc)?;
+    Accepted::listed(alloc, p, f)
+}
+
+/// The program of a predicate without a fault, from its polynomial.
 pub(crate) fn program_of(alloc: Global, p: &Pred, f: &Poly) -> Result<Program, NoMemory>
     requires { IsExpanded (pred_of p.now) f.now }
     ensures program { IfOk result (IsProgramOf (pred_of p.now)) }
     ensures small { IfOk result (λ c. length c.blocks ≤ most_stages) }
 {
-    let f = f.copy(alloc)?;
-    let a = Accepted::listed(alloc, p, f)?;
+    let a = accepted(alloc, p, f)?;
     program(alloc, a)
 }
 

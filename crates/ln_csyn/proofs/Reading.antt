@@ -5,6 +5,7 @@ pub mod CompleteFile
 pub mod Sound
 pub mod SoundFile
 pub mod Steps
+pub mod Texts
 pub mod ReadLemmas
 pub mod Loops
 pub mod FunLoops

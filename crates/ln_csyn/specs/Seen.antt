@@ -1,12 +1,9 @@
 -- The tokens of the code, as the grammar has them.
-use Rattle.std.specs.Prelude.{List, map}
-use Rattle.ln_csyn.specs.declared.token.Token.{Token as CodeToken}
+use Rattle.std.specs.Prelude.{List, [], ◌==◌, length, if◌then◌else◌}
+use Rattle.ln_csyn.specs.declared.tokens.Tokens.{Tokens}
 use Rattle.ln_csyn.specs.Grammar.{Token}
-
--- a token of the code: its text, and the line that it begins on
-abbrev pub seen : CodeToken → Token
-seen t = record { text = t.text.now; line = t.line }
+use Rattle.ln_csyn.specs.Text.{tokens_by}
 
 -- the tokens of the code, in order
-abbrev pub tokens_of : List CodeToken → List Token
-tokens_of ts = map seen ts
+abbrev pub tokens_of : Tokens → List Token
+tokens_of t = if length t.bytes.now == 0 then [] else tokens_by t.len t.line t.bytes.now

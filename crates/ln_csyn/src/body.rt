@@ -8,7 +8,8 @@ ghost use Rattle.ln_csyn.specs.Reading.{expr_at, decl_rest, if_rest, return_rest
 
 use crate::expr::{closed, copied, stopped};
 use crate::stop::CStop;
-use crate::token::{Token, begins, eat, from, line_at, name_at, type_at};
+use crate::token::{begins, eat, line_at, name_at, type_at};
+use crate::tokens::Tokens;
 use crate::tree::{CExpr, CForm, CStmt, CType};
 use ln_base::Seq;
 use std::alloc::Global;
@@ -27,15 +28,15 @@ fn declared(line: u32, kind: CType, name: Seq<u8>, e: CExpr) -> CStmt
     CStmt { line, form }
 }
 
-fn decl_rest<'t, 'a>(
+fn decl_rest<'a>(
     alloc: Global,
     line: u32,
     kind: CType,
-    tokens: &'t [Token<'a>],
+    tokens: Tokens<'a>,
     depth: u32,
-) -> Result<(CStmt, &'t [Token<'a>]), CStop>
-    ensures ok { IfOk result (λ y. decl_rest (expr_at depth) line kind (tokens_of tokens.now) ≡ Some (stmt_front y.0, tokens_of y.1.now)) }
-    ensures err { IfErr result (λ e. e ≡ NotSubset → decl_rest (expr_at depth) line kind (tokens_of tokens.now) ≡ None) }
+) -> Result<(CStmt, Tokens<'a>), CStop>
+    ensures ok { IfOk result (λ y. decl_rest (expr_at depth) line kind (tokens_of tokens.entry) ≡ Some (stmt_front y.0, tokens_of y.1)) }
+    ensures err { IfErr result (λ e. e ≡ NotSubset → decl_rest (expr_at depth) line kind (tokens_of tokens.entry) ≡ None) }
 {
     let Some((name, rest)) = name_at(tokens) else {
         return Err(CStop::NotSubset);
@@ -48,14 +49,14 @@ fn decl_rest<'t, 'a>(
     Ok((declared(line, kind, name, e), rest))
 }
 
-fn return_rest<'t, 'a>(
+fn return_rest<'a>(
     alloc: Global,
     line: u32,
-    tokens: &'t [Token<'a>],
+    tokens: Tokens<'a>,
     depth: u32,
-) -> Result<(CStmt, &'t [Token<'a>]), CStop>
-    ensures ok { IfOk result (λ y. return_rest (expr_at depth) line (tokens_of tokens.now) ≡ Some (stmt_front y.0, tokens_of y.1.now)) }
-    ensures err { IfErr result (λ e. e ≡ NotSubset → return_rest (expr_at depth) line (tokens_of tokens.now) ≡ None) }
+) -> Result<(CStmt, Tokens<'a>), CStop>
+    ensures ok { IfOk result (λ y. return_rest (expr_at depth) line (tokens_of tokens.entry) ≡ Some (stmt_front y.0, tokens_of y.1)) }
+    ensures err { IfErr result (λ e. e ≡ NotSubset → return_rest (expr_at depth) line (tokens_of tokens.entry) ≡ None) }
 {
     let (e, rest) = closed(alloc, tokens, depth, b";".as_slice())?;
     let form = CForm::Return(e);
@@ -63,18 +64,18 @@ fn return_rest<'t, 'a>(
 }
 
 #[cycle(stmt)]
-fn if_rest<'t, 'a>(
+fn if_rest<'a>(
     alloc: Global,
     line: u32,
-    tokens: &'t [Token<'a>],
+    tokens: Tokens<'a>,
     depths: Depths,
     braces: u32,
-) -> Result<(CStmt, &'t [Token<'a>]), CStop>
+) -> Result<(CStmt, Tokens<'a>), CStop>
     requires { depths.outer ≡ suc depths.inner }
     ensures ok { IfOk result (λ y. if_rest (expr_at depths.inner)
-        (block_at depths.outer depths.inner braces) line (tokens_of tokens.now) ≡ Some (stmt_front y.0, tokens_of y.1.now)) }
+        (block_at depths.outer depths.inner braces) line (tokens_of tokens.entry) ≡ Some (stmt_front y.0, tokens_of y.1)) }
     ensures err { IfErr result (λ e. e ≡ NotSubset →
-        if_rest (expr_at depths.inner) (block_at depths.outer depths.inner braces) line (tokens_of tokens.now) ≡ None) }
+        if_rest (expr_at depths.inner) (block_at depths.outer depths.inner braces) line (tokens_of tokens.entry) ≡ None) }
 {
     let Some(rest) = eat(tokens, b"(".as_slice()) else {
         return Err(CStop::NotSubset);
@@ -90,18 +91,18 @@ fn if_rest<'t, 'a>(
 }
 
 #[cycle(stmt)]
-fn group_rest<'t, 'a>(
+fn group_rest<'a>(
     alloc: Global,
     line: u32,
-    tokens: &'t [Token<'a>],
+    tokens: Tokens<'a>,
     depths: Depths,
     braces: u32,
-) -> Result<(CStmt, &'t [Token<'a>]), CStop>
+) -> Result<(CStmt, Tokens<'a>), CStop>
     requires { depths.outer ≡ suc depths.inner }
-    ensures ok { IfOk result (λ y. group_rest (block_at depths.outer depths.inner braces) line (tokens_of tokens.now)
-        ≡ Some (stmt_front y.0, tokens_of y.1.now)) }
+    ensures ok { IfOk result (λ y. group_rest (block_at depths.outer depths.inner braces) line (tokens_of tokens.entry)
+        ≡ Some (stmt_front y.0, tokens_of y.1)) }
     ensures err { IfErr result (λ e. e ≡ NotSubset →
-        group_rest (block_at depths.outer depths.inner braces) line (tokens_of tokens.now) ≡ None) }
+        group_rest (block_at depths.outer depths.inner braces) line (tokens_of tokens.entry) ≡ None) }
 {
     let (body, _, rest) = block(alloc, tokens, depths, braces)?;
     let form = CForm::Group(body);
@@ -109,17 +110,17 @@ fn group_rest<'t, 'a>(
 }
 
 #[cycle(stmt)]
-fn stmt<'t, 'a>(
+fn stmt<'a>(
     alloc: Global,
-    tokens: &'t [Token<'a>],
+    tokens: Tokens<'a>,
     depths: Depths,
     braces: u32,
-) -> Result<(CStmt, &'t [Token<'a>]), CStop>
+) -> Result<(CStmt, Tokens<'a>), CStop>
     requires { depths.outer ≡ suc depths.inner }
     ensures ok { IfOk result (λ y. stmt_at depths.outer depths.inner (block_at depths.outer depths.inner braces)
-        (tokens_of tokens.now) ≡ Some (stmt_front y.0, tokens_of y.1.now)) }
+        (tokens_of tokens.entry) ≡ Some (stmt_front y.0, tokens_of y.1)) }
     ensures err { IfErr result (λ e. e ≡ NotSubset → stmt_at depths.outer depths.inner (block_at depths.outer depths.inner braces)
-        (tokens_of tokens.now) ≡ None) }
+        (tokens_of tokens.entry) ≡ None) }
 {
     let line = line_at(tokens);
     if let Some((kind, rest)) = type_at(tokens) {
@@ -135,44 +136,43 @@ fn stmt<'t, 'a>(
 }
 
 #[cycle(stmt)]
-fn stmts<'t, 'a>(
+fn stmts<'a>(
     alloc: Global,
-    tokens: &'t [Token<'a>],
+    tokens: Tokens<'a>,
     depths: Depths,
     braces: u32,
-) -> Result<(Vec<CStmt>, &'t [Token<'a>]), CStop>
+) -> Result<(Vec<CStmt>, Tokens<'a>), CStop>
     requires { depths.outer ≡ suc depths.inner }
     ensures ok { IfOk result (λ y. stmts_at (stmt_at depths.outer depths.inner (block_at depths.outer depths.inner braces))
-        (suc (length (tokens_of tokens.now))) (tokens_of tokens.now) ≡ Some (body_tree y.0.items, tokens_of y.1.now)) }
+        (suc (length (tokens_of tokens.entry))) (tokens_of tokens.entry) ≡ Some (body_tree y.0.items, tokens_of y.1)) }
     ensures err { IfErr result (λ e. e ≡ NotSubset →
         stmts_at (stmt_at depths.outer depths.inner (block_at depths.outer depths.inner braces))
-        (suc (length (tokens_of tokens.now))) (tokens_of tokens.now) ≡ None) }
+        (suc (length (tokens_of tokens.entry))) (tokens_of tokens.entry) ≡ None) }
 {
     let mut body = Vec::new(alloc);
-    let mut at = 0usize;
+    let mut rest = tokens;
     'stmts: loop {
-        let rest = from(tokens, at);
         if begins(rest, b"}".as_slice()) {
             return Ok((body, rest));
         }
         let (s, next) = stmt(alloc, rest, depths, braces)?;
         body.push(s)?;
-        at = tokens.len() - next.len();
+        rest = next;
     }
 }
 
 /// Returns the statements of the pair of braces at the beginning, the line of the second brace, and what is after it.
 #[cycle(stmt)]
-pub fn block<'t, 'a>(
+pub fn block<'a>(
     alloc: Global,
-    tokens: &'t [Token<'a>],
+    tokens: Tokens<'a>,
     depths: Depths,
     braces: u32,
-) -> Result<(Vec<CStmt>, u32, &'t [Token<'a>]), CStop>
+) -> Result<(Vec<CStmt>, u32, Tokens<'a>), CStop>
     requires { depths.outer ≡ suc depths.inner }
-    ensures ok { IfOk result (λ y. block_at depths.outer depths.inner braces (tokens_of tokens.now)
-        ≡ Some (body_tree y.0.items, y.1, tokens_of y.2.now)) }
-    ensures err { IfErr result (λ e. e ≡ NotSubset → block_at depths.outer depths.inner braces (tokens_of tokens.now) ≡ None) }
+    ensures ok { IfOk result (λ y. block_at depths.outer depths.inner braces (tokens_of tokens.entry)
+        ≡ Some (body_tree y.0.items, y.1, tokens_of y.2)) }
+    ensures err { IfErr result (λ e. e ≡ NotSubset → block_at depths.outer depths.inner braces (tokens_of tokens.entry) ≡ None) }
 {
     if braces == 0 {
         return Err(CStop::NotSubset);

@@ -9,7 +9,8 @@ ghost use Rattle.ln_csyn.specs.Reading.{eat, cast_at, closed, minus_rest, two_re
 ghost use Rattle.ln_csyn.specs.Reading.{call_rest, named, primary, cast_rest, inside, expr_at};
 
 use crate::stop::CStop;
-use crate::token::{Token, eat, name_at, number_at, op_at, type_at};
+use crate::token::{eat, name_at, number_at, op_at, type_at};
+use crate::tokens::Tokens;
 use crate::tree::{CExpr, COp, CPrim, CType};
 use ln_base::Seq;
 use std::alloc::Global;
@@ -23,8 +24,8 @@ pub fn copied(alloc: Global, name: &[u8]) -> Result<Seq<u8>, CStop>
 }
 
 // The `( TYPE )` of a cast.
-fn cast_at<'t, 'a>(tokens: &'t [Token<'a>]) -> Option<(CType, &'t [Token<'a>])>
-    ensures { option_map (λ y. (y.0, tokens_of y.1.now)) result ≡ cast_at (tokens_of tokens.now) }
+fn cast_at<'a>(tokens: Tokens<'a>) -> Option<(CType, Tokens<'a>)>
+    ensures { option_map (λ y. (y.0, tokens_of y.1)) result ≡ cast_at (tokens_of tokens.entry) }
 {
     let rest = eat(tokens, b"(".as_slice())?;
     let (kind, rest) = type_at(rest)?;
@@ -45,12 +46,8 @@ fn place_of(kind: CType, name: &[u8], n: u64) -> Option<CExpr>
     }
 }
 
-fn place_rest<'t, 'a>(
-    kind: CType,
-    name: &[u8],
-    tokens: &'t [Token<'a>],
-) -> Option<(CExpr, &'t [Token<'a>])>
-    ensures { option_map (λ y. (expr_tree y.0, tokens_of y.1.now)) result ≡ place_rest kind name.now (tokens_of tokens.now) }
+fn place_rest<'a>(kind: CType, name: &[u8], tokens: Tokens<'a>) -> Option<(CExpr, Tokens<'a>)>
+    ensures { option_map (λ y. (expr_tree y.0, tokens_of y.1)) result ≡ place_rest kind name.now (tokens_of tokens.entry) }
 {
     let (n, rest) = number_at(tokens)?;
     let rest = eat(rest, b"]".as_slice())?;
@@ -58,14 +55,14 @@ fn place_rest<'t, 'a>(
     Some((e, rest))
 }
 
-fn call_rest<'t, 'a>(
+fn call_rest<'a>(
     alloc: Global,
     kind: CType,
     name: &[u8],
-    tokens: &'t [Token<'a>],
-) -> Result<(CExpr, &'t [Token<'a>]), CStop>
-    ensures ok { IfOk result (λ y. call_rest kind name.now (tokens_of tokens.now) ≡ Some (expr_tree y.0, tokens_of y.1.now)) }
-    ensures err { IfErr result (λ e. e ≡ NotSubset → call_rest kind name.now (tokens_of tokens.now) ≡ None) }
+    tokens: Tokens<'a>,
+) -> Result<(CExpr, Tokens<'a>), CStop>
+    ensures ok { IfOk result (λ y. call_rest kind name.now (tokens_of tokens.entry) ≡ Some (expr_tree y.0, tokens_of y.1)) }
+    ensures err { IfErr result (λ e. e ≡ NotSubset → call_rest kind name.now (tokens_of tokens.entry) ≡ None) }
 {
     let Some(rest) = eat(tokens, b"v".as_slice()) else {
         return Err(CStop::NotSubset);
@@ -77,14 +74,14 @@ fn call_rest<'t, 'a>(
     Ok((CExpr::Cast(kind, CPrim::Call(name)), rest))
 }
 
-fn named<'t, 'a>(
+fn named<'a>(
     alloc: Global,
     kind: CType,
     name: &[u8],
-    tokens: &'t [Token<'a>],
-) -> Result<(CExpr, &'t [Token<'a>]), CStop>
-    ensures ok { IfOk result (λ y. named kind name.now (tokens_of tokens.now) ≡ Some (expr_tree y.0, tokens_of y.1.now)) }
-    ensures err { IfErr result (λ e. e ≡ NotSubset → named kind name.now (tokens_of tokens.now) ≡ None) }
+    tokens: Tokens<'a>,
+) -> Result<(CExpr, Tokens<'a>), CStop>
+    ensures ok { IfOk result (λ y. named kind name.now (tokens_of tokens.entry) ≡ Some (expr_tree y.0, tokens_of y.1)) }
+    ensures err { IfErr result (λ e. e ≡ NotSubset → named kind name.now (tokens_of tokens.entry) ≡ None) }
 {
     if let Some(rest) = eat(tokens, b"[".as_slice()) {
         return match place_rest(kind, name, rest) {
@@ -107,14 +104,14 @@ pub(crate) fn stopped(_read: CExpr, stop: CStop) -> CStop
 }
 
 #[cycle(expr)]
-fn primary<'t, 'a>(
+fn primary<'a>(
     alloc: Global,
     kind: CType,
-    tokens: &'t [Token<'a>],
+    tokens: Tokens<'a>,
     depth: u32,
-) -> Result<(CExpr, &'t [Token<'a>]), CStop>
-    ensures ok { IfOk result (λ y. primary (expr_at depth) kind (tokens_of tokens.now) ≡ Some (expr_tree y.0, tokens_of y.1.now)) }
-    ensures err { IfErr result (λ e. e ≡ NotSubset → primary (expr_at depth) kind (tokens_of tokens.now) ≡ None) }
+) -> Result<(CExpr, Tokens<'a>), CStop>
+    ensures ok { IfOk result (λ y. primary (expr_at depth) kind (tokens_of tokens.entry) ≡ Some (expr_tree y.0, tokens_of y.1)) }
+    ensures err { IfErr result (λ e. e ≡ NotSubset → primary (expr_at depth) kind (tokens_of tokens.entry) ≡ None) }
 {
     if let Some((n, rest)) = number_at(tokens) {
         return Ok((CExpr::Cast(kind, CPrim::Number(n)), rest));
@@ -128,14 +125,14 @@ fn primary<'t, 'a>(
 }
 
 #[cycle(expr)]
-fn cast_rest<'t, 'a>(
+fn cast_rest<'a>(
     alloc: Global,
     kind: CType,
-    tokens: &'t [Token<'a>],
+    tokens: Tokens<'a>,
     depth: u32,
-) -> Result<(CExpr, &'t [Token<'a>]), CStop>
-    ensures ok { IfOk result (λ y. cast_rest depth (expr_at depth) kind (tokens_of tokens.now) ≡ Some (expr_tree y.0, tokens_of y.1.now)) }
-    ensures err { IfErr result (λ e. e ≡ NotSubset → cast_rest depth (expr_at depth) kind (tokens_of tokens.now) ≡ None) }
+) -> Result<(CExpr, Tokens<'a>), CStop>
+    ensures ok { IfOk result (λ y. cast_rest depth (expr_at depth) kind (tokens_of tokens.entry) ≡ Some (expr_tree y.0, tokens_of y.1)) }
+    ensures err { IfErr result (λ e. e ≡ NotSubset → cast_rest depth (expr_at depth) kind (tokens_of tokens.entry) ≡ None) }
 {
     if depth == 0 {
         return Err(CStop::NotSubset);
@@ -148,13 +145,13 @@ fn cast_rest<'t, 'a>(
 }
 
 #[cycle(expr)]
-fn minus_rest<'t, 'a>(
+fn minus_rest<'a>(
     alloc: Global,
-    tokens: &'t [Token<'a>],
+    tokens: Tokens<'a>,
     depth: u32,
-) -> Result<(CExpr, &'t [Token<'a>]), CStop>
-    ensures ok { IfOk result (λ y. minus_rest (expr_at depth) (tokens_of tokens.now) ≡ Some (expr_tree y.0, tokens_of y.1.now)) }
-    ensures err { IfErr result (λ e. e ≡ NotSubset → minus_rest (expr_at depth) (tokens_of tokens.now) ≡ None) }
+) -> Result<(CExpr, Tokens<'a>), CStop>
+    ensures ok { IfOk result (λ y. minus_rest (expr_at depth) (tokens_of tokens.entry) ≡ Some (expr_tree y.0, tokens_of y.1)) }
+    ensures err { IfErr result (λ e. e ≡ NotSubset → minus_rest (expr_at depth) (tokens_of tokens.entry) ≡ None) }
 {
     let (a, rest) = closed(alloc, tokens, depth, b")".as_slice())?;
     let a = Box::new(alloc, a)?;
@@ -172,13 +169,9 @@ fn both(alloc: Global, op: COp, a: CExpr, b: CExpr) -> Result<CExpr, CStop>
 }
 
 #[cycle(expr)]
-fn two_rest<'t, 'a>(
-    alloc: Global,
-    tokens: &'t [Token<'a>],
-    depth: u32,
-) -> Result<(CExpr, &'t [Token<'a>]), CStop>
-    ensures ok { IfOk result (λ y. two_rest (expr_at depth) (tokens_of tokens.now) ≡ Some (expr_tree y.0, tokens_of y.1.now)) }
-    ensures err { IfErr result (λ e. e ≡ NotSubset → two_rest (expr_at depth) (tokens_of tokens.now) ≡ None) }
+fn two_rest<'a>(alloc: Global, tokens: Tokens<'a>, depth: u32) -> Result<(CExpr, Tokens<'a>), CStop>
+    ensures ok { IfOk result (λ y. two_rest (expr_at depth) (tokens_of tokens.entry) ≡ Some (expr_tree y.0, tokens_of y.1)) }
+    ensures err { IfErr result (λ e. e ≡ NotSubset → two_rest (expr_at depth) (tokens_of tokens.entry) ≡ None) }
 {
     let (a, rest) = expr(alloc, tokens, depth)?;
     let Some((op, rest)) = op_at(rest) else {
@@ -194,13 +187,9 @@ fn two_rest<'t, 'a>(
 }
 
 #[cycle(expr)]
-fn inside<'t, 'a>(
-    alloc: Global,
-    tokens: &'t [Token<'a>],
-    depth: u32,
-) -> Result<(CExpr, &'t [Token<'a>]), CStop>
-    ensures ok { IfOk result (λ y. inside depth (expr_at depth) (tokens_of tokens.now) ≡ Some (expr_tree y.0, tokens_of y.1.now)) }
-    ensures err { IfErr result (λ e. e ≡ NotSubset → inside depth (expr_at depth) (tokens_of tokens.now) ≡ None) }
+fn inside<'a>(alloc: Global, tokens: Tokens<'a>, depth: u32) -> Result<(CExpr, Tokens<'a>), CStop>
+    ensures ok { IfOk result (λ y. inside depth (expr_at depth) (tokens_of tokens.entry) ≡ Some (expr_tree y.0, tokens_of y.1)) }
+    ensures err { IfErr result (λ e. e ≡ NotSubset → inside depth (expr_at depth) (tokens_of tokens.entry) ≡ None) }
 {
     if let Some(rest) = eat(tokens, b"-".as_slice()) {
         return minus_rest(alloc, rest, depth);
@@ -213,14 +202,14 @@ fn inside<'t, 'a>(
 
 /// Returns the expression at the beginning, and what is after the token of this text that follows it.
 #[cycle(expr)]
-pub fn closed<'t, 'a>(
+pub fn closed<'a>(
     alloc: Global,
-    tokens: &'t [Token<'a>],
+    tokens: Tokens<'a>,
     depth: u32,
     text: &[u8],
-) -> Result<(CExpr, &'t [Token<'a>]), CStop>
-    ensures ok { IfOk result (λ y. closed text.now (expr_at depth) (tokens_of tokens.now) ≡ Some (expr_tree y.0, tokens_of y.1.now)) }
-    ensures err { IfErr result (λ e. e ≡ NotSubset → closed text.now (expr_at depth) (tokens_of tokens.now) ≡ None) }
+) -> Result<(CExpr, Tokens<'a>), CStop>
+    ensures ok { IfOk result (λ y. closed text.now (expr_at depth) (tokens_of tokens.entry) ≡ Some (expr_tree y.0, tokens_of y.1)) }
+    ensures err { IfErr result (λ e. e ≡ NotSubset → closed text.now (expr_at depth) (tokens_of tokens.entry) ≡ None) }
 {
     let (e, rest) = expr(alloc, tokens, depth)?;
     match eat(rest, text) {
@@ -231,13 +220,9 @@ pub fn closed<'t, 'a>(
 
 /// Returns the expression at the beginning, and what is after it.
 #[cycle(expr)]
-pub fn expr<'t, 'a>(
-    alloc: Global,
-    tokens: &'t [Token<'a>],
-    depth: u32,
-) -> Result<(CExpr, &'t [Token<'a>]), CStop>
-    ensures ok { IfOk result (λ y. expr_at depth (tokens_of tokens.now) ≡ Some (expr_tree y.0, tokens_of y.1.now)) }
-    ensures err { IfErr result (λ e. e ≡ NotSubset → expr_at depth (tokens_of tokens.now) ≡ None) }
+pub fn expr<'a>(alloc: Global, tokens: Tokens<'a>, depth: u32) -> Result<(CExpr, Tokens<'a>), CStop>
+    ensures ok { IfOk result (λ y. expr_at depth (tokens_of tokens.entry) ≡ Some (expr_tree y.0, tokens_of y.1)) }
+    ensures err { IfErr result (λ e. e ≡ NotSubset → expr_at depth (tokens_of tokens.entry) ≡ None) }
 {
     if depth == 0 {
         return Err(CStop::NotSubset);

@@ -8,20 +8,21 @@ ghost use Rattle.ln_csyn.specs.Reading.{block_at, pointer_at, both_rest, paramet
 use crate::body::{Depths, block};
 use crate::expr::copied;
 use crate::stop::CStop;
-use crate::token::{Token, eat, from, name_at};
+use crate::token::{eat, is_end, name_at};
+use crate::tokens::Tokens;
 use crate::tree::CFun;
 use std::alloc::Global;
 
-fn pointer_at<'t, 'a>(tokens: &'t [Token<'a>]) -> Option<&'t [Token<'a>]>
-    ensures { option_map (λ r. tokens_of r.now) result ≡ pointer_at (tokens_of tokens.now) }
+fn pointer_at<'a>(tokens: Tokens<'a>) -> Option<Tokens<'a>>
+    ensures { option_map tokens_of result ≡ pointer_at (tokens_of tokens.entry) }
 {
     let rest = eat(tokens, b"const".as_slice())?;
     let rest = eat(rest, b"int64_t".as_slice())?;
     eat(rest, b"*".as_slice())
 }
 
-fn both_rest<'t, 'a>(tokens: &'t [Token<'a>]) -> Option<(bool, &'t [Token<'a>])>
-    ensures { option_map (λ y. (y.0, tokens_of y.1.now)) result ≡ both_rest (tokens_of tokens.now) }
+fn both_rest<'a>(tokens: Tokens<'a>) -> Option<(bool, Tokens<'a>)>
+    ensures { option_map (λ y. (y.0, tokens_of y.1)) result ≡ both_rest (tokens_of tokens.entry) }
 {
     let rest = eat(tokens, b"x".as_slice())?;
     let rest = eat(rest, b",".as_slice())?;
@@ -30,8 +31,8 @@ fn both_rest<'t, 'a>(tokens: &'t [Token<'a>]) -> Option<(bool, &'t [Token<'a>])>
     Some((true, rest))
 }
 
-fn parameters_at<'t, 'a>(tokens: &'t [Token<'a>]) -> Option<(bool, &'t [Token<'a>])>
-    ensures { option_map (λ y. (y.0, tokens_of y.1.now)) result ≡ parameters_at (tokens_of tokens.now) }
+fn parameters_at<'a>(tokens: Tokens<'a>) -> Option<(bool, Tokens<'a>)>
+    ensures { option_map (λ y. (y.0, tokens_of y.1)) result ≡ parameters_at (tokens_of tokens.entry) }
 {
     let rest = pointer_at(tokens)?;
     if let Some(rest) = eat(rest, b"v".as_slice()) {
@@ -41,8 +42,8 @@ fn parameters_at<'t, 'a>(tokens: &'t [Token<'a>]) -> Option<(bool, &'t [Token<'a
 }
 
 // Returns the words before a body: the name, and whether there is the parameter `x`.
-fn words_at<'t, 'a>(tokens: &'t [Token<'a>]) -> Option<(&'a [u8], bool, &'t [Token<'a>])>
-    ensures { option_map (λ y. (y.0.now, y.1, tokens_of y.2.now)) result ≡ words_at (tokens_of tokens.now) }
+fn words_at<'a>(tokens: Tokens<'a>) -> Option<(&'a [u8], bool, Tokens<'a>)>
+    ensures { option_map (λ y. (y.0.now, y.1, tokens_of y.2)) result ≡ words_at (tokens_of tokens.entry) }
 {
     let rest = eat(tokens, b"int".as_slice())?;
     let (name, rest) = name_at(rest)?;
@@ -52,18 +53,18 @@ fn words_at<'t, 'a>(tokens: &'t [Token<'a>]) -> Option<(&'a [u8], bool, &'t [Tok
     Some((name, indexed, rest))
 }
 
-fn head_at<'t, 'a>(
+fn head_at<'a>(
     alloc: Global,
     own: bool,
-    tokens: &'t [Token<'a>],
+    tokens: Tokens<'a>,
     depths: Depths,
     braces: u32,
-) -> Result<(CFun, &'t [Token<'a>]), CStop>
+) -> Result<(CFun, Tokens<'a>), CStop>
     requires { depths.outer ≡ suc depths.inner }
-    ensures ok { IfOk result (λ y. head_at (block_at depths.outer depths.inner braces) own (tokens_of tokens.now)
-        ≡ Some (fun_tree y.0, tokens_of y.1.now)) }
+    ensures ok { IfOk result (λ y. head_at (block_at depths.outer depths.inner braces) own (tokens_of tokens.entry)
+        ≡ Some (fun_tree y.0, tokens_of y.1)) }
     ensures err { IfErr result (λ e. e ≡ NotSubset →
-        head_at (block_at depths.outer depths.inner braces) own (tokens_of tokens.now) ≡ None) }
+        head_at (block_at depths.outer depths.inner braces) own (tokens_of tokens.entry) ≡ None) }
 {
     let Some((name, indexed, rest)) = words_at(tokens) else {
         return Err(CStop::NotSubset);
@@ -80,16 +81,16 @@ fn head_at<'t, 'a>(
     Ok((f, rest))
 }
 
-fn fun_at<'t, 'a>(
+fn fun_at<'a>(
     alloc: Global,
-    tokens: &'t [Token<'a>],
+    tokens: Tokens<'a>,
     depths: Depths,
     braces: u32,
-) -> Result<(CFun, &'t [Token<'a>]), CStop>
+) -> Result<(CFun, Tokens<'a>), CStop>
     requires { depths.outer ≡ suc depths.inner }
-    ensures ok { IfOk result (λ y. fun_at (block_at depths.outer depths.inner braces) (tokens_of tokens.now)
-        ≡ Some (fun_tree y.0, tokens_of y.1.now)) }
-    ensures err { IfErr result (λ e. e ≡ NotSubset → fun_at (block_at depths.outer depths.inner braces) (tokens_of tokens.now) ≡ None) }
+    ensures ok { IfOk result (λ y. fun_at (block_at depths.outer depths.inner braces) (tokens_of tokens.entry)
+        ≡ Some (fun_tree y.0, tokens_of y.1)) }
+    ensures err { IfErr result (λ e. e ≡ NotSubset → fun_at (block_at depths.outer depths.inner braces) (tokens_of tokens.entry) ≡ None) }
 {
     if let Some(rest) = eat(tokens, b"static".as_slice()) {
         return head_at(alloc, true, rest, depths, braces);
@@ -98,28 +99,27 @@ fn fun_at<'t, 'a>(
 }
 
 /// The functions of a file.
-pub fn funs<'t, 'a>(
+pub fn funs<'a>(
     alloc: Global,
-    tokens: &'t [Token<'a>],
+    tokens: Tokens<'a>,
     depths: Depths,
     braces: u32,
 ) -> Result<Vec<CFun>, CStop>
     requires depths { depths.outer ≡ suc depths.inner }
     requires braces { 0 < braces }
-    ensures ok { IfOk result (λ y. funs_at (block_at depths.outer depths.inner braces) (suc (length (tokens_of tokens.now)))
-        (tokens_of tokens.now) ≡ Some (map fun_tree y.items)) }
+    ensures ok { IfOk result (λ y. funs_at (block_at depths.outer depths.inner braces) (suc (length (tokens_of tokens.entry)))
+        (tokens_of tokens.entry) ≡ Some (map fun_tree y.items)) }
     ensures err { IfErr result (λ e. e ≡ NotSubset → funs_at (block_at depths.outer depths.inner braces)
-        (suc (length (tokens_of tokens.now))) (tokens_of tokens.now) ≡ None) }
+        (suc (length (tokens_of tokens.entry))) (tokens_of tokens.entry) ≡ None) }
 {
     let mut funs = Vec::new(alloc);
-    let mut at = 0usize;
+    let mut rest = tokens;
     'funs: loop {
-        if at == tokens.len() {
+        if is_end(rest) {
             return Ok(funs);
         }
-        let rest = from(tokens, at);
         let (f, next) = fun_at(alloc, rest, depths, braces)?;
         funs.push(f)?;
-        at = tokens.len() - next.len();
+        rest = next;
     }
 }

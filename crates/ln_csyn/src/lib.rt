@@ -18,6 +18,7 @@ pub mod scan;
 pub mod spell;
 pub mod stop;
 pub mod token;
+pub mod tokens;
 pub mod tree;
 pub mod word;
 pub mod write;

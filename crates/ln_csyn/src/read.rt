@@ -9,9 +9,9 @@ ghost use Rattle.ln_csyn.specs.declared.stop.CStop.TheVariants.{NotSubset};
 use crate::body::Depths;
 use crate::file::funs;
 use crate::keep::keeps;
-use crate::scan::{after, front, tokens};
+use crate::scan::{after, front, tokens_from};
 use crate::stop::CStop;
-use crate::token::Token;
+use crate::tokens::Tokens;
 use crate::tree::CFun;
 use ln_base::Seq;
 use std::alloc::Global;
@@ -23,17 +23,12 @@ pub struct CFile {
     ghost kept: { is_file (map fun_tree funs) ≡ true },
 }
 
-fn file(
-    alloc: Global,
-    tokens: &[Token<'_>],
-    depths: Depths,
-    braces: u32,
-) -> Result<Vec<CFun>, CStop>
+fn file(alloc: Global, tokens: Tokens<'_>, depths: Depths, braces: u32) -> Result<Vec<CFun>, CStop>
     requires outer { depths.outer ≡ 16 }
     requires inner { depths.inner ≡ 15 }
     requires braces { braces ≡ 64 }
-    ensures ok { IfOk result (λ fs. Spelt (tokens_of tokens.now) (map fun_tree fs.items)) }
-    ensures err { IfErr result (λ e. e ≡ NotSubset → (gs : List Fun) → Spelt (tokens_of tokens.now) gs → ⊥) }
+    ensures ok { IfOk result (λ fs. Spelt (tokens_of tokens.entry) (map fun_tree fs.items)) }
+    ensures err { IfErr result (λ e. e ≡ NotSubset → (gs : List Fun) → Spelt (tokens_of tokens.entry) gs → ⊥) }
 {
     let fs = funs(alloc, tokens, depths, braces)?;
     let kept = keeps(alloc, fs.as_slice())?;
@@ -63,12 +58,11 @@ pub fn read_c(alloc: Global, bytes: &[u8]) -> Result<CFile, CStop>
     let Some(rest) = behind_first(bytes) else {
         return Err(CStop::NotSubset);
     };
-    let lexed = tokens(alloc, rest)?;
     let depths = Depths {
         outer: 16,
         inner: 15,
     };
-    let funs = file(alloc, lexed.as_slice(), depths, 64)?;
+    let funs = file(alloc, tokens_from(rest, 2), depths, 64)?;
     Ok(CFile {
         funs: Seq::from_vec(funs),
     })

@@ -1,16 +1,12 @@
-//! Splits the bytes after the first line of a file into tokens, each with the line that it begins on.
-ghost use Rattle.std.specs.Prelude.{◌≡◌, ◌<◌, ◌≤◌, ◌^◌, ◌-◌, ◌+◌, List, IfOk, IfErr, length, take, drop};
+//! Finds the tokens in bytes, each with the line that it begins on.
+ghost use Rattle.std.specs.Prelude.{◌≡◌, ◌<◌, ◌≤◌, ◌^◌, ◌-◌, ◌+◌, [], length, take, drop};
 ghost use Rattle.ln_base.specs.Words.{is_digit, is_name_byte};
-ghost use Rattle.ln_csyn.specs.Grammar.{Token as Tok};
 ghost use Rattle.ln_csyn.specs.Seen.{tokens_of};
-ghost use Rattle.ln_csyn.specs.Text.{is_blank, is_sign, is_double, sign_len, first_len, behind, Lexed};
+ghost use Rattle.ln_csyn.specs.Text.{is_blank, is_sign, is_double, sign_len, first_len, behind, tokens_by, tokens_from};
 ghost use Rattle.ln_base.specs.Runs.{run_len};
-ghost use Rattle.ln_csyn.specs.declared.stop.CStop.TheVariants.{NotSubset};
 
-use crate::stop::CStop;
-use crate::token::Token;
+use crate::tokens::Tokens;
 use ln_base::word::{digit, letter, name_byte};
-use std::alloc::Global;
 
 fn blank(b: u8) -> bool
     ensures { result ≡ is_blank b }
@@ -132,32 +128,44 @@ pub fn front(bytes: &[u8], n: usize) -> &[u8]
     &bytes[..n]
 }
 
-/// Returns the tokens of the bytes after the first line.
-pub fn tokens<'a>(alloc: Global, bytes: &'a [u8]) -> Result<Vec<Token<'a>>, CStop>
-    requires { length bytes.now < 2 ^ 32 - 4 }
-    ensures ok { IfOk result (λ ts. Lexed 2 bytes.now (tokens_of ts.items)) }
-    ensures err { IfErr result (λ e. e ≡ NotSubset → (us : List Tok) → Lexed 2 bytes.now us → ⊥) }
+// The tokens of bytes that begin with no blank.
+fn tokens_by<'a>(bytes: &'a [u8], line: u32) -> Tokens<'a>
+    requires some { 0 < length bytes.now }
+    requires few { line + length bytes.now < 2 ^ 32 }
+    ensures { tokens_of result ≡ tokens_by (first_len bytes.now) line bytes.now }
 {
-    let mut tokens = Vec::new(alloc);
+    let len = first_len(bytes);
+    Tokens { bytes, len, line }
+}
+
+// No tokens.
+fn no_tokens<'a>(bytes: &'a [u8], line: u32) -> Tokens<'a>
+    requires few { line + length bytes.now < 2 ^ 32 }
+    ensures { tokens_of result ≡ [] }
+{
+    Tokens {
+        bytes: after(bytes, bytes.len()),
+        len: 0,
+        line,
+    }
+}
+
+/// Returns the tokens of the bytes, which begin on this line.
+pub fn tokens_from<'a>(bytes: &'a [u8], line: u32) -> Tokens<'a>
+    requires { line + length bytes.now < 2 ^ 32 }
+    ensures { tokens_of result ≡ tokens_from line bytes.now }
+{
     let mut at = 0usize;
-    let mut line = 2u32;
-    'tokens: loop {
+    let mut now = line;
+    'blanks: loop {
         if at == bytes.len() {
-            return Ok(tokens);
+            return no_tokens(after(bytes, at), now);
         }
         let b = bytes[at];
-        if blank(b) {
-            line = behind(b, line);
-            at += 1;
-        } else {
-            let rest = after(bytes, at);
-            let n = first_len(rest);
-            if n == 0 {
-                return Err(CStop::NotSubset);
-            }
-            let text = front(rest, n);
-            tokens.push(Token { text, line })?;
-            at += n;
+        if !blank(b) {
+            return tokens_by(after(bytes, at), now);
         }
+        now = behind(b, now);
+        at += 1;
     }
 }

@@ -5,7 +5,8 @@ use Rattle.std.specs.declared.io.Error.{Error}
 use Rattle.std.specs.declared.io.ErrorKind.TheVariants.{Interrupted}
 use Rattle.ln_disk.specs.declared.tries.Ended.{Ended}
 
--- what a call's answer comes to after so many interruptions in a row: its bytes, another try, or a fault, which no interruption is but the last that is counted
+-- what a call's answer comes to after a number of interruptions in a row: its bytes, another try, or a fault, which no interruption is but the last
+-- that is counted
 abbrev pub Ends : Result ℕ Error → ℕ → ℕ → Option Ended → Type 0
 Ends (Ok n) times now end = end ≡ Some (record { count = Ok n })
 Ends (Err e) times now None = (error_kind e ≡ Interrupted) × (now ≡ times + 1) × (times < 2 ^ 64 - 1)

@@ -28,7 +28,7 @@ trim_lines o a = line o a ∷ cut_lines (excess a.h) a
 abbrev pub two_lines : Two → List (Line Triple) → List (Line Triple) → Triple → Triple → List (Line Triple)
 two_lines o xs ys a b = xs ++ (cut_lines (align o a b) a ++ (ys ++ (cut_lines (align o b a) b ++ trim_lines (op_of o W64) (raw_of o a b))))
 
--- so many more factors, from the power m on; local 64 has the base, of triple a
+-- a number of further factors, from the power m on; local 64 has the base, of triple a
 abbrev pub factors : Triple → ℕ → ℕ → List (Line Triple)
 factors a m zero = []
 factors a m (suc n) = line (Get 64) a ∷ (trim_lines (Mul W64) (product_of (powered a m) a) ++ factors a (suc m) n)

@@ -4,12 +4,11 @@ ghost use Rattle.ln_bound.specs.Typed.{untyped};
 ghost use Rattle.ln_code.specs.Kept.{no_triple};
 ghost use Rattle.ln_code.specs.declared.op.Triple.{Triple as Told};
 ghost use Rattle.ln_filter.specs.Style.{MayWrite, align_fits, filter_style, operands_steady, power_left};
-ghost use Rattle.ln_filter.specs.Steady.{ArePowersSteady};
-ghost use Rattle.ln_filter.specs.Triples.{excess, powered};
-ghost use Rattle.ln_filter.specs.Tried.{IsSmall, of_raw};
+ghost use Rattle.ln_filter.specs.Triples.{excess};
+ghost use Rattle.ln_filter.specs.Tried.{of_raw};
 
-use crate::arithmetic::{Raw, cut, excess, joined, powered, product, size_at, tried, whole};
-use ln_bound::{FitOp, Fitted, Two, Width};
+use crate::arithmetic::{Raw, cut, excess, joined, product, size_at, tried, whole};
+use ln_bound::{Fitted, Two, Width};
 use ln_code::{Marks, Triple};
 use ln_tree::VarInfo;
 
@@ -38,18 +37,6 @@ fn undivided(r: Raw) -> Triple
         k: r.k as u8,
         h: r.h as u64,
         e: r.e,
-    }
-}
-
-// The triple of a power whose products are steady.
-fn power(a: Triple, n: u8) -> Triple
-    requires base { IsSmall a }
-    requires steady { ArePowersSteady a n }
-    ensures { result ≡ powered a n }
-{
-    match powered(a, n) {
-        Some(p) => p,
-        None => no_triple(),
     }
 }
 
@@ -91,23 +78,8 @@ impl<'a> Marks for Scope<'a> {
         b
     }
 
-    fn input(&self, t: &Fitted) -> Triple {
-        match &t.op {
-            FitOp::Input(v) => undivided(whole(u128::from(size_at(self.vars, *v)))),
-            FitOp::Num(_) | FitOp::Let(_) | FitOp::Neg(_) => no_triple(),
-            FitOp::Add(x, y) | FitOp::Sub(x, y) | FitOp::Mul(x, y) => {
-                let a = self.mark(x);
-                let b = self.mark(y);
-                self.two(t, x, y, a, b)
-            }
-            FitOp::Pow(x, n) => {
-                if *n == 0 {
-                    return no_triple();
-                }
-                let a = self.mark(x);
-                self.factor(x, t.width, *n - 1, power(a, *n - 1), a)
-            }
-        }
+    fn input(&self, _t: &Fitted, v: u8) -> Triple {
+        undivided(whole(u128::from(size_at(self.vars, v))))
     }
 
     fn two(&self, t: &Fitted, _x: &Fitted, _y: &Fitted, a: Triple, b: Triple) -> Triple {

@@ -62,7 +62,7 @@ impl Marks for Distinct {
         t.pair
     }
 
-    fn input(&self, t: &Fitted) -> Pair {
+    fn input(&self, t: &Fitted, _v: u8) -> Pair {
         t.pair
     }
 

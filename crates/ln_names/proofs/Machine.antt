@@ -270,7 +270,7 @@ module _ (bytes : List ℕ) (ts : List Token) (s : Scope) where
       both (then w u.run) (means r (tighter (Terms (TSub (span_at ts i) g k)) q (λ x. omega arith)) st u.to low
       (to_one u.to (after k next) u.same ∙ low_after 1 (TSub (span_at ts i) g k) st low) u.end)
 
-  -- so many steps
+  -- the number of steps from one token to another, and what they come to
   record Steps (i j : ℕ) (st to : State) : Type 0 where
     many : ℕ
     ends : i + many ≡ j

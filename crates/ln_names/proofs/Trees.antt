@@ -15,7 +15,7 @@ pub record Judged : Type 0 where
   pub visits : List Visit
   pub count : ℕ
 
--- one more token, which is so many nodes
+-- one more token, and the number of nodes that it is
 abbrev pub judge : Judged → Use → Span → ℕ → Judged
 judge j u at n = record { visits = j.visits ++ (visit u at ∷ []); count = j.count + n }
 

@@ -9,9 +9,9 @@ use std::alloc::Global;
 
 /// What was read of an expression: the nodes whose operands were read, and what waits for an operand or its closing parenthesis.
 #[derive(Drop)]
-pub struct Reading {
-    pub nodes: Seq<Node>,
-    pub waiting: Vec<Waiting>,
+pub(crate) struct Reading {
+    pub(crate) nodes: Seq<Node>,
+    pub(crate) waiting: Vec<Waiting>,
 }
 
 // How tightly an operation binds its operands.
@@ -27,7 +27,7 @@ fn binding(p: Operation) -> u8
 
 impl Reading {
     /// Nothing was read.
-    pub fn new(alloc: Global) -> Reading
+    pub(crate) fn new(alloc: Global) -> Reading
         ensures { machine_in result ≡ machine [] [] }
     {
         Reading {
@@ -37,7 +37,7 @@ impl Reading {
     }
 
     /// Appends a node, if there is one.
-    pub fn emit(&mut self, node: Option<Node>) -> Result<(), NoMemory>
+    pub(crate) fn emit(&mut self, node: Option<Node>) -> Result<(), NoMemory>
         ensures { OnOk result (machine_in self.new ≡ emit_if (machine_in self.old) node) }
     {
         if let Some(node) = node {
@@ -47,7 +47,7 @@ impl Reading {
     }
 
     /// An operation or a parenthesis waits.
-    pub fn wait(&mut self, w: Waiting) -> Result<(), NoMemory>
+    pub(crate) fn wait(&mut self, w: Waiting) -> Result<(), NoMemory>
         ensures { OnOk result (machine_in self.new ≡ wait (machine_in self.old) w) }
     {
         self.waiting.push(w)?;
@@ -75,7 +75,7 @@ impl Reading {
     }
 
     /// Operations that wait and bind at least this tightly are nodes.
-    pub fn settle(&mut self, bar: u8) -> Result<(), NoMemory>
+    pub(crate) fn settle(&mut self, bar: u8) -> Result<(), NoMemory>
         ensures { OnOk result (machine_in self.new ≡ settled bar (machine_in self.old)) }
     {
         'waiting: while let Some(w) = self.waiting.pop() {
@@ -87,7 +87,7 @@ impl Reading {
     }
 
     /// An operation comes.
-    pub fn operate(&mut self, p: Operation, at: Span) -> Result<(), NoMemory>
+    pub(crate) fn operate(&mut self, p: Operation, at: Span) -> Result<(), NoMemory>
         ensures { OnOk result (machine_in self.new ≡ operate p at (machine_in self.old)) }
     {
         if !matches!(p, Operation::Negation) {
@@ -97,7 +97,7 @@ impl Reading {
     }
 
     /// A parenthesis comes, or another token that is nothing.
-    pub fn enclose(&mut self, kind: Option<Kind>) -> Result<(), NoMemory>
+    pub(crate) fn enclose(&mut self, kind: Option<Kind>) -> Result<(), NoMemory>
         ensures { OnOk result (machine_in self.new ≡ enclose kind (machine_in self.old)) }
     {
         match kind {

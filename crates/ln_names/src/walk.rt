@@ -96,7 +96,7 @@ fn item_nodes(
         }
         RawItem::Pred(name, args, lets, root) => {
             passed(head_fault(bytes, before, *name, args))?;
-            pred_nodes(alloc, bytes, ts, before, args, lets, *root)
+            pred_nodes(alloc, bytes, ts, Visible { before, args, lets }, *root)
         }
     }
 }
@@ -145,21 +145,16 @@ fn pred_nodes(
     alloc: Global,
     bytes: &[u8],
     ts: &[Token],
-    its: &[RawItem],
-    args: &[RawArg],
-    lets: &[RawLet],
+    seen: Visible,
     root: Places,
 ) -> Result<Body, NamesStop>
-    ensures fine { OnOk result (first_fault bytes.now (body_visits ts.now (items its.now) args.now lets.now root) ≡ None) }
-    ensures nodes { IfOk result (λ b. PredNodes bytes.now ts.now (items its.now) args.now lets.now root b) }
-    ensures err { IfErr result (NamesStopAt (first_fault bytes.now (body_visits ts.now (items its.now) args.now lets.now root))) }
+    ensures fine { OnOk result (first_fault bytes.now
+        (body_visits ts.now (items seen.entry.before.now) seen.entry.args.now seen.entry.lets.now root) ≡ None) }
+    ensures nodes { IfOk result (λ b. PredNodes bytes.now ts.now (items seen.entry.before.now) seen.entry.args.now seen.entry.lets.now root b) }
+    ensures err { IfErr result (NamesStopAt (first_fault bytes.now
+        (body_visits ts.now (items seen.entry.before.now) seen.entry.args.now seen.entry.lets.now root))) }
 {
-    let values = lets_nodes(alloc, bytes, ts, its, args, lets)?;
-    let seen = Visible {
-        before: its,
-        args,
-        lets,
-    };
+    let values = lets_nodes(alloc, bytes, ts, seen.before, seen.args, seen.lets)?;
     let value = value_nodes(alloc, bytes, ts, seen, values.count, root)?;
     Ok(Body {
         lets: values.lets,

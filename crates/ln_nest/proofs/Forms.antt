@@ -6,3 +6,5 @@ pub mod Leans
 pub mod Steps
 pub mod Whole
 pub mod Nests
+pub mod Squares
+pub mod Halving

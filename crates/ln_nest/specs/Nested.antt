@@ -1,5 +1,5 @@
 -- A list of terms as a nested tree.
-use Rattle.std.specs.Prelude.{ℕ, zero, suc, ◌-◌, ◌/◌, ◌%◌, min, nat_eq, nat_le, Bool, true, false, ◌&&◌, ℤ, pos, ◌+ℤ◌, List, [], ◌∷◌, if◌then◌else◌}
+use Rattle.std.specs.Prelude.{ℕ, zero, suc, ◌-◌, ◌/◌, ◌%◌, min, nat_eq, nat_le, Bool, true, false, ◌&&◌, ℤ, pos, ◌+ℤ◌, List, [], ◌∷◌, map, if◌then◌else◌}
 use Rattle.ln_algebra.specs.Terms.{Term}
 use Rattle.std.specs.Prelude.{negsuc}
 pub use Rattle.ln_poly.specs.Lean.{exponent_of}
@@ -83,6 +83,41 @@ abbrev pub nested : ℕ → ℕ → ℕ → List Term → Tree
 nested d zero v f = Num (total f)
 nested d (suc k) v f = horner (nested d k (suc v)) v d f
 
--- the nested form of terms over n variables with exponents of at most 126
+-- ---- one term by squares
+-- half of each exponent
+abbrev pub halved : List ℕ → List ℕ
+halved [] = []
+halved (n ∷ m) = (n / 2) ∷ halved m
+
+-- 1 for each odd exponent, else 0
+abbrev pub odd_part : List ℕ → List ℕ
+odd_part [] = []
+odd_part (n ∷ m) = (n % 2) ∷ odd_part m
+
+-- is an exponent b or more?
+abbrev pub has_power : ℕ → List ℕ → Bool
+has_power b [] = false
+has_power b (n ∷ m) = if nat_le b n then true else has_power b m
+
+-- is there one term, with an exponent of b or more?
+abbrev pub is_power : ℕ → List Term → Bool
+is_power b [] = false
+is_power b (t ∷ []) = has_power b t.exponents
+is_power b (t ∷ s ∷ f) = false
+
+-- the half of a monomial: a term is its square times the rest
+abbrev pub half_term : Term → Term
+half_term t = record { exponents = halved t.exponents; factor = pos 1 }
+
+-- what remains of a term without the square of its half
+abbrev pub rest_term : Term → Term
+rest_term t = record { exponents = odd_part t.exponents; factor = t.factor }
+
+-- one term with an exponent of b or more, as the square of its half times the rest; the half in the same way from 4 on, in at most k squares
+abbrev pub by_squares : ℕ → ℕ → ℕ → ℕ → List Term → Tree
+by_squares d n zero b f = nested d n 0 f
+by_squares d n (suc k) b f = if is_power b f then scaled (Pow (by_squares d n k 4 (map half_term f)) 2) (nested d n 0 (map rest_term f)) else nested d n 0 f
+
+-- the nested form of terms over n variables with exponents of at most 126; of one term with an exponent from 8 on it is by squares
 abbrev pub nested_form : ℕ → List Term → Tree
-nested_form n f = nested 126 n 0 f
+nested_form n f = by_squares 126 n 7 8 f

@@ -1,5 +1,5 @@
 //! The nested form of a polynomial: with the terms that have variable v divided by a power of it, it is that power times these, and the others.
-ghost use Rattle.std.specs.Prelude.{◌≡◌, ℕ, List, ◌+◌, ◌-◌, ◌*◌, ◌^◌, ◌<◌, ◌≤◌, max, [], All, IfOk, length};
+ghost use Rattle.std.specs.Prelude.{◌≡◌, ℕ, List, ◌+◌, ◌-◌, ◌*◌, ◌^◌, ◌<◌, ◌≤◌, max, true, false, [], All, IfOk, length};
 ghost use Rattle.ln_algebra.specs.Vector.{degree};
 ghost use Rattle.ln_algebra.specs.Weights.{weighted_sum};
 ghost use Rattle.ln_interval.specs.Range.{IsOrdered, magnitude, power, product};
@@ -15,10 +15,10 @@ ghost use Rattle.ln_bound.specs.Value.{sizes};
 ghost use Rattle.ln_bound.specs.Widths.{least};
 ghost use Rattle.ln_poly.specs.Sparse.{AreBelow, coefficient_at, terms_of};
 ghost use Rattle.ln_nest.specs.Lean.{AreLean, HasNoZero, largest};
-ghost use Rattle.ln_nest.specs.Nested.{horner, is_number, is_square, nested, nested_form, power as variable_power};
+ghost use Rattle.ln_nest.specs.Nested.{by_squares, horner, is_number, is_power, is_square, nested, nested_form, power as variable_power};
 ghost use Rattle.ln_nest.specs.View.{Has, IsScaled, product_of, scale, square_of, terms_in};
 
-use crate::work::{Work, constant, parted, power_at_once, work_of};
+use crate::work::{Work, constant, halves, is_power, parted, power_at_once, rests, work_of};
 use ln_base::NoMemory;
 use ln_bound::size::{input, negated, number, two};
 use ln_bound::{FitOp, Fitted, Two, Width};
@@ -183,9 +183,47 @@ fn by_powers(
     two(alloc, Two::Plus, product, i)
 }
 
+// Is there one term, with an exponent of b or more, and a square left to take?
+fn has_square(k: u8, b: u8, terms: &[Work]) -> bool
+    ensures yes { result ≡ true → (1 ≤ k) × (is_power b (terms_in terms.now) ≡ true) }
+    ensures no { result ≡ false → 1 ≤ k → is_power b (terms_in terms.now) ≡ false }
+{
+    if k == 0 {
+        return false;
+    }
+    is_power(terms, b)
+}
+
+// The tree of terms: of one with an exponent of b or more the square of its half times the rest, in at most k squares.
+fn by_squares(
+    alloc: Global,
+    vars: &[VarInfo],
+    k: u8,
+    b: u8,
+    terms: Vec<Work>,
+) -> Result<Fitted, NoMemory>
+    requires few { length vars.now ≤ 168 }
+    requires ordered { (k : ℕ) → IsOrdered (ranges vars.now k) }
+    requires some { HasNoZero (terms_in terms.items) }
+    requires weight { weighted_sum (scale vars.now) (terms_in terms.items) ≤ most }
+    ensures { IfOk result (λ t. Has vars.now (typed t) (by_squares 126 (length vars.now) k b (terms_in terms.items))
+        (weighted_sum (scale vars.now) (terms_in terms.items))) }
+{
+    if !has_square(k, b, terms.as_slice()) {
+        return nest_from(alloc, vars, 126, 0, terms);
+    }
+    let half = halves(alloc, terms.as_slice())?;
+    let rest = rests(alloc, terms.as_slice())?;
+    let root = by_squares(alloc, vars, k - 1, 4, half)?;
+    let square = squared(alloc, root)?;
+    let t = nest_from(alloc, vars, 126, 0, rest)?;
+    times(alloc, square, t)
+}
+
 /// The nested form of the polynomial f, whose terms have a degree of at most 126, as a tree: by powers of the first variable,
 /// each factor of them by powers of the next. A power of 8 and more by which all terms with the variable can be divided is taken at
-/// once, by squares. Each range is exactly its operation over the operands' ranges, of a variable
+/// once, by squares. Where f is one term with such a power, it is the square of the half of its monomial times the rest, and so is
+/// that half, so that its variables share their squares. Each range is exactly its operation over the operands' ranges, of a variable
 /// the declared one; each width is the least that fits it and is no narrower than an operand. Each range is within `-W .. W`,
 /// W being the sum of f's absolute factors, each times its monomial at the largest absolute values of the variables, and at
 /// least 1 of each; W has to be at most `2^127 - 1`. No node has more terms than f, or than one where f has none, or a larger
@@ -205,6 +243,6 @@ pub fn nest(alloc: Global, f: &Poly, s: &Shape) -> Result<Fitted, NoMemory>
 {
     let vars = s.vars.as_slice();
     let terms = work_of(alloc, f.terms(), vars.len())?;
-    let t = nest_from(alloc, vars, 126, 0, terms)?;
+    let t = by_squares(alloc, vars, 7, 8, terms)?;
     Ok(t)
 }

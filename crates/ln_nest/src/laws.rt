@@ -25,7 +25,7 @@ pub fn lean_polynomials_are_short()
         IsCollected f → HasNoZero f → AreUnder top f }
 {}
 
-/// No node of the nested form weighs more than its terms, whatever weights of at least 1. So its ranges are within
+/// No node of a tree by powers of each variable weighs more than its terms, whatever weights of at least 1. So its ranges are within
 /// `-W .. W`, W being the M-weighted sum of the terms, and its running sizes are at most W.
 pub fn nested_forms_stay_within()
     ensures weights { (w : ℕ → ℕ) → ((v : ℕ) → 1 ≤ w v) → (d k v : ℕ) (f : List Term) → HasNoZero f →

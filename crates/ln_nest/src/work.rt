@@ -1,9 +1,10 @@
 //! Terms with an exponent for each variable, divided by one variable after the other.
-ghost use Rattle.std.specs.Prelude.{◌≡◌, ◌≤◌, min, nat_lt, true, IfOk, if◌then◌else◌};
+ghost use Rattle.std.specs.Prelude.{◌≡◌, ◌≤◌, min, map, nat_lt, true, IfOk, if◌then◌else◌};
 ghost use Rattle.ln_bound.specs.Light.{most};
 ghost use Rattle.ln_tree.specs.Exps.{IsRising, vector};
 ghost use Rattle.ln_poly.specs.Sparse.{AreRising, terms_of};
 ghost use Rattle.ln_nest.specs.Nested.{power_at_once, divided, exponent_of, free_of, is_positive, least_power, lessened, total};
+ghost use Rattle.ln_nest.specs.Nested.{half_term, halved, has_power, is_power, odd_part, rest_term};
 ghost use Rattle.ln_nest.specs.View.{terms_in, abs_total};
 
 use ln_base::NoMemory;
@@ -123,6 +124,83 @@ pub fn parted(
         }
     }
     Ok((with, without))
+}
+
+// Is an exponent b or more?
+fn has_power(m: &[u8], b: u8) -> bool
+    ensures { result ≡ has_power b m.now }
+{
+    match m {
+        [] => false,
+        [n, rest @ ..] => {
+            if b <= *n {
+                return true;
+            }
+            has_power(rest, b)
+        }
+    }
+}
+
+/// Is there one term, with an exponent of b or more?
+pub fn is_power(terms: &[Work], b: u8) -> bool
+    ensures { result ≡ is_power b (terms_in terms.now) }
+{
+    match terms {
+        [term] => has_power(term.exponents.as_slice(), b),
+        _ => false,
+    }
+}
+
+// Half of each exponent.
+fn halved(alloc: Global, m: &[u8]) -> Result<Vec<u8>, NoMemory>
+    ensures { IfOk result (λ h. h.items ≡ halved m.now) }
+{
+    let mut out = Vec::new(alloc);
+    'exponents: for n in m {
+        out.push(*n / 2)?;
+    }
+    Ok(out)
+}
+
+// 1 for each odd exponent, else 0.
+fn odd_part(alloc: Global, m: &[u8]) -> Result<Vec<u8>, NoMemory>
+    ensures { IfOk result (λ h. h.items ≡ odd_part m.now) }
+{
+    let mut out = Vec::new(alloc);
+    'exponents: for n in m {
+        out.push(*n % 2)?;
+    }
+    Ok(out)
+}
+
+/// The halves of the terms' monomials.
+pub fn halves(alloc: Global, terms: &[Work]) -> Result<Vec<Work>, NoMemory>
+    ensures { IfOk result (λ hs. terms_in hs.items ≡ map half_term (terms_in terms.now)) }
+{
+    let mut out = Vec::new(alloc);
+    'terms: for t in terms {
+        let exponents = halved(alloc, t.exponents.as_slice())?;
+        out.push(Work {
+            exponents,
+            factor: 1,
+        })?;
+    }
+    Ok(out)
+}
+
+/// What remains of the terms without the squares of their halves.
+pub fn rests(alloc: Global, terms: &[Work]) -> Result<Vec<Work>, NoMemory>
+    ensures { IfOk result (λ rs. terms_in rs.items ≡ map rest_term (terms_in terms.now)) }
+{
+    let mut out = Vec::new(alloc);
+    'terms: for t in terms {
+        let exponents = odd_part(alloc, t.exponents.as_slice())?;
+        out.push(Work {
+            exponents,
+            factor: t.factor,
+        })?;
+    }
+    Ok(out)
 }
 
 /// The sum of the factors.

@@ -23,9 +23,9 @@ pub record IsLowering (out ps : Pairs) (v n i : ℕ) : Type 0 where
   pub exponents : (u : ℕ) → exponent u out ≡ exponent u (take i ps) - power_at u (v, n)
   pub rising : IsRising out
 
--- the binomials of each number below 128 and k
-abbrev pub IsColumn : List ℕ → ℕ → Type 0
-IsColumn c k = (j : ℕ) → j < 128 → slice_index c j ≡ binomial j k
+-- the binomials of k, k + 1, .. and k, the first n of them
+abbrev pub IsColumn : List ℕ → ℕ → ℕ → Type 0
+IsColumn c k n = (j : ℕ) → j < n → slice_index c j ≡ binomial (k + j) k
 
 -- out is old with the derivative of the term t appended
 pub record IsDerivedPut (out old : Sparse) (t : Pairs × ℤ) (v n : ℕ) : Type 0 where

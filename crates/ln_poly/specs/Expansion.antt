@@ -1,5 +1,6 @@
 -- The expansion of a predicate: its normal polynomials, the first node that has too many terms, and the root that is 0.
 use Rattle.std.specs.Prelude.{◌≡◌, ℕ, ◌≤◌, ◌<◌, zero, suc, pos, List, [], ◌∷◌, ◌++◌, length, map}
+use Rattle.std.specs.List.{AllByRecursion}
 use Rattle.ln_base.specs.declared.span.Span.{Span}
 use Rattle.ln_algebra.specs.Coefficient.{normal_coefficient}
 use Rattle.ln_algebra.specs.Stage.{IsMonomial}
@@ -67,8 +68,7 @@ expanded_pred vars lets root = expanded_lets vars [] lets ++ expanded vars (clos
 
 -- none of them has too many terms
 abbrev pub HaveFewTerms : ℕ → List (Span × Tree) → Type 0
-HaveFewTerms n [] = Unit {0}
-HaveFewTerms n (x ∷ xs) = (HasTooManyTerms n x.1 → ⊥) × HaveFewTerms n xs
+HaveFewTerms n xs = AllByRecursion (λ x. HasTooManyTerms n x.1 → ⊥) xs
 
 -- the first of them that has too many terms
 pub record IsTermsFault (n : ℕ) (nodes : List (Span × Tree)) (at : Span) : Type 0 where

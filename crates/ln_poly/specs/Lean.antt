@@ -1,5 +1,6 @@
 -- Trees no node of which has many terms or large exponents.
 use Rattle.std.specs.Prelude.{◌≢◌, ℕ, zero, suc, ◌≤◌, max, pos, List, [], ◌∷◌, length}
+use Rattle.std.specs.List.{AllByRecursion}
 use Rattle.ln_algebra.specs.Terms.{IsNormalOf, Term}
 use Rattle.ln_algebra.specs.Tree.{Tree, Num, Input, Name, Neg, Add, Sub, Mul, Pow}
 use Rattle.ln_tree.specs.Exps.{exponent}
@@ -18,8 +19,7 @@ largest (t ∷ f) v = max (exponent v t.0) (largest f v)
 
 -- in no term the exponent of a variable v is above top v
 abbrev pub AreUnder : (ℕ → ℕ) → List Term → Type 0
-AreUnder top [] = Unit {0}
-AreUnder top (t ∷ f) = ((v : ℕ) → exponent_of v t.exponents ≤ top v) × AreUnder top f
+AreUnder top f = AllByRecursion (λ t. (v : ℕ) → exponent_of v t.exponents ≤ top v) f
 
 -- the polynomial of the tree over n variables is the sum of at most this many terms, in none of which the exponent of a variable
 -- v is above top v
@@ -42,5 +42,4 @@ AreLean n count top (Pow e k) = AreLean n count top e × ((j : ℕ) → j ≤ k 
 
 -- no factor is 0
 abbrev pub HasNoZero : List Term → Type 0
-HasNoZero [] = Unit {0}
-HasNoZero (t ∷ f) = (t.factor ≢ pos 0) × HasNoZero f
+HasNoZero f = AllByRecursion (λ t. t.factor ≢ pos 0) f

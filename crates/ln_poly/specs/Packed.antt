@@ -1,5 +1,6 @@
 -- Monomials as numbers: each variable has a field of bits, lower variables higher ones.
 use Rattle.std.specs.Prelude.{ℕ, zero, suc, ◌+◌, ◌-◌, ◌*◌, ◌/◌, ◌^◌, ◌<◌, ◌≤◌, All, List, [], ◌∷◌, length, map}
+use Rattle.std.specs.List.{AllByRecursion}
 use Rattle.ln_tree.specs.Exps.{Pairs, exponent}
 use Rattle.ln_poly.specs.Keyed.{Keyed}
 use Rattle.ln_poly.specs.Lean.{largest}
@@ -41,8 +42,7 @@ opened ws k = pairs_from 0 (taken ws k)
 
 -- each exponent is below 128
 abbrev pub AreSmall : List ℕ → Type 0
-AreSmall [] = Unit {0}
-AreSmall (e ∷ m) = (e < 128) × AreSmall m
+AreSmall m = AllByRecursion (λ e. e < 128) m
 
 -- the terms with numbers for monomials
 abbrev pub keyed : List ℕ → Sparse → Keyed

@@ -1,5 +1,5 @@
 //! Binomials of numbers below 128.
-ghost use Rattle.std.specs.Prelude.{◌≡◌, ◌<◌, ◌+◌, length};
+ghost use Rattle.std.specs.Prelude.{◌≡◌, ◌<◌, ◌≤◌, ◌+◌, ◌-◌, length};
 ghost use Rattle.ln_algebra.specs.Terms.{binomial};
 ghost use Rattle.ln_poly.specs.Derivative.{IsColumn};
 ghost use Rattle.ln_poly.specs.Values.{IsTriangle};
@@ -7,27 +7,28 @@ ghost use Rattle.ln_poly.specs.Values.{IsTriangle};
 use ln_base::NoMemory;
 use std::alloc::Global;
 
-// From the binomials of each number and k to those of each number and k + 1, by Pascal's rule.
-fn raise(c: &mut [u128], k: u8)
+// From the binomials of k, k + 1, .. and k, the first n of them, to those of k + 1, k + 2, .. and k + 1, by Pascal's rule.
+fn raise(c: &mut [u128], k: u8, n: usize)
     requires len { length c.old ≡ 128 }
-    requires column { IsColumn c.old k }
-    ensures { IsColumn c.new (k + 1) }
+    requires few { n ≤ 127 - k }
+    requires column { IsColumn c.old k n }
+    ensures { IsColumn c.new (k + 1) n }
 {
     let mut sum = 0u128;
-    'column: for x in c.iter_mut() {
-        let old = *x;
-        *x = sum;
-        sum += old;
+    'column: for i in 0..n {
+        sum += c[i];
+        c[i] = sum;
     }
 }
 
-// The binomials of each number below 128 and n.
-pub(crate) fn column(n: u8) -> [u128; 128]
-    ensures { IsColumn result n }
+// The binomials of n, n + 1, .. and n, the first m of them.
+pub(crate) fn column(n: u8, m: usize) -> [u128; 128]
+    requires { m ≤ 128 - n }
+    ensures { IsColumn result n m }
 {
     let mut c = [1u128; 128];
     'raises: for k in 0..n {
-        raise(&mut c, k);
+        raise(&mut c, k, m);
     }
     c
 }
@@ -49,7 +50,7 @@ impl Binomials {
         let mut c = [1u128; 128];
         'columns: for k in 0..128u8 {
             columns.push(c)?;
-            raise(&mut c, k);
+            raise(&mut c, k, usize::from(127 - k));
         }
         Ok(Binomials { columns })
     }
@@ -60,6 +61,9 @@ impl Binomials {
         requires k { k < 128 }
         ensures { result ≡ binomial n k }
     {
-        self.columns[usize::from(k)][usize::from(n)]
+        if n < k {
+            return 0;
+        }
+        self.columns[usize::from(k)][usize::from(n - k)]
     }
 }

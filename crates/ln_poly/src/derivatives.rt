@@ -1,15 +1,17 @@
 //! Computes scaled derivatives of a polynomial, by one variable or by several.
-ghost use Rattle.std.specs.Prelude.{◌≡◌, ℕ, List, [], ◌∷◌, ◌++◌, ◌+◌, ◌<◌, ◌≤◌, ◌^◌, ◌*ℤ◌, pos, IfOk, OnOk, length, unsigned_abs};
+ghost use Rattle.std.specs.Prelude.{◌≡◌, ℕ, ℤ, List, [], ◌∷◌, ◌++◌, ◌+◌, ◌-◌, ◌<◌, ◌≤◌, ◌^◌, ◌*ℤ◌, pos};
+ghost use Rattle.std.specs.Prelude.{IfOk, OnOk, length, slice_index, slice_index_or, unsigned_abs};
 ghost use Rattle.ln_algebra.specs.Terms.{binomial, factor_at};
 ghost use Rattle.ln_algebra.specs.Weights.{weighted_sum};
 ghost use Rattle.ln_bound.specs.Light.{most};
 ghost use Rattle.ln_bound.specs.Value.{sizes, weights};
-ghost use Rattle.ln_tree.specs.Exps.{IsAbove, IsRising, exponent};
+ghost use Rattle.ln_tree.specs.Exps.{IsAbove, IsRising, Pairs, exponent};
 ghost use Rattle.ln_poly.specs.Sparse.{AreBelow, IsPoly, coefficient_at, terms_of};
-ghost use Rattle.ln_poly.specs.Derivative.{IsColumn, IsDerivative, IsDerivedPut, IsLowered, derivative};
+ghost use Rattle.ln_poly.specs.Derivative.{IsDerivative, IsDerivedPut, IsLowered, derivative};
 
 use crate::arithmetic::push_product;
 use crate::binomials::column;
+use crate::fields::largest;
 use crate::poly::Poly;
 use crate::terms::nonzero;
 use ln_base::NoMemory;
@@ -65,7 +67,7 @@ fn put_derived(
     column: &[u128],
 ) -> Result<(), NoMemory>
     requires len { length column.now ≡ 128 }
-    requires column { IsColumn column.now n }
+    requires column { n ≤ exponent v t.now.0 → slice_index column.now (exponent v t.now.0 - n) ≡ binomial (exponent v t.now.0) n }
     requires room { n ≤ exponent v t.now.0 → unsigned_abs (t.now.1 *ℤ pos (binomial (exponent v t.now.0) n)) < 2 ^ 127 }
     ensures none { OnOk result (exponent v t.now.0 < n → out.new.items ≡ out.old.items) }
     ensures some { OnOk result (n ≤ exponent v t.now.0 → IsDerivedPut out.new.items out.old.items t.now v n) }
@@ -75,7 +77,17 @@ fn put_derived(
         return Ok(());
     }
     let exps = lowered(alloc, &t.0, v, n)?;
-    push_times(out, exps, t.1, column[usize::from(e)])
+    push_times(out, exps, t.1, column[usize::from(e - n)])
+}
+
+// How many exponents of variable v there are from n to the largest one.
+fn reach(f: &[(Exps, i128)], v: u8, n: u8) -> usize
+    ensures few { result ≤ 128 - n }
+    ensures each { (i : ℕ) (t : Pairs × ℤ) → i < length f.now → n ≤ exponent v (slice_index_or f.now i t).0 →
+        exponent v (slice_index_or f.now i t).0 - n < result }
+{
+    let tops = largest(f);
+    usize::from((tops[usize::from(v)] + 1).saturating_sub(n))
 }
 
 /// The scaled derivative by variable v, n times: the partial derivative divided by the factorial of n.
@@ -89,7 +101,7 @@ pub fn derive(alloc: Global, f: &Poly, s: &Shape, v: u8, n: u8) -> Result<Poly, 
     ensures below { IfOk result (AreBelow (length s.now.vars)) }
 {
     let f = f.terms();
-    let column = column(n);
+    let column = column(n, reach(f, v, n));
     let mut out = Vec::new(alloc);
     'terms: for t in f {
         put_derived(alloc, &mut out, t, v, n, &column)?;

@@ -1,61 +1,41 @@
 //! Computes the exponents of the product of two monomials.
-ghost use Rattle.std.specs.Prelude.{◌≡◌, ℕ, ◌+◌, ◌++◌, ◌<◌, [], OnOk, length, slice_index_or, true};
+ghost use Rattle.std.specs.Prelude.{◌≡◌, ℕ, ◌+◌, ◌++◌, ◌<◌, ◌≤◌, [], OnOk, length, true};
 ghost use Rattle.ln_tree.specs.Exps.{IsRising, exponent};
-ghost use Rattle.ln_poly.specs.Times.{AreLow, IsPicked, IsTimes, MayPick};
+ghost use Rattle.ln_poly.specs.Times.{AreLow, IsLowest, IsPassed, IsTimes, variable_at};
 
 use ln_base::NoMemory;
 use ln_tree::Exps;
 
-// The pair of the lowest variable, and the places after it in two lists.
-#[derive(Clone, Copy)]
-struct Pick {
-    v: u8,
-    e: u8,
-    i: usize,
-    j: usize,
-}
-
-// The pair at place i of the first list.
-fn first(a: &[(u8, u8)], i: usize, j: usize) -> Pick
-    requires { i < length a.now }
-    ensures { result ≡ record { v = (slice_index_or a.now i (0, 0)).0; e = (slice_index_or a.now i (0, 0)).1; i = i + 1; j = j } }
-{
-    let (v, e) = a[i];
-    Pick { v, e, i: i + 1, j }
-}
-
-// The pair at place j of the second list.
-fn second(b: &[(u8, u8)], i: usize, j: usize) -> Pick
-    requires { j < length b.now }
-    ensures { result ≡ record { v = (slice_index_or b.now j (0, 0)).0; e = (slice_index_or b.now j (0, 0)).1; i = i; j = j + 1 } }
-{
-    let (v, e) = b[j];
-    Pick { v, e, i, j: j + 1 }
-}
-
-// The pair of the lowest variable from two places on; where both lists have it, with the sum of its exponents.
-fn lowest(a: &[(u8, u8)], b: &[(u8, u8)], i: usize, j: usize) -> Pick
-    requires { MayPick a.now b.now i j }
-    ensures { IsPicked a.now b.now i j result }
+// The lowest variable from two places on.
+fn lowest(a: &[(u8, u8)], b: &[(u8, u8)], i: usize, j: usize) -> u8
+    requires left { i ≤ length a.now }
+    requires right { j ≤ length b.now }
+    requires some { i + j < length a.now + length b.now }
+    ensures { IsLowest a.now b.now i j result }
 {
     if j == b.len() {
-        return first(a, i, j);
+        return a[i].0;
     }
     if i == a.len() {
-        return second(b, i, j);
+        return b[j].0;
     }
-    if a[i].0 < b[j].0 {
-        return first(a, i, j);
+    a[i].0.min(b[j].0)
+}
+
+// The exponent of a variable at a place, 0 where another one is there, and the place after it.
+fn passed(a: &[(u8, u8)], i: usize, v: u8) -> (u8, usize)
+    requires rising { IsRising a.now }
+    requires within { i ≤ length a.now }
+    requires low { i < length a.now → v ≤ variable_at a.now i }
+    ensures { IsPassed a.now i v result.0 result.1 }
+{
+    if i == a.len() {
+        return (0, i);
     }
-    if b[j].0 < a[i].0 {
-        return second(b, i, j);
+    if a[i].0 != v {
+        return (0, i);
     }
-    Pick {
-        v: a[i].0,
-        e: a[i].1 + b[j].1,
-        i: i + 1,
-        j: j + 1,
-    }
+    (a[i].1, i + 1)
 }
 
 // Is each variable of the first below each of the second?
@@ -102,11 +82,15 @@ fn merged(out: &mut Exps, a: &[(u8, u8)], b: &[(u8, u8)]) -> Result<(), NoMemory
     let mut i = 0;
     let mut j = 0;
     'pairs: while i < a.len() || j < b.len() {
-        let p = lowest(a, b, i, j);
-        out.push(p.v, p.e)?;
-        i = p.i;
-        j = p.j;
+        let v = lowest(a, b, i, j);
+        let (d, k) = passed(a, i, v);
+        let (e, n) = passed(b, j, v);
+        out.push(v, d + e)?;
+        i = k;
+        j = n;
     }
+    // The contract of `pairs` states that they rise.
+    let _pairs = out.pairs();
     Ok(())
 }
 

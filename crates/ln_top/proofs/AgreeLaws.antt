@@ -1,7 +1,7 @@
 -- A line that asks for a predicate on a row is one call, and its meaning in the file that was put is the perturbed sign.
 use Rattle.std.proofs.Common.{◌≡◌, ℕ, List, [], ◌∷◌, Option, Some, ap, ◌∙◌, subst}
 use Rattle.std.specs.Prelude.{All}
-use Rattle.std.proofs.lemmas.List.Elements.{All-contains, All-cons, All-nil}
+use Rattle.std.proofs.lemmas.List.Elements.{All-contains}
 use Rattle.ln_base.specs.Outside.{Shown}
 use Rattle.ln_tree.specs.Row.{InRange, Row}
 use Rattle.ln_tree.specs.Table.{PredOf}
@@ -13,16 +13,9 @@ use Rattle.ln_cemit.specs.Names.{call_name}
 use Rattle.ln_cmean.specs.Carrying.Calls.{meaning_words}
 use Rattle.ln_cmean.specs.Carrying.Laws.{IsSaid}
 use Rattle.ln_cmean.proofs.Carrying.LineLaws.{line_said, one_call, call_there}
-use Rattle.ln_top.specs.Emitted.{CallPerturbedSigns, CallsPerturbedSign, PutC}
+use Rattle.ln_top.specs.Emitted.{CallsPerturbedSign, PutC}
+use Rattle.ln_top.specs.Target.Target.{OnRows}
 use Rattle.ln_top.specs.Agree.{AsksFor, MeaningsAgree, ProgramsAgree, SaysPerturbedSign, line_at, nothing}
-
--- The calls of the predicate in the file mean the perturbed signs.
-abbrev Signed : List Fun → PredOf → Type 0
-Signed file p = (row : Row) → InRange p.sites p.vars row → CallsPerturbedSign file p row
-
-all_signed : (file : List Fun) (ps : List PredOf) → CallPerturbedSigns file ps → All (Signed file) ps
-all_signed file [] s = All-nil (Signed file)
-all_signed file (p ∷ ps) s = All-cons (Signed file) p ps s.0 (all_signed file ps s.1)
 
 -- the line that is written for a call of a predicate on a row
 line_says : (file : List Fun) (p : PredOf) (row : Row) (line said : List ℕ) → CallsPerturbedSign file p row → AsksFor p row line
@@ -44,8 +37,8 @@ line_says file p row line said c a m =
 -- so it is of each line of a text of calls, since a text is of one file
 pub meanings_agree : MeaningsAgree
 meanings_agree preds was now put file calls out text m = λ k p row has range asks.
-    let here = subst (λ (x : List Fun). CallPerturbedSigns x preds) (one_text put.bytes put.file file put.text text) put.signs in
-    let signed = All-contains (Signed file) preds p (all_signed file preds here) has in
+    let here = subst (λ (x : List Fun). All (OnRows (CallsPerturbedSign x)) preds) (one_text put.bytes put.file file put.text text) put.signs in
+    let signed = All-contains (OnRows (CallsPerturbedSign file)) preds p here has in
     line_says file p row (line_at k calls) (line_at k out) (signed row range) asks (line_said file calls out m k (call_there _ _ _ _ asks))
 
 -- what was put is what is there, where there was nothing

@@ -1,8 +1,8 @@
 -- States that the calls of the C that `emit` writes mean the perturbed signs.
-use Rattle.std.specs.Prelude.{◌≡◌, ◌≢◌, ℕ, pos, List, [], ◌∷◌, map, Option, Some}
+use Rattle.std.specs.Prelude.{◌≡◌, ◌≢◌, ℕ, pos, All, List, [], map, Option, Some}
 use Rattle.ln_base.specs.Outside.{Shelf, Shown}
 use Rattle.ln_base.specs.declared.sign.Sign.{Sign}
-use Rattle.ln_tree.specs.Row.{InRange, Row}
+use Rattle.ln_tree.specs.Row.{Row}
 use Rattle.ln_tree.specs.Table.{PredOf}
 use Rattle.ln_code.specs.declared.verdict.By.{By}
 use Rattle.ln_code.specs.Part.{Part}
@@ -18,9 +18,11 @@ use Rattle.ln_top.specs.Frame.Said.{put_both}
 use Rattle.ln_top.specs.ByValue.{IsByValue, plain_value}
 use Rattle.ln_top.specs.Perturbed.{FilterDecides, IsSignOn, NotZeroWithoutParams}
 use Rattle.ln_top.specs.Steps.{WhereGiven}
+use Rattle.ln_top.specs.Target.Target.{OnRows}
 
 -- on this row the call of `ln_NAME` has a meaning: the perturbed sign of the predicate. Without params it isn't 0. Where the filter
--- decides, no operation is done in `__int128`. Where the value on the row isn't 0, that decides, with so many calls of functions
+-- decides, no operation is done in `__int128`. Where the value on the row isn't 0, that decides, with the calls of functions
+-- that `counts` has
 pub record CallsPerturbedSign (file : List Fun) (p : PredOf) (row : Row) : Type 0 where
   pub sign : Sign
   pub counts : Counts
@@ -29,12 +31,6 @@ pub record CallsPerturbedSign (file : List Fun) (p : PredOf) (row : Row) : Type 
   pub never_zero : NotZeroWithoutParams p sign
   pub narrow : FilterDecides p row → counts.wide ≡ 0
   pub plain : plain_value p row ≢ pos 0 → (by : By) × IsByValue p row sign by counts.calls counts.wide
-
--- so for each predicate, on each row in its declared ranges
-abbrev pub CallPerturbedSigns : List Fun → List PredOf → Type 0
-CallPerturbedSigns file [] = Unit {0}
-CallPerturbedSigns file (p ∷ ps) =
-    ((row : Row) → InRange p.sites p.vars row → CallsPerturbedSign file p row) × CallPerturbedSigns file ps
 
 -- the functions of the file are those of programs with the predicates' names, in order, and no other: of each the filter's, if there is
 -- one, the blocks', and `ln_NAME`, the one that isn't static; each is named after its predicate
@@ -49,7 +45,7 @@ pub record PutC (preds : List PredOf) (was now : Option Shown) : Type 0 where
   pub file : List Fun
   pub text : CText bytes file
   pub functions : HasFunctionsFor file preds
-  pub signs : CallPerturbedSigns file preds
+  pub signs : All (OnRows (CallsPerturbedSign file)) preds
   pub shown : now ≡ put_both bytes [] was
 
 -- where the words are `emit FILE`, and the source that the files contain is accepted, C for its predicates came to Out

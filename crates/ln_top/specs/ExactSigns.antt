@@ -12,6 +12,7 @@ use Rattle.ln_cemit.specs.Heads.{head, heads_of}
 use Rattle.ln_cemit.specs.Names.{call_name}
 use Rattle.ln_cemit.specs.Whole.{part_name}
 use Rattle.ln_top.specs.Perturbed.{IsSignOn, NotZeroWithoutParams}
+use Rattle.ln_top.specs.Target.Target.{OnRows}
 
 -- on this row the call of the function of this name has a meaning: the perturbed sign of the predicate, which without params isn't 0
 pub record MeansSign (file : List Fun) (name : List ℕ) (p : PredOf) (row : Row) : Type 0 where
@@ -25,17 +26,12 @@ pub record MeansSign (file : List Fun) (name : List ℕ) (p : PredOf) (row : Row
 abbrev pub CallsSign : List Fun → PredOf → Row → Type 0
 CallsSign file p row = MeansSign file (call_name p.name) p row
 
--- so for each predicate, on each row in its declared ranges
-abbrev pub CallSigns : List Fun → List PredOf → Type 0
-CallSigns file [] = Unit {0}
-CallSigns file (p ∷ ps) = ((row : Row) → InRange p.sites p.vars row → CallsSign file p row) × CallSigns file ps
-
 -- the bytes are a file of the C subset whose calls mean the perturbed signs. Its functions are those of programs without filters, one for
 -- each predicate in order, and no other: of each the blocks', and `ln_NAME`, the one that isn't static
 pub record IsExactC (preds : List PredOf) (bytes : List ℕ) : Type 0 where
   pub file : List Fun
   pub text : CText bytes file
-  pub signs : CallSigns file preds
+  pub signs : All (OnRows (CallsSign file)) preds
   pub programs : List Part
   pub bare : All (λ (q : Part). q.filter ≡ None) programs
   pub names : map part_name programs ≡ map (λ (p : PredOf). p.name) preds

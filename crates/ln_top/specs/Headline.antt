@@ -1,5 +1,5 @@
 -- The lines that `run` and `graded` print are the perturbed signs and what decides them, each in its own order of infinitesimals.
-use Rattle.std.specs.Prelude.{◌≡◌, ◌≢◌, ℕ, pos, List, [], ◌∷◌, ◌++◌, Option, Ok}
+use Rattle.std.specs.Prelude.{◌≡◌, ◌≢◌, ℕ, pos, All, List, [], ◌∷◌, ◌++◌, Option, Ok}
 use Rattle.ln_base.specs.Outside.{Shelf, Shown}
 use Rattle.ln_algebra.specs.Orders.{BySmallest, ByDegree, Rank}
 use Rattle.ln_tree.specs.Row.{InRange, Row}
@@ -16,6 +16,7 @@ use Rattle.ln_top.specs.Perturbed.{IsSignIn, NotZeroWithoutParams}
 use Rattle.ln_top.specs.Steps.{WhereGiven}
 use Rattle.ln_top.specs.Target.Line.{decider_text, sign_text}
 use Rattle.ln_top.specs.Signs.Run.{HasRecords}
+use Rattle.ln_top.specs.Target.Target.{HasProgram}
 
 -- the line is the sign and the decider of the verdict that the row, which is in range, requires in this order of infinitesimals. Its sign is
 -- the perturbed sign of the predicate on the row; where the value on the row isn't 0, that decides. A predicate without params has no row with
@@ -31,8 +32,7 @@ pub record HasPerturbedSign (rank : Rank) (p : PredOf) (row : Row) (text : List 
 
 -- no byte of these is a line feed
 abbrev pub NoFeed : List ℕ → Type 0
-NoFeed [] = Unit {0}
-NoFeed (b ∷ bs) = (b ≢ 10) × NoFeed bs
+NoFeed = All (λ b. b ≢ 10)
 
 -- one line: its only line feed is its end
 pub record IsOneLine (text : List ℕ) : Type 0 where
@@ -61,7 +61,8 @@ abbrev pub SignsArePerturbed : List (List ℕ) → Shelf → List State → Opti
 SignsArePerturbed words shelf boxes was now = WhereGiven words shelf Run (λ g. (p : PredOf) (names : List (List ℕ)) (records : Records)
     → HasRecords g p names (names ∷ records) → PutSigns BySmallest p records boxes was now)
 
--- where the words are `graded FILE NAME ROWS`, the same by total degree first; watchers are shown nothing
+-- where the words are `graded FILE NAME ROWS`, the same by total degree first, by a program no operation of which leaves its width; watchers are
+-- shown nothing
 abbrev pub GradedSignsArePerturbed : List (List ℕ) → Shelf → Option Shown → Option Shown → Type 0
 GradedSignsArePerturbed words shelf was now = WhereGiven words shelf Graded (λ g. (p : PredOf) (names : List (List ℕ)) (records : Records)
-    → HasRecords g p names (names ∷ records) → PutSigns ByDegree p records [] was now)
+    → HasRecords g p names (names ∷ records) → PutSigns ByDegree p records [] was now × HasProgram ByDegree p)

@@ -1,5 +1,6 @@
 -- States that the listing that `list` writes has the perturbed signs, and that `verify` finds it valid.
 use Rattle.std.specs.Prelude.{◌≡◌, ◌≢◌, ℕ, pos, List, [], ◌∷◌, codes, Option}
+use Rattle.std.specs.List.{AllZip}
 use Rattle.ln_base.specs.Outside.{Shelf, Shown}
 use Rattle.ln_tree.specs.declared.shape.Shape.{Shape}
 use Rattle.ln_tree.specs.Names.{name_bytes}
@@ -48,16 +49,9 @@ pub record PartGives (claim : Claim) (p : PredOf) (w : Written) : Type 0 where
   pub vars : shape.vars ≡ p.vars
   pub rows : (row : Row) → InRange p.sites p.vars row → claim p (part_of shape w) row
 
--- so it does of the part of each predicate, in order
-abbrev pub PartsGive : Claim → List PredOf → List Written → Type 0
-PartsGive claim [] [] = Unit {0}
-PartsGive claim [] (w ∷ ws) = ⊥
-PartsGive claim (p ∷ ps) [] = ⊥
-PartsGive claim (p ∷ ps) (w ∷ ws) = PartGives claim p w × PartsGive claim ps ws
-
--- the parts return the perturbed signs
+-- the part of each predicate, in order, returns the perturbed signs
 abbrev pub PartsGiveSigns : List PredOf → List Written → Type 0
-PartsGiveSigns ps ws = PartsGive GivesPerturbedSign ps ws
+PartsGiveSigns = AllZip (PartGives GivesPerturbedSign)
 
 -- what came to Out is the text of a listing that is valid for the source's predicates and whose parts return their signs, and nothing came
 -- to Err; and `verify` of a file that holds this text, over the same table, requires `valid`
@@ -66,7 +60,7 @@ pub record PutListing (g : Given) (was now : Option Shown) : Type 0 where
   pub listing : Listed
   pub text : ListText bytes listing.version (parts_of listing.entries)
   pub valid : IsValidFor g.table.preds listing
-  pub signs : PartsGive GivesFilteredSign g.table.preds valid.valid.parts
+  pub signs : AllZip (PartGives GivesFilteredSign) g.table.preds valid.valid.parts
   pub verified : (h : Given) → h.table ≡ g.table → h.texts ≡ bytes ∷ [] → VerifySaid h (whole Done (line (codes "valid")))
   pub shown : now ≡ put_both bytes [] was
 

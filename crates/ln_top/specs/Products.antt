@@ -1,9 +1,10 @@
 -- The signs that `product` prints are the perturbed signs of the products.
-use Rattle.std.specs.Prelude.{◌≡◌, ◌≢◌, ◌↔◌, ℕ, List, [], ◌∷◌, ◌++◌, length, map, slice_get, Option, Some, Ok}
+use Rattle.std.specs.Prelude.{◌≡◌, ◌≢◌, ◌↔◌, ℕ, List, [], ◌∷◌, ◌++◌, All, length, map, slice_get, Option, Some, Ok}
 use Rattle.ln_base.specs.Outside.{Shelf, Shown}
 use Rattle.ln_base.specs.declared.sign.Sign.{Sign}
 use Rattle.ln_base.specs.declared.sign.Sign.TheVariants.{Zero}
 use Rattle.ln_algebra.specs.Earlier.{Earlier}
+use Rattle.ln_algebra.specs.Orders.{BySmallest}
 use Rattle.ln_algebra.specs.Product.{AreFirsts}
 use Rattle.ln_algebra.specs.Sign.{IsFirst, IsPerturbedSign}
 use Rattle.ln_algebra.specs.Tree.{Tree, multiplied}
@@ -23,6 +24,7 @@ use Rattle.ln_top.specs.Headline.{IsOneLine}
 use Rattle.ln_top.specs.Perturbed.{IsSignOn}
 use Rattle.ln_top.specs.Steps.{WhereGiven}
 use Rattle.ln_top.specs.Target.Line.{sign_text}
+use Rattle.ln_top.specs.Target.Target.{HasProgram}
 use Rattle.ln_top.specs.Signs.Product.{AreDue, deciders_after}
 use Rattle.ln_top.specs.Signs.Run.{HasRecords}
 
@@ -65,10 +67,11 @@ pub data HaveProductSigns (p : PredOf) (others : List PredOf) : Records → List
       → ((row : Row) → read_row p.sites p.vars fields ≡ Ok row → HasProductSign p others row text)
       → HaveProductSigns p others rest texts → HaveProductSigns p others (fields ∷ rest) (text ++ texts)
 
--- such lines came to Out, and nothing to Err
+-- such lines came to Out, and nothing to Err, by a program of each factor, no operation of which leaves its width
 pub record PutProducts (p : PredOf) (others : List PredOf) (records : Records) (was now : Option Shown) : Type 0 where
   pub lines : List ℕ
   pub signs : HaveProductSigns p others records lines
+  pub programs : All (HasProgram BySmallest) (p ∷ others)
   pub shown : now ≡ put_both lines [] was
 
 -- where the words are `product FILE NAME NAME.. ROWS`, and the files contain predicates with the same arguments and records after the right

@@ -86,6 +86,7 @@ impl<'a> Target<'a> {
         ensures pred { slice_get c.now.table.preds i ≡ Some result.pred }
         ensures names { result.names ≡ names_of c.now.table result.pred }
         ensures rank { result.rank ≡ ByDegree }
+        ensures belongs { Belongs result.rank result.pred result.program }
     {
         // The contract of `blocks` states that the program follows the rules.
         let _blocks = program.blocks();

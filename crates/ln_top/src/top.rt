@@ -157,12 +157,12 @@ pub fn lnc<F: Files, C: Console>(
     ensures run_signs { IfSome (F.told files.old) (λ shelf. RunWritesSigns (map string_bytes words.now) shelf result (C.shown con.old)
         (C.shown con.new)) }
     // And in the other order of infinitesimals: where `graded` came to its end, each line of a row in range is the sign of the first
-    // coefficient that isn't 0 by total degree first, and what decides it.
+    // coefficient that isn't 0 by total degree first, and what decides it. No operation of the program leaves its certified width.
     ensures graded { IsSettled result → IfSome (F.told files.old) (λ shelf. GradedSignsArePerturbed (map string_bytes words.now) shelf
         (C.shown con.old) (C.shown con.new)) }
     // The same of products: where `product` worked on records after the right header to their end, there is one line for each, and
     // that of each that is a row in range begins with the perturbed sign of the product of the predicates on it, and goes on with what
-    // decides each of them; it is 0 exactly where one of their signs is.
+    // decides each of them; it is 0 exactly where one of their signs is. No operation of a factor's program leaves its certified width.
     ensures products { IsSettled result → IfSome (F.told files.old) (λ shelf. ProductsArePerturbed (map string_bytes words.now) shelf
         (C.shown con.old) (C.shown con.new)) }
     // And the C: where `emit` came to its end, what is on Out is the text of a C file in which, for each predicate and each row in

@@ -20,7 +20,7 @@ use Rattle.ln_base.proofs.Forms.Judging.{go_append}
 use Rattle.ln_trace.specs.Trace.{Between, Place, Subject, Within}
 use Rattle.ln_trace.specs.Judge.{Go, IsAgreed, judge_of}
 use Rattle.ln_trace.specs.Signs.{AreExplained, AreOf, AreRight, Explains, HaveStages, RowsDiffer, a_row, at_lines, no_row, signs_in}
-use Rattle.ln_trace.proofs.Telling.{list-told, told-signed}
+use Rattle.ln_trace.proofs.Telling.{list_told, told_signed}
 
 between-left : (m k : ℕ) (left rest : Records) → Between m rest ≡ Between k left → left ≡ rest
 between-left m k left rest e = cc
@@ -58,7 +58,7 @@ module _ (s : Subject) (inputs : InputsBelow (length s.vars) s.tree) (differ : R
     (
       row,
       read,
-      told-signed (length s.vars) (row_sites s.vars row.index) (values row.values) s.tree inputs (differ fields row read) stood (sign_number u) told r.signed,
+      told_signed (length s.vars) (row_sites s.vars row.index) (values row.values) s.tree inputs (differ fields row read) stood (sign_number u) told r.signed,
     ),
     right lines (Between seen left) tt (subst (λ p. Go s p lines (Between m [])) r.to g),
   )
@@ -119,7 +119,7 @@ module _ (s : Subject) (differ : RowsDiffer s) (some : HaveStages s) where
   record-go k n fields left front e (no_row stop read) =
       (Between (k + 1) left, record { number = e; fields = fields; behind = left; next = refl; stop = stop; refused = read; to = refl }, refl)
   record-go k n fields left front e (a_row row list ps t read stages of signed) =
-      let r = list-told (length s.vars) (row_sites s.vars row.index) (values row.values) s.tree (differ fields row read) list stages (some row list stages) in
+      let r = list_told (length s.vars) (row_sites s.vars row.index) (values row.values) s.tree (differ fields row read) list stages (some row list stages) in
       let i : IsSigned (length s.vars) (row_sites s.vars row.index) s.tree r.0 (sign_number t) =
       subst (IsSigned (length s.vars) (row_sites s.vars row.index) s.tree r.0) (sym signed) r.2 in (
         Within (k + 1) left row [],

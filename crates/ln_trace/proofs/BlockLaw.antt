@@ -1,7 +1,7 @@
 -- Proves that what the blocks of a program tell of a row is what is explained of it.
-use Rattle.std.proofs.Common.{◌≡◌, ◌≢◌, ℕ, ◌<◌, zero, suc, List, [], ◌∷◌, ◌++◌, length, refl, sym, ◌∙◌, ap, subst, get_or, map, ◌+◌, ◌≤◌, drop, take, arith}
+use Rattle.std.proofs.Common.{◌≡◌, ◌≢◌, ℕ, ◌<◌, suc, List, [], ◌∷◌, ◌++◌, length, refl, sym, ◌∙◌, ap, subst, get_or, map, ◌+◌, ◌≤◌, drop, take, arith}
 use Rattle.std.proofs.Common.{append_assoc, append-nil, drop-cons}
-use Rattle.std.proofs.Math.IntN.{ℤ, pos, negsuc}
+use Rattle.std.proofs.Math.IntN.{ℤ, pos}
 use Rattle.std.proofs.lemmas.List.{get_or-map, drop_all}
 use Rattle.std.proofs.lemmas.Option.{get_or_from_slice_get, slice_get_within, slice_get-get_or}
 use Rattle.ln_base.specs.declared.sign.Sign.{Sign}
@@ -31,7 +31,8 @@ use Rattle.ln_trace.specs.declared.line.TraceLine.TheVariants as line
 use Rattle.ln_trace.specs.Explain.{BlockTells, BlocksAreExplained, Tell, it_decides, it_is_zero, none_left, IsTold, IsToldBehind, TellOn}
 use Rattle.ln_trace.specs.Signs.{AreOf, Explains, a_row, at_lines}
 use Rattle.ln_trace.specs.Told.{stop_at, up_to_first}
-use Rattle.std.specs.Prelude.{Contains, Some, codes}
+use Rattle.ln_trace.proofs.Telling.{behind-nonzero, stop-nonzero}
+use Rattle.std.specs.Prelude.{Some, codes}
 use Rattle.ln_order.proofs.Signs.RowsLemmas.{order-places}
 use Rattle.ln_order.specs.Order.{IsOrder}
 use Rattle.ln_order.specs.Orders.{IsOrderOf}
@@ -45,10 +46,6 @@ use Rattle.ln_base.specs.Lines.{Puts}
 use Rattle.ln_base.proofs.Texts.Putting.{line_is, signed_put, puts_then}
 
 -- ---- one block
--- the block at a number below the count of blocks is one of the blocks
-pub its-block : (cs : List Code) (number : ℕ) (block : Code) → number < length cs → block ≡ get_or cs number block → Contains cs block
-its-block cs number block h e = (number, h, sym e)
-
 -- the block with this number tells its exponents and its value
 pub block-tells : (p : Part) (zs : List ℤ) (number : ℕ) (block : Code) (exps : Pairs) (z : ℤ) → IsProgram p → number < length p.blocks
     → block ≡ get_or p.blocks number block → exps ≡ block.exps → IsRising exps → block_value zs block ≡ Some z → BlockTells p zs number exps z
@@ -141,8 +138,8 @@ module _ (p : Part) (zs : List ℤ) (o segment list old now new : List ℕ) (j :
   list-on f = on-on p zs list (segment ++ list_from p o (j + 1)) (list_from p o (j + 1)) old now new from-here (f (list_from p o (j + 1)))
 
   -- where a segment decides, all lines of the order's list are out
-  pub list-told : ((rest : List ℕ) → IsTold p zs (segment ++ rest) now new) → IsTold p zs list old new
-  list-told f = on-told p zs list (segment ++ list_from p o (j + 1)) old now new from-here (f (list_from p o (j + 1)))
+  pub list_told : ((rest : List ℕ) → IsTold p zs (segment ++ rest) now new) → IsTold p zs list old new
+  list_told f = on-told p zs list (segment ++ list_from p o (j + 1)) old now new from-here (f (list_from p o (j + 1)))
 
 -- past the last segment the sign 0 ends what the list tells
 pub list-end : (p : Part) (zs : List ℤ) (o list old now new : List ℕ) (j : ℕ) → length o < j → TellOn p zs list (list_from p o j) old now
@@ -183,16 +180,6 @@ at_is old a b c d new t u exps z x e f p q g s h n =
     let k : Puts b c (λ r. codes ":" ∷ r) = subst (λ w. Puts b c (λ r. w ∷ r)) g q in
     line_is old a d new (codes "at") (λ r. map exponent_word exps ++ (codes ":" ∷ (signed_decimal z ∷ r))) (e ∙ ap (λ w. old ++ w) f)
     (puts_then p (puts_then k (signed_put c d x z s h))) n
-
-behind-nonzero : (z t : ℤ) → z ≢ pos 0 → or_else (signs.sign_of z) t ≡ signs.sign_of z
-behind-nonzero (pos zero) t h = absurd (h refl)
-behind-nonzero (pos (suc n)) t h = refl
-behind-nonzero (negsuc n) t h = refl
-
-stop-nonzero : (z : ℤ) (rest : List (List ℕ × ℤ)) → z ≢ pos 0 → stop_at z rest ≡ []
-stop-nonzero (pos zero) rest h = absurd (h refl)
-stop-nonzero (pos (suc n)) rest h = refl
-stop-nonzero (negsuc n) rest h = refl
 
 -- what is written along a list of vectors
 pub record Along (vars : List VarInfo) (sites : Sites) (x : ℕ → ℤ) (e : Tree) (list : List (List ℕ)) (lines : List TraceLine) : Type 0 where

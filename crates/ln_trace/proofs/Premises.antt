@@ -30,7 +30,7 @@ use Rattle.ln_trace.specs.Here.{HasPoly, IsAtRow, IsCase}
 use Rattle.ln_trace.specs.Left.{IsSpot, exps_at, left_at, numbers_at}
 use Rattle.ln_trace.specs.declared.pointer.Spot.{Spot}
 use Rattle.ln_trace.specs.ToldLaw.{IsLeft, NoneIsEarlier}
-use Rattle.ln_trace.proofs.Telling.{all-left, first-left, first-stands, other-stands}
+use Rattle.ln_trace.proofs.Telling.{all_left, first-left, first_stands, other-stands}
 use Rattle.ln_algebra.specs.Vector.{In}
 use Rattle.ln_trace.specs.Told.{AreZero, LastIsEarlier, Stood, IsNext, vectors_in}
 use Rattle.ln_trace.specs.Next.{IsLastOf, MayBeNext}
@@ -176,7 +176,7 @@ module _ (s : Shape) (f : Sparse) (st : Staged) (h : IsCase s f st) (o : List �
   left-first e p =
       let l : IsStageList (length s.vars) (sites_of s.vars o) e (map (block_vector (length s.vars) st.exps) (segments_from (segment_of st) o 0)) =
       (lists-of-trees (length s.vars) (sites_of s.vars o) e f _ p.normal).0 worked in
-      all-left (length s.vars) (sites_of s.vars o) e _
+      all_left (length s.vars) (sites_of s.vars o) e _
       (subst (λ (q : List (List ℕ)). IsStageList (length s.vars) (sites_of s.vars o) e q) (as-vectors (segments_from (segment_of st) o 0)) l)
 
   -- the beginning of the first segment is a place in the list of an order
@@ -247,7 +247,7 @@ module _ (n : ℕ) (sites : Sites) (a : List ℕ) (e : Tree) (stood : Stood) (z 
   -- once a vector stood that is the first remaining stage, those after it remain
   pub was-first : (left : List (List ℕ)) (b : List ℕ) (rest : List (List ℕ)) → left ≡ b ∷ rest → b ≡ a → IsLeft n sites e stood left
       → IsLeft n sites e ((a, z) ∷ stood) rest
-  was-first left b rest q s h = first-stands n sites e stood rest a z (subst (IsLeft n sites e stood) (q ∙ ap (λ c. c ∷ rest) s) h)
+  was-first left b rest q s h = first_stands n sites e stood rest a z (subst (IsLeft n sites e stood) (q ∙ ap (λ c. c ∷ rest) s) h)
 
   -- once a vector stood that isn't the first remaining stage, the same stages remain
   pub was-other : (left : List (List ℕ)) (b : List ℕ) (rest : List (List ℕ)) → left ≡ b ∷ rest → (b ≡ a → ⊥) → IsLeft n sites e stood left

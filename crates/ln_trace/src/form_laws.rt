@@ -4,6 +4,7 @@ ghost use Rattle.ln_trace.specs.FormLaw.{ExplainedIsSmall, ExplainedIsTrace, Fau
 /// No bytes are two traces.
 ///
 /// By it a reader returns the one trace of the bytes, and what was written is read back.
+#[tactic(auto, using(crate::proofs::Reading::Whole::one_text))]
 pub fn one_trace()
     ensures { OneTrace }
 {}

@@ -5,12 +5,14 @@ ghost use Rattle.ln_trace.specs.ToldLaw.{StageListsAreTold, ToldSignsArePerturbe
 ghost use Rattle.ln_trace.specs.WalkLaw.{EndsWell, GoesOn, Lacks, OneAnswer, Stops};
 
 /// A row whose lines keep the rules has the perturbed sign; a stage list written up to its first coefficient that isn't 0 goes by them.
+#[tactic(auto, using(crate::proofs::Telling::told_signed, crate::proofs::Telling::list_told))]
 pub fn rows_are_told()
     ensures sound { ToldSignsArePerturbed }
     ensures complete { StageListsAreTold }
 {}
 
 /// The members that haven't stood are the end of the stage list, so its first one decides.
+#[tactic(auto, using(crate::proofs::Telling::all_left, crate::proofs::Telling::first_stands))]
 pub fn rest_decides()
     ensures begin { AllAreLeft }
     ensures first { FirstLeftTells }

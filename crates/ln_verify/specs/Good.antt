@@ -1,5 +1,6 @@
 -- Defines a part that is written as a listing: its lines, and what makes them valid.
 use Rattle.std.specs.Prelude.{◌≡◌, ℕ, suc, ◌≤◌, List, [], ◌∷◌, ◌++◌, length, map, Option, Some, None, IfSome}
+use Rattle.std.specs.List.{AllByRecursion, AllZip}
 use Rattle.ln_algebra.specs.Terms.{IsNormalOf, derived}
 use Rattle.ln_algebra.specs.Tree.{Tree}
 use Rattle.ln_interval.specs.Range.{Range}
@@ -89,8 +90,7 @@ AreNext p bs k (o ∷ os) (l ∷ ls) = IsNextList p (exps_of bs) k o l × AreNex
 
 -- each block is valid
 abbrev pub AreGood : Version → Subject → List Piece → Type 0
-AreGood v p [] = Unit {0}
-AreGood v p (b ∷ bs) = IsGoodPiece v p b × AreGood v p bs
+AreGood v p bs = AllByRecursion (IsGoodPiece v p) bs
 
 -- the part of a predicate is valid: its filter is, if there is one, each block is, and each order has its stage list
 pub record IsGoodPart (v : Version) (p : Subject) (w : Written) : Type 0 where
@@ -100,7 +100,4 @@ pub record IsGoodPart (v : Version) (p : Subject) (w : Written) : Type 0 where
 
 -- each predicate has one part, in order, and that part is valid
 abbrev pub AreGoodParts : Version → List Subject → List Written → Type 0
-AreGoodParts v [] [] = Unit {0}
-AreGoodParts v [] (w ∷ ws) = ⊥
-AreGoodParts v (p ∷ ps) [] = ⊥
-AreGoodParts v (p ∷ ps) (w ∷ ws) = IsGoodPart v p w × AreGoodParts v ps ws
+AreGoodParts v ps ws = AllZip (IsGoodPart v) ps ws

@@ -18,13 +18,15 @@ use Rattle.ln_code.specs.Rules.{Known}
 use Rattle.ln_verify.specs.BlockRules.{Version}
 use Rattle.ln_verify.specs.Judge.{IsFirstFault, IsValid}
 use Rattle.ln_verify.specs.Line.{Between, InBlock, InFilter, LineRule, Named, Ordering, Outside}
-use Rattle.ln_verify.specs.Line.{Place, Rule, Spot, Subject, Within, Written, exps_of}
+use Rattle.ln_verify.specs.Line.{Place, Rule, Spot, Subject, Within, exps_of}
 use Rattle.ln_verify.specs.Works.{IsBlockStack, IsFilterStack}
 use Rattle.ln_verify.specs.declared.case.Case.{Case}
-use Rattle.ln_verify.specs.declared.progress.At.{At}
-use Rattle.ln_verify.specs.declared.progress.At.TheVariants.{Away, AtName, AtFilter, AtGap, AtBlock, AtOrder}
 use Rattle.ln_verify.specs.declared.progress.Progress.{Progress}
 use Rattle.ln_cert.specs.declared.part.Part.{Part}
+use Rattle.ln_cert.specs.declared.part.State as grammar
+use Rattle.ln_cert.specs.declared.part.State.TheVariants as form
+use Rattle.ln_cert.specs.Reading.{goes, may}
+use Rattle.ln_cert.specs.Text.{part_kind}
 
 -- the predicate of a case, as the judge sees it
 abbrev pub subject_of : Case → Subject
@@ -50,17 +52,40 @@ AreAbove n exps = All (λ e. IsAbove e n) exps
 
 -- the judge's state stands for this spot within the part of a predicate with n variables
 abbrev pub IsSpot : ℕ → Progress → Spot → Type 0
-IsSpot n d Named = d.at ≡ AtName
-IsSpot n d (InFilter lines s) = (d.at ≡ AtFilter) × IsFilterStack n d.filter_stack s
-IsSpot n d (Between f bs) = (d.at ≡ AtGap) × (d.exps ≡ exps_of bs) × AreAbove n d.exps
-IsSpot n d (InBlock f bs a lines s) = (d.at ≡ AtBlock) × (d.exps ≡ exps_of bs ++ a ∷ []) × AreAbove n d.exps × IsBlockStack n d.block_stack s
-IsSpot n d (Ordering w) = (d.at ≡ AtOrder) × (d.exps ≡ exps_of w.blocks) × AreAbove n d.exps × (d.lists ≡ length w.lists)
+IsSpot n d Named = Unit {0}
+IsSpot n d (InFilter lines s) = IsFilterStack n d.filter_stack s
+IsSpot n d (Between f bs) = (d.exps ≡ exps_of bs) × AreAbove n d.exps × (d.lists ≡ 0)
+IsSpot n d (InBlock f bs a lines s) = (d.exps ≡ exps_of bs ++ a ∷ []) × AreAbove n d.exps × (d.lists ≡ 0) × IsBlockStack n d.block_stack s
+IsSpot n d (Ordering w) = (d.exps ≡ exps_of w.blocks) × AreAbove n d.exps × (d.lists ≡ length w.lists)
 
 -- the judge's state stands for this place: outside of parts, or at a spot within the part of the next predicate
 abbrev pub IsHere : List Subject → Progress → Place → Type 0
-IsHere ps d (Outside parts) = (d.at ≡ Away) × (d.parts ≡ length parts)
+IsHere ps d (Outside parts) = d.parts ≡ length parts
 IsHere ps d (Within parts s) = (d.parts ≡ length parts) × (p : Subject) × (slice_get ps (length parts) ≡ Some p)
     × IsSpot (length p.vars) d s
+
+-- ---- the form
+-- the state of the grammar at a spot
+abbrev pub state_at : Spot → grammar.State
+state_at Named = form.Opened
+state_at (InFilter lines s) = form.InFilter
+state_at (Between f []) = form.Planned
+state_at (Between f (b ∷ bs)) = form.Blocks
+state_at (InBlock f bs a lines s) = form.InBlock
+state_at (Ordering w) = form.Orders
+
+-- and at a place
+abbrev pub state_of : Place → grammar.State
+state_of (Outside parts) = form.Top
+state_of (Within parts s) = state_at s
+
+-- the line is allowed in this state
+abbrev pub MayStand : Version → grammar.State → Part → Type 0
+MayStand v s line = may v.number s (part_kind line) ≡ true
+
+-- the lines are of the form of listings
+abbrev pub HaveForm : Version → List Part → Type 0
+HaveForm v lines = goes v.number (Some form.Top) lines ≡ Some form.Top
 
 -- ---- what a line does
 -- it leads to a spot that the state of the judge stands for, or nowhere
@@ -68,9 +93,9 @@ abbrev pub SpotStep : Version → Subject → Spot → Part → Bool → Progres
 SpotStep v p s line true d = (t : Spot) × LineRule v p s line t × IsSpot (length p.vars) d t
 SpotStep v p s line false d = (t : Spot) → LineRule v p s line t → ⊥
 
--- what a call on a line within a part of this predicate has to say, of every spot that the state of the judge stands for
+-- what a call on a line within a part of this predicate has to say, of every spot that the state of the judge stands for and where the line is allowed
 abbrev pub Leads : Version → Subject → Progress → Part → Bool → Progress → Type 0
-Leads v p old line ok new = (s : Spot) → IsSpot (length p.vars) old s → (new.parts ≡ old.parts) × SpotStep v p s line ok new
+Leads v p old line ok new = (s : Spot) → MayStand v (state_at s) line → IsSpot (length p.vars) old s → (new.parts ≡ old.parts) × SpotStep v p s line ok new
 
 -- the line leads from this place to one that the judge's new state stands for, or nowhere
 abbrev pub PlaceStep : Version → List Subject → Place → Part → Bool → Progress → Type 0
@@ -82,25 +107,10 @@ abbrev pub IsAnswer : Version → List Subject → List Part → Option ℕ → 
 IsAnswer v ps lines None = IsValid v ps lines
 IsAnswer v ps lines (Some n) = IsFirstFault v ps lines n
 
--- after how many lists an `order` line is allowed
-abbrev pub before_of : At → ℕ → Option ℕ
-before_of Away l = None
-before_of AtName l = None
-before_of AtFilter l = None
-before_of AtGap l = Some 0
-before_of AtBlock l = None
-before_of AtOrder l = Some l
-
--- `done` at this spot, after these parts: where each order has its list the part is over, and else the line fails
-abbrev pub Over : Subject → List Written → Spot → Bool → Progress → Type 0
-Over p parts (Ordering w) true new = (length w.lists ≡ length (orders_of p.sites)) × (new.at ≡ Away) × (new.parts ≡ length parts + 1)
-Over p parts (Ordering w) false new = length w.lists ≡ length (orders_of p.sites) → ⊥
-Over p parts s true new = ⊥
-Over p parts s false new = Unit {0}
-
--- what a call on `done` has to say, of every list of parts and every spot that the old state stands for
+-- `done`, after this many lists: where each order has its list another part is over, and else the line fails
 abbrev pub Finished : Subject → Progress → Bool → Progress → Type 0
-Finished p old ok new = (parts : List Written) (s : Spot) → old.parts ≡ length parts → IsSpot (length p.vars) old s → Over p parts s ok new
+Finished p old true new = (old.lists ≡ length (orders_of p.sites)) × (new.parts ≡ old.parts + 1)
+Finished p old false new = old.lists ≡ length (orders_of p.sites) → ⊥
 
 -- ---- the one value of a stack
 -- what `decide` asks for

@@ -1,5 +1,6 @@
 -- Defines what the parts of a listing hold whose lines don't fail.
-use Rattle.std.specs.Prelude.{◌≡◌, ℕ, ◌<◌, ◌≤◌, All, List, [], ◌∷◌, length, unsigned_abs, slice_get, Some, IfSome}
+use Rattle.std.specs.Prelude.{◌≡◌, ℕ, ◌<◌, ◌≤◌, All, List, length, unsigned_abs, slice_get, Some, IfSome}
+use Rattle.std.specs.List.{AllByRecursion}
 use Rattle.ln_algebra.specs.Terms.{IsNormalOf, derived}
 use Rattle.ln_interval.specs.Range.{Range}
 use Rattle.ln_tree.specs.Exps.{IsRising, vector}
@@ -24,8 +25,7 @@ Everywhere {A} P xs = (k : ℕ) (x : A) → slice_get xs k ≡ Some x → P k x
 
 -- the range of each line is from -b to b
 abbrev pub AreBothWays : List (Line Range) → Type 0
-AreBothWays [] = Unit {0}
-AreBothWays (x ∷ xs) = (x.bound ≡ balanced (unsigned_abs x.bound.high)) × AreBothWays xs
+AreBothWays xs = AllByRecursion (λ x. x.bound ≡ balanced (unsigned_abs x.bound.high)) xs
 
 -- a block: the rules know what it leaves, whose polynomial is the scaled derivative by its exponents, which are of coordinates of sites
 pub record PieceStands (v : Version) (p : Subject) (b : Piece) : Type 0 where

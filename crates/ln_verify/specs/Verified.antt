@@ -1,5 +1,6 @@
 -- Listings that are valid for the predicates of a table, and the first line of a listing whose rule fails.
-use Rattle.std.specs.Prelude.{◌≡◌, ◌==◌, ℕ, true, List, [], ◌∷◌, length, map, slice_get, Option, None, Some, if◌then◌else◌}
+use Rattle.std.specs.Prelude.{◌≡◌, ◌==◌, ℕ, true, List, length, map, slice_get, Option, None, Some, if◌then◌else◌}
+use Rattle.std.specs.List.{AllZip}
 use Rattle.ln_tree.specs.declared.pred.Pred.{Pred}
 use Rattle.ln_tree.specs.Row.{InRange, Row}
 use Rattle.ln_tree.specs.Table.{PredOf, TableOf, pred_of}
@@ -25,10 +26,7 @@ pub record IsSubjectOf (p : PredOf) (s : Subject) : Type 0 where
 
 -- one for each predicate, in order; there is one such list, since a predicate has one normal polynomial
 abbrev pub AreSubjectsOf : List PredOf → List Subject → Type 0
-AreSubjectsOf [] [] = Unit {0}
-AreSubjectsOf [] (s ∷ ss) = ⊥
-AreSubjectsOf (p ∷ ps) [] = ⊥
-AreSubjectsOf (p ∷ ps) (s ∷ ss) = IsSubjectOf p s × AreSubjectsOf ps ss
+AreSubjectsOf ps ss = AllZip IsSubjectOf ps ss
 
 -- the rules of a listing of this version
 abbrev pub rules_of : ℕ → Version

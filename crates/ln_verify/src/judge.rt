@@ -1,19 +1,16 @@
 //! The judge: a line at its place, and the loop over the lines.
 ghost use Rattle.std.specs.Prelude.{◌≡◌, ◌↔◌, ◌<◌, All, IfOk, IsTrue, List, OnSome, length, slice_get};
 ghost use Rattle.std.specs.Option.{option_copied};
-ghost use Rattle.ln_verify.specs.BlockRules.{Version as AnyVersion};
 ghost use Rattle.ln_verify.specs.Line.{Place};
 ghost use Rattle.ln_cert.specs.declared.part.Entry.{Entry as AnyEntry};
-ghost use Rattle.ln_cert.specs.declared.part.Part.TheVariants.{Done, Predicate};
-ghost use Rattle.ln_verify.specs.declared.progress.At.TheVariants.{Away};
-ghost use Rattle.ln_verify.specs.Here.{Finished, PlaceStep, IsAnswer, IsHere, IsCase, Leads, subject_of, subjects_of};
+ghost use Rattle.ln_verify.specs.Here.{Finished, HaveForm, IsAnswer, IsCase, IsHere, Leads, MayStand, PlaceStep, state_of, subject_of, subjects_of};
 ghost use Rattle.ln_verify.specs.Versions.{version_of};
 ghost use Rattle.ln_tree.specs.Names.{name_bytes};
 ghost use Rattle.ln_cert.specs.Listing.{parts_of};
 
 use crate::case::Case;
 use crate::kinds::{block, block_op, decide, end, filter, filter_op, no_filter, order, range_op};
-use crate::progress::{At, Progress, is_at};
+use crate::progress::Progress;
 use crate::ranged::Ends;
 use crate::stacks::empty;
 use crate::version::Version;
@@ -69,62 +66,15 @@ fn case_at(cases: &[Case], at: usize) -> Option<&Case>
     cases.get(at)
 }
 
-fn is_done(line: &Part) -> bool
-    ensures { IsTrue result ↔ (line.now ≡ Done) }
-{
-    matches!(line, Part::Done)
-}
-
-// `predicate`.
-fn predicate(cases: &[Case], state: &mut Progress, name: &[u8]) -> bool
-    requires { state.old.at ≡ Away }
-    ensures { (v : AnyVersion) (here : Place) → IsHere (subjects_of cases.now) state.old here →
-        PlaceStep v (subjects_of cases.now) here (Predicate name.now) result state.new }
-{
-    let Some(case) = case_at(cases, state.parts) else {
-        return false;
-    };
-    if !is_name(case, name) {
-        return false;
-    }
-    state.at = At::AtName;
-    true
-}
-
-// A line outside the parts.
-fn outside(cases: &[Case], state: &mut Progress, line: &Part) -> bool
-    requires { state.old.at ≡ Away }
-    ensures { (v : AnyVersion) (here : Place) → IsHere (subjects_of cases.now) state.old here →
-        PlaceStep v (subjects_of cases.now) here line.now result state.new }
-{
-    match line {
-        Part::Predicate(name) => predicate(cases, state, name.as_slice()),
-        Part::NoFilter => false,
-        Part::Filter => false,
-        Part::FilterOp(_op, _a) => false,
-        Part::Decide => false,
-        Part::Block(_k, _a) => false,
-        Part::BlockOp(_op, _b) => false,
-        Part::RangeOp(_op, _low, _high) => false,
-        Part::End => false,
-        Part::Order(_places, _list) => false,
-        Part::Done => false,
-    }
-}
-
 // `done`.
 fn done(case: &Case, state: &mut Progress) -> bool
     requires room { state.old.parts < 18446744073709551615 }
     requires case { IsCase case.now }
     ensures { Finished (subject_of case.now) state.old result state.new }
 {
-    if !is_at(state.at, At::AtOrder) {
-        return false;
-    }
     if state.lists != case.orders.len() {
         return false;
     }
-    state.at = At::Away;
     state.parts += 1;
     true
 }
@@ -138,28 +88,25 @@ fn line(
     line: &Part,
 ) -> Result<bool, NoMemory>
     requires { All IsCase cases.now }
-    ensures { IfOk result (λ ok. (here : Place) → IsHere (subjects_of cases.now) state.old here →
+    ensures { IfOk result (λ ok. (here : Place) → MayStand (version_of version) (state_of here) line.now × IsHere (subjects_of cases.now) state.old here →
         PlaceStep (version_of version) (subjects_of cases.now) here line.now ok state.new) }
 {
-    if is_at(state.at, At::Away) {
-        return Ok(outside(cases, state, line));
-    }
     let Some(case) = case_at(cases, state.parts) else {
         return Ok(false);
     };
-    if is_done(line) {
-        return Ok(done(case, state));
+    match line {
+        Part::Predicate(name) => Ok(is_name(case, name.as_slice())),
+        Part::Done => Ok(done(case, state)),
+        _ => within(alloc, case, version, state, line),
     }
-    within(alloc, case, version, state, line)
 }
 
 fn fresh_progress(alloc: Global) -> Result<Progress, NoMemory>
-    ensures { IfOk result (λ d. (d.at ≡ Away) × (d.parts ≡ 0)) }
+    ensures { IfOk result (λ d. d.parts ≡ 0) }
 {
     let block_stack = empty(alloc)?;
     let filter_stack = empty(alloc)?;
     Ok(Progress {
-        at: At::Away,
         parts: 0,
         exps: Seq::new(alloc),
         block_stack,
@@ -168,13 +115,10 @@ fn fresh_progress(alloc: Global) -> Result<Progress, NoMemory>
     })
 }
 
-// Is the reader outside of parts, after one for each predicate?
+// Does each predicate have its part?
 fn is_over(cases: &[Case], state: &Progress) -> bool
-    ensures { IsTrue result ↔ ((state.now.at ≡ Away) × (state.now.parts ≡ length cases.now)) }
+    ensures { IsTrue result ↔ (state.now.parts ≡ length cases.now) }
 {
-    if !is_at(state.at, At::Away) {
-        return false;
-    }
     state.parts == cases.len()
 }
 
@@ -188,7 +132,7 @@ fn over<S: Source<Entry>>(
 ) -> Result<Option<u32>, NoMemory>
     requires cases { All IsCase cases.now }
     requires second { S.next source.old ≡ 2 }
-    requires away { state.old.at ≡ Away }
+    requires form { (es : List AnyEntry) → S.left source.old es → HaveForm (version_of version) (parts_of es) }
     requires none { state.old.parts ≡ 0 }
     ensures { IfOk result (λ o. (es : List AnyEntry) → S.left source.old es →
         IsAnswer (version_of version) (subjects_of cases.now) (parts_of es) o) }
@@ -207,6 +151,7 @@ fn over<S: Source<Entry>>(
 }
 
 /// The first line that fails, or none fails, of the lines of a listing after the first one. Each is judged as it is taken.
+/// They are of the form of listings, which says where each may stand; so the judge tests what a line says alone.
 pub fn judge<S: Source<Entry>>(
     alloc: Global,
     cases: &[Case],
@@ -215,6 +160,7 @@ pub fn judge<S: Source<Entry>>(
 ) -> Result<Option<u32>, NoMemory>
     requires cases { All IsCase cases.now }
     requires second { S.next source.old ≡ 2 }
+    requires form { (es : List AnyEntry) → S.left source.old es → HaveForm (version_of version) (parts_of es) }
     ensures { IfOk result (λ o. (es : List AnyEntry) → S.left source.old es →
         IsAnswer (version_of version) (subjects_of cases.now) (parts_of es) o) }
 {

@@ -14,12 +14,12 @@ ghost use Rattle.ln_cert.specs.declared.part.Part.TheVariants.{NoFilter, Filter,
 use crate::case::Case;
 use crate::derived::{is_derivative, is_whole};
 use crate::orders::is_next;
-use crate::progress::{At, Progress, before, is_at};
+use crate::progress::Progress;
 use crate::ranged::{BlockStack, Ends, pair_of_bound, pair_of_ends};
 use crate::stacks::empty;
 use crate::steps::operate;
 use crate::triple::FilterStack;
-use crate::version::{Version, is_version};
+use crate::version::Version;
 use ln_base::{NoMemory, Seq};
 use ln_code::{Op, Triple, are_of_sites, exps_of};
 use ln_tree::Exps;
@@ -29,11 +29,8 @@ use std::alloc::Global;
 pub fn no_filter(alloc: Global, state: &mut Progress) -> bool
     ensures { (v : AnyVersion) (p : Subject) → Leads v p state.old NoFilter result state.new }
 {
-    if !is_at(state.at, At::AtName) {
-        return false;
-    }
-    state.at = At::AtGap;
     state.exps = Seq::new(alloc);
+    state.lists = 0;
     true
 }
 
@@ -41,11 +38,7 @@ pub fn no_filter(alloc: Global, state: &mut Progress) -> bool
 pub fn filter(alloc: Global, state: &mut Progress) -> Result<bool, NoMemory>
     ensures { IfOk result (λ ok. (v : AnyVersion) (p : Subject) → Leads v p state.old Filter ok state.new) }
 {
-    if !is_at(state.at, At::AtName) {
-        return Ok(false);
-    }
     state.filter_stack = empty(alloc)?;
-    state.at = At::AtFilter;
     Ok(true)
 }
 
@@ -60,9 +53,6 @@ pub fn filter_op(
 ) -> Result<bool, NoMemory>
     ensures { IfOk result (λ ok. Leads (version_of version) (subject_of case.now) state.old (FilterOp op a) ok state.new) }
 {
-    if !is_at(state.at, At::AtFilter) {
-        return Ok(false);
-    }
     operate(alloc, case, version, &mut state.filter_stack, op, a)
 }
 
@@ -77,12 +67,6 @@ pub fn block_op(
 ) -> Result<bool, NoMemory>
     ensures { IfOk result (λ ok. Leads (version_of version) (subject_of case.now) state.old (BlockOp op b) ok state.new) }
 {
-    if !is_version(version, Version::One) {
-        return Ok(false);
-    }
-    if !is_at(state.at, At::AtBlock) {
-        return Ok(false);
-    }
     let said = pair_of_bound(b);
     operate(alloc, case, version, &mut state.block_stack, op, said)
 }
@@ -98,12 +82,6 @@ pub fn range_op(
 ) -> Result<bool, NoMemory>
     ensures { IfOk result (λ ok. Leads (version_of version) (subject_of case.now) state.old (RangeOp op ends.low ends.high) ok state.new) }
 {
-    if !is_version(version, Version::Two) {
-        return Ok(false);
-    }
-    if !is_at(state.at, At::AtBlock) {
-        return Ok(false);
-    }
     let said = pair_of_ends(ends);
     operate(alloc, case, version, &mut state.block_stack, op, said)
 }
@@ -119,17 +97,20 @@ pub fn order(
     requires { IsCase case.now }
     ensures { IfOk result (λ ok. (v : AnyVersion) → Leads v (subject_of case.now) state.old (Order places.now list.now) ok state.new) }
 {
-    let Some(n) = before(state.at, state.lists) else {
-        return Ok(false);
-    };
-    if n >= case.orders.len() {
+    if state.lists >= case.orders.len() {
         return Ok(false);
     }
-    if !is_next(alloc, case, state.exps.as_slice(), n, places, list)? {
+    if !is_next(
+        alloc,
+        case,
+        state.exps.as_slice(),
+        state.lists,
+        places,
+        list,
+    )? {
         return Ok(false);
     }
-    state.at = At::AtOrder;
-    state.lists = n + 1;
+    state.lists += 1;
     Ok(true)
 }
 
@@ -155,14 +136,11 @@ pub fn decide(alloc: Global, case: &Case, state: &mut Progress) -> Result<bool, 
     requires { IsCase case.now }
     ensures { IfOk result (λ ok. (v : AnyVersion) → Leads v (subject_of case.now) state.old Decide ok state.new) }
 {
-    if !is_at(state.at, At::AtFilter) {
-        return Ok(false);
-    }
     if !decides(alloc, case, &state.filter_stack)? {
         return Ok(false);
     }
-    state.at = At::AtGap;
     state.exps = Seq::new(alloc);
+    state.lists = 0;
     Ok(true)
 }
 
@@ -193,13 +171,9 @@ pub fn end(alloc: Global, case: &Case, state: &mut Progress) -> Result<bool, NoM
     requires { IsCase case.now }
     ensures { IfOk result (λ ok. (v : AnyVersion) → Leads v (subject_of case.now) state.old End ok state.new) }
 {
-    if !is_at(state.at, At::AtBlock) {
-        return Ok(false);
-    }
     if !ends(alloc, case, state.exps.as_slice(), &state.block_stack)? {
         return Ok(false);
     }
-    state.at = At::AtGap;
     Ok(true)
 }
 
@@ -213,9 +187,6 @@ pub fn block(
 ) -> Result<bool, NoMemory>
     ensures { IfOk result (λ ok. (v : AnyVersion) → Leads v (subject_of case.now) state.old (Block k a.now) ok state.new) }
 {
-    if !is_at(state.at, At::AtGap) {
-        return Ok(false);
-    }
     if k as usize != state.exps.len() {
         return Ok(false);
     }
@@ -227,6 +198,5 @@ pub fn block(
     };
     state.exps.push(e)?;
     state.block_stack = empty(alloc)?;
-    state.at = At::AtBlock;
     Ok(true)
 }

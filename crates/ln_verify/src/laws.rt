@@ -14,6 +14,7 @@ pub fn valid_parts_stand()
 {}
 
 /// A part is judged by the name of its predicate: in a table a shape has its predicate's name.
+#[tactic(auto, using(crate::proofs::Judging::Subjects::parts_named))]
 pub fn parts_are_named()
     ensures { PartsAreNamed }
 {}
@@ -29,6 +30,7 @@ pub fn valid_listings_give_signs()
 /// The lines that are written for good parts are judged valid.
 ///
 /// By it the listing that `list` writes is valid.
+#[tactic(auto, using(crate::proofs::Judging::Put::good_valid))]
 pub fn good_parts_are_valid()
     ensures { GoodPartsAreValid }
 {}
@@ -37,6 +39,7 @@ pub fn good_parts_are_valid()
 /// and what follows version 1 follows version 2.
 ///
 /// By it one machine runs the parts of both versions.
+#[tactic(auto, using(crate::proofs::Engines::Versions::is_on_bounds, crate::proofs::Engines::Versions::version_1_follows))]
 pub fn versions_follow()
     ensures bounds { Version1IsOnBounds }
     ensures programs { Version2IsOfPrograms }

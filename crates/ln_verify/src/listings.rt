@@ -1,6 +1,7 @@
 //! The exact judge of listings.
 ghost use Rattle.std.specs.Prelude.{◌≡◌, ◌↔◌, ◌<◌, ◌≤◌, ℕ, All, IfOk, length, map};
 ghost use Rattle.ln_base.specs.Limits.{most_file};
+ghost use Rattle.ln_cert.specs.Listing.{Kept};
 ghost use Rattle.ln_tree.specs.Table.{pred_of};
 ghost use Rattle.ln_stage.specs.Sound.{AreSound};
 ghost use Rattle.ln_verify.specs.Here.{IsCase, subjects_of};
@@ -72,6 +73,7 @@ fn of_number(number: u8) -> Version
 fn lines_of(l: &Listing) -> &[Entry]
     ensures value { result.now ≡ l.now.entries }
     ensures few { length result.now < 4294967294 }
+    ensures kept { Kept l.now }
 {
     l.entries()
 }

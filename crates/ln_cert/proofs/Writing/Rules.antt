@@ -21,6 +21,7 @@ use Rattle.ln_code.specs.Numbers.{no_locals}
 use Rattle.ln_code.specs.Part.{Code, FilterCode, lines_of}
 use Rattle.ln_code.specs.Rules.{Known, declared, known, rules}
 use Rattle.ln_code.proofs.Filters.FilterKnown.{known_says}
+use Rattle.ln_code.proofs.Engines.Runs.{some_is}
 use Rattle.ln_code.proofs.Following.Known.{if_some, known_some, next_some}
 use Rattle.ln_cert.specs.Text.{Each, is_narrow, of_block, of_filter, takes_off, verb_of}
 use Rattle.ln_cert.specs.Written.{InBlock, InFilter, IsWithin}
@@ -77,15 +78,11 @@ answered : {B V L : Type 0} (e : Engine B V L) (l : L) (lines : List (Line B)) (
     → (t : State V L) × (run e lines (record { stack = []; locals = l }) ≡ Some t)
 answered e l lines v h = let n = next_some (run e lines (record { stack = []; locals = l })) (λ s. only s.stack) v h in (n.0, n.1)
 
-is_some : {A : Type 0} (o : Option A) → IsSome o → (a : A) × (o ≡ Some a)
-is_some None p = absurd (cc)
-is_some (Some a) p = (a, refl)
-
 -- each operation of a block that follows the rules is within the limits, no cut, and has no range where it stores
 pub obeys_block : (vars : List VarInfo) (c : Code) → length vars ≤ 168 → FollowsRules vars c → StoresHave nothing (lines_of c.ops c.pairs)
     → Each InBlock (lines_of c.ops c.pairs)
 obeys_block vars c few f q =
-    let k = is_some (answer (rules vars c.depth) no_locals (lines_of c.ops c.pairs)) f.answers in
+    let k = some_is (answer (rules vars c.depth) no_locals (lines_of c.ops c.pairs)) f.answers in
     let r = answered (rules vars c.depth) no_locals (lines_of c.ops c.pairs) k.0 k.1 in
     in_block (lines_of c.ops c.pairs) (each_step (rules vars c.depth) BlockSays (block_step vars c.depth few) (lines_of c.ops c.pairs)
     (record { stack = []; locals = no_locals }) r.0 r.1) q

@@ -1,18 +1,29 @@
 -- Operands of sound trees.
-use Rattle.std.proofs.Common.{◌≡◌, ℕ, ◌≤◌, List, refl, arith}
+use Rattle.std.proofs.Common.{◌≡◌, ℕ, ◌≤◌, List, refl, arith, Box, Global}
+use mathlib.Core.Logic.{◌⊎◌}
 use Rattle.ln_algebra.specs.Sizes.{one}
 use Rattle.ln_algebra.specs.Tree as tree
 use Rattle.ln_algebra.specs.Tree.{Tree, inlined}
 use Rattle.ln_tree.specs.declared.shape.VarInfo.{VarInfo}
 use Rattle.ln_interval.specs.Range.{Range, most}
+use Rattle.ln_interval.specs.View.{range}
+use Rattle.ln_bound.specs.declared.fitted.FitOp.{Add, Sub, Mul}
+use Rattle.ln_bound.specs.declared.fitted.Fitted.{Fitted}
 use Rattle.ln_bound.specs.declared.fitted.Width.{Width}
 use Rattle.ln_bound.specs.declared.fitted.Two.{Two}
 use Rattle.ln_bound.specs.declared.fitted.Two.TheVariants.{Plus, Minus, Times}
 use Rattle.ln_bound.specs.Room.{HasRoom}
 use Rattle.ln_bound.specs.Sound.{Sound, running}
-use Rattle.ln_bound.specs.Typed.{Typed, TNeg, TTwo, TPow, untyped, bound_of, two_of}
+use Rattle.ln_bound.specs.Typed.{Typed, TNeg, TTwo, TPow, operation, untyped, bound_of, two_of}
+use Rattle.ln_bound.specs.View.{typed}
+use Rattle.ln_bound.proofs.Trees.TypedOperands.{two_typed}
 use Rattle.ln_bound.specs.Value.{weight_over}
 use Rattle.ln_code.proofs.Building.Names.{closed}
+
+-- a sum, a difference or a product is of the trees in its boxes
+pub two_is : (t : Fitted) (x y : Box Fitted Global) → (t.op ≡ Add x y) ⊎ ((t.op ≡ Sub x y) ⊎ (t.op ≡ Mul x y))
+    → typed t ≡ TTwo (operation (typed t)) (typed x.value) (typed y.value) (range t.pair) t.width
+two_is t x y h = two_typed t.op (Add x y) (Sub x y) (Mul x y) (typed x.value) (typed y.value) (range t.pair) t.width h refl refl refl
 
 -- the running size of an expression is within 2^127 - 1
 pub root_room : (ss : List ℕ) (e : Tree) → HasRoom one ss e → weight_over one ss e ≤ most

@@ -95,7 +95,7 @@ Cuts m y (suc n) b P x = Is m (Cut (suc n)) (m.engine.cut (suc n) (y.divided (su
 abbrev pub Trims : {B V : Type 0} → Meaning B V → Style B → Op → B → (V → Type 0) → Option V → Type 0
 Trims m y op b P o = Is m op o (Cuts m y (y.excess b) b P)
 
--- there is room for so many values, and locals are the machine's own
+-- there is room for a number of values, and locals are the machine's own
 pub record IsMachine {B V : Type 0} (m : Meaning B V) : Type 0 where
   pub room : (n : ℕ) → n ≤ m.depth → m.engine.room n ≡ true
   pub got : (l : Locals V) (j : ℕ) → m.engine.got l j ≡ l j

@@ -1,5 +1,5 @@
 -- Drafts, one piece after the other.
-use Rattle.std.proofs.Common.{◌≡◌, ◌≢◌, ap₂, Bool, inl, inr, ℕ, true, false, ◌+◌, ◌-◌, List, [], ◌∷◌, ◌++◌, length, map, refl, zero, suc, ap, arith}
+use Rattle.std.proofs.Common.{◌≡◌, ◌≢◌, ap₂, Bool, inl, inr, ℕ, true, false, ◌+◌, ◌≤◌, List, [], ◌∷◌, ◌++◌, length, map, refl, zero, suc, ap, arith}
 use Rattle.std.proofs.Common.{◌∙◌, sym, subst}
 use Rattle.std.proofs.Common.{append_assoc, append-nil}
 use Rattle.std.specs.Prelude.{Some, slice_get, pos}
@@ -11,9 +11,9 @@ use Rattle.ln_code.specs.Engine.{Line}
 use Rattle.ln_code.specs.StackCode.{IsCode, Style, after_left, after_right, again, factors, keep, keeping, line, name, number, opposite, power_of}
 use Rattle.ln_code.specs.StackCode.{raised, raised_to}
 use Rattle.ln_code.specs.StackCode.{two, variable, with_division, zeroth}
-use Rattle.ln_code.specs.Walk.{AreKeptNumbers, Coded, Gives, MayKeep, Puts, Wrote, plain, told_line, after_excess}
+use Rattle.ln_code.specs.Walk.{AreKeptNumbers, Coded, Done, Gives, KeptIn, MayKeep, Puts, Wrote, plain, told_line, after_excess}
 use Rattle.ln_code.specs.declared.draft.Draft.{Draft}
-use Rattle.ln_code.specs.declared.op.Op.TheVariants.{Get, Input, Mul, Neg, Push}
+use Rattle.ln_code.specs.declared.op.Op.TheVariants.{Get, Input, Mul, Neg, Push, Set}
 
 joined : {A : Type 0} (a b c l m : List A) → b ≡ a ++ l → c ≡ b ++ m → c ≡ a ++ (l ++ m)
 joined a b c l m p q = q ∙ ap (λ t. t ++ m) p ∙ append_assoc a l m
@@ -43,58 +43,79 @@ nothing_put told a want z e = record {
   wrote = record { code = sym (append-nil (map (told_line told) a.code)); kept = sym (append-nil a.kept) };
 }
 
--- one factor, and then the others
-pub factors_then : {A B : Type 0} (told : A → B) (y : Style B) (t : Typed) (w : Width) (j n : ℕ) (a b c : Draft A) (z : A) → n ≢ 0
-    → Wrote told a b (factors y t w j 1) [] → Gives told b c (factors y t w (j + 1) (n - 1)) (y.mark (raised_to t (j + 1 + (n - 1)) w)) z
-    → Gives told a c (factors y t w j n) (y.mark (raised_to t (j + n) w)) z
-factors_then told y t w j zero a b c z h v g = absurd (h refl)
-factors_then told y t w j (suc n) a b c z h v g =
-    let e : suc n - 1 ≡ n = omega arith in
-    let f : j + 1 ≡ suc j = omega arith in
-    let i : j + 1 + (suc n - 1) ≡ j + suc n = omega arith in
-    let u : Wrote told b c (factors y t w (suc j) n) [] = rw (e, f) at g.wrote in
-    let x : Wrote told a c (factors y t w j 1 ++ factors y t w (suc j) n) [] = wrote_then v u in
-    record { bound = g.bound ∙ ap (λ k. y.mark (raised_to t k w)) i; wrote = subst (λ l. Wrote told a c l []) (lines_of_factors y t w j n) x }
-  where
-    lines_of_factors : {B : Type 0} (y : Style B) (t : Typed) (w : Width) (j n : ℕ)
-        → factors y t w j 1 ++ factors y t w (suc j) n ≡ factors y t w j (suc n)
-    lines_of_factors y t w j n = ap (λ l. line (Get 64) (y.mark t) ∷ (l ++ factors y t w (suc j) n))
-        (append-nil (with_division y (Mul (y.at_width w)) (y.raw (raised_to t (suc j) w))))
+-- ---- powers
 
--- a tree that is kept is taken from its local
-pub puts_again : {A B : Type 0} (told : A → B) (y : Style B) (is_number : ℕ → Typed → Type 0) (shares : Type 0) (a b : Draft A) (t : Typed) (j k : ℕ) (z : A)
-    → ((u v : Typed) → is_number k u → is_number k v → u ≡ v) → shares → (i : ℕ) × (slice_get a.kept i ≡ Some k) × (j ≡ 65 + i) → is_number k t
-    → Gives told a b (line (Get j) (y.mark t) ∷ []) (y.mark t) z → Puts told y is_number shares a b t z
-puts_again told y is_number shares a b t j k z unique s i n g = record {
-  lines = line (Get (65 + i.0)) (y.mark t) ∷ [];
-  more = [];
-  computed = false;
-  wrote = subst (λ m. Wrote told a b (line (Get m) (y.mark t) ∷ []) []) i.2 g.wrote;
-  coded = λ kept are. record { new = []; are = tt; code = again i.0 (kept_at a.kept kept i.0 are i.1) };
-  bound = g.bound;
-  none_kept = λ f. refl;
-}
+-- one factor more at the end
+factors_snoc : {B : Type 0} (y : Style B) (t : Typed) (w : Width) (m n k : ℕ) → k ≡ m + n → factors y t w m n
+    ++ (line (Get 64) (y.mark t) ∷ with_division y (Mul (y.at_width w)) (y.raw (raised_to t (suc k) w))) ≡ factors y t w m (suc n)
+factors_snoc y t w m zero k e =
+    let f : k ≡ m = omega (arith, e) in
+    rw f (ap (λ l. line (Get 64) (y.mark t) ∷ l) (sym (append-nil (with_division y (Mul (y.at_width w)) (y.raw (raised_to t (suc m) w))))))
+factors_snoc y t w m (suc n) k e =
+    let own = with_division y (Mul (y.at_width w)) (y.raw (raised_to t (suc m) w)) in
+    ap (λ l. line (Get 64) (y.mark t) ∷ l) (append_assoc own (factors y t w (suc m) n) _
+    ∙ ap (λ l. own ++ l) (factors_snoc y t w (suc m) n k (omega (arith, e))))
+
+-- the base is in local 64 and as many factors are written, and z is the bound of the power so far
+abbrev pub Raises : {A B : Type 0} → (A → B) → Style B → Typed → Width → ℕ → Draft A → Draft A → A → Type 0
+Raises told y t w j a b z =
+    Gives told a b (line (Set 64) y.none ∷ (line (Get 64) (y.mark t) ∷ factors y t w 1 j)) (y.mark (raised_to t (suc j) w)) z
+
+module _ {A B : Type 0} (told : A → B) (y : Style B) (t : Typed) (w : Width) where
+  -- before the first factor
+  pub raises_first : (a b c : Draft A) (o z : A) → told o ≡ y.none → told z ≡ y.mark t → y.mark (raised_to t 1 w) ≡ y.mark t
+      → Wrote told a b (line (Set 64) (told o) ∷ []) [] → Wrote told b c (line (Get 64) (told z) ∷ []) [] → Raises told y t w 0 a c z
+  raises_first a b c o z e f q v u = record { bound = f ∙ sym q; wrote = rw (e, f) at (wrote_then v u) }
+
+  -- one factor more
+  pub raises_next : (a b c : Draft A) (j : ℕ) (r p z x : A) → told r ≡ y.mark t → told p ≡ y.raw (raised_to t (suc (j + 1)) w)
+      → (1 ≤ suc j → y.mark (raised_to t (suc (suc j)) w) ≡ after_excess y (y.raw (raised_to t (suc (suc j)) w))) → Raises told y t w j a b z
+      → Gives told b c (line (Get 64) (told r) ∷ with_division y (Mul (y.at_width w)) (told p)) (after_excess y (told p)) x
+      → Raises told y t w (j + 1) a c x
+  raises_next a b c j r p z x e f q h g =
+      let i : j + 1 ≡ suc j = omega arith in
+      let f' : told p ≡ y.raw (raised_to t (suc (suc j)) w) = rw i at f in
+      let v = wrote_then h.wrote (rw (e, f') at g.wrote) in
+      let l = factors_snoc y t w 1 j (suc j) (omega arith) in
+      rw i (record {
+        bound = g.bound ∙ ap (λ b. after_excess y b) f' ∙ sym (q (omega arith));
+        wrote = subst (λ l. Wrote told a c (line (Set 64) y.none ∷ (line (Get 64) (y.mark t) ∷ l)) []) l v;
+      })
+
+  -- after the last factor
+  pub raises_all : (a b : Draft A) (j n : ℕ) (z : A) → n ≢ 0 → j ≤ n → n ≤ j → Raises told y t w j a b z
+      → Gives told a b (power_of y t w n) (y.mark (raised_to t (suc n) w)) z
+  raises_all a b j zero z h l g r = absurd (h refl)
+  raises_all a b j (suc n) z h l g r = let e : j ≡ suc n = omega (arith, l, g) in rw e at r
+
+-- ---- trees without operands
+
+-- the code of a tree that is kept
+pub again_code : {B : Type 0} (y : Style B) (is_number : ℕ → Typed → Type 0) (shares : Type 0) (ns : List ℕ) (t : Typed) (k j : ℕ)
+    → KeptIn shares is_number ns k j → is_number k t → (kept : List Typed) → AreKeptNumbers is_number ns kept
+    → IsCode y kept t (line (Get j) (y.mark t) ∷ []) [] false
+again_code y is_number shares ns t k j h n kept are =
+    rw h.place.2 (again h.place.0 (kept_at ns kept h.place.0 are h.place.1))
   where
     kept_at : (ns : List ℕ) (ts : List Typed) (i : ℕ) → AreKeptNumbers is_number ns ts → slice_get ns i ≡ Some k → slice_get ts i ≡ Some t
     kept_at [] ts i a e = cc
     kept_at (m ∷ ms) [] i a e = absurd a
     kept_at (m ∷ ms) (u ∷ us) zero a e =
         let f : m ≡ k = cc in
-        let h : is_number k u = subst (λ x. is_number x u) f a.0 in
-        ap Some (unique u t h n)
+        ap Some (h.unique u t (subst (λ x. is_number x u) f a.0) n)
     kept_at (m ∷ ms) (u ∷ us) (suc i) a e = kept_at ms us i a.1 e
 
--- a leaf
+-- a leaf, or a tree that is kept
 pub puts_leaf : {A B : Type 0} (told : A → B) (y : Style B) (is_number : ℕ → Typed → Type 0) (shares : Type 0) (a b : Draft A) (t : Typed)
-    (lines : List (Line B)) (z : A) → ((kept : List Typed) → IsCode y kept t lines [] true) → told z ≡ y.mark t → Wrote told a b lines []
-    → Puts told y is_number shares a b t z
-puts_leaf told y is_number shares a b t lines z h e w = record {
+    (lines : List (Line B)) (c : Bool) (z : A) → ((kept : List Typed) → AreKeptNumbers is_number a.kept kept → IsCode y kept t lines [] c)
+    → Gives told a b lines (y.mark t) z → Puts told y is_number shares a b t z
+puts_leaf told y is_number shares a b t lines c z h g = record {
   lines = lines;
   more = [];
-  computed = true;
-  wrote = w;
-  coded = λ kept are. record { new = []; are = tt; code = h kept };
-  bound = e;
+  computed = c;
+  wrote = g.wrote;
+  coded = λ kept are. record { new = []; are = tt; code = h kept are };
+  bound = g.bound;
   none_kept = λ f. refl;
 }
 
@@ -104,8 +125,8 @@ pub puts_variable : {A B : Type 0} (told : A → B) (y : Style B) (is_number : �
     → Gives told a b (with_division y (Input v) (told r)) (after_excess y (told r)) x → Puts told y is_number shares a b t z
 puts_variable told y is_number shares a b t v p w r x z e f h g =
     let l : Wrote told a b (with_division y (Input v) (y.raw t)) [] = subst (λ c. Wrote told a b (with_division y (Input v) c) []) f g.wrote in
-    puts_leaf told y is_number shares a b t (with_division y (Input v) (y.raw t)) z
-    (λ kept. subst (λ u. IsCode y kept u (with_division y (Input v) (y.raw u)) [] true) (sym e) (variable v p w)) h l
+    puts_leaf told y is_number shares a b t (with_division y (Input v) (y.raw t)) true z
+    (λ kept are. subst (λ u. IsCode y kept u (with_division y (Input v) (y.raw u)) [] true) (sym e) (variable v p w)) (record { bound = h; wrote = l })
 
 -- numbers of trees in two lists, one after the other
 pub all_append : (is_number : ℕ → Typed → Type 0) (ms ns : List ℕ) (ts us : List Typed) → AreKeptNumbers is_number ms ts → AreKeptNumbers is_number ns us
@@ -124,20 +145,12 @@ all_length is_number (n ∷ ns) (t ∷ ts) a = ap suc (all_length is_number ns t
 
 -- ---- trees with operands
 module _ {A B : Type 0} (told : A → B) (y : Style B) (is_number : ℕ → Typed → Type 0) (shares : Type 0) where
-  -- what is known of the operations of a tree before it is kept
-  pub record Done (a b : Draft A) (t : Typed) : Type 0 where
-    pub lines : List (Line B)
-    pub more : List ℕ
-    pub wrote : Wrote told a b lines more
-    pub coded : (kept : List Typed) → AreKeptNumbers is_number a.kept kept → Coded y is_number kept t lines more true
-    pub none_kept : (shares → ⊥) → more ≡ []
-
-  -- and then it is kept, or not
-  pub puts_kept : (a b c : Draft A) (t : Typed) (k : ℕ) (z : A) → is_number k t → Done a b t → MayKeep told y shares b c k (y.mark t) → told z ≡ y.mark t
-      → Puts told y is_number shares a c t z
-  puts_kept a b c t k z s x (inl h) e =
+  -- what is computed may be kept
+  pub puts_kept : (a b c : Draft A) (t : Typed) (k : ℕ) (z : A) → is_number k t → told z ≡ y.mark t → MayKeep told y shares b c k (y.mark t)
+      → Done told y is_number shares a b t → Puts told y is_number shares a c t z
+  puts_kept a b c t k z s e (inl h) x =
       record { lines = x.lines; more = x.more; computed = true; wrote = wrote_same x.wrote h; coded = x.coded; bound = e; none_kept = x.none_kept }
-  puts_kept a b c t k z s x (inr h) e = record {
+  puts_kept a b c t k z s e (inr h) x = record {
     lines = x.lines ++ keeping y.none (65 + length b.kept) (y.mark t);
     more = x.more ++ (k ∷ []);
     computed = false;
@@ -156,91 +169,57 @@ module _ {A B : Type 0} (told : A → B) (y : Style B) (is_number : ℕ → Type
           rw (← n) (record { new = q.new ++ (t ∷ []); are = all_append is_number x.more (k ∷ []) q.new (t ∷ []) q.are (s, tt); code = keep q.code })
 
   -- a negation is done by its operand and its operation
-  pub done_neg : (a b c : Draft A) (t : Typed) (p : Range) (w : Width) (z : A) → Puts told y is_number shares a b t z
-      → Wrote told b c (line (Neg (y.at_width w)) (y.mark (TNeg t p w)) ∷ []) [] → Done a c (TNeg t p w)
-  done_neg a b c t p w z x h = record {
-    lines = x.lines ++ (line (Neg (y.at_width w)) (y.mark (TNeg t p w)) ∷ []);
-    more = x.more;
-    wrote = wrote_more x.wrote h;
-    coded = λ kept are. let q = x.coded kept are in record { new = q.new; are = q.are; code = opposite p w q.code };
-    none_kept = x.none_kept;
-  }
+  pub done_neg : (a b c : Draft A) (t u : Typed) (p : Range) (w : Width) (z x : A) → u ≡ TNeg t p w → Puts told y is_number shares a b t z
+      → Gives told b c (line (Neg (y.at_width w)) (y.mark u) ∷ []) (y.mark u) x → Done told y is_number shares a c u
+  done_neg a b c t u p w z x e f g = rw e (record {
+    lines = f.lines ++ (line (Neg (y.at_width w)) (y.mark (TNeg t p w)) ∷ []);
+    more = f.more;
+    wrote = wrote_more f.wrote (rw e at g.wrote);
+    coded = λ kept are. let q = f.coded kept are in record { new = q.new; are = q.are; code = opposite p w q.code };
+    none_kept = f.none_kept;
+  })
 
   -- an operation on two is done by its operands, what divides the left one, and its operation
-  pub done_two : (a b c d e : Draft A) (o : Two) (t u : Typed) (p : Range) (w : Width) (z v : A) → Puts told y is_number shares a b t z
-      → Wrote told b c (after_left y o t u) [] → Puts told y is_number shares c d u v → Wrote told d e (after_right y o t u p w) []
-      → Done a e (TTwo o t u p w)
-  done_two a b c d e o t u p w z v x l r h = record {
-    lines = x.lines ++ (after_left y o t u ++ (r.lines ++ after_right y o t u p w));
-    more = x.more ++ r.more;
-    wrote = wrote_then x.wrote (wrote_then l (wrote_more r.wrote h));
+  pub done_two : (a b c d e : Draft A) (o : Two) (t u v : Typed) (p : Range) (w : Width) (z x : A) → v ≡ TTwo o t u p w
+      → Puts told y is_number shares a b t z → Wrote told b c (after_left y o t u) [] → Puts told y is_number shares c d u x
+      → Wrote told d e (after_right y o t u p w) [] → Done told y is_number shares a e v
+  done_two a b c d e o t u v p w z x q f l r h = rw q (record {
+    lines = f.lines ++ (after_left y o t u ++ (r.lines ++ after_right y o t u p w));
+    more = f.more ++ r.more;
+    wrote = wrote_then f.wrote (wrote_then l (wrote_more r.wrote h));
     coded = coded;
-    none_kept = λ f. rw (x.none_kept f, r.none_kept f) refl;
-  }
+    none_kept = λ n. rw (f.none_kept n, r.none_kept n) refl;
+  })
     where
       coded : (kept : List Typed) → AreKeptNumbers is_number a.kept kept
-          → Coded y is_number kept (TTwo o t u p w) (x.lines ++ (after_left y o t u ++ (r.lines ++ after_right y o t u p w))) (x.more ++ r.more) true
+          → Coded y is_number kept (TTwo o t u p w) (f.lines ++ (after_left y o t u ++ (r.lines ++ after_right y o t u p w))) (f.more ++ r.more) true
       coded kept are =
-          let q = x.coded kept are in
-          let f : c.kept ≡ a.kept ++ x.more = l.kept ∙ append-nil b.kept ∙ x.wrote.kept in
-          let s = r.coded (kept ++ q.new) (rw f (all_append is_number a.kept x.more kept q.new are q.are)) in
-          record { new = q.new ++ s.new; are = all_append is_number x.more r.more q.new s.new q.are s.are; code = two o p w q.code s.code }
+          let q = f.coded kept are in
+          let k : c.kept ≡ a.kept ++ f.more = l.kept ∙ append-nil b.kept ∙ f.wrote.kept in
+          let s = r.coded (kept ++ q.new) (rw k (all_append is_number a.kept f.more kept q.new are q.are)) in
+          record { new = q.new ++ s.new; are = all_append is_number f.more r.more q.new s.new q.are s.are; code = two o p w q.code s.code }
 
   -- the power 0 is done by the number 1
-  pub done_zeroth : (a b : Draft A) (t : Typed) (p : Range) (w : Width) → Wrote told a b (line (Push (pos 1)) (y.mark (TPow t 0 p w)) ∷ []) []
-      → Done a b (TPow t 0 p w)
-  done_zeroth a b t p w h = record {
+  pub done_zeroth : (a b : Draft A) (t u : Typed) (p : Range) (w : Width) (x : A) → u ≡ TPow t 0 p w
+      → Gives told a b (line (Push (pos 1)) (y.mark u) ∷ []) (y.mark u) x → Done told y is_number shares a b u
+  done_zeroth a b t u p w x e g = rw e (record {
     lines = line (Push (pos 1)) (y.mark (TPow t 0 p w)) ∷ [];
     more = [];
-    wrote = h;
+    wrote = rw e at g.wrote;
     coded = λ kept are. record { new = []; are = tt; code = zeroth t p w };
     none_kept = λ f. refl;
-  }
+  })
 
   -- any other power is done by its base and the factors after it
-  pub done_power : (a b c : Draft A) (t : Typed) (n : ℕ) (p : Range) (w : Width) (z : A) → Puts told y is_number shares a b t z
-      → Wrote told b c (power_of y t w n) [] → Done a c (TPow t (suc n) p w)
-  done_power a b c t n p w z x h = record {
-    lines = x.lines ++ power_of y t w n;
-    more = x.more;
-    wrote = wrote_more x.wrote h;
-    coded = λ kept are. let q = x.coded kept are in record { new = q.new; are = q.are; code = raised n p w q.code };
-    none_kept = x.none_kept;
-  }
-
-  -- at the end of a tree, whose operations leave the bound x
-  pub ended : (a b c : Draft A) (t : Typed) (k : ℕ) (x r : A) → is_number k t → Done a b t → told x ≡ y.mark t
-      → (r ≡ x) × MayKeep told y shares b c k (told x) → Puts told y is_number shares a c t r
-  ended a b c t k x r s d e q =
-      puts_kept a b c t k r s d (subst (λ m. MayKeep told y shares b c k m) e q.1) (ap told q.0 ∙ e)
-
-  -- a negation
-  pub ends_neg : (a b c d : Draft A) (t u : Typed) (p : Range) (w : Width) (k : ℕ) (z x r : A) → u ≡ TNeg t p w → is_number k u
-      → Puts told y is_number shares a b t z → Gives told b c (line (Neg (y.at_width w)) (y.mark u) ∷ []) (y.mark u) x
-      → (r ≡ x) × MayKeep told y shares c d k (told x) → Puts told y is_number shares a d u r
-  ends_neg a b c d t u p w k z x r e s f g q = ended a c d u k x r s (subst (λ v. Done a c v) (sym e) (done_neg a b c t p w z f
-      (subst (λ v. Wrote told b c (line (Neg (y.at_width w)) (y.mark v) ∷ []) []) e g.wrote))) g.bound q
-
-  -- an operation on two
-  pub ends_two : (a b c d f h : Draft A) (o : Two) (t v u : Typed) (p : Range) (w : Width) (k : ℕ) (z q x r : A) → u ≡ TTwo o t v p w → is_number k u
-      → Puts told y is_number shares a b t z → Wrote told b c (after_left y o t v) [] → Puts told y is_number shares c d v q
-      → Gives told d f (after_right y o t v p w) (y.mark u) x → (r ≡ x) × MayKeep told y shares f h k (told x) → Puts told y is_number shares a h u r
-  ends_two a b c d f h o t v u p w k z q x r e s l m n g i =
-      ended a f h u k x r s (subst (λ v. Done a f v) (sym e) (done_two a b c d f o t v p w z q l m n g.wrote)) g.bound i
-
-  -- the power 0
-  pub ends_zeroth : (a b c : Draft A) (t u : Typed) (p : Range) (w : Width) (k : ℕ) (x r : A) → u ≡ TPow t 0 p w → is_number k u
-      → Gives told a b (line (Push (pos 1)) (y.mark u) ∷ []) (y.mark u) x → (r ≡ x) × MayKeep told y shares b c k (told x)
-      → Puts told y is_number shares a c u r
-  ends_zeroth a b c t u p w k x r e s g q = ended a b c u k x r s (subst (λ v. Done a b v) (sym e) (done_zeroth a b t p w
-      (subst (λ v. Wrote told a b (line (Push (pos 1)) (y.mark v) ∷ []) []) e g.wrote))) g.bound q
-
-  -- another power
-  pub ends_power : (a b c d : Draft A) (t u : Typed) (n : ℕ) (p : Range) (w : Width) (k : ℕ) (z x r : A) → u ≡ TPow t (suc n) p w → is_number k u
-      → Puts told y is_number shares a b t z → Gives told b c (power_of y t w n) (y.mark u) x → (r ≡ x) × MayKeep told y shares c d k (told x)
-      → Puts told y is_number shares a d u r
-  ends_power a b c d t u n p w k z x r e s f g q =
-      ended a c d u k x r s (subst (λ v. Done a c v) (sym e) (done_power a b c t n p w z f g.wrote)) g.bound q
+  pub done_power : (a b c : Draft A) (t u : Typed) (n : ℕ) (p : Range) (w : Width) (z : A) → u ≡ TPow t (suc n) p w
+      → Puts told y is_number shares a b t z → Wrote told b c (power_of y t w n) [] → Done told y is_number shares a c u
+  done_power a b c t u n p w z e f h = rw e (record {
+    lines = f.lines ++ power_of y t w n;
+    more = f.more;
+    wrote = wrote_more f.wrote h;
+    coded = λ kept are. let q = f.coded kept are in record { new = q.new; are = q.are; code = raised n p w q.code };
+    none_kept = f.none_kept;
+  })
 
 -- ---- code in which nothing is kept
 no_more : {A : Type 0} (xs ys : List A) → xs ++ ys ≡ [] → (xs ≡ []) × (ys ≡ [])

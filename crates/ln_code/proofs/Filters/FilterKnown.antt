@@ -1,5 +1,5 @@
 -- A filter that follows the rules: the machine over integers and the processor follow them too.
-use Rattle.std.proofs.Common.{◌≡◌, ℕ, ℤ, ◌+◌, ◌*◌, ◌/◌, ◌^◌, ◌≤◌, ◌<◌, Bool, true, false, List, [], refl, zero, suc, ap, arith, ◌+ℤ◌, ◌-ℤ◌}
+use Rattle.std.proofs.Common.{◌≡◌, ℕ, ℤ, ◌+◌, ◌*◌, ◌/◌, ◌^◌, ◌≤◌, ◌<◌, true, List, [], refl, zero, suc, ap, arith, ◌+ℤ◌, ◌-ℤ◌}
 use Rattle.std.proofs.Common.{◌*ℤ◌, neg_ℤ, unsigned_abs, ◌&&◌, sym}
 use Rattle.std.specs.Prelude.{Option, Some, None, if◌then◌else◌, ◌==◌, nat_le, slice_get}
 use Rattle.std.proofs.lemmas.Nat.{pow_pos}
@@ -177,17 +177,7 @@ exact_input vars zs h v a r q =
 
 -- the machine with a stack of this many places
 abbrev pub roomy : List ℤ → ℕ → Engine Triple Held (ℕ → Option Held)
-roomy zs depth = record {
-  push = (exact_filter zs).push;
-  input = (exact_filter zs).input;
-  again = (exact_filter zs).again;
-  two = (exact_filter zs).two;
-  minus = (exact_filter zs).minus;
-  cut = (exact_filter zs).cut;
-  got = (exact_filter zs).got;
-  put = (exact_filter zs).put;
-  room = λ n. nat_le n depth;
-}
+roomy zs depth = record (exact_filter zs) { room = λ n. nat_le n depth }
 
 -- it follows the rules
 pub roomy_follows : (vars : List VarInfo) (depth : ℕ) (zs : List ℤ) → AreWithin vars zs
@@ -231,17 +221,20 @@ pub record IsNumber (y : Held) (z : ℤ) : Type 0 where
   pub same : y.number ≡ z
   pub narrow : fits W64 z ≡ true
 
-held_says : (a : Triple) (z : ℤ) (y : Held) → held a z ≡ Some y → IsNumber y z
+-- so has what `held` leaves
+pub held_says : (a : Triple) (z : ℤ) (y : Held) → held a z ≡ Some y → IsNumber y z
 held_says a z y q =
     let r = when_some _ _ _ q in
     let p = and_parts _ _ r.0 in
     record { same = sym (ap (λ (h : Held). h.number) r.1); narrow = p.1 }
 
-held_at_says : (w : Width) (a : Triple) (z : ℤ) (y : Held) → held_at w a z ≡ Some y → (w ≡ W64) × IsNumber y z
+-- what an operation of a width leaves, which is 64 bits then
+pub held_at_says : (w : Width) (a : Triple) (z : ℤ) (y : Held) → held_at w a z ≡ Some y → (w ≡ W64) × IsNumber y z
 held_at_says W64 a z y q = (refl, held_says a z y q)
 held_at_says W128 a z y q = cc
 
-held_input : (zs : List ℤ) (v : ℕ) (a : Triple) (y : Held) → next (slice_get zs v) (λ z. held a z) ≡ Some y → Reaches IsNumber y (slice_get zs v)
+-- what a variable leaves
+pub held_input : (zs : List ℤ) (v : ℕ) (a : Triple) (y : Held) → next (slice_get zs v) (λ z. held a z) ≡ Some y → Reaches IsNumber y (slice_get zs v)
 held_input zs v a y q =
     let r = next_some (slice_get zs v) (λ (z : ℤ). held a z) y q in
     rw r.1 (held_says a r.0 y r.2)

@@ -1,12 +1,13 @@
 -- Proves that the nodes of a tree and of its lets are just the members of their list.
-use Rattle.std.proofs.Common.{◌≡◌, ℕ, ◌+◌, ◌≤◌, ◌<◌, zero, suc, refl, ap, arith, List, [], ◌∷◌, ◌++◌, map, ◌⊎◌, inl, inr}
+use Rattle.std.proofs.Common.{◌≡◌, ℕ, ◌+◌, ◌≤◌, ◌<◌, zero, suc, refl, ap, arith, List, [], ◌∷◌, ◌++◌, map, ◌⊎◌, inl, inr, ◌∙◌}
+use Rattle.std.specs.Prelude.{◌↔◌}
 use Rattle.std.proofs.lemmas.Bool.{cases_lt}
-use Rattle.ln_algebra.specs.Tree.{Tree, Neg, Pow, inlined, inlined_after}
+use Rattle.ln_algebra.specs.Tree.{Tree, Pow, inlined, inlined_after}
 use Rattle.ln_bound.specs.declared.fitted.Width.{Width}
 use Rattle.ln_bound.specs.declared.fitted.Two.TheVariants.{Plus, Minus, Times}
-use Rattle.ln_bound.specs.Typed.{Typed, TNum, TInput, TLet, TNeg, TTwo, TPow, need, untyped, two_of, width}
+use Rattle.ln_bound.specs.Typed.{Typed, TNum, TInput, TLet, TNeg, TTwo, TPow, need, untyped, width}
 use Rattle.ln_code.specs.Nodes.{IsLetNode, IsNode, IsNodeOf}
-use Rattle.ln_code.specs.NodeList.{NodesAreListed, Sized, IsAmong, all_nodes, at_width, nodes_in, nodes_in_lets, powers_from, powers_to}
+use Rattle.ln_code.specs.NodeList.{NodesAreListed, Sized, IsAmong, nodes_in, nodes_in_lets, powers_from, powers_to}
 
 -- the root of a tree is a node of it
 pub root_node : (trees : List Tree) (t : Typed) → IsNode trees t (inlined trees (untyped t)) (width t)
@@ -28,119 +29,77 @@ need_positive (TNeg t p w) = need_positive t
 need_positive (TTwo o u t p w) = let h = need_positive u in omega (arith, h)
 need_positive (TPow t n p w) = omega arith
 
--- ---- members of lists joined
-left : (xs ys : List Sized) (e : Tree) (w : Width) → IsAmong xs e w → IsAmong (xs ++ ys) e w
-left [] ys e w s = absurd s
-left (x ∷ xs) ys e w (inl q) = inl q
-left (x ∷ xs) ys e w (inr s) = inr (left xs ys e w s)
+module _ (e : Tree) (w : Width) where
+  -- ---- members of lists joined
+  left : (xs ys : List Sized) → IsAmong xs e w → IsAmong (xs ++ ys) e w
+  left [] ys s = absurd s
+  left (x ∷ xs) ys (inl q) = inl q
+  left (x ∷ xs) ys (inr s) = inr (left xs ys s)
 
-right : (xs ys : List Sized) (e : Tree) (w : Width) → IsAmong ys e w → IsAmong (xs ++ ys) e w
-right [] ys e w s = s
-right (x ∷ xs) ys e w s = inr (right xs ys e w s)
+  right : (xs ys : List Sized) → IsAmong ys e w → IsAmong (xs ++ ys) e w
+  right [] ys s = s
+  right (x ∷ xs) ys s = inr (right xs ys s)
 
-either : (xs ys : List Sized) (e : Tree) (w : Width) → IsAmong (xs ++ ys) e w → IsAmong xs e w ⊎ IsAmong ys e w
-either [] ys e w s = inr s
-either (x ∷ xs) ys e w (inl q) = inl (inl q)
-either (x ∷ xs) ys e w (inr s) = go (either xs ys e w s) where
-  go : IsAmong xs e w ⊎ IsAmong ys e w → IsAmong (x ∷ xs) e w ⊎ IsAmong ys e w
-  go (inl t) = inl (inr t)
-  go (inr t) = inr t
+  either : (xs ys : List Sized) → IsAmong (xs ++ ys) e w → IsAmong xs e w ⊎ IsAmong ys e w
+  either [] ys s = inr s
+  either (x ∷ xs) ys (inl q) = inl (inl q)
+  either (x ∷ xs) ys (inr s) = elim (either xs ys s) [ inl t ↦ inl (inr t) | inr t ↦ inr t ]
 
--- ---- powers on the way
-power-in : (d : Tree) (v : Width) (n i k : ℕ) → i ≤ k → k < i + n → IsAmong (powers_from d v i n) (Pow d k) v
-power-in d v zero i k h l = absurd (omega (arith, h, l))
-power-in d v (suc n) i k h l = by_case (cases_lt i k) (λ m. power-in d v n (suc i) k m (omega (arith, l))) where
-  by_case : (i < k) ⊎ (k ≤ i) → (suc i ≤ k → IsAmong (powers_from d v (suc i) n) (Pow d k) v) → IsAmong (powers_from d v i (suc n)) (Pow d k) v
-  by_case (inl m) go = inr (go m)
-  by_case (inr m) go = inl (ap (Pow d) (omega (arith, h, m)), refl)
+  -- what each of two lists has alone, both have together
+  joins : {A B : Type 0} (xs ys : List Sized) → A ↔ IsAmong xs e w → B ↔ IsAmong ys e w → (A ⊎ B) ↔ IsAmong (xs ++ ys) e w
+  joins xs ys a b = (
+    λ s. elim s [ inl h ↦ left xs ys (a.0 h) | inr h ↦ right xs ys (b.0 h) ],
+    λ s. elim (either xs ys s) [ inl h ↦ inl (a.1 h) | inr h ↦ inr (b.1 h) ],
+  )
 
-in-powers : (d e : Tree) (v w : Width) (n i : ℕ) → IsAmong (powers_from d v i n) e w → (k : ℕ) × (k < i + n) × (e ≡ Pow d k) × (w ≡ v)
-in-powers d e v w zero i s = absurd s
-in-powers d e v w (suc n) i (inl q) = (i, omega arith, q.0, q.1)
-in-powers d e v w (suc n) i (inr s) = let r = in-powers d e v w n (suc i) s in (r.0, omega (arith, r.1), r.2, r.3)
+  -- a list of one
+  only : (x : Sized) → ((e ≡ x.tree) × (w ≡ x.width)) ↔ IsAmong (x ∷ []) e w
+  only x = (λ h. inl h, λ s. elim s [ inl h ↦ h | inr h ↦ absurd h ])
 
--- ---- a tree
-to : (lets : List Tree) (t : Typed) (e : Tree) (w : Width) → IsNode lets t e w → IsAmong (nodes_in lets t) e w
-to lets (TNum c p v) e w h = inl h
-to lets (TInput i p v) e w h = inl h
-to lets (TLet j p v) e w h = inl h
-to lets (TNeg t p v) e w (inl h) = left (nodes_in lets t) (at_width v (Neg (inlined lets (untyped t))) ∷ []) e w (to lets t e w h)
-to lets (TNeg t p v) e w (inr h) = right (nodes_in lets t) (at_width v (Neg (inlined lets (untyped t))) ∷ []) e w (inl h)
-to lets (TTwo k s t p v) e w (inl (inl h)) =
-    left (nodes_in lets s) (nodes_in lets t ++ at_width v (two_of k (inlined lets (untyped s)) (inlined lets (untyped t))) ∷ []) e w (to lets s e w h)
-to lets (TTwo k s t p v) e w (inl (inr h)) =
-    right (nodes_in lets s) (nodes_in lets t ++ at_width v (two_of k (inlined lets (untyped s)) (inlined lets (untyped t))) ∷ []) e w
-    (left (nodes_in lets t) (at_width v (two_of k (inlined lets (untyped s)) (inlined lets (untyped t))) ∷ []) e w (to lets t e w h))
-to lets (TTwo k s t p v) e w (inr h) =
-    right (nodes_in lets s) (nodes_in lets t ++ at_width v (two_of k (inlined lets (untyped s)) (inlined lets (untyped t))) ∷ []) e w
-    (right (nodes_in lets t) (at_width v (two_of k (inlined lets (untyped s)) (inlined lets (untyped t))) ∷ []) e w (inl h))
-to lets (TPow t n p v) e w (inl h) = left (nodes_in lets t) (powers_to (inlined lets (untyped t)) v n) e w (to lets t e w h)
-to lets (TPow t n p v) e w (inr h) = right (nodes_in lets t) (powers_to (inlined lets (untyped t)) v n) e w
-    (rw (h.2, h.3) (power-in (inlined lets (untyped t)) v (suc n) 0 h.0 (omega arith) (omega (arith, h.1))))
+  grouped : {A B C D : Type 0} → (A ⊎ (B ⊎ C)) ↔ D → ((A ⊎ B) ⊎ C) ↔ D
+  grouped {A} {B} {C} h = (λ s. h.0 (there s), λ d. back (h.1 d)) where
+    there : (A ⊎ B) ⊎ C → A ⊎ (B ⊎ C)
+    there (inl (inl a)) = inl a
+    there (inl (inr b)) = inr (inl b)
+    there (inr c) = inr (inr c)
 
-from : (lets : List Tree) (t : Typed) (e : Tree) (w : Width) → IsAmong (nodes_in lets t) e w → IsNode lets t e w
-from lets (TNum c p v) e w (inl h) = h
-from lets (TNum c p v) e w (inr h) = absurd h
-from lets (TInput i p v) e w (inl h) = h
-from lets (TInput i p v) e w (inr h) = absurd h
-from lets (TLet j p v) e w (inl h) = h
-from lets (TLet j p v) e w (inr h) = absurd h
-from lets (TNeg t p v) e w s = go (either (nodes_in lets t) (at_width v (Neg (inlined lets (untyped t))) ∷ []) e w s) (λ h. from lets t e w h) where
-  go : IsAmong (nodes_in lets t) e w ⊎ IsAmong (at_width v (Neg (inlined lets (untyped t))) ∷ []) e w
-      → (IsAmong (nodes_in lets t) e w → IsNode lets t e w) → IsNode lets (TNeg t p v) e w
-  go (inl h) f = inl (f h)
-  go (inr (inl h)) f = inr h
-  go (inr (inr h)) f = absurd h
-from lets (TTwo k x t p v) e w s =
-    go (either (nodes_in lets x) (nodes_in lets t ++ at_width v (two_of k (inlined lets (untyped x)) (inlined lets (untyped t))) ∷ []) e w s)
-    (λ h. from lets x e w h) (λ h. from lets t e w h)
-  where
-    last : IsAmong (nodes_in lets t) e w ⊎ IsAmong (at_width v (two_of k (inlined lets (untyped x)) (inlined lets (untyped t))) ∷ []) e w
-        → (IsAmong (nodes_in lets t) e w → IsNode lets t e w) → IsNode lets (TTwo k x t p v) e w
-    last (inl h) g = inl (inr (g h))
-    last (inr (inl h)) g = inr h
-    last (inr (inr h)) g = absurd h
+    back : A ⊎ (B ⊎ C) → (A ⊎ B) ⊎ C
+    back (inl a) = inl (inl a)
+    back (inr (inl b)) = inl (inr b)
+    back (inr (inr c)) = inr c
 
-    go : IsAmong (nodes_in lets x) e w ⊎ IsAmong (nodes_in lets t ++ at_width v (two_of k (inlined lets (untyped x)) (inlined lets (untyped t))) ∷ []) e w
-        → (IsAmong (nodes_in lets x) e w → IsNode lets x e w) → (IsAmong (nodes_in lets t) e w → IsNode lets t e w) → IsNode lets (TTwo k x t p v) e w
-    go (inl h) f g = inl (inl (f h))
-    go (inr h) f g = last (either (nodes_in lets t) (at_width v (two_of k (inlined lets (untyped x)) (inlined lets (untyped t))) ∷ []) e w h) g
-from lets (TPow t n p v) e w s = go (either (nodes_in lets t) (powers_to (inlined lets (untyped t)) v n) e w s) (λ h. from lets t e w h) where
-  go : IsAmong (nodes_in lets t) e w ⊎ IsAmong (powers_to (inlined lets (untyped t)) v n) e w
-      → (IsAmong (nodes_in lets t) e w → IsNode lets t e w) → IsNode lets (TPow t n p v) e w
-  go (inl h) f = inl (f h)
-  go (inr h) f = let r = in-powers (inlined lets (untyped t)) e v w (suc n) 0 h in inr (r.0, omega (arith, r.1), r.2, r.3)
+  -- ---- powers on the way
+  power-in : (d : Tree) (v : Width) (n i k : ℕ) → i ≤ k → k < i + n → (e ≡ Pow d k) × (w ≡ v) → IsAmong (powers_from d v i n) e w
+  power-in d v zero i k h l q = absurd (omega (arith, h, l))
+  power-in d v (suc n) i k h l q = elim (cases_lt i k) [
+    | inl m ↦ inr (power-in d v n (suc i) k m (omega (arith, l)) q)
+    | inr m ↦ inl (q.0 ∙ ap (Pow d) (omega (arith, h, m)), q.1)
+  ]
 
--- ---- lets and a tree
-lets-to : (done : List Tree) (ts : List Typed) (e : Tree) (w : Width) → IsLetNode done ts e w → IsAmong (nodes_in_lets done ts) e w
-lets-to done [] e w h = absurd h
-lets-to done (t ∷ ts) e w (inl h) = left (nodes_in done t) (nodes_in_lets (done ++ inlined done (untyped t) ∷ []) ts) e w (to done t e w h)
-lets-to done (t ∷ ts) e w (inr h) =
-    right (nodes_in done t) (nodes_in_lets (done ++ inlined done (untyped t) ∷ []) ts) e w (lets-to (done ++ inlined done (untyped t) ∷ []) ts e w h)
+  in-powers : (d : Tree) (v : Width) (n i : ℕ) → IsAmong (powers_from d v i n) e w → (k : ℕ) × (k < i + n) × (e ≡ Pow d k) × (w ≡ v)
+  in-powers d v zero i s = absurd s
+  in-powers d v (suc n) i (inl q) = (i, omega arith, q.0, q.1)
+  in-powers d v (suc n) i (inr s) = let r = in-powers d v n (suc i) s in (r.0, omega (arith, r.1), r.2, r.3)
 
-lets-from : (done : List Tree) (ts : List Typed) (e : Tree) (w : Width) → IsAmong (nodes_in_lets done ts) e w → IsLetNode done ts e w
-lets-from done [] e w s = absurd s
-lets-from done (t ∷ ts) e w s = go (either (nodes_in done t) (nodes_in_lets (done ++ inlined done (untyped t) ∷ []) ts) e w s)
-    (λ h. lets-from (done ++ inlined done (untyped t) ∷ []) ts e w h)
-  where
-    go : IsAmong (nodes_in done t) e w ⊎ IsAmong (nodes_in_lets (done ++ inlined done (untyped t) ∷ []) ts) e w
-        → (IsAmong (nodes_in_lets (done ++ inlined done (untyped t) ∷ []) ts) e w → IsLetNode (done ++ inlined done (untyped t) ∷ []) ts e w)
-        → IsLetNode done (t ∷ ts) e w
-    go (inl h) f = inl (from done t e w h)
-    go (inr h) f = inr (f h)
+  powers : (d : Tree) (v : Width) (n : ℕ) → ((k : ℕ) × (k ≤ n) × (e ≡ Pow d k) × (w ≡ v)) ↔ IsAmong (powers_to d v n) e w
+  powers d v n = (
+    λ h. power-in d v (suc n) 0 h.0 (omega arith) (omega (arith, h.1)) (h.2, h.3),
+    λ s. let r = in-powers d v (suc n) 0 s in (r.0, omega (arith, r.1), r.2, r.3),
+  )
+
+  -- ---- lets and a tree
+  node : (lets : List Tree) (t : Typed) → IsNode lets t e w ↔ IsAmong (nodes_in lets t) e w
+  node lets (TNum c p v) = only _
+  node lets (TInput i p v) = only _
+  node lets (TLet j p v) = only _
+  node lets (TNeg t p v) = joins (nodes_in lets t) _ (node lets t) (only _)
+  node lets (TTwo k s t p v) = grouped (joins (nodes_in lets s) _ (node lets s) (joins (nodes_in lets t) _ (node lets t) (only _)))
+  node lets (TPow t n p v) = joins (nodes_in lets t) _ (node lets t) (powers (inlined lets (untyped t)) v n)
+
+  let-node : (done : List Tree) (ts : List Typed) → IsLetNode done ts e w ↔ IsAmong (nodes_in_lets done ts) e w
+  let-node done [] = (λ h. h, λ h. h)
+  let-node done (t ∷ ts) = joins (nodes_in done t) _ (node done t) (let-node (done ++ inlined done (untyped t) ∷ []) ts)
 
 -- a node of a tree or of its lets is just a member of the list
 pub nodes-are-listed : NodesAreListed
-nodes-are-listed lets t e w = (one, two) where
-  done : List Tree
-  done = inlined_after [] (map untyped lets)
-
-  one : IsNodeOf lets t e w → IsAmong (all_nodes lets t) e w
-  one (inl h) = left (nodes_in_lets [] lets) (nodes_in done t) e w (lets-to [] lets e w h)
-  one (inr h) = right (nodes_in_lets [] lets) (nodes_in done t) e w (to done t e w h)
-
-  two : IsAmong (all_nodes lets t) e w → IsNodeOf lets t e w
-  two s = go (either (nodes_in_lets [] lets) (nodes_in done t) e w s) where
-    go : IsAmong (nodes_in_lets [] lets) e w ⊎ IsAmong (nodes_in done t) e w → IsNodeOf lets t e w
-    go (inl h) = inl (lets-from [] lets e w h)
-    go (inr h) = inr (from done t e w h)
+nodes-are-listed lets t e w = joins e w (nodes_in_lets [] lets) _ (let-node e w [] lets) (node e w (inlined_after [] (map untyped lets)) t)

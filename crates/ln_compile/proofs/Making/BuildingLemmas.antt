@@ -4,7 +4,7 @@ use Rattle.std.proofs.Common.{sym, subst, ◌∙◌, arith}
 use Rattle.std.specs.Prelude.{◌≢◌, All, AllPairs, bytes_eq}
 use Rattle.std.specs.List.{AllZip}
 use Rattle.std.proofs.lemmas.Slice.Zip.{all_zipped_more}
-use Rattle.std.proofs.lemmas.List.{drop_more, length-map, map-append, take-append-drop, take_more}
+use Rattle.std.proofs.lemmas.List.{drop_more, map-append, take-append-drop, take_more}
 use Rattle.std.proofs.lemmas.List.Elements.{All-cons, All-nil}
 use Rattle.std.proofs.lemmas.List.Kept.{AllPairs-cons}
 use Rattle.ln_base.specs.Limits.{most_stages}
@@ -18,19 +18,25 @@ use Rattle.ln_parse.specs.ReadsBack.{Every}
 use Rattle.ln_parse.proofs.Wholes.WholeFrom.{differ_test}
 use Rattle.ln_parse.proofs.Wholes.WholeParts.{PredParts, differing, table_parts}
 use Rattle.ln_parse.proofs.ReadBack.NamePlaces.{Differ, NoneIs, same_bytes}
-use Rattle.ln_stage.specs.Lists.{stage_count}
-use Rattle.ln_stage.specs.Staged.{count_numbers}
 use Rattle.ln_code.specs.Kept.{ArePrograms}
 use Rattle.ln_code.specs.Part.{Part}
 use Rattle.ln_compile.specs.declared.counted.Counted.{Counted}
 use Rattle.ln_compile.specs.Accepted.{AreSound}
-use Rattle.ln_compile.specs.Compiled.{AreProgramsOf, IsProgramAt, IsProgramOf}
+use Rattle.ln_compile.specs.Compiled.{AreProgramsOf, IsProgramAt}
 use Rattle.ln_compile.specs.Made.{IsCounted}
 
 -- ---- one more
 front-more : (preds : List Pred) (i : ℕ) (p : Pred) → i < length preds → p ≡ get_or preds i p
     → map pred_of (take (i + 1) preds) ≡ map pred_of (take i preds) ++ pred_of p ∷ []
 front-more preds i p h e = ap (map pred_of) (take_more preds i p h ∙ ap (λ q. take i preds ++ q ∷ []) (sym e)) ∙ map-append pred_of (take i preds) (p ∷ [])
+
+-- the predicates, with one of them apart
+pub parted : (preds : List Pred) (i : ℕ) (p : Pred) → i < length preds → p ≡ get_or preds i p
+    → map pred_of preds ≡ map pred_of (take i preds) ++ pred_of p ∷ map pred_of (drop (i + 1) preds)
+parted preds i p h e =
+    let here : drop i preds ≡ p ∷ drop (i + 1) preds = drop_more preds i p h ∙ ap (λ z. z ∷ drop (i + 1) preds) (sym e) in
+    sym (ap (map pred_of) (take-append-drop i preds)) ∙ map-append pred_of (take i preds) (drop i preds)
+    ∙ ap (λ qs. map pred_of (take i preds) ++ map pred_of qs) here
 
 -- the step of a loop over the predicates: one thing more, of the next predicate
 pub zipped-more : {X : Type 0} (R : PredOf → X → Type 0) (preds : List Pred) (i : ℕ) (p : Pred) (xs ys : List X) (x : X) → i < length preds
@@ -80,21 +86,11 @@ pub name-new : (preds : List Pred) (i : ℕ) (p : Pred) (cs : List Part) (m : Na
     → differ (map (λ q. q.shape_name) (map pred_of preds)) ≡ true → name_bytes m ≡ name_bytes p.shape.name
     → AreProgramsOf (map pred_of (take i preds)) cs → All (λ c. name_bytes c.shape.name ≢ name_bytes m) cs
 name-new preds i p cs m h e d q b =
-    let here : drop i preds ≡ p ∷ drop (i + 1) preds = drop_more preds i p h ∙ ap (λ z. z ∷ drop (i + 1) preds) (sym e) in
-    let all : map pred_of preds ≡ map pred_of (take i preds) ++ pred_of p ∷ map pred_of (drop (i + 1) preds) =
-    sym (ap (map pred_of) (take-append-drop i preds)) ∙ map-append pred_of (take i preds) (drop i preds)
-    ∙ ap (λ qs. map pred_of (take i preds) ++ map pred_of qs) here in
     let f : differ (map (λ (z : PredOf). z.shape_name) (map pred_of (take i preds) ++ pred_of p ∷ map pred_of (drop (i + 1) preds))) ≡ true =
-    subst (λ (ps : List PredOf). differ (map (λ (z : PredOf). z.shape_name) ps) ≡ true) all d in
+    subst (λ (ps : List PredOf). differ (map (λ (z : PredOf). z.shape_name) ps) ≡ true) (parted preds i p h e) d in
     let a : Apart (map pred_of (take i preds)) (name_bytes p.shape.name) = apart (map pred_of (take i preds)) (pred_of p) (map pred_of (drop (i + 1) preds))
     (differing (map (λ (z : PredOf). z.shape_name) (map pred_of (take i preds) ++ pred_of p ∷ map pred_of (drop (i + 1) preds))) f) in
     rw q (names-apart (map pred_of (take i preds)) cs p.shape.name b a)
-
--- ---- the stage count
--- the numbers in all lists are as many as the stage count of the lists with a vector in place of each number
-pub counted-numbers : (g : ℕ → List ℕ) (ls : List (List ℕ)) → count_numbers ls ≡ stage_count (map (λ list. map g list) ls)
-counted-numbers g [] = refl
-counted-numbers g (l ∷ ls) = omega (arith, counted-numbers g ls, length-map l g)
 
 -- ---- the names of a table's predicates differ
 differ-behind : (us vs : List (List ℕ)) → Differ (us ++ vs) → Differ vs

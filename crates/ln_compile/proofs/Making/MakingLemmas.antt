@@ -52,6 +52,14 @@ derivative-exact vars f h a lets t c d z e x w ls = record {
 }
 
 -- ---- the source's own block
+-- what the sized trees stand for
+sized-whole : (p : Pred) (lets : List Fitted) (root : Fitted) → map untyped (map typed lets) ≡ map (tree_of p.shape.vars) p.lets
+    → untyped (typed root) ≡ tree_of p.shape.vars p.root
+    → (m : List ℕ) → polynomial (map typed lets) (typed root) m ≡ normal_coefficient (root_of (pred_of p)) m
+sized-whole p lets root l r m =
+    ap (λ ts. normal_coefficient (inlined (inlined_after [] ts) (untyped (typed root))) m) (l ∙ sym (trees_of_formulas p.shape.vars p.lets))
+    ∙ ap (λ t. normal_coefficient (inlined (inlined_after [] (map (tree p.shape.vars) (map formula p.lets))) t) m) r
+
 -- a block without exponents, whose code is that of the source's lets and root with exact ranges, is the source's own block
 pub own-made : (p : Pred) (lets : List Fitted) (root : Fitted) (c : Code) (a : Pairs) → a ≡ [] → c.exps ≡ a
     → map untyped (map typed lets) ≡ map (tree_of p.shape.vars) p.lets → untyped (typed root) ≡ tree_of p.shape.vars p.root
@@ -91,10 +99,6 @@ own-carries p lets root c a f z e l r fr q h b = record {
   carries = carrying p.shape.vars f c fr normal;
   small = b;
 } where
-  whole : (m : List ℕ) → polynomial (map typed lets) (typed root) m ≡ normal_coefficient (root_of (pred_of p)) m
-  whole m = ap (λ ts. normal_coefficient (inlined (inlined_after [] ts) (untyped (typed root))) m) (l ∙ sym (trees_of_formulas p.shape.vars p.lets))
-      ∙ ap (λ t. normal_coefficient (inlined (inlined_after [] (map (tree p.shape.vars) (map formula p.lets))) t) m) r
-
   none : derived (vector (length p.shape.vars) c.exps) (terms_of (length p.shape.vars) f) ≡ terms_of (length p.shape.vars) f
   none = ap (λ x. derived (vector (length p.shape.vars) x) (terms_of (length p.shape.vars) f)) (e ∙ z)
       ∙ ap (λ x. derived x (terms_of (length p.shape.vars) f)) (vector-none 0 (length p.shape.vars))
@@ -102,17 +106,12 @@ own-carries p lets root c a f z e l r fr q h b = record {
 
   normal : (k : Known) → known_of p.shape.vars c ≡ Some k
       → IsNormalOf (length p.shape.vars) k.tree (derived (vector (length p.shape.vars) c.exps) (terms_of (length p.shape.vars) f))
-  normal k g = rw none (record { over = over-terms (length p.shape.vars) f; coefficients = λ m s. h.normal.coefficients m s ∙ sym (q k g m ∙ whole m) })
+  normal k g = rw none (record {
+    over = over-terms (length p.shape.vars) f;
+    coefficients = λ m s. h.normal.coefficients m s ∙ sym (q k g m ∙ sized-whole p lets root l r m);
+  })
 
 -- ---- the filter
--- what the sized trees stand for
-sized-whole : (p : Pred) (lets : List Fitted) (root : Fitted) → map untyped (map typed lets) ≡ map (tree_of p.shape.vars) p.lets
-    → untyped (typed root) ≡ tree_of p.shape.vars p.root
-    → (m : List ℕ) → polynomial (map typed lets) (typed root) m ≡ normal_coefficient (root_of (pred_of p)) m
-sized-whole p lets root l r m =
-    ap (λ ts. normal_coefficient (inlined (inlined_after [] ts) (untyped (typed root))) m) (l ∙ sym (trees_of_formulas p.shape.vars p.lets))
-    ∙ ap (λ t. normal_coefficient (inlined (inlined_after [] (map (tree p.shape.vars) (map formula p.lets))) t) m) r
-
 -- a filter that stands for the sized trees carries the whole
 pub filter-carries : (p : Pred) (lets : List Fitted) (root : Fitted) (o : Option FilterCode) (f : Sparse)
     → map untyped (map typed lets) ≡ map (tree_of p.shape.vars) p.lets → untyped (typed root) ≡ tree_of p.shape.vars p.root

@@ -1,11 +1,9 @@
 -- The predicates of a table, judged one after the other.
-use Rattle.std.proofs.Common.{◌≡◌, inl, inr, ℕ, ◌+◌, ◌<◌, ◌≤◌, zero, suc, List, [], ◌∷◌, ◌++◌, length, map, take, drop, get_or, refl, ap}
+use Rattle.std.proofs.Common.{◌≡◌, inl, inr, ℕ, ◌+◌, ◌<◌, ◌≤◌, List, [], ◌∷◌, ◌++◌, length, map, take, drop, get_or, refl, ap}
 use Rattle.std.proofs.Common.{sym, subst, ◌∙◌, arith}
 use Rattle.std.specs.List.{AllByRecursion}
-use Rattle.std.proofs.lemmas.List.{drop_more, map-append, take-append-drop}
+use Rattle.std.proofs.lemmas.List.{length-map, length-take-le}
 use Rattle.ln_base.specs.declared.span.Span.{Span}
-use Rattle.ln_algebra.specs.Tree.{Tree}
-use Rattle.ln_algebra.proofs.Bounding.Weights.{weighted-least, IsCollected-Once}
 use Rattle.ln_tree.specs.declared.expr.Expr.{Expr}
 use Rattle.ln_tree.specs.declared.expr.Node.{Node}
 use Rattle.ln_tree.specs.declared.expr.Node.TheVariants.{Num, Input, Name, Neg', Add', Sub', Mul', Pow'}
@@ -17,45 +15,37 @@ use Rattle.ln_bound.specs.Light.{AreLight, IsBoundFault, most}
 use Rattle.ln_bound.specs.Value.{weights}
 use Rattle.ln_poly.specs.Sparse.{Sparse, terms_of}
 use Rattle.ln_poly.specs.Expansion.{HaveFewTerms, IsNormal, IsTermsFault}
-use Rattle.ln_poly.proofs.Sorting.Collected.{collected}
 use Rattle.ln_poly.proofs.TermLists.Counting.{no-terms-zero}
-use Rattle.ln_poly.proofs.TermLists.Products.{over-terms}
+use Rattle.ln_stage.proofs.Results.SamePoly.{one-normal}
 use Rattle.ln_parse.specs.declared.source.ParseStop.{ParseStop}
 use Rattle.ln_parse.specs.Text.{TextOf}
 use Rattle.ln_parse.specs.Fault.{IsRefusal as IsParseRefusal}
 use Rattle.ln_compile.specs.declared.refusal.Refusal.{Refusal}
 use Rattle.ln_compile.specs.declared.refusal.Refusal.TheVariants.{Bound, Terms, Zero}
-use Rattle.ln_compile.specs.Accepted.{AreSound, IsHeavyFault, IsSound, expanded_of, loaded_of, root_of}
+use Rattle.ln_compile.specs.Accepted.{AreSound, IsHeavyFault, expanded_of, loaded_of, root_of}
 use Rattle.ln_compile.specs.Refused.{IsPredFault, IsRefusal, StopsPred, StopsPreds, bound, heavy, of_pred, of_text, refusal_of, terms}
 use Rattle.ln_compile.specs.Refused.{token_of, zero as zero_root}
-use Rattle.ln_poly.proofs.Derivations.Combined.{everywhere}
+use Rattle.ln_compile.proofs.Making.BuildingLemmas.{parted}
 
 -- one more
 pub all-more : {X : Type 0} (P : X → Type 0) (xs : List X) (x : X) → AllByRecursion P xs → P x → AllByRecursion P (xs ++ x ∷ [])
 all-more P [] x h l = (l, tt)
 all-more P (y ∷ xs) x h l = (h.0, all-more P xs x h.1 l)
 
-length-front : (preds : List Pred) (i : ℕ) → i < length preds → length (map pred_of (take i preds)) ≡ i
-length-front [] i h = absurd (omega arith)
-length-front (p ∷ ps) zero h = refl
-length-front (p ∷ ps) (suc i) h = ap suc (length-front ps i (omega arith))
-
 -- the first predicate with a fault
 pub first_fault : (preds : List Pred) (i : ℕ) (p : Pred) (r : Refusal) → i < length preds → p ≡ get_or preds i p
     → AreSound (map pred_of (take i preds)) → StopsPred i (pred_of p) r → StopsPreds (map pred_of preds) r
 first_fault preds i p r h e s (inr n) = inr n
 first_fault preds i p r h e s (inl f) =
-    let here : drop i preds ≡ p ∷ drop (i + 1) preds = drop_more preds i p h ∙ ap (λ q. q ∷ drop (i + 1) preds) (sym e) in
-    let all : map pred_of preds ≡ map pred_of (take i preds) ++ pred_of p ∷ map pred_of (drop (i + 1) preds) =
-    sym (ap (map pred_of) (take-append-drop i preds)) ∙ map-append pred_of (take i preds) (drop i preds)
-    ∙ ap (λ qs. map pred_of (take i preds) ++ map pred_of qs) here in
-    let g : IsPredFault (length (map pred_of (take i preds))) (pred_of p) r = subst (λ k. IsPredFault k (pred_of p) r) (sym (length-front preds i h)) f in
-    inl (record { before = map pred_of (take i preds); pred = pred_of p; after = map pred_of (drop (i + 1) preds); stands = all; sound = s; fault = g })
-
--- ---- weights of one expression's normal polynomials
-weigh-same : (w : ℕ → ℕ) (n : ℕ) (e : Tree) (f g : Sparse) → IsNormal n e f → IsNormal n e g → weighted_sum w (terms_of n f) ≤ weighted_sum w (terms_of n g)
-weigh-same w n e f g p q = weighted-least w (terms_of n f) (terms_of n g) (IsCollected-Once (terms_of n f) (collected n f p.form p.below))
-    (everywhere n (terms_of n f) (terms_of n g) (over-terms n f) (over-terms n g) (λ m l. p.normal.coefficients m l ∙ sym (q.normal.coefficients m l)))
+    let number : length (map pred_of (take i preds)) ≡ i = length-map (take i preds) pred_of ∙ length-take-le i preds (omega (arith, h)) in
+    inl (record {
+      before = map pred_of (take i preds);
+      pred = pred_of p;
+      after = map pred_of (drop (i + 1) preds);
+      stands = parted preds i p h e;
+      sound = s;
+      fault = subst (λ k. IsPredFault k (pred_of p) r) (sym number) f;
+    })
 
 -- ---- the refusals of one predicate
 -- a predicate with a range or a size that is too large at a node is refused for the first such node
@@ -76,14 +66,13 @@ pub zero_stops : (k : ℕ) (p : PredOf) (f : Sparse) → AreLight (loaded_of p) 
     → (IsHeavyFault p → ⊥) → IsNormal (length p.vars) (root_of p) f → f ≡ [] → StopsPred k p (Zero k p.at)
 zero_stops k p f l t w n e = inl (zero_root l t w (no-terms-zero (length p.vars) (root_of p) f n e))
 
--- all normal polynomials of one expression weigh the same, so a predicate is no heavier as a whole than one of them
+-- an expression has one normal polynomial, so a predicate is no heavier as a whole than it
 pub not_heavy : (p : PredOf) (f : Sparse) → IsNormal (length p.vars) (root_of p) f
     → weighted_sum (weights p.vars) (terms_of (length p.vars) f) ≤ most → IsHeavyFault p → ⊥
 not_heavy p f n l h =
-    let m : weighted_sum (weights p.vars) (terms_of (length p.vars) h.poly) ≤ weighted_sum (weights p.vars) (terms_of (length p.vars) f) =
-    weigh-same (weights p.vars) (length p.vars) (root_of p) h.poly f h.normal n in
+    let q : h.poly ≡ f = one-normal (length p.vars) (root_of p) h.poly f h.normal n in
     let k = h.heavy in
-    absurd (omega (arith, l, m, k))
+    omega (arith, l, k, ap (λ (g : Sparse). weighted_sum (weights p.vars) (terms_of (length p.vars) g)) q)
 
 -- ---- the token of an expression
 -- the token of an expression is that of its formula

@@ -48,9 +48,12 @@ module _ (n : ℕ) (vars : List VarInfo) where
   told : (d e : Tree) → (HasTooManyTerms n d → ⊥) → e ≡ d → HasTooManyTerms n e → ⊥
   told d e f q h = f (subst (λ (t : Tree). HasTooManyTerms n t) q h)
 
-  -- of three lists
-  few-three : (a b c : List (Span × Tree)) → HaveFewTerms n ((a ++ b) ++ c) → HaveFewTerms n a × (HaveFewTerms n b × HaveFewTerms n c)
-  few-three a b c f = (few-left n a b (few-left n (a ++ b) c f), (few-right n a b (few-left n (a ++ b) c f), few-right n (a ++ b) c f))
+  -- of an operation on two expressions
+  of-two : (a b : List (Span × Tree)) (at : Span) (d e : Tree) {X Y : Type 0} → HaveFewTerms n ((a ++ b) ++ (at, d) ∷ []) → (HaveFewTerms n a → X → ⊥)
+      → (HaveFewTerms n b → Y → ⊥) → (X ⊎ Y) ⊎ (e ≡ d) → HasTooManyTerms n e → ⊥
+  of-two a b at d e f x y (inl (inl k)) h = x (few-left n a b (few-left n (a ++ b) ((at, d) ∷ []) f)) k
+  of-two a b at d e f x y (inl (inr k)) h = y (few-right n a b (few-left n (a ++ b) ((at, d) ∷ []) f)) k
+  of-two a b at d e f x y (inr q) h = told d e (few-right n (a ++ b) ((at, d) ∷ []) f).0 q h
 
   -- each node of a formula has few terms, where all that is expanded has
   node-few : (ls : List Tree) (f : Formula) (e : Tree) → HaveFewTerms n (expanded vars ls f) → NodeIn ls (tree vars f) e → HasTooManyTerms n e → ⊥
@@ -60,24 +63,12 @@ module _ (n : ℕ) (vars : List VarInfo) where
   node-few ls (FNeg at g) e f (inl k) h = node-few ls g e (few-left n (expanded vars ls g) ((at, inlined ls (tree vars (FNeg at g))) ∷ []) f) k h
   node-few ls (FNeg at g) e f (inr q) h =
       told (inlined ls (tree vars (FNeg at g))) e (few-right n (expanded vars ls g) ((at, inlined ls (tree vars (FNeg at g))) ∷ []) f).0 q h
-  node-few ls (FAdd at g i) e f (inl (inl k)) h =
-      node-few ls g e (few-three (expanded vars ls g) (expanded vars ls i) ((at, inlined ls (tree vars (FAdd at g i))) ∷ []) f).0 k h
-  node-few ls (FAdd at g i) e f (inl (inr k)) h =
-      node-few ls i e (few-three (expanded vars ls g) (expanded vars ls i) ((at, inlined ls (tree vars (FAdd at g i))) ∷ []) f).1.0 k h
-  node-few ls (FAdd at g i) e f (inr q) h = told (inlined ls (tree vars (FAdd at g i))) e
-      (few-three (expanded vars ls g) (expanded vars ls i) ((at, inlined ls (tree vars (FAdd at g i))) ∷ []) f).1.1.0 q h
-  node-few ls (FSub at g i) e f (inl (inl k)) h =
-      node-few ls g e (few-three (expanded vars ls g) (expanded vars ls i) ((at, inlined ls (tree vars (FSub at g i))) ∷ []) f).0 k h
-  node-few ls (FSub at g i) e f (inl (inr k)) h =
-      node-few ls i e (few-three (expanded vars ls g) (expanded vars ls i) ((at, inlined ls (tree vars (FSub at g i))) ∷ []) f).1.0 k h
-  node-few ls (FSub at g i) e f (inr q) h = told (inlined ls (tree vars (FSub at g i))) e
-      (few-three (expanded vars ls g) (expanded vars ls i) ((at, inlined ls (tree vars (FSub at g i))) ∷ []) f).1.1.0 q h
-  node-few ls (FMul at g i) e f (inl (inl k)) h =
-      node-few ls g e (few-three (expanded vars ls g) (expanded vars ls i) ((at, inlined ls (tree vars (FMul at g i))) ∷ []) f).0 k h
-  node-few ls (FMul at g i) e f (inl (inr k)) h =
-      node-few ls i e (few-three (expanded vars ls g) (expanded vars ls i) ((at, inlined ls (tree vars (FMul at g i))) ∷ []) f).1.0 k h
-  node-few ls (FMul at g i) e f (inr q) h = told (inlined ls (tree vars (FMul at g i))) e
-      (few-three (expanded vars ls g) (expanded vars ls i) ((at, inlined ls (tree vars (FMul at g i))) ∷ []) f).1.1.0 q h
+  node-few ls (FAdd at g i) e f k h = of-two (expanded vars ls g) (expanded vars ls i) at (inlined ls (tree vars (FAdd at g i))) e f
+      (λ w j. node-few ls g e w j h) (λ w j. node-few ls i e w j h) k h
+  node-few ls (FSub at g i) e f k h = of-two (expanded vars ls g) (expanded vars ls i) at (inlined ls (tree vars (FSub at g i))) e f
+      (λ w j. node-few ls g e w j h) (λ w j. node-few ls i e w j h) k h
+  node-few ls (FMul at g i) e f k h = of-two (expanded vars ls g) (expanded vars ls i) at (inlined ls (tree vars (FMul at g i))) e f
+      (λ w j. node-few ls g e w j h) (λ w j. node-few ls i e w j h) k h
   node-few ls (FPow at g k) e f (inl i) h = node-few ls g e (few-left n (expanded vars ls g) (powers at (inlined ls (tree vars g)) k) f) i h
   node-few ls (FPow at g k) e f (inr (zero, l, q)) h = told (Pow (inlined ls (tree vars g)) 0) e (zeroth-few n (inlined ls (tree vars g))) q h
   node-few ls (FPow at g k) e f (inr (suc j, l, q)) h = told (Pow (inlined ls (tree vars g)) (suc j)) e

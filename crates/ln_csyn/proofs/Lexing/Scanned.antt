@@ -1,15 +1,14 @@
 -- Tokens found one by one, and that no bytes have two lists.
-use Rattle.std.proofs.Common.{◌≡◌, ℕ, suc, ◌+◌, ◌<◌, ◌≤◌, ◌==◌, true, false, List, [], ◌∷◌, ◌++◌, length, take, drop}
-use Rattle.std.proofs.Common.{length-drop, append_assoc, append-nil, map, refl, ap, sym, ◌∙◌, subst, arith, get_or}
-use Rattle.std.proofs.lemmas.List.{drop-drop, drop_more, map-append}
-use Rattle.std.proofs.lemmas.Bool.{cond_both}
+use Rattle.std.proofs.Common.{◌≡◌, ℕ, zero, suc, ◌+◌, ◌-◌, ◌<◌, ◌≤◌, ◌==◌, ◌&&◌, not, max, Bool, true, false, List, [], ◌∷◌, ◌++◌, length, take, drop}
+use Rattle.std.proofs.Common.{length-drop, refl, ap, sym, ◌∙◌, subst, arith, get_or}
+use Rattle.std.specs.Prelude.{bytes_eq}
+use Rattle.std.proofs.lemmas.List.{drop_more}
+use Rattle.std.proofs.lemmas.Bool.{cond_both, false_from_ne_true}
 use Rattle.std.proofs.Math.Seq.{drop-length}
-use Rattle.ln_csyn.specs.declared.token.Token.{Token as CodeToken}
-use Rattle.ln_csyn.specs.Seen.{seen, tokens_of}
 use Rattle.ln_csyn.specs.Grammar.{Token, IsFile}
-use Rattle.ln_csyn.specs.Text.{is_blank, is_token, IsFirst, behind, Lexed, none, blank, token, first_line}
+use Rattle.ln_csyn.specs.Text.{is_blank, IsFirst, behind, Lexed, none, blank, token, first_line, first_len, tokens_within, tokens_from, tokens_by}
 use Rattle.ln_csyn.specs.Laws.{OneLexed, OneText}
-use Rattle.ln_csyn.proofs.Lexing.Longest.{first_same, blank_none}
+use Rattle.ln_csyn.proofs.Lexing.Longest.{first_same, first_some, first_none, blank_none}
 use Rattle.ln_csyn.proofs.Reading.CompleteFile.{one_file}
 
 nothing_first : (n : ℕ) → IsFirst [] n → ⊥
@@ -67,78 +66,117 @@ one_text bytes fs gs c d =
 
 -- ---- the scanner
 
--- the bytes before this place are these tokens, whatever follows
-pub record Scanned (bytes : List ℕ) (ts : List CodeToken) (at line : ℕ) : Type 0 where
-  pub within : at ≤ length bytes
-  pub lines : line ≤ at + 2
-  pub on : (vs : List Token) → Lexed line (drop at bytes) vs → Lexed 2 bytes (tokens_of ts ++ vs)
-  pub back : (us : List Token) → Lexed 2 bytes us → (vs : List Token) × (us ≡ tokens_of ts ++ vs) × Lexed line (drop at bytes) vs
+-- what is after a token is shorter
+past_one : (k b : ℕ) (bs : List ℕ) → length (drop (max 1 k) (b ∷ bs)) ≤ length bs
+past_one k b bs = omega (arith, length-drop (max 1 k) (b ∷ bs))
 
--- at the end
-pub scan_ends : (bytes : List ℕ) (ts : List CodeToken) (at line : ℕ) → Scanned bytes ts at line → at ≡ length bytes → Lexed 2 bytes (tokens_of ts)
-scan_ends bytes ts at line s e =
-    let d : drop at bytes ≡ [] = ap (λ (z : ℕ). drop z bytes) e ∙ drop-length bytes in
-    let n : Lexed line (drop at bytes) [] = subst (λ (z : List ℕ). Lexed line z []) (sym d) none in
-    subst (λ (z : List Token). Lexed 2 bytes z) (append-nil (tokens_of ts)) (s.on [] n)
+max_one : (n : ℕ) → 0 < n → max 1 n ≡ n
+max_one n w = omega arith
+
+-- the length that is counted is that of the first token
+len_found : (bytes : List ℕ) (n : ℕ) → IsFirst bytes n → first_len bytes ≡ n
+len_found bytes n f = by_len (first_len bytes) refl where
+  by_len : (k : ℕ) → k ≡ first_len bytes → k ≡ n
+  by_len zero e = let q = first_none bytes 0 e refl n f.within in let t = f.token in absurd (cc)
+  by_len (suc k) e = first_same bytes (suc k) n (first_some bytes (suc k) e (omega arith)) f
+
+-- enough is as good as more
+within_same : (n m line : ℕ) (bytes : List ℕ) → length bytes ≤ n → length bytes ≤ m → tokens_within n line bytes ≡ tokens_within m line bytes
+within_same zero zero line bytes w v = refl
+within_same zero (suc m) line [] w v = refl
+within_same zero (suc m) line (b ∷ bs) w v = absurd (omega arith)
+within_same (suc n) zero line [] w v = refl
+within_same (suc n) zero line (b ∷ bs) w v = absurd (omega arith)
+within_same (suc n) (suc m) line [] w v = refl
+within_same (suc n) (suc m) line (b ∷ bs) w v =
+    let k : ℕ = first_len (b ∷ bs) in
+    let l : length (drop (max 1 k) (b ∷ bs)) ≤ length bs = past_one k b bs in
+    rw (
+      within_same n m (behind b line) bs (omega (arith, w)) (omega (arith, v)),
+      within_same n m line (drop (max 1 k) (b ∷ bs)) (omega (arith, w, l)) (omega (arith, v, l)),
+    ) refl
+
+-- after a blank
+from_blank : (line b : ℕ) (bs : List ℕ) → is_blank b ≡ true → tokens_from line (b ∷ bs) ≡ tokens_from (behind b line) bs
+from_blank line b bs h = rw h refl
+
+-- where there is none
+from_token : (line b : ℕ) (bs : List ℕ) → is_blank b ≡ false → tokens_from line (b ∷ bs) ≡ tokens_by (first_len (b ∷ bs)) line (b ∷ bs)
+from_token line b bs h =
+    let k : ℕ = first_len (b ∷ bs) in
+    let rest : List ℕ = drop (max 1 k) (b ∷ bs) in
+    let e = within_same (length bs) (length rest) line rest (past_one k b bs) (omega arith) in
+    rw h (ap (λ (z : List Token). record { text = take k (b ∷ bs); line = line } ∷ z) e)
 
 -- the bytes from a place on, by the first of them
 front : (bytes : List ℕ) (at b : ℕ) → at < length bytes → b ≡ get_or bytes at 0 → drop at bytes ≡ b ∷ drop (at + 1) bytes
 front bytes at b w e = drop_more bytes at 0 w ∙ ap (λ (z : ℕ). z ∷ drop (at + 1) bytes) (sym e)
 
-behind_within : (b line at : ℕ) → line ≤ at + 2 → behind b line ≤ (at + 1) + 2
-behind_within b line at w = cond_both (b == 10) (suc line) line (λ n. n ≤ (at + 1) + 2) (λ e. omega arith) (λ e. omega arith)
+-- only blanks stand before this place, which is on this line
+pub record Skipped (start : ℕ) (bytes : List ℕ) (line at : ℕ) : Type 0 where
+  pub within : at ≤ length bytes
+  pub few : line + (length bytes - at) < 4294967296
+  pub same : tokens_from start bytes ≡ tokens_from line (drop at bytes)
 
--- after a blank
-pub scan_blank : (bytes : List ℕ) (ts : List CodeToken) (at line b : ℕ) → Scanned bytes ts at line → at < length bytes
-    → b ≡ get_or bytes at 0 → is_blank b ≡ true → Scanned bytes ts (at + 1) (behind b line)
-scan_blank bytes ts at line b s w e h =
+-- at what is no blank
+pub skip_token : (start : ℕ) (bytes : List ℕ) (line at b : ℕ) → Skipped start bytes line at → at < length bytes → b ≡ get_or bytes at 0
+    → is_blank b ≡ false → tokens_from start bytes ≡ tokens_by (first_len (drop at bytes)) line (drop at bytes)
+skip_token start bytes line at b s w e h =
     let f = front bytes at b w e in
-    record {
-      within = omega arith;
-      lines = behind_within b line at s.lines;
-      on = λ vs d. s.on vs (subst (λ (z : List ℕ). Lexed line z vs) (sym f) (blank h d));
-      back = λ us d. let r = s.back us d in (r.0, r.1, lexed_blank h (subst (λ (z : List ℕ). Lexed line z r.0) f r.2));
-    }
+    s.same ∙ ap (λ (z : List ℕ). tokens_from line z) f ∙ from_token line b (drop (at + 1) bytes) h
+    ∙ ap (λ (z : List ℕ). tokens_by (first_len z) line z) (sym f)
 
--- after a token
-pub scan_token : (bytes rest : List ℕ) (ts ts' : List CodeToken) (t : CodeToken) (at line n : ℕ) → Scanned bytes ts at line
-    → rest ≡ drop at bytes → IsFirst rest n → t.text.now ≡ take n rest → t.line ≡ line → ts' ≡ ts ++ t ∷ [] → Scanned bytes ts' (at + n) line
-scan_token bytes rest ts ts' t at line n s e f x l m =
-    let f2 : IsFirst (drop at bytes) n = subst (λ (z : List ℕ). IsFirst z n) e f in
-    let k : Token = record { text = take n (drop at bytes); line = line } in
-    let x2 : t.text.now ≡ take n (drop at bytes) = x ∙ ap (λ (z : List ℕ). take n z) e in
-    let q : seen t ≡ k = ap (λ (z : List ℕ). record { text = z; line = t.line }) x2 ∙ ap (λ (z : ℕ). record { text = take n (drop at bytes); line = z }) l in
-    let a : tokens_of ts' ≡ tokens_of ts ++ k ∷ [] = ap (map seen) m ∙ map-append seen ts (t ∷ []) ∙ ap (λ (z : Token). tokens_of ts ++ z ∷ []) q in
-    let dd : drop n (drop at bytes) ≡ drop (at + n) bytes = drop-drop n at bytes in
-    let join : (vs : List Token) → tokens_of ts' ++ vs ≡ tokens_of ts ++ k ∷ vs =
-    λ vs. ap (λ (z : List Token). z ++ vs) a ∙ append_assoc (tokens_of ts) (k ∷ []) vs in
-    record {
-      within = omega (arith, f2.within, f2.some, length-drop at bytes);
-      lines = omega (arith, s.lines);
-      on = λ vs d. subst (λ (z : List Token). Lexed 2 bytes z) (sym (join vs)) (s.on (k ∷ vs) (token f2 (subst (λ (z : List ℕ). Lexed line z vs) (sym dd) d)));
-      back = λ us d. let r = s.back us d in
-          let b = lexed_token f2 r.2 in
-          (b.vs, r.1 ∙ ap (λ (z : List Token). tokens_of ts ++ z) b.is ∙ sym (join b.vs), subst (λ (z : List ℕ). Lexed line z b.vs) dd b.lexed);
-    }
+-- ---- what the scanner finds
 
--- neither blank nor token
-none_lexed : (line : ℕ) (xs : List ℕ) (vs : List Token) → ((b : ℕ) (bs : List ℕ) → xs ≡ b ∷ bs → is_blank b ≡ false) → 0 < length xs
-    → ((m : ℕ) → m ≤ length xs → is_token (take m xs) ≡ false) → Lexed line xs vs → ⊥
-none_lexed line xs vs nb w h none = omega arith
-none_lexed line xs vs nb w h (blank {b = b} {bs = bs} k d) = let e = nb b bs refl in cc
-none_lexed line xs vs nb w h (token {n = n} f d) = let e = h n f.within in let q = f.token in cc
+-- each token has a text
+abbrev pub have_texts : List Token → Bool
+have_texts [] = true
+have_texts (t ∷ ts) = not (bytes_eq t.text []) && have_texts ts
 
-head_same : (b c : ℕ) (bs cs : List ℕ) → b ∷ bs ≡ c ∷ cs → b ≡ c
-head_same b c bs cs e = cc
+-- where the bytes have tokens they are what is found
+pub lexed_found : {line : ℕ} {bytes : List ℕ} {ts : List Token} → Lexed line bytes ts → tokens_from line bytes ≡ ts
+lexed_found none = refl
+lexed_found (blank {line = line} {b = b} {bs = bs} h d) = from_blank line b bs h ∙ lexed_found d
+lexed_found (token {line = line} {n = n} {bs = []} f d) = absurd (nothing_first n f)
+lexed_found (token {line = line} {n = n} {bs = b ∷ bs} {ts = ts} f d) =
+    let nb : is_blank b ≡ false = false_from_ne_true (is_blank b) (λ h. blank_none b bs n h f) in
+    let k : first_len (b ∷ bs) ≡ n = len_found (b ∷ bs) n f in
+    let m : max 1 n ≡ n = max_one n f.some in
+    from_token line b bs nb ∙ ap (λ (z : ℕ). tokens_by z line (b ∷ bs)) k
+    ∙ ap (λ (z : ℕ). record { text = take n (b ∷ bs); line = line } ∷ tokens_from line (drop z (b ∷ bs))) m
+    ∙ ap (λ (z : List Token). record { text = take n (b ∷ bs); line = line } ∷ z) (lexed_found d)
 
--- where no token begins
-pub scan_fails : (bytes rest : List ℕ) (ts : List CodeToken) (at line b : ℕ) → Scanned bytes ts at line → at < length bytes → b ≡ get_or bytes at 0
-    → is_blank b ≡ false → rest ≡ drop at bytes → ((m : ℕ) → m ≤ length rest → is_token (take m rest) ≡ false) → (us : List Token) → Lexed 2 bytes us → ⊥
-scan_fails bytes rest ts at line b s w e h r f us d =
-    let x = s.back us d in
-    let fr = front bytes at b w e in
-    let nb : (c : ℕ) (cs : List ℕ) → drop at bytes ≡ c ∷ cs → is_blank c ≡ false =
-    λ c cs q. subst (λ (z : ℕ). is_blank z ≡ false) (head_same b c (drop (at + 1) bytes) cs (sym fr ∙ q)) h in
-    let f2 : (m : ℕ) → m ≤ length (drop at bytes) → is_token (take m (drop at bytes)) ≡ false =
-    subst (λ (z : List ℕ). (m : ℕ) → m ≤ length z → is_token (take m z) ≡ false) r f in
-    none_lexed line (drop at bytes) x.0 nb (omega (arith, w, length-drop at bytes)) f2 x.2
+-- this is so of at most n bytes
+abbrev IsSo : ℕ → Type 0
+IsSo n = (line : ℕ) (bytes : List ℕ) → length bytes ≤ n → have_texts (tokens_from line bytes) ≡ true → Lexed line bytes (tokens_from line bytes)
+
+module _ (n line b : ℕ) (bs : List ℕ) (so : IsSo n) (w : length bs ≤ n) (h : have_texts (tokens_from line (b ∷ bs)) ≡ true) where
+  so_at : (k : ℕ) → k ≡ first_len (b ∷ bs) → is_blank b ≡ false → Lexed line (b ∷ bs) (tokens_from line (b ∷ bs))
+  so_at zero e q =
+      let f : tokens_from line (b ∷ bs) ≡ tokens_by 0 line (b ∷ bs) = from_token line b bs q ∙ ap (λ (z : ℕ). tokens_by z line (b ∷ bs)) (sym e) in
+      let t : false ≡ true = ap have_texts (sym f) ∙ h in absurd (cc)
+  so_at (suc k) e q =
+      let f : tokens_from line (b ∷ bs) ≡ tokens_by (suc k) line (b ∷ bs) = from_token line b bs q ∙ ap (λ (z : ℕ). tokens_by z line (b ∷ bs)) (sym e) in
+      let m : drop (max 1 (suc k)) (b ∷ bs) ≡ drop (suc k) (b ∷ bs) = ap (λ (z : ℕ). drop z (b ∷ bs)) (max_one (suc k) (omega arith)) in
+      let g : tokens_from line (b ∷ bs) ≡ record { text = take (suc k) (b ∷ bs); line = line } ∷ tokens_from line (drop (suc k) (b ∷ bs)) =
+      f ∙ ap (λ (z : List ℕ). record { text = take (suc k) (b ∷ bs); line = line } ∷ tokens_from line z) m in
+      let t : have_texts (tokens_from line (drop (suc k) (b ∷ bs))) ≡ true = ap have_texts (sym g) ∙ h in
+      let d = so line (drop (suc k) (b ∷ bs)) (omega (arith, length-drop (suc k) (b ∷ bs), w)) t in
+      subst (λ (z : List Token). Lexed line (b ∷ bs) z) (sym g) (token (first_some (b ∷ bs) (suc k) e (omega arith)) d)
+
+  so_next : (v : Bool) → is_blank b ≡ v → Lexed line (b ∷ bs) (tokens_from line (b ∷ bs))
+  so_next true q =
+      let e = from_blank line b bs q in
+      let t : have_texts (tokens_from (behind b line) bs) ≡ true = ap have_texts (sym e) ∙ h in
+      subst (λ (z : List Token). Lexed line (b ∷ bs) z) (sym e) (blank q (so (behind b line) bs w t))
+  so_next false q = so_at (first_len (b ∷ bs)) refl q
+
+found_lexed_by : (n : ℕ) → IsSo n
+found_lexed_by zero line [] w h = none
+found_lexed_by zero line (b ∷ bs) w h = absurd (omega arith)
+found_lexed_by (suc n) line [] w h = none
+found_lexed_by (suc n) line (b ∷ bs) w h = so_next n line b bs (found_lexed_by n) (omega arith) h (is_blank b) refl
+
+-- where each token has a text the bytes have these tokens
+pub found_lexed : (line : ℕ) (bytes : List ℕ) → have_texts (tokens_from line bytes) ≡ true → Lexed line bytes (tokens_from line bytes)
+found_lexed line bytes h = found_lexed_by (length bytes) line bytes (omega arith) h

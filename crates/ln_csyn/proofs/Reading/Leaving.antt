@@ -19,15 +19,6 @@ pub fewer : {ts us : List Token} → Leaves ts us → length us < length ts
 fewer one = omega arith
 fewer (more d) = omega (arith, fewer d)
 
-drop_one : (k : ℕ) (t : Token) (ts : List Token) → k ≡ 1 → drop k (t ∷ ts) ≡ ts
-drop_one k t ts e = rw e refl
-
--- the rest is found by its length
-pub dropped : {ts us : List Token} → Leaves ts us → (k : ℕ) → length ts ≡ k + length us → drop k ts ≡ us
-dropped (one {t = t} {ts = ts}) k e = drop_one k t ts (omega (arith, e))
-dropped (more d) zero e = absurd (omega (arith, fewer d))
-dropped (more d) (suc k) e = dropped d k (omega (arith, e))
-
 -- an expression leaves less
 pub leaves_expr : {s : Sort} {ts rest : List Token} {e : Expr} → Derives s ts rest e → Leaves ts rest
 leaves_expr (g.two h d o e s) = more (after (leaves_expr d) (more (after (leaves_expr e) one)))

@@ -1,16 +1,14 @@
 -- Statements read one by one.
-use Rattle.std.proofs.Common.{◌≡◌, ℕ, zero, suc, ◌+◌, ◌-◌, ◌<◌, ◌≤◌, Bool, true, false, List, [], ◌∷◌, ◌++◌, length, map, drop, length-drop}
+use Rattle.std.proofs.Common.{◌≡◌, ℕ, zero, suc, ◌<◌, ◌≤◌, Bool, true, false, List, [], ◌∷◌, ◌++◌, length, map}
 use Rattle.std.proofs.Common.{Some, None, refl, ap, sym, ◌∙◌, subst, arith}
 use Rattle.std.specs.Prelude.{codes, Option}
-use Rattle.std.proofs.lemmas.List.{drop-drop, drop-map, length-map, map-append}
-use Rattle.ln_csyn.specs.declared.token.Token.{Token as CodeToken}
-use Rattle.ln_csyn.specs.Seen.{seen, tokens_of}
+use Rattle.std.proofs.lemmas.List.{map-append}
 use Rattle.ln_csyn.specs.Tree.{Body, End}
 use Rattle.ln_csyn.specs.Grammar.{Token}
 use Rattle.ln_csyn.specs.declared.tree.CStmt.{CStmt}
 use Rattle.ln_csyn.specs.View.{Front, body_made, stmt_front, body_tree}
 use Rattle.ln_csyn.specs.Reading.{begins as begins_text, eat, go_on, stmt_at, stmts_at, block_at, ReadStmt}
-use Rattle.ln_csyn.proofs.Reading.Leaving.{Leaves, dropped, fewer}
+use Rattle.ln_csyn.proofs.Reading.Leaving.{fewer}
 use Rattle.ln_csyn.proofs.Reading.SoundFile.{block_sound, stmt_sound}
 
 -- these statements before a body
@@ -85,81 +83,33 @@ pub brace_none : (ts : List Token) (v : Bool) → v ≡ begins_text (codes "}") 
 brace_none [] v e h = refl
 brace_none (t ∷ ts) v e h = rw (sym e ∙ h) refl
 
--- ---- the same from a place on
-
--- these statements were read of the tokens before place `at`
-pub record Placed (stmt : ReadStmt) (ts : List CodeToken) (fs : List Front) (at : ℕ) : Type 0 where
-  pub within : at ≤ length ts
-  pub going : Going stmt (tokens_of ts) fs (tokens_of (drop at ts))
-
--- at the start
-pub placed_begins : (stmt : ReadStmt) (ts : List CodeToken) → Placed stmt ts [] 0
-placed_begins stmt ts = record { within = omega arith; going = begins stmt (tokens_of ts) }
-
--- the place of the rest
-pub place_of_rest : (ts rest : List CodeToken) (at : ℕ) → at ≤ length ts → Leaves (tokens_of (drop at ts)) (tokens_of rest)
-    → (length rest < length ts - at) × (tokens_of (drop (length ts - length rest) ts) ≡ tokens_of rest)
-place_of_rest ts rest at w l =
-    let n : length (tokens_of (drop at ts)) ≡ length ts - at = length-map (drop at ts) seen ∙ length-drop at ts in
-    let m : length (tokens_of rest) ≡ length rest = length-map rest seen in
-    let f : length rest < length ts - at = omega (arith, fewer l, n, m) in
-    let k : ℕ = (length ts - at) - length rest in
-    let d : drop k (tokens_of (drop at ts)) ≡ tokens_of rest = dropped l k (omega (arith, n, m, f)) in
-    let q : at + k ≡ length ts - length rest = omega (arith, f, w) in
-    let r : tokens_of (drop k (drop at ts)) ≡ drop k (tokens_of (drop at ts)) = sym (drop-map seen k (drop at ts)) in
-    let t : drop k (drop at ts) ≡ drop (length ts - length rest) ts = drop-drop k at ts ∙ ap (λ (z : ℕ). drop z ts) q in
-    (f, ap tokens_of (sym t) ∙ r ∙ d)
+-- ---- as the code reads them
 
 -- at a closing brace
-pub placed_ends : (stmt : ReadStmt) (ts r : List CodeToken) (ss : List CStmt) (at : ℕ) (v : Bool) → Placed stmt ts (map stmt_front ss) at → r ≡ drop at ts
-    → v ≡ begins_text (codes "}") (tokens_of r) → v ≡ true → stmts_at stmt (suc (length (tokens_of ts))) (tokens_of ts) ≡ Some (body_tree ss, tokens_of r)
-placed_ends stmt ts r ss at v p e b h =
-    let s = brace_some (tokens_of r) v b h in
-    let g : Going stmt (tokens_of ts) (map stmt_front ss) (tokens_of r) =
-    subst (λ (z : List CodeToken). Going stmt (tokens_of ts) (map stmt_front ss) (tokens_of z)) (sym e) p.going in
-    ends stmt (tokens_of ts) (map stmt_front ss) (tokens_of r) s.0 g s.1
+pub read_ends : (stmt : ReadStmt) (ts rest : List Token) (ss : List CStmt) (v : Bool) → Going stmt ts (map stmt_front ss) rest
+    → v ≡ begins_text (codes "}") rest → v ≡ true → stmts_at stmt (suc (length ts)) ts ≡ Some (body_tree ss, rest)
+read_ends stmt ts rest ss v g b h = let s = brace_some rest v b h in ends stmt ts (map stmt_front ss) rest s.0 g s.1
 
 -- where no statement is read
-pub placed_fails : (stmt : ReadStmt) (ts r : List CodeToken) (ss : List CStmt) (at : ℕ) (v : Bool) → Placed stmt ts (map stmt_front ss) at
-    → r ≡ drop at ts → v ≡ begins_text (codes "}") (tokens_of r) → v ≡ false → stmt (tokens_of r) ≡ None
-    → stmts_at stmt (suc (length (tokens_of ts))) (tokens_of ts) ≡ None
-placed_fails stmt ts r ss at v p e b h f =
-    let g : Going stmt (tokens_of ts) (map stmt_front ss) (tokens_of r) =
-    subst (λ (z : List CodeToken). Going stmt (tokens_of ts) (map stmt_front ss) (tokens_of z)) (sym e) p.going in
-    fails stmt (tokens_of ts) (map stmt_front ss) (tokens_of r) g (brace_none (tokens_of r) v b h) f
+pub read_fails : (stmt : ReadStmt) (ts rest : List Token) (ss : List CStmt) (v : Bool) → Going stmt ts (map stmt_front ss) rest
+    → v ≡ begins_text (codes "}") rest → v ≡ false → stmt rest ≡ None → stmts_at stmt (suc (length ts)) ts ≡ None
+read_fails stmt ts rest ss v g b h f = fails stmt ts (map stmt_front ss) rest g (brace_none rest v b h) f
 
--- the place after a statement
-pub record Next (ts next : List CodeToken) (at : ℕ) : Type 0 where
-  pub less : length next < length ts - at
-  pub is : tokens_of (drop (length ts - length next) ts) ≡ tokens_of next
-
--- the place after a statement
-pub next_place : (o i k : ℕ) (ts r next : List CodeToken) (f : Front) (at : ℕ) → o ≡ suc i → at ≤ length ts → r ≡ drop at ts
-    → stmt_at o i (block_at o i k) (tokens_of r) ≡ Some (f, tokens_of next) → Next ts next at
-next_place o i k ts r next f at q w e h =
-    let h2 : stmt_at (suc i) i (block_at (suc i) i k) (tokens_of r) ≡ Some (f, tokens_of next) =
-    subst (λ (z : ℕ). stmt_at z i (block_at z i k) (tokens_of r) ≡ Some (f, tokens_of next)) q h in
-    let l : Leaves (tokens_of r) (tokens_of next) =
-    (stmt_sound i k (block_at (suc i) i k) (block_sound i k) (tokens_of r) (f, tokens_of next) h2).leaves in
-    let l2 : Leaves (tokens_of (drop at ts)) (tokens_of next) = subst (λ (z : List CodeToken). Leaves (tokens_of z) (tokens_of next)) e l in
-    let x = place_of_rest ts next at w l2 in
-    record { less = x.0; is = x.1 }
+-- a statement leaves less
+pub stmt_less : (o i k : ℕ) (rest next : List Token) (f : Front) → o ≡ suc i → stmt_at o i (block_at o i k) rest ≡ Some (f, next)
+    → length next < length rest
+stmt_less o i k rest next f q h =
+    let h2 : stmt_at (suc i) i (block_at (suc i) i k) rest ≡ Some (f, next) =
+    subst (λ (z : ℕ). stmt_at z i (block_at z i k) rest ≡ Some (f, next)) q h in
+    fewer ((stmt_sound i k (block_at (suc i) i k) (block_sound i k) rest (f, next) h2).leaves)
 
 -- one statement further
-pub placed_goes : (o i k : ℕ) (ts r next : List CodeToken) (ss ss' : List CStmt) (s : CStmt) (at : ℕ) (v : Bool) → o ≡ suc i
-    → Placed (stmt_at o i (block_at o i k)) ts (map stmt_front ss) at → r ≡ drop at ts → v ≡ begins_text (codes "}") (tokens_of r) → v ≡ false
-    → stmt_at o i (block_at o i k) (tokens_of r) ≡ Some (stmt_front s, tokens_of next) → ss' ≡ ss ++ s ∷ []
-    → Placed (stmt_at o i (block_at o i k)) ts (map stmt_front ss') (length ts - length next)
-placed_goes o i k ts r next ss ss' s at v q p e b h f m =
-    let n = next_place o i k ts r next (stmt_front s) at q p.within e f in
+pub read_goes : (o i k : ℕ) (ts rest next : List Token) (ss ss' : List CStmt) (s : CStmt) (v : Bool) → o ≡ suc i
+    → Going (stmt_at o i (block_at o i k)) ts (map stmt_front ss) rest → v ≡ begins_text (codes "}") rest → v ≡ false
+    → stmt_at o i (block_at o i k) rest ≡ Some (stmt_front s, next) → ss' ≡ ss ++ s ∷ []
+    → Going (stmt_at o i (block_at o i k)) ts (map stmt_front ss') next
+read_goes o i k ts rest next ss ss' s v q g b h f m =
     let stmt : ReadStmt = stmt_at o i (block_at o i k) in
-    let g : Going stmt (tokens_of ts) (map stmt_front ss) (tokens_of r) =
-    subst (λ (z : List CodeToken). Going stmt (tokens_of ts) (map stmt_front ss) (tokens_of z)) (sym e) p.going in
-    let lr : length (tokens_of r) ≡ length ts - at = length-map r seen ∙ ap length e ∙ length-drop at ts in
-    let ln : length (tokens_of next) ≡ length next = length-map next seen in
-    let nl : length (tokens_of next) < length (tokens_of r) = omega (arith, n.less, lr, ln) in
-    let g2 = goes stmt (tokens_of ts) (map stmt_front ss) (tokens_of r) (tokens_of next) (stmt_front s) g (brace_none (tokens_of r) v b h) f nl in
+    let n = goes stmt ts (map stmt_front ss) rest next (stmt_front s) g (brace_none rest v b h) f (stmt_less o i k rest next (stmt_front s) q f) in
     let mm : map stmt_front ss' ≡ map stmt_front ss ++ stmt_front s ∷ [] = ap (map stmt_front) m ∙ map-append stmt_front ss (s ∷ []) in
-    let g3 : Going stmt (tokens_of ts) (map stmt_front ss') (tokens_of next) =
-    subst (λ (z : List Front). Going stmt (tokens_of ts) z (tokens_of next)) (sym mm) g2 in
-    record { within = omega arith; going = subst (λ (z : List Token). Going stmt (tokens_of ts) (map stmt_front ss') z) (sym n.is) g3 }
+    subst (λ (z : List Front). Going stmt ts z next) (sym mm) n

@@ -8,14 +8,15 @@ use Rattle.ln_csyn.specs.Words.{is_c_name, is_numeral, number_of, most_number}
 use Rattle.ln_base.specs.Decimal.{decimal_value}
 use Rattle.ln_csyn.specs.Grammar.{Token, Sort, Derives, IsBody, IsHead, IsFun, IsFile}
 use Rattle.ln_csyn.specs.Grammar as g
-use Rattle.ln_csyn.specs.Text.{Spelt, CText, first_line, Lexed, is_file, has_words, fun_words}
+use Rattle.ln_csyn.specs.Text.{Spelt, CText, first_line, Lexed, is_file, has_words, fun_words, tokens_from}
 use Rattle.ln_csyn.specs.Laws.{TextIsKept}
 use Rattle.ln_csyn.specs.Reading.{block_at, funs_at}
 use Rattle.ln_csyn.specs.Keeps.{keeps, each_fun, fresh_on, names_of, rest_keeps, each_expr, each_name}
 use Rattle.ln_csyn.proofs.Reading.CompleteFile.{file_is_complete}
 use Rattle.ln_csyn.proofs.Reading.SoundFile.{file_is_sound}
 use Rattle.ln_csyn.proofs.Keeping.KeepLemmas.{keeps_is}
-use Rattle.ln_csyn.proofs.Lexing.Scanned.{one_lexed_by, behind_first}
+use Rattle.ln_csyn.proofs.Lexing.Scanned.{behind_first, lexed_found, found_lexed}
+use Rattle.ln_csyn.proofs.Reading.Texts.{texts_file}
 
 -- what is tested once a file is read
 abbrev pub rest_keep : List Fun → Bool
@@ -63,12 +64,18 @@ pub no_first : (bytes : List ℕ) → ((r : List ℕ) → bytes ≡ first_line +
 no_first bytes n gs c = n c.rest c.first
 
 -- where the tokens are no file
-pub no_file : (bytes rest : List ℕ) (ts : List Token) → bytes ≡ first_line ++ rest → Lexed 2 rest ts → ((gs : List Fun) → Spelt ts gs → ⊥)
+pub no_file : (bytes rest : List ℕ) (ts : List Token) → bytes ≡ first_line ++ rest → ts ≡ tokens_from 2 rest → ((gs : List Fun) → Spelt ts gs → ⊥)
     → (gs : List Fun) → CText bytes gs → ⊥
 no_file bytes rest ts e l n gs c =
     let r = behind_first c.rest rest (sym c.first ∙ e) in
-    let t = one_lexed_by (subst (λ (z : List ℕ). Lexed 2 z c.tokens) r c.lexed) l in
+    let t : c.tokens ≡ ts = sym (lexed_found (subst (λ (z : List ℕ). Lexed 2 z c.tokens) r c.lexed)) ∙ sym l in
     n gs (subst (λ (z : List Token). Spelt z gs) t c.spelt)
+
+-- where they are one
+pub is_text : (bytes rest : List ℕ) (ts : List Token) (fs : List Fun) → bytes ≡ first_line ++ rest → ts ≡ tokens_from 2 rest → Spelt ts fs → CText bytes fs
+is_text bytes rest ts fs e l s =
+    let t : Spelt (tokens_from 2 rest) fs = subst (λ (z : List Token). Spelt z fs) l s in
+    record { rest = rest; tokens = tokens_from 2 rest; first = e; lexed = found_lexed 2 rest (texts_file t.file); spelt = t }
 
 -- ---- names and numbers of what is derived
 

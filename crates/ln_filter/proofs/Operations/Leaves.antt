@@ -1,11 +1,11 @@
 -- Without any test, the operations of a tree leave its truncated number.
 use Rattle.std.proofs.Common.{◌≡◌, ℕ, ℤ, ◌+◌, ◌<◌, true, List, [], ◌∷◌, length, refl, zero, suc, ap, arith, pos, neg_ℤ}
 use Rattle.std.proofs.Common.{unsigned_abs, ◌*ℤ◌, ◌∙◌, sym, subst}
-use Rattle.std.specs.Prelude.{Option, Some, slice_get, ◌==◌, if◌then◌else◌, Bool, false}
+use Rattle.std.specs.Prelude.{Option, Some, slice_get}
 use Rattle.ln_tree.specs.declared.shape.VarInfo.{VarInfo}
 use Rattle.ln_tree.specs.Row.{AreWithin}
 use Rattle.ln_bound.specs.declared.fitted.Width.{Width}
-use Rattle.ln_bound.specs.declared.fitted.Width.TheVariants.{W64, W128}
+use Rattle.ln_bound.specs.declared.fitted.Width.TheVariants.{W64}
 use Rattle.ln_bound.specs.declared.fitted.Two.{Two}
 use Rattle.ln_bound.specs.declared.fitted.Two.TheVariants.{Plus, Minus, Times}
 use Rattle.ln_bound.specs.Value.{values}
@@ -14,12 +14,12 @@ use Rattle.ln_interval.specs.Range.{Range}
 use Rattle.ln_code.specs.declared.op.Op.{Op}
 use Rattle.ln_code.specs.declared.op.Op.TheVariants.{Cut, Get, Input, Mul, Neg, Push}
 use Rattle.ln_code.specs.declared.op.Triple.{Triple}
-use Rattle.ln_code.specs.Engine.{Engine, next, op_of}
+use Rattle.ln_code.specs.Engine.{Engine, op_of}
 use Rattle.ln_code.specs.Numbers.{result_of, cut_by, with_local}
 use Rattle.ln_code.specs.StackCode.{raised_to}
-use Rattle.ln_code.specs.Exact.{Held, held, held_at, exact_filter}
-use Rattle.ln_code.proofs.Engines.Follow.{Reaches, Follows, when_some}
-use Rattle.ln_code.proofs.Following.Known.{next_some}
+use Rattle.ln_code.specs.Exact.{exact_filter}
+use Rattle.ln_code.proofs.Engines.Follow.{Reaches, Follows, LocalsStand, local_stands}
+use Rattle.ln_code.proofs.Filters.FilterKnown.{IsNumber, held_at_says, held_input, held_says}
 use Rattle.ln_code.proofs.Filters.Cutting.{cut_none}
 use Rattle.ln_code.proofs.Building.Runs.{Cuts, Is, Meaning, Trims}
 use Rattle.ln_code.proofs.Building.Lands.{Beside, Facts}
@@ -48,44 +48,17 @@ loose zs = record {
 
 -- ---- it follows the machine that tests
 
-held_says : (a : Triple) (z : ℤ) (y : Held) → held a z ≡ Some y → y.number ≡ z
-held_says a z y q = let r = when_some _ _ _ q in sym (ap (λ (h : Held). h.number) r.1)
-
-held_at_says : (w : Width) (a : Triple) (z : ℤ) (y : Held) → held_at w a z ≡ Some y → y.number ≡ z
-held_at_says W64 a z y q = held_says a z y q
-held_at_says W128 a z y q = cc
-
--- the number without its error
-abbrev pub Same : Held → ℤ → Type 0
-Same y z = y.number ≡ z
-
--- each local of the machine that tests has the same number in the one that doesn't
-abbrev pub SameLocals : (ℕ → Option Held) → (ℕ → Option ℤ) → Type 0
-SameLocals l m = (j : ℕ) (y : Held) → l j ≡ Some y → Reaches Same y (m j)
-
-same_put : (l : ℕ → Option Held) (m : ℕ → Option ℤ) (j : ℕ) (v : Held) (z : ℤ) → SameLocals l m → Same v z → SameLocals (with_local l j v) (with_local m j z)
-same_put l m j v z h f i k = by_case (i == j)
-  where
-    by_case : (b : Bool) → (if b then Some v else l i) ≡ Some k → Reaches Same k (if b then Some z else m i)
-    by_case true q = let r : v ≡ k = cc in rw (← r) f
-    by_case false q = h i k q
-
-loose_input : (zs : List ℤ) (v : ℕ) (a : Triple) (y : Held) → next (slice_get zs v) (λ z. held a z) ≡ Some y → Reaches Same y (slice_get zs v)
-loose_input zs v a y q =
-    let r = next_some (slice_get zs v) (λ (z : ℤ). held a z) y q in
-    rw r.1 (held_says a r.0 y r.2)
-
 -- the machine that tests nothing follows the one that tests
-pub loose_follows : (zs : List ℤ) → Follows (exact_filter zs) (loose zs) (λ (a : Triple). a) Same SameLocals
+pub loose_follows : (zs : List ℤ) → Follows (exact_filter zs) (loose zs) (λ (a : Triple). a) IsNumber (LocalsStand (Reaches IsNumber))
 loose_follows zs = record {
   push = λ c a v q. held_says a (cut_by a.k c) v q;
-  input = loose_input zs;
-  again = λ x y a v f q. held_says a x.number v q ∙ f;
-  two = λ t w a x x' y y' v f g q. held_at_says w a (result_of t y y') v (rw (f, g) at q);
-  minus = λ w a x y v f q. held_at_says w a (neg_ℤ y) v (rw f at q);
-  cut = λ n a x y v f q. held_says a (cut_by n y) v (rw f at q);
+  input = held_input zs;
+  again = λ x y a v f q. held_says a y v (rw f.same at q);
+  two = λ t w a x x' y y' v f g q. (held_at_says w a (result_of t y y') v (rw (f.same, g.same) at q)).1;
+  minus = λ w a x y v f q. (held_at_says w a (neg_ℤ y) v (rw f.same at q)).1;
+  cut = λ n a x y v f q. held_says a (cut_by n y) v (rw f.same at q);
   got = λ l m j v k q. k j v q;
-  put = same_put;
+  put = λ l m j v z h f. local_stands (Reaches IsNumber) l m j v (Some z) h f;
   room = λ n q. refl;
 }
 

@@ -1,26 +1,21 @@
 -- What the walk asks of triples.
-use Rattle.std.proofs.Common.{◌≡◌, ℕ, ◌+◌, ◌-◌, ◌*◌, ◌≤◌, List, refl, zero, suc, arith, sym, subst}
+use Rattle.std.proofs.Common.{◌≡◌, ℕ, ◌+◌, ◌*◌, ◌≤◌, List, refl, zero, suc, arith, sym, subst}
 use Rattle.ln_tree.specs.declared.shape.VarInfo.{VarInfo}
 use Rattle.ln_interval.specs.Range.{Range}
 use Rattle.ln_bound.specs.declared.fitted.Width.{Width}
 use Rattle.ln_bound.specs.Typed.{Typed, TPow, untyped}
 use Rattle.ln_code.specs.declared.op.Triple.{Triple}
-use Rattle.ln_code.specs.Kept.{no_triple}
 use Rattle.ln_code.specs.StackCode.{raised_to}
 use Rattle.ln_filter.specs.Steady.{ArePowersSteady}
-use Rattle.ln_filter.specs.Style.{MayWrite, raw}
+use Rattle.ln_filter.specs.Style.{MayWrite}
 use Rattle.ln_filter.specs.Triples.{bits, excess, leaf, powered, product_of, triple, whole}
 use Rattle.ln_filter.specs.Tried.{IsSmall}
-use Rattle.ln_filter.proofs.Truncation.Bits.{bits_by_zeros, bits_nought}
+use Rattle.ln_filter.proofs.Truncation.Bits.{bits_by_zeros}
 use Rattle.ln_filter.proofs.Truncation.Steady.{powered_small}
 
 -- a value with this triple may be divided so that 31 binary digits remain
 abbrev pub Divides : Triple → Type 0
 Divides a = a.k + excess a.h ≤ 255
-
--- what stores has no size
-pub none_divides : Divides no_triple
-none_divides = let b = bits_nought in omega (arith, b)
 
 one_is : leaf 1 ≡ whole 1
 unfolding bits
@@ -45,8 +40,3 @@ factor_joins vars lets x m n q w p a g h i j =
     let b = g.small (untyped x) g.steady.0 in
     let s : ArePowersSteady (triple vars lets (untyped x)) (suc m) = λ k l f. g.steady.1 k l (omega (arith, f, h)) in
     rw (i, j) (powered_small (triple vars lets (untyped x)) m b (λ k l f. s k l (omega (arith, f))), last_divides (triple vars lets (untyped x)) m b s)
-
--- a power that isn't the 0th, before its last product is cut
-pub last_raw : (vars : List VarInfo) (lets : List Triple) (t x : Typed) (n : ℕ) (p : Range) (w : Width) (v : Triple) → t ≡ TPow x n p w → suc (n - 1) ≡ n
-    → v ≡ raw vars lets (raised_to x (suc (n - 1)) w) → v ≡ raw vars lets t
-last_raw vars lets t x n p w v e z h = rw e (subst (λ m. v ≡ raw vars lets (TPow x m p w)) z h)

@@ -27,6 +27,8 @@ use Rattle.ln_code.specs.FilterRules.{FilterKnown, filter_rules}
 use Rattle.ln_code.specs.Nodes.{IsLetNode, IsNodeOf}
 use Rattle.ln_code.specs.Part.{FilterCode, lines_of, filter_known_of, filter_value}
 use Rattle.ln_code.specs.Kept.{FollowsFilterRules, IsFilter, no_triple}
+use Rattle.ln_code.proofs.Engines.Follow.{LocalsStand, Reaches}
+use Rattle.ln_code.proofs.Filters.FilterKnown.{IsNumber}
 use Rattle.ln_code.proofs.Engines.Runs.{answer_follows, same_lines, reached_some}
 use Rattle.ln_code.proofs.Lines.{lines_length}
 use Rattle.ln_code.proofs.Following.Means.{filters_mean}
@@ -44,7 +46,7 @@ use Rattle.ln_filter.proofs.Operations.Style.{filter_code, style_in, triple_in a
 use Rattle.ln_filter.proofs.Operations.Meaning.{IsGood, Setting, meaning}
 use Rattle.ln_filter.proofs.Operations.Nodes.{facts}
 use Rattle.ln_filter.proofs.Operations.Leaves as leaves
-use Rattle.ln_filter.proofs.Operations.Leaves.{Same as SameNumber, SameLocals, loose, loose_follows}
+use Rattle.ln_filter.proofs.Operations.Leaves.{loose, loose_follows}
 use Rattle.ln_filter.proofs.Operations.Costs.{all_weigh, filter_weighs}
 
 -- ---- the predicate
@@ -140,12 +142,12 @@ held_is y h e p q = rw (← p, ← q) refl
 number_is : (zs : List ℤ) (lines : List (Line Triple)) (y : Held) (h : ℤ) → answer (exact_filter zs) no_locals lines ≡ Some y
     → answer (loose zs) no_locals lines ≡ Some h → y.number ≡ h
 number_is zs lines y h p q =
-    let n = answer_follows (exact_filter zs) (loose zs) (λ (a : Triple). a) SameNumber SameLocals
+    let n = answer_follows (exact_filter zs) (loose zs) (λ (a : Triple). a) IsNumber (LocalsStand (Reaches IsNumber))
     (loose_follows zs) no_locals no_locals lines y (λ j v e. cc) p in
-    let m = reached_some SameNumber y _ (rw same_lines at n) in
+    let m = reached_some IsNumber y _ (rw same_lines at n) in
     let e : Some m.0 ≡ Some h = sym m.1 ∙ q in
     let i : m.0 ≡ h = cc in
-    m.2 ∙ i
+    m.2.same ∙ i
 
 same_top : (vars : List VarInfo) (code : FilterCode) (top m : FilterKnown) → filter_known_of vars code ≡ Some top → filter_known_of vars code ≡ Some m → m ≡ top
 same_top vars code top m p q = let e : Some m ≡ Some top = sym q ∙ p in cc

@@ -1,33 +1,31 @@
 -- What the lowered block is.
-use Rattle.std.proofs.Common.{◌≡◌, inl, inr, ℕ, ℤ, ◌+◌, ◌*◌, ◌≤◌, ◌<◌, List, [], ◌∷◌, ◌++◌, length, map, refl, zero, suc, ap, arith, ◌∙◌, sym, subst}
+use Rattle.std.proofs.Common.{◌≡◌, inl, inr, ℕ, ◌+◌, ◌*◌, ◌≤◌, ◌<◌, List, [], ◌∷◌, ◌++◌, length, map, refl, zero, suc, ap, arith, ◌∙◌, sym, subst}
 use Rattle.std.proofs.Common.{get_or}
-use Rattle.std.specs.Prelude.{Option, Some, All, IfOk, Result, pos, slice_index_or}
+use Rattle.std.specs.Prelude.{Option, Some, All, pos, slice_index_or}
 use Rattle.std.proofs.lemmas.List.{length-map}
-use Rattle.std.proofs.lemmas.Result.{IfOk-weaker}
+use Rattle.std.proofs.lemmas.List.Elements.{All-cons, All-nil}
 use Rattle.std.proofs.lemmas.Option.{slice_get-get_or}
 use Rattle.ln_algebra.specs.Coefficient.{Series}
 use Rattle.ln_algebra.specs.Tree.{Num, Tree}
 use Rattle.ln_tree.specs.declared.shape.VarInfo.{VarInfo}
 use Rattle.ln_tree.specs.Exps.{Pairs}
-use Rattle.ln_tree.specs.Row.{AreWithin}
 use Rattle.ln_bound.specs.declared.fitted.Fitted.{Fitted}
 use Rattle.ln_bound.specs.declared.fitted.Width.{Width}
 use Rattle.ln_bound.specs.declared.fitted.Width.TheVariants.{W64}
 use Rattle.ln_bound.specs.Value.{value, values}
-use Rattle.ln_bound.specs.Light.{let_values}
-use Rattle.ln_bound.specs.Typed.{Typed, TNum, TInput, TLet, TNeg, TTwo, TPow, pair, width, cost, costs, untyped}
+use Rattle.ln_bound.specs.Typed.{Typed, TNum, TInput, TLet, TNeg, TTwo, TPow, pair, width, cost, untyped}
 use Rattle.ln_bound.specs.Sound.{Sound, SoundNodes, AreSound}
 use Rattle.ln_bound.specs.View.{typed}
-use Rattle.ln_interval.specs.Range.{Range, Covers, power}
+use Rattle.ln_interval.specs.Range.{Range, power}
 use Rattle.ln_interval.specs.View.{range}
 use Rattle.ln_interval.specs.declared.pair.Pair.{Pair}
 use Rattle.ln_interval.proofs.Magnitudes.{covers_magnitude, power_ordered}
 use Rattle.ln_bound.proofs.Trees.Whole.{whole_value}
 use Rattle.ln_code.specs.Engine.{Line, run}
 use Rattle.ln_code.specs.Rules.{Known, rules}
-use Rattle.ln_code.specs.Part.{Code, lines_of, known_of, block_value}
+use Rattle.ln_code.specs.Part.{Code, lines_of, known_of}
 use Rattle.ln_code.specs.Numbers.{no_locals}
-use Rattle.ln_code.specs.Kept.{FollowsRules, IsBlock}
+use Rattle.ln_code.specs.Kept.{FollowsRules}
 use Rattle.ln_code.proofs.Following.Means.{blocks_mean}
 use Rattle.ln_code.proofs.Lines.{lines_length}
 use Rattle.ln_code.specs.StackCode.{line}
@@ -36,13 +34,12 @@ use Rattle.ln_code.specs.declared.builder.Built.{Built}
 use Rattle.ln_code.specs.declared.draft.Draft.{Draft}
 use Rattle.ln_code.specs.Walk.{told_line}
 use Rattle.ln_code.specs.Nodes.{IsLetNode, IsNodeOf}
-use Rattle.ln_lower.specs.Nodes.{PushNodes, pushed_by, HasPolynomial, KeepsLets}
+use Rattle.ln_lower.specs.Nodes.{HasPolynomial}
 use Rattle.ln_lower.specs.declared.distinct.Key.{Key}
 use Rattle.ln_code.specs.Kept.{nothing}
 use Rattle.ln_lower.specs.Lowered.{IsLoweredBlock, PowersFit}
 use Rattle.ln_lower.specs.StackCode.{IsCodeOf, block_style}
 use Rattle.ln_lower.specs.Wrote.{Drafted}
-use Rattle.ln_code.proofs.Following.Same.{Same}
 use Rattle.ln_code.proofs.Building.Names.{closed, closed_snoc, tree_in}
 use Rattle.ln_code.proofs.Building.Runs.{Holds, Locals}
 use Rattle.ln_code.proofs.Building.Present.{Present}
@@ -78,17 +75,10 @@ powers_fit vars lets (TPow t n p w) s =
 pub root_fits : (vars : List VarInfo) (lets : List Typed) (t : Typed) → Sound vars lets t → PowersFit t
 root_fits vars lets t s = powers_fit vars lets t s.nodes
 
-all_cons : (P : Fitted → Type 0) (u : Fitted) (us : List Fitted) → P u → All P us → All P (u ∷ us)
-all_cons P u us p a = λ k d h. at k d h
-  where
-    at : (k : ℕ) (d : Fitted) → k < length (u ∷ us) → P (get_or (u ∷ us) k d)
-    at zero d h = p
-    at (suc k) d h = a k d (omega arith)
-
 -- the ranges of all powers in sound lets are within 2^127 - 1
 pub all_fit : (vars : List VarInfo) (done : List Typed) (lets : List Fitted) → AreSound vars done (map typed lets) → All (λ u. PowersFit (typed u)) lets
-all_fit vars done [] s = λ k d h. absurd (omega arith)
-all_fit vars done (u ∷ us) s = all_cons (λ u. PowersFit (typed u)) u us (root_fits vars done (typed u) s.0) (all_fit vars (done ++ (typed u ∷ [])) us s.1)
+all_fit vars done [] s = All-nil (λ u. PowersFit (typed u))
+all_fit vars done (u ∷ us) s = All-cons (λ u. PowersFit (typed u)) u us (root_fits vars done (typed u) s.0) (all_fit vars (done ++ (typed u ∷ [])) us s.1)
 
 -- ---- the block
 

@@ -83,7 +83,7 @@ cost_power : (v k e : ℕ) → 1 ≤ e → e ≤ k + 1 → cost_of (power k v e)
 cost_power v = power_has v (λ e t. cost_of t + 1 ≤ 3 * e) (omega arith) (λ e t l h. omega (arith, h)) (λ e t l h. omega (arith, h, l))
 
 -- x times a tree takes one operation more than both at most
-cost_scaled : (x h : Tree) → cost_of (scaled x h) ≤ cost_of x + cost_of h + 1
+pub cost_scaled : (x h : Tree) → cost_of (scaled x h) ≤ cost_of x + cost_of h + 1
 cost_scaled x h = scaled_cases x h (λ t. cost_of t ≤ cost_of x + cost_of h + 1) (λ e. omega arith) (λ e. omega arith) (omega arith)
 
 -- so a step is cheap where its parts are

@@ -30,14 +30,14 @@ nested_inputs n = nested_has n (λ g e. InputsBelow n e) (λ g. tt)
 
 -- ---- exponents of sums and leaves
 -- exponents of a sum of vectors are at most the sums
-exponent-plus : (w : ℕ) (a b : List ℕ) → exponent_of w (plus a b) ≤ exponent_of w a + exponent_of w b
+pub exponent-plus : (w : ℕ) (a b : List ℕ) → exponent_of w (plus a b) ≤ exponent_of w a + exponent_of w b
 exponent-plus w [] b = omega arith
 exponent-plus w (n ∷ a) [] = omega arith
 exponent-plus zero (n ∷ a) (k ∷ b) = omega arith
 exponent-plus (suc w) (n ∷ a) (k ∷ b) = exponent-plus w a b
 
 -- the vector of zeros has none
-exponent-zeros : (w n : ℕ) → exponent_of w (zeros n) ≡ 0
+pub exponent-zeros : (w n : ℕ) → exponent_of w (zeros n) ≡ 0
 exponent-zeros w zero = refl
 exponent-zeros zero (suc n) = refl
 exponent-zeros (suc w) (suc n) = exponent-zeros w n
@@ -152,7 +152,7 @@ length_times_one t g = let a = length-times_term t g in let b = length-append (t
 -- ---- the nodes
 
 -- a node whose expansion has few terms, with small exponents
-lean_here : (n count : ℕ) (top : ℕ → ℕ) (e : Tree) → InputsBelow n e → length (expanded n e) ≤ count → AreUnder top (expanded n e) → IsLean n count top e
+pub lean_here : (n count : ℕ) (top : ℕ → ℕ) (e : Tree) → InputsBelow n e → length (expanded n e) ≤ count → AreUnder top (expanded n e) → IsLean n count top e
 lean_here n count top e i l u =
     record { terms = expanded n e; normal = record { over = Over-expanded n e; coefficients = λ m h. sym (normal_is n e i m h) }; few = l; under = u }
 

@@ -167,18 +167,26 @@ room_up (Sub e f) a = (room_up e a.0, room_up f a.1, a.2)
 room_up (Mul e f) a = (room_up e a.0, room_up f a.1, a.2)
 room_up (Pow e k) a = (room_up e a.0, a.1)
 
--- an exact tree in nested form is sound, with its ranges within the M-weighted sum
+-- an exact tree no node of which weighs more than m is sound, with its ranges within m
+pub up_sound : (vars : List VarInfo) (e : Tree) (m : ℕ) (t : Typed) → ((v : ℕ) → IsOrdered (ranges vars v)) → m ≤ most
+    → AreUpTo (weighs (scale vars)) m e → InputsBelow (length vars) e → untyped t ≡ e → IsExact vars [] t → need t ≤ 2048
+    → Sound vars [] t × AreWithinPairs m t
+up_sound vars e m t o l a i q x n =
+    let scales = λ (v : ℕ). scale_some vars v in
+    let r = up_more (weighs (scale vars)) (reaches (ranges vars)) m m
+    (λ e. range_weight (ranges vars) (scale vars) [] [] (range_scale vars) (λ j. omega arith) e) (omega arith) e a in
+    let s = up_more (weighs (scale vars)) (weighs one) m m (λ e. weight_grows one (scale vars) [] [] scales (λ j. omega arith) e) (omega arith) e a in
+    let rm = up_more (reaches (ranges vars)) (reaches (ranges vars)) m most (λ e. omega arith) l e r in
+    let sm = up_more (weighs one) (weighs one) m most (λ e. omega arith) l e s in
+    let ii : InputsBelow (length vars) (untyped t) = rw q i in
+    let hr : HaveRange vars [] (untyped t) = rw q rm in
+    let hs : HasRoom one [] (untyped t) = rw q (room_up e sm) in
+    (record { nodes = exact_nodes vars [] o (λ j u q. cc) t ii x hr; sizes = hs; deep = n }, exact_within vars m t x (rw q r))
+
+-- so is one in nested form, with its ranges within the M-weighted sum
 pub nested_sound : (vars : List VarInfo) (d : ℕ) (f : List Term) (t : Typed) → ((v : ℕ) → IsOrdered (ranges vars v)) → HasNoZero f
     → weighted_sum (scale vars) f ≤ most → untyped t ≡ nested d (length vars) 0 f → IsExact vars [] t → need t ≤ 2048
     → Sound vars [] t × AreWithinPairs (weighted_sum (scale vars) f) t
 nested_sound vars d f t o z l e x n =
-    let scales = λ (v : ℕ). scale_some vars v in
-    let r = nested_ranges (ranges vars) (scale vars) scales (range_scale vars) d (length vars) 0 f z in
-    let s = nested_sizes (scale vars) scales d (length vars) 0 f z in
-    let rm = up_more (reaches (ranges vars)) (reaches (ranges vars)) (weighted_sum (scale vars) f) most (λ e. omega arith) l (nested d (length vars) 0 f) r in
-    let sm = up_more (weighs one) (weighs one) (weighted_sum (scale vars) f) most (λ e. omega arith) l (nested d (length vars) 0 f) s in
-    let i : InputsBelow (length vars) (nested d (length vars) 0 f) = nested_inputs (length vars) d (length vars) 0 (omega arith) f in
-    let ii : InputsBelow (length vars) (untyped t) = rw e i in
-    let hr : HaveRange vars [] (untyped t) = rw e rm in
-    let hs : HasRoom one [] (untyped t) = rw e (room_up (nested d (length vars) 0 f) sm) in
-    (record { nodes = exact_nodes vars [] o (λ j u q. cc) t ii x hr; sizes = hs; deep = n }, exact_within vars (weighted_sum (scale vars) f) t x (rw e r))
+    up_sound vars (nested d (length vars) 0 f) (weighted_sum (scale vars) f) t o l
+    (nested_up (scale vars) (λ v. scale_some vars v) d (length vars) 0 f z) (nested_inputs (length vars) d (length vars) 0 (omega arith) f) e x n

@@ -1,10 +1,10 @@
 -- From a polynomial to its nested tree.
-use Rattle.std.proofs.Common.{◌≡◌, ℕ, ◌+◌, ◌-◌, ◌*◌, ◌≤◌, ◌<◌, max, All, List, [], ◌∷◌, length, refl, zero, suc, ap, arith, ◌∙◌, sym, subst}
+use Rattle.std.proofs.Common.{◌≡◌, ℕ, ◌+◌, ◌*◌, ◌≤◌, ◌<◌, max, All, List, [], ◌∷◌, length, refl, zero, suc, ap, arith, ◌∙◌, sym, subst}
 use Rattle.std.proofs.lemmas.List.{length-map}
 use Rattle.std.proofs.lemmas.List.Elements.{All-head, All-tail}
 use Rattle.ln_algebra.specs.Coefficient.{normal_coefficient}
 use Rattle.ln_algebra.specs.Terms.{Over, Term, factor_at}
-use Rattle.ln_algebra.specs.Tree.{Tree, inlined}
+use Rattle.ln_algebra.specs.Tree.{Pow, Tree, inlined}
 use Rattle.ln_algebra.specs.Vector.{degree}
 use Rattle.ln_algebra.specs.Weights.{weighted_sum}
 use Rattle.ln_algebra.proofs.Expanded.Normal.{normal_is}
@@ -21,37 +21,22 @@ use Rattle.ln_poly.specs.Sparse.{IsFactor, IsPoly, Sparse, coefficient_at, term_
 use Rattle.ln_poly.proofs.TermLists.Products.{over-terms}
 use Rattle.ln_poly.proofs.Derivations.Deriving.{same-monomial}
 use Rattle.ln_nest.specs.Lean.{AreLean, AreUnder, HasNoZero, largest}
-use Rattle.ln_nest.specs.Nested.{exponent_of, divided, free_of, joined, nested, nested_form, power}
+use Rattle.ln_nest.specs.Nested.{by_squares, divided, exponent_of, free_of, joined, nested, power, rest_term}
 use Rattle.ln_nest.specs.declared.work.Work.{Work}
 use Rattle.ln_nest.specs.View.{Has, scale, terms_in}
-use Rattle.ln_nest.proofs.Terms.Parts.{AllFit, nested_has}
+use Rattle.ln_nest.proofs.Terms.Parts.{nested_has}
 use Rattle.ln_nest.proofs.Terms.Powers.{closed_power}
 use Rattle.ln_nest.proofs.Terms.Scaled.{closed_scaled}
-use Rattle.ln_nest.proofs.Forms.Same.{nested_is}
-use Rattle.ln_nest.proofs.Forms.Costs.{AllDegrees, allowance, cost_of, cost_same, need_of, need_same, nested_cheap, nested_need}
-use Rattle.ln_nest.proofs.Forms.Leans.{nested_inputs, nested_slim}
-use Rattle.ln_nest.proofs.Forms.Nests.{nested_sound}
-use Rattle.ln_nest.proofs.Forms.Steps.{has_as, scale_is}
+use Rattle.ln_nest.proofs.Forms.Costs.{AllDegrees, cost_of, cost_same, need_of, need_same}
+use Rattle.ln_nest.proofs.Forms.Nests.{up_sound}
+use Rattle.ln_nest.proofs.Forms.Squares.{AreTerms, roomy, squares_cheap, squares_formed, squares_has, squares_is, squares_need, squares_up}
+use Rattle.ln_nest.proofs.Forms.Steps.{has_as, scale_is, scale_some}
 
 -- ---- the terms of a polynomial
--- no exponent is above the degree
-exponent-degree : (w : ℕ) (m : List ℕ) → exponent_of w m ≤ degree m
-exponent-degree w [] = omega arith
-exponent-degree zero (n ∷ m) = omega arith
-exponent-degree (suc w) (n ∷ m) = let e = exponent-degree w m in omega (arith, e)
-
 -- the degrees, one after the other
 terms_degrees : (n d : ℕ) (f : Sparse) → All (λ t. degree (vector n t.0) ≤ d) f → AllDegrees d (terms_of n f)
 terms_degrees n d [] a = tt
 terms_degrees n d (t ∷ f) a = (All-head (λ u. degree (vector n u.0) ≤ d) t f a, terms_degrees n d f (All-tail (λ u. degree (vector n u.0) ≤ d) t f a))
-
--- terms over n variables with small degrees fit
-all_fit : (n d : ℕ) (f : List Term) → Over n f → AllDegrees d f → AllFit n 0 d f
-all_fit n d [] o a = tt
-all_fit n d (t ∷ f) o a = (
-  record { long = o.0; clear = λ w l. absurd (omega arith); most = λ w. let e = exponent-degree w t.exponents in omega (arith, e, a.0) },
-  all_fit n d f o.1 a.1,
-)
 
 -- the exponent in a part of a vector
 exponent-from : (v a n w : ℕ) (ps : Pairs) → w ≡ a + v → exponent_of v (exponents_from a n ps) ≤ exponent w ps
@@ -100,30 +85,46 @@ coefficient-is : (n : ℕ) (f : Sparse) (m : List ℕ) → coefficient_at n f m 
 unfolding coefficient_at
 coefficient-is n f m = refl
 
+-- by squares neither
+squares_closed : (d n k b : ℕ) → 4 ≤ b → (f : List Term) → inlined [] (by_squares d n k b f) ≡ by_squares d n k b f
+squares_closed d n =
+    squares_has d n (λ f e. inlined [] e ≡ e) (nested_closed d n 0)
+    (λ t x l r. closed_scaled (Pow x 2) (nested d n 0 (rest_term t ∷ [])) (rw r refl) (nested_closed d n 0 (rest_term t ∷ [])))
+
 -- the tree of a polynomial over n variables, with degrees of at most d
 abbrev pub tree_of : ℕ → ℕ → Sparse → Tree
-tree_of d n f = nested d (n - 0) 0 (terms_of n f)
-
--- it is the nested form
-pub whole_form : (n : ℕ) (f : Sparse) (t : Typed) → untyped t ≡ tree_of 126 n f → untyped t ≡ nested_form n (terms_of n f)
-whole_form n f t h = let e : n - 0 ≡ n = omega arith in subst (λ k. untyped t ≡ nested 126 k 0 (terms_of n f)) e h
-
--- the tree has the polynomial
-pub whole_same : (d n : ℕ) (f : Sparse) (t : Typed) → All (λ u. degree (vector n u.0) ≤ d) f → untyped t ≡ tree_of d n f → (m : List ℕ)
-    → length m ≡ n → polynomial [] t m ≡ coefficient_at n f m
-whole_same d n f t a e m h =
-    let g = terms_of n f in
-    let fit : AllFit n 0 d g = all_fit n d g (over-terms n f) (terms_degrees n d f a) in
-    let c : inlined [] (untyped t) ≡ tree_of d n f = ap (inlined []) e ∙ nested_closed d (n - 0) 0 g in
-    ap (λ x. normal_coefficient x m) c
-    ∙ normal_is n (tree_of d n f) (nested_inputs n d (n - 0) 0 (omega arith) g) m h
-    ∙ nested_is n d (n - 0) 0 (omega arith) g fit m h
-    ∙ sym (coefficient-is n f m)
+tree_of d n f = by_squares d n 7 8 (terms_of n f)
 
 -- its terms have no factor 0
 terms_some : (n : ℕ) (f : Sparse) → All (λ t. IsFactor t.1) f → HasNoZero (terms_of n f)
 terms_some n [] a = tt
 terms_some n (t ∷ f) a = ((All-head (λ u. IsFactor u.1) t f a).0, terms_some n f (All-tail (λ u. IsFactor u.1) t f a))
+
+are_terms : (n d : ℕ) (f : List Term) → Over n f → AllDegrees d f → HasNoZero f → AreTerms n d f
+are_terms n d [] o a z = tt
+are_terms n d (t ∷ f) o a z = (record { long = o.0; low = a.0; some = z.0 }, are_terms n d f o.1 a.1 z.1)
+
+-- the terms of a polynomial
+module _ (d n : ℕ) (f : Sparse) (p : IsPoly f) (a : All (λ u. degree (vector n u.0) ≤ d) f) where
+  whole_terms : AreTerms n d (terms_of n f)
+  whole_terms = are_terms n d (terms_of n f) (over-terms n f) (terms_degrees n d f a) (terms_some n f p.factors)
+
+  -- the tree has the polynomial
+  pub whole_same : (t : Typed) → untyped t ≡ tree_of d n f → (m : List ℕ) → length m ≡ n → polynomial [] t m ≡ coefficient_at n f m
+  whole_same t e m h =
+      let c : inlined [] (untyped t) ≡ tree_of d n f = ap (inlined []) e ∙ squares_closed d n 7 8 (omega arith) (terms_of n f) in
+      let i = (squares_formed n d 1 (largest f) (omega arith) 7 8 (omega arith) (terms_of n f)).inputs in
+      ap (λ x. normal_coefficient x m) c
+      ∙ normal_is n (tree_of d n f) i m h
+      ∙ squares_is n d 7 8 (omega arith) (terms_of n f) whole_terms (over-terms n f) (terms_degrees n d f a) m h
+      ∙ sym (coefficient-is n f m)
+
+  -- it is lean
+  pub whole_lean : (t : Typed) → untyped t ≡ tree_of d n f → AreLean n (max 1 (length f)) (largest f) (untyped t)
+  whole_lean t e =
+      let z : length (terms_of n f) ≡ length f = length-map f (term_of n) in
+      let s = squares_formed n d (max 1 (length f)) (largest f) (omega arith) 7 8 (omega arith) (terms_of n f) in
+      rw e (s.nodes whole_terms (terms_under n (largest f) f (λ w. omega arith)) (omega (arith, z)))
 
 -- it is sound, and its ranges are within the weight of the polynomial
 pub whole_sound : (vars : List VarInfo) (f : Sparse) (t : Typed) (b : ℕ) → length vars ≤ 168 → ((v : ℕ) → IsOrdered (ranges vars v))
@@ -131,27 +132,19 @@ pub whole_sound : (vars : List VarInfo) (f : Sparse) (t : Typed) (b : ℕ) → l
     → Has vars t (tree_of 126 (length vars) f) b → Sound vars [] t × AreWithinPairs (weighted_sum (sizes vars) (terms_of (length vars) f)) t
 whole_sound vars f t b l r p a o h =
     let n = length vars in
-    let k : need_of (tree_of 126 n f) ≤ 126 + ((n - 0) + 1) = nested_need 126 (n - 0) 0 126 (terms_of n f) (terms_degrees n 126 f a) in
+    let g = terms_of n f in
+    let k = squares_need 126 n 7 8 (omega arith) g (terms_degrees n 126 f a) in
     let e : need t ≡ need_of (tree_of 126 n f) = need_same t ∙ ap need_of h.same in
-    let z : n - 0 ≡ n = omega arith in
-    let u : untyped t ≡ nested 126 n 0 (terms_of n f) = h.same ∙ ap (λ m. nested 126 m 0 (terms_of n f)) z in
     let s = scaled_sum vars f in
-    let x = nested_sound vars 126 (terms_of n f) t r (terms_some n f p.factors) (omega (arith, s, o)) u h.exact (omega (arith, l, k, e)) in
+    let i = (squares_formed n 126 1 (largest f) (omega arith) 7 8 (omega arith) g).inputs in
+    let u = squares_up (scale vars) (λ v. scale_some vars v) 126 n 7 8 (omega arith) g (terms_some n f p.factors) in
+    let x = up_sound vars (tree_of 126 n f) (weighted_sum (scale vars) g) t r (omega (arith, s, o)) u i h.same h.exact (omega (arith, l, k, e)) in
     (x.0, subst (λ m. AreWithinPairs m t) s x.1)
 
--- it is lean
-pub whole_lean : (d n : ℕ) (f : Sparse) (t : Typed) → untyped t ≡ tree_of d n f → AreLean n (max 1 (length f)) (largest f) (untyped t)
-whole_lean d n f t e =
-    let g = terms_of n f in
-    let z : length g ≡ length f = length-map f (term_of n) in
-    let s = nested_slim n (max 1 (length f)) (largest f) (omega arith) d (n - 0) 0 (omega arith) g (largest f) (λ w. omega arith)
-    (terms_under n (largest f) f (λ w. omega arith)) (omega (arith, z)) in
-    rw e s.nodes
-
--- 380 operations for each term, where degrees are at most 126
-few_allowance : (d : ℕ) (f : List Term) → d ≤ 126 → AllDegrees d f → allowance f ≤ 380 * length f
-few_allowance d [] l a = omega arith
-few_allowance d (t ∷ f) l a = let ih = few_allowance d f l a.1 in omega (arith, ih, a.0, l)
+-- 506 operations for each term, where degrees are at most 126
+few_roomy : (d : ℕ) (f : List Term) → d ≤ 126 → AllDegrees d f → roomy f ≤ 506 * length f
+few_roomy d [] l a = omega arith
+few_roomy d (t ∷ f) l a = let ih = few_roomy d f l a.1 in omega (arith, ih, a.0, l)
 
 -- it is cheap
 pub whole_cheap : (d n : ℕ) (f : Sparse) (t : Typed) → d ≤ 126 → All (λ u. degree (vector n u.0) ≤ d) f → untyped t ≡ tree_of d n f
@@ -160,8 +153,8 @@ whole_cheap d n f t l a e =
     let g = terms_of n f in
     let z : length g ≡ length f = length-map f (term_of n) in
     let c : cost t ≡ cost_of (tree_of d n f) = cost_same t ∙ ap cost_of e in
-    let k = nested_cheap d (n - 0) 0 g in
-    let m = few_allowance d g l (terms_degrees n d f a) in
+    let k = squares_cheap d n 7 8 (omega arith) g in
+    let m = few_roomy d g l (terms_degrees n d f a) in
     omega (arith, z, c, k, m)
 
 -- the same of the lists that the code has
@@ -175,7 +168,8 @@ whole_some vs g f ws q e p = rw (e, q) (terms_some (length vs) f p.factors)
 
 -- the tree that the code built is that of the polynomial
 pub whole_has : (vs vars : List VarInfo) (g f : Sparse) (ws : List Work) (t : Typed) → vs ≡ vars → g ≡ f
-    → terms_in ws ≡ terms_of (length vs) g → Has vs t (nested 126 (length vs - 0) 0 (terms_in ws)) (weighted_sum (scale vs) (terms_in ws))
+    → terms_in ws ≡ terms_of (length vs) g
+    → Has vs t (by_squares 126 (length vs) 7 8 (terms_in ws)) (weighted_sum (scale vs) (terms_in ws))
     → Has vars t (tree_of 126 (length vars) f) (weighted_sum (sizes vars) (terms_of (length vars) f))
 whole_has vs vars g f ws t p q e h =
     let a : Has vs t (tree_of 126 (length vs) g) (weighted_sum (scale vs) (terms_of (length vs) g)) = rw (← e) h in

@@ -112,7 +112,7 @@ pub site_length : (k s c : ℕ) (xs : List CoordOf) → length (site_vars k s c 
 site_length k s c [] = refl
 site_length k s c (x ∷ xs) = ap suc (site_length k s (suc c) xs)
 
--- the variables of arguments from number a on, after s sites, are in order, each with a range, and so many are of each kind
+-- the variables of arguments from number a on, after s sites, are in order, each with a range, and the arguments say how many are of each kind
 pub record Laid (a s : ℕ) (as' : List ArgOf) (vars : List VarInfo) : Type 0 where
   pub order : (b : VarInfo) → in_order a s b vars ≡ true
   pub ranges : list_all has_range vars ≡ true

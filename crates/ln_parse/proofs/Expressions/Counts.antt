@@ -18,7 +18,7 @@ one_node : (bytes : List ℕ) (s : Scope) (at : Span) (o : Option ℕ) → node_
 one_node bytes s at None = refl
 one_node bytes s at (Some j) = refl
 
--- the tokens of a tree are so many nodes more
+-- the tokens of a tree are as many nodes more as the tree has
 pub count_of : (bytes : List ℕ) (s : Scope) (e : Tree) (j : Judged) → (judged s e j).count ≡ j.count + node_count (resolved bytes s e)
 count_of bytes s (TNum at) j = refl
 count_of bytes s (TName at) j = let a = one_node bytes s at (position (λ l. same bytes l.name at) s.lets) in omega arith

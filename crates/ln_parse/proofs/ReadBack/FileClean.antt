@@ -34,7 +34,7 @@ use Rattle.ln_parse.proofs.ReadBack.ScopeNames.{differ_left, differ_right, coord
 use Rattle.ln_parse.proofs.ReadBack.ValueBack.{new_among, room}
 use Rattle.ln_parse.proofs.ReadBack.ArgsBack.{Facts, Declared}
 use Rattle.ln_parse.proofs.ReadBack.PredBack.{pred_back}
-use Rattle.ln_parse.proofs.Wholes.TestLemmas.{in_order}
+use Rattle.ln_parse.proofs.Wholes.TestLemmas.{in_order, every_pair}
 use Rattle.ln_parse.proofs.Wholes.WholeParts.{InRange, SiteParts, PredParts, TableParts}
 
 in_end : (b : Bool) (n : ℕ) → unsigned_abs (signed b n) < 2 ^ 63 → n < 2 ^ 63
@@ -184,10 +184,6 @@ module _ (bytes : List ℕ) (ts : List Token) (t : TableOf) (all : List Item) (w
         clean = (f, clean_join bytes _ _ b.clean y.clean);
       }
 
-both : {A : Type 0} (P Q : A → Type 0) (xs : List A) → Every P xs → Every Q xs → Every (λ x. P x × Q x) xs
-both P Q [] a b = tt
-both P Q (x ∷ xs) a b = ((a.0, b.0), both P Q xs a.1 b.1)
-
 -- the items of the canonical text of a whole table are done from the first on
 pub file_done : (bytes : List ℕ) (ts : List Token) (t : TableOf) → IsWhole t → TableParts t → (is : List Item) {k : ℕ} → file.Items ts 0 k is
     → Like bytes ts t is t.sites t.params t.preds → ItemsDone bytes ts t [] is t.preds
@@ -212,5 +208,5 @@ file_done bytes ts t w p is d h =
       few_preds = omega arith;
       sites = like_sites h;
       params = like_params h;
-    }) [] refl d h (both SiteParts SiteNames t.sites p.sites w.sites) (both InRange (λ c. IsShortName c.name) t.params p.params w.params)
-    (both PredKept (PredParts t.sites t.params) t.preds w.preds p.preds)
+    }) [] refl d h (every_pair SiteParts SiteNames t.sites p.sites w.sites) (every_pair InRange (λ c. IsShortName c.name) t.params p.params w.params)
+    (every_pair PredKept (PredParts t.sites t.params) t.preds w.preds p.preds)

@@ -1,5 +1,6 @@
 -- A predicate of a canonical text says that of the table, and its tokens have no fault.
 use Rattle.std.proofs.Common.{◌≡◌, ℕ, true, List, [], length, map, refl, ap, sym, ◌∙◌, subst, arith, append-nil}
+use Rattle.std.specs.Prelude.{count_by}
 use Rattle.std.proofs.lemmas.List.{length-map}
 use Rattle.ln_syntax.specs.declared.raw.RawLet.{RawLet}
 use Rattle.ln_syntax.specs.Raw.{text}
@@ -10,11 +11,11 @@ use Rattle.ln_names.specs.First.{Clean}
 use Rattle.ln_tree.specs.Formula.{tree}
 use Rattle.ln_tree.specs.Fits.{is_fit}
 use Rattle.ln_tree.specs.Table.{PredOf, TableOf}
-use Rattle.ln_parse.specs.Says.{PredSays}
+use Rattle.ln_parse.specs.Says.{PredSays, vars_behind, is_site_said}
 use Rattle.ln_parse.specs.ReadsBack.{PredWritten}
 use Rattle.ln_parse.specs.Spanless.{pred_spanless}
 use Rattle.ln_parse.specs.WholeTable.{PredKept}
-use Rattle.ln_parse.proofs.Building.Predicates.{PredAt, same_pred}
+use Rattle.ln_parse.proofs.Building.Predicates.{PredAt, pred_said, one_pred, same_pred}
 use Rattle.ln_names.specs.Nodes.{Begins}
 use Rattle.ln_parse.proofs.ReadBack.CleanValue.{clean_join}
 use Rattle.ln_parse.proofs.ReadBack.ScopeNames.{PredIn, InScope}
@@ -57,37 +58,17 @@ pred_back r t p d dl fr w k h =
     subst (λ (m : ℕ). is_fit (length p.vars) m (tree p.vars p.root) ≡ true) many k.root_fit in
     let x = value_back r.bytes r.ts (scope r.before r.args r.lets) t p v p.root rf r.root w.root_is fr in
     let lc = l.count in
-    let pred : PredOf = record {
-      name = text r.bytes r.name;
-      at = r.name;
-      args = p.args;
-      shape_name = text r.bytes r.name;
-      sites = p.sites;
-      vars = p.vars;
-      let_names = map (λ (m : RawLet). text r.bytes m.name) r.lets;
-      lets = l.formulas;
-      root = x.formula;
-    } in
+    let args = a.say in
     record {
-      pred = pred;
-      says = λ u s q. record {
-        name_is = refl;
-        at_is = refl;
-        args_are = sym a.say;
-        shape_is = refl;
-        sites_are = h.sites;
-        vars_are = rw (s, q) h.vars;
-        names_are = refl;
-        lets_are = l.say;
-        root_is = x.says;
-      };
-      same = same_pred (pred_spanless pred) (pred_spanless p) (record {
+      pred = pred_said r t.sites t.params l.formulas x.formula;
+      says = λ u s q. one_pred r u t.sites t.params l.formulas x.formula s q l.say x.says;
+      same = same_pred (pred_spanless (pred_said r t.sites t.params l.formulas x.formula)) (pred_spanless p) (record {
         name = w.name_is;
         at = refl;
-        args = refl;
+        args = args;
         shape_name = w.name_is ∙ sym h.shape_name;
-        sites = refl;
-        vars = refl;
+        sites = ap (count_by is_site_said) args ∙ sym h.sites;
+        vars = ap (vars_behind t.sites t.params 0 0) args ∙ sym h.vars;
         let_names = l.named;
         lets = l.same;
         root = x.same;

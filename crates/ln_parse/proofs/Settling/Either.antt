@@ -1,6 +1,5 @@
 -- All bytes have a table or a first fault.
-use Rattle.std.proofs.Common.{◌≡◌, ℕ, suc, ◌≤◌, ◌⊎◌, inl, inr, List, [], ◌∷◌, ◌++◌, length, map, Option, Some, None, refl}
-use Rattle.std.specs.Prelude.{count_by}
+use Rattle.std.proofs.Common.{◌≡◌, ℕ, suc, ◌≤◌, ◌⊎◌, inl, inr, List, [], ◌∷◌, ◌++◌, length, Option, Some, None, refl}
 use Rattle.ln_base.specs.Limits.{most_tokens}
 use Rattle.ln_lex.specs.declared.token.Token.{Token}
 use Rattle.ln_lex.specs.declared.token.Kind.TheVariants.{Semi}
@@ -9,7 +8,7 @@ use Rattle.ln_lex.specs.Tokens.{Lexed}
 use Rattle.ln_lex.proofs.HasAnswer.{has_answer}
 use Rattle.ln_syntax.specs.declared.raw.RawArg.{RawArg}
 use Rattle.ln_syntax.specs.declared.raw.RawLet.{RawLet}
-use Rattle.ln_syntax.specs.Raw.{Item, Is, item_name, text}
+use Rattle.ln_syntax.specs.Raw.{Item, Is, item_name}
 use Rattle.ln_syntax.specs.Expression.{IsExpr}
 use Rattle.ln_syntax.specs.File.{Lets, Items, Spelt, no_let, a_let, site, param, predicate, no_item, an_item}
 use Rattle.ln_syntax.specs.Place.{IsShallow}
@@ -23,9 +22,9 @@ use Rattle.ln_tree.specs.Table.{CoordOf, SiteOf, PredOf, TableOf}
 use Rattle.ln_parse.specs.declared.source.ParseStop.{ParseStop}
 use Rattle.ln_parse.specs.Fault as fault
 use Rattle.ln_parse.specs.Fault.{TextFault}
-use Rattle.ln_parse.specs.Says.{Says, LetsSay, PredSays, PredsSay, ItemsSay, resolved, arg_said, sites_said, params_said, vars_behind, is_site_said}
+use Rattle.ln_parse.specs.Says.{Says, LetsSay, PredsSay, ItemsSay, resolved, sites_said, params_said}
 use Rattle.ln_parse.specs.Text.{TextOf}
-use Rattle.ln_parse.proofs.Building.Predicates.{PredAt}
+use Rattle.ln_parse.proofs.Building.Predicates.{PredAt, pred_said, one_pred}
 
 -- an expression before a semicolon says a formula
 value_said : (bytes : List ℕ) (ts : List Token) (s : Scope) (i j : ℕ) → IsExpr ts i j → Is ts j Semi
@@ -45,36 +44,6 @@ lets_said bytes ts is args before {ls = l ∷ ls} (a_let a b c e h on) =
 record Preds (bytes : List ℕ) (ts : List Token) (ss : List SiteOf) (cs : List CoordOf) (before is : List Item) : Type 0 where
   pub preds : List PredOf
   pub say : (t : TableOf) → t.sites ≡ ss → t.params ≡ cs → PredsSay bytes ts before t is preds
-
--- what a predicate says whose lets and root say formulas, with any table that has these site types and params
-one_pred : (r : PredAt) (ss : List SiteOf) (cs : List CoordOf) (xs : List Formula) (x : Formula)
-    → LetsSay r.bytes r.ts r.before r.args [] r.lets xs → Says r.bytes r.ts (scope r.before r.args r.lets) r.root x
-    → (p : PredOf) × ((t : TableOf) → t.sites ≡ ss → t.params ≡ cs → PredSays r.bytes r.ts r.before t r.name r.args r.lets r.root p)
-one_pred r ss cs xs x l v =
-    let as' = map (λ (a : RawArg). arg_said r.bytes r.before a a.is_param) r.args in (
-      record {
-        name = text r.bytes r.name;
-        at = r.name;
-        args = as';
-        shape_name = text r.bytes r.name;
-        sites = count_by is_site_said as';
-        vars = vars_behind ss cs 0 0 as';
-        let_names = map (λ (m : RawLet). text r.bytes m.name) r.lets;
-        lets = xs;
-        root = x;
-      },
-      λ t p q. record {
-        name_is = refl;
-        at_is = refl;
-        args_are = refl;
-        shape_is = refl;
-        sites_are = refl;
-        vars_are = rw (p, q) refl;
-        names_are = refl;
-        lets_are = l;
-        root_is = v;
-      },
-    )
 
 preds_said : (bytes : List ℕ) (ts : List Token) (ss : List SiteOf) (cs : List CoordOf) (before : List Item) {i k : ℕ} {is : List Item}
     → Items ts i k is → Preds bytes ts ss cs before is
@@ -97,9 +66,11 @@ preds_said bytes ts ss cs before {is = x ∷ xs} (an_item (predicate {k = k} {l 
       lets = ls;
       root = record { from = suc k; to = m };
     } in
-    let p = one_pred here ss cs l.0 y.0 l.1 y.1 in
     let r = preds_said bytes ts ss cs (before ++ (x ∷ [])) on in
-    record { preds = p.0 ∷ r.preds; say = λ t m n. (p.1 t m n, r.say t m n) }
+    record {
+      preds = pred_said here ss cs l.0 y.0 ∷ r.preds;
+      say = λ t m n. (one_pred here t ss cs l.0 y.0 m n l.1 y.1, r.say t m n);
+    }
 
 -- items say a table
 items_said : (bytes : List ℕ) (ts : List Token) (is : List Item) → Spelt ts is → (t : TableOf) × ItemsSay bytes ts is t

@@ -1,9 +1,7 @@
 -- The tokens of an expression that is written canonically derive it.
-use Rattle.std.proofs.Common.{◌≡◌, ℕ, zero, suc, ◌+◌, ◌-◌, ◌<◌, ◌≤◌, Bool, true, false, cond, List, [], ◌∷◌, length, take, drop, Some, refl}
-use Rattle.std.proofs.Common.{ap, sym, ◌∙◌, arith, length-drop, codes, ◌++◌, ◌==◌}
-use Rattle.ln_base.specs.Words.{is_name, is_letter}
-use Rattle.std.proofs.lemmas.Bool.{and_parts}
-use Rattle.std.proofs.lemmas.Bool.Decides.{nat_tests}
+use Rattle.std.proofs.Common.{◌≡◌, ℕ, suc, ◌+◌, ◌-◌, ◌≤◌, Bool, true, false, cond, List, [], ◌∷◌, length, take, drop, refl}
+use Rattle.std.proofs.Common.{ap, sym, ◌∙◌, arith, length-drop, codes}
+use Rattle.std.proofs.Math.Seq.{take-append_seam}
 use Rattle.ln_lex.specs.declared.token.Kind.TheVariants.{Number, ParL, ParR, Plus, Minus, Star, Caret}
 use Rattle.ln_lex.specs.declared.token.Token.{Token}
 use Rattle.ln_parse.specs.declared.printer.Room.{Room}
@@ -13,13 +11,13 @@ use Rattle.ln_syntax.specs.Raw.{Is, span_at, text}
 use Rattle.ln_syntax.specs.Expression.{Tree, TNum, TName, TInput, TNeg, TAdd, TSub, TMul, TPow, Sort, Atom, Power, Unary, Term, Sum}
 use Rattle.ln_syntax.specs.Expression.{Factors, Terms, Derives, number, name, input, parens, plain, power, base, minus, term, no_factor}
 use Rattle.ln_syntax.specs.Expression.{times, sum, no_term, plus, less}
+use Rattle.ln_syntax.proofs.Recognising.Builds.{from}
 use Rattle.ln_parse.specs.Lexemes.{Lexeme, gap, line, word, text_of}
 use Rattle.ln_parse.specs.Canonical.{fits, wrap, inside, whole}
 use Rattle.std.specs.Fmt.{decimal}
 use Rattle.ln_base.specs.Decimal.{decimal_value}
 use Rattle.ln_base.proofs.DecimalLemmas.{value_of_text}
-use Rattle.ln_parse.proofs.Texts.WordTokens.{number_kind, name_kind}
-use Rattle.ln_parse.proofs.Texts.LexBack.{soft, undotted, Clear, toks, front, drop_word}
+use Rattle.ln_parse.proofs.Texts.LexBack.{toks, drop_word}
 
 -- the words of the lexemes are the tokens from place i on
 abbrev pub Sits : List ℕ → List Token → ℕ → List Lexeme → Type 0
@@ -27,21 +25,6 @@ Sits bytes ts i [] = i ≡ length ts
 Sits bytes ts i (gap ∷ xs) = Sits bytes ts i xs
 Sits bytes ts i (line ∷ xs) = Sits bytes ts i xs
 Sits bytes ts i (word k t ∷ xs) = Is ts i k × (text bytes (span_at ts i) ≡ t) × Sits bytes ts (suc i) xs
-
--- the list from place j on
-record From (ts : List Token) (j : ℕ) (t : Token) (us : List Token) : Type 0 where
-  first : Is ts j t.kind
-  span : span_at ts j ≡ t.span
-  rest : drop (suc j) ts ≡ us
-  more : j < length ts
-
-from : (ts : List Token) (j : ℕ) (t : Token) (us : List Token) → drop j ts ≡ t ∷ us → From ts j t us
-from [] zero t us e = absurd (cc)
-from [] (suc j) t us e = absurd (cc)
-from (x ∷ xs) zero t us e =
-    let q : x ≡ t = cc in
-    record { first = ap (λ (w : Token). Some w.kind) q; span = ap (λ (w : Token). w.span) q; rest = cc; more = omega arith }
-from (x ∷ xs) (suc j) t us e = let r = from xs j t us e in record { first = r.first; span = r.span; rest = r.rest; more = omega (arith, r.more) }
 
 -- where bytes and tokens go on as these lexemes do, the words of the lexemes are the tokens
 pub sits : (bytes : List ℕ) (ts : List Token) (xs : List Lexeme) (i at : ℕ) → drop at bytes ≡ text_of xs → drop i ts ≡ toks at xs
@@ -58,7 +41,8 @@ sits bytes ts (word k t ∷ xs) i at e f h =
     let r = from ts i _ _ f in
     let n : (at + length t) - at ≡ length t = omega arith in
     let p : text bytes (span_at ts i) ≡ t =
-    ap (λ (w : _). text bytes w) r.span ∙ ap (λ (w : ℕ). take w (drop at bytes)) n ∙ ap (λ (w : List ℕ). take (length t) w) e ∙ front t (text_of xs) in
+    ap (λ (w : _). text bytes w) r.span ∙ ap (λ (w : ℕ). take w (drop at bytes)) n ∙ ap (λ (w : List ℕ). take (length t) w) e
+    ∙ take-append_seam t (text_of xs) in
     (r.first, p, sits bytes ts xs (suc i) (at + length t) (drop_word bytes t (text_of xs) at e) r.rest (omega (arith, r.more)))
 
 -- a tree is spelt before other lexemes
@@ -241,42 +225,7 @@ derived bytes ts (WPow a n) m i rest h =
       after = q.2;
     }
 
--- a tree whose texts are names and numbers is written clearly
-abbrev pub Clears : (List Lexeme → List Lexeme) → Type 0
-Clears f = (rest : List Lexeme) → soft (text_of rest) ≡ true → Clear rest → Clear (f rest)
-
-no_dot : (b : ℕ) → is_letter b ≡ true → (b == 46) ≡ false
-no_dot b h = grind (arith, nat_tests)
-
--- no name begins with a dot
-name_undotted : (t : List ℕ) → is_name t ≡ true → (rest : List ℕ) → undotted (t ++ rest) ≡ true
-name_undotted [] h rest = absurd (cc)
-name_undotted (b ∷ bs) h rest = rw (no_dot b (and_parts (is_letter b) _ (and_parts _ _ h).0).0) refl
-
-clear_by : (t : Written) (v : Bool) → Clears (inside t)
-    → Clears (λ rest. cond v (inside t rest) (word ParL (codes "(") ∷ inside t (word ParR (codes ")") ∷ rest)))
-clear_by t true f = f
-clear_by t false f = λ rest s c. (refl, tt, f (word ParR (codes ")") ∷ rest) refl (refl, tt, c))
-
-clear : (t : Written) → IsNamed t → Clears (inside t)
-clear (WNum t) n = λ rest s c. (number_kind t n, s, c)
-clear (WName t) n = λ rest s c. (name_kind t n, s, c)
-clear (WInput t x) n = λ rest s c. (name_kind t n.0, refl, (refl, name_undotted x n.1 (text_of rest), (name_kind x n.1, s, c)))
-clear (WNeg a) n = λ rest s c. (refl, tt, clear_by a (fits OfUnary a) (clear a n) rest s c)
-clear (WAdd a b) n = λ rest s c. clear_by a (fits OfSum a) (clear a n.0) (gap ∷ word Plus (codes "+") ∷ gap ∷ wrap OfProduct b (inside b) rest) refl
-    (refl, tt, clear_by b (fits OfProduct b) (clear b n.1) rest s c)
-clear (WSub a b) n = λ rest s c. clear_by a (fits OfSum a) (clear a n.0) (gap ∷ word Minus (codes "-") ∷ gap ∷ wrap OfProduct b (inside b) rest) refl
-    (refl, tt, clear_by b (fits OfProduct b) (clear b n.1) rest s c)
-clear (WMul a b) n = λ rest s c. clear_by a (fits OfProduct a) (clear a n.0) (word Star (codes "*") ∷ wrap OfUnary b (inside b) rest) refl
-    (refl, tt, clear_by b (fits OfUnary b) (clear b n.1) rest s c)
-clear (WPow a m) n =
-    λ rest s c. clear_by a (fits OfAtom a) (clear a n.0) (word Caret (codes "^") ∷ word Number (decimal m) ∷ rest) refl (refl, tt, (number_kind m n.1, s, c))
-
 -- a whole expression is derived
 pub whole_back : (bytes : List ℕ) (ts : List Token) (e : Written) → IsNamed e → (i : ℕ) (rest : List Lexeme)
     → Sits bytes ts i (whole e rest) → Derived bytes ts Sum i e rest
 whole_back bytes ts e n i rest h = wrap_by bytes ts OfSum e (fits OfSum e) refl (λ j r g. derived bytes ts e n j r g) i rest h
-
--- a whole expression is written clearly
-pub whole_clear : (e : Written) → IsNamed e → Clears (whole e)
-whole_clear e n = clear_by e (fits OfSum e) (clear e n)

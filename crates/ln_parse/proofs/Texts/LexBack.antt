@@ -3,28 +3,20 @@ use Rattle.std.proofs.Common.{◌≡◌, ℕ, zero, suc, ◌+◌, ◌-◌, ◌<�
 use Rattle.std.proofs.Common.{drop, Some, None, refl, ap, sym, ◌∙◌, subst, arith, length-append, length-drop, codes, not, ◌==◌}
 use Rattle.std.specs.Prelude.{bytes_eq, if◌then◌else◌}
 use Rattle.std.proofs.lemmas.Bool.{not-true, eqb-true}
+use Rattle.std.proofs.Math.Seq.{take-append_seam, drop-append_seam}
 use Rattle.std.proofs.lemmas.List.{drop-drop}
 use Rattle.ln_lex.specs.declared.token.Kind.{Kind}
-use Rattle.ln_lex.specs.declared.token.Kind.TheVariants.{Name, Number, Site, Param, Predicate, Let, Sign, Dot}
+use Rattle.ln_lex.specs.declared.token.Kind.TheVariants.{Name, Number, Site, Param, Predicate, Let, Sign, Dot, ParL}
 use Rattle.ln_lex.specs.declared.token.Token.{Token}
 use Rattle.ln_base.specs.Words.{is_digit, is_letter, is_name_byte, every}
 use Rattle.ln_lex.specs.Tokens.{kind_of, word_kind, sign_kind, sign_of, IsFirst, is_blank, begins_blank, Skips, nothing, blank, Stand, Lexed}
+use Rattle.ln_syntax.specs.Place.{depth_behind}
 use Rattle.ln_parse.specs.Lexemes.{Lexeme, gap, line, word, text_of}
 
 -- no byte of a name or a number begins these bytes
 abbrev pub soft : List ℕ → Bool
 soft [] = true
 soft (b ∷ bs) = cond (is_name_byte b) false true
-
--- the first bytes of a text and more bytes are the text
-pub front : (t rest : List ℕ) → take (length t) (t ++ rest) ≡ t
-front [] rest = refl
-front (b ∷ bs) rest = ap (λ (w : List ℕ). b ∷ w) (front bs rest)
-
--- and after it come those other bytes
-pub behind : (t rest : List ℕ) → drop (length t) (t ++ rest) ≡ rest
-behind [] rest = refl
-behind (b ∷ bs) rest = behind bs rest
 
 soft_name : (b : ℕ) (bs : List ℕ) → soft (b ∷ bs) ≡ true → is_name_byte b ≡ false
 soft_name b bs h = by (is_name_byte b) h
@@ -96,7 +88,7 @@ name_first : (b : ℕ) (bs rest : List ℕ) → is_letter b ≡ true → every i
 name_first b bs rest l e s = record {
   some = omega arith;
   within = omega (arith, length-append bs rest);
-  spelt = rw (front bs rest) (rw (l, e) refl);
+  spelt = rw (take-append_seam bs rest) (rw (l, e) refl);
   longest = λ m h w. name_long b bs rest m l s h w;
 }
 
@@ -111,7 +103,7 @@ number_first : (b : ℕ) (bs rest : List ℕ) → is_letter b ≡ false → is_d
 number_first b bs rest l d e s = record {
   some = omega arith;
   within = omega (arith, length-append bs rest);
-  spelt = rw (front bs rest) (rw (l, d, e) refl);
+  spelt = rw (take-append_seam bs rest) (rw (l, d, e) refl);
   longest = λ m h w. number_long b bs rest m l d s h w;
 }
 
@@ -180,12 +172,21 @@ pub word_first : (t rest : List ℕ) (k : Kind) → kind_of t ≡ Some k → Apa
 word_first [] rest k h a = absurd (cc)
 word_first (b ∷ bs) rest k h a = first_by b bs rest k (is_letter b) (is_digit b) refl refl h a
 
--- each word is a token that what follows does not make longer
-abbrev pub Clear : List Lexeme → Type 0
-Clear [] = Unit {0}
-Clear (gap ∷ xs) = Clear xs
-Clear (line ∷ xs) = Clear xs
-Clear (word k t ∷ xs) = (kind_of t ≡ Some k) × Apart k (text_of xs) × Clear xs
+-- what a token needs at this depth of parentheses before these bytes: to be apart from them, and P of the depth for a parenthesis that opens
+abbrev pub Goes : (ℕ → Type 0) → ℕ → Kind → List ℕ → Type 0
+Goes P d ParL rest = P d
+Goes P d k rest = Apart k rest
+
+-- each word is a token that what follows does not make longer, and P holds of the depth at which each parenthesis opens
+abbrev pub Clear : (ℕ → Type 0) → ℕ → List Lexeme → Type 0
+Clear P d [] = Unit {0}
+Clear P d (gap ∷ xs) = Clear P d xs
+Clear P d (line ∷ xs) = Clear P d xs
+Clear P d (word k t ∷ xs) = (kind_of t ≡ Some k) × Goes P d k (text_of xs) × Clear P (depth_behind d k) xs
+
+apart : (P : ℕ → Type 0) (d : ℕ) (k : Kind) (rest : List ℕ) → Goes P d k rest → Apart k rest
+apart P d ParL rest g = tt
+apart P d k rest g = g
 
 -- the tokens of lexemes that begin at this place
 abbrev pub toks : ℕ → List Lexeme → List Token
@@ -228,34 +229,35 @@ drop_one bytes xs b at e =
 
 -- the bytes after a word are those that follow it
 pub drop_word : (bytes t xs : List ℕ) (at : ℕ) → drop at bytes ≡ t ++ xs → drop (at + length t) bytes ≡ xs
-drop_word bytes t xs at e = sym (drop-drop (length t) at bytes) ∙ ap (λ (w : List ℕ). drop (length t) w) e ∙ behind t xs
+drop_word bytes t xs at e = sym (drop-drop (length t) at bytes) ∙ ap (λ (w : List ℕ). drop (length t) w) e ∙ drop-append_seam t xs
 
 below : (bytes : List ℕ) (at n : ℕ) (xs : List ℕ) → drop at bytes ≡ xs → at ≤ length bytes → n ≤ length xs → at + n ≤ length bytes
 below bytes at n xs e h w = let q : length (drop at bytes) ≡ length xs = ap (λ (x : List ℕ). length x) e in omega (arith, length-drop at bytes)
 
-stands : (bytes : List ℕ) (xs : List Lexeme) (from at : ℕ) → drop at bytes ≡ text_of xs → at ≤ length bytes → from ≤ at
-    → Gapped bytes from at → Clear xs → Standing bytes from (toks at xs)
-stands bytes [] from at e h f g c =
+stands : (bytes : List ℕ) (P : ℕ → Type 0) (d : ℕ) (xs : List Lexeme) (from at : ℕ) → drop at bytes ≡ text_of xs → at ≤ length bytes → from ≤ at
+    → Gapped bytes from at → Clear P d xs → Standing bytes from (toks at xs)
+stands bytes P d [] from at e h f g c =
     let q : length (drop at bytes) ≡ 0 = ap (λ (x : List ℕ). length x) e in
     let r : at ≡ length bytes = omega (arith, length-drop at bytes) in
     record { to = from; tokens = refl; within = omega arith; rest = subst (λ (w : ℕ). Skips (drop from bytes) (w - from)) r (gap_all bytes from at g) }
-stands bytes (gap ∷ xs) from at e h f g c =
+stands bytes P d (gap ∷ xs) from at e h f g c =
     let w = below bytes at 1 (32 ∷ text_of xs) e h (omega arith) in
-    stands bytes xs from (suc at) (drop_one bytes (text_of xs) 32 at e) (omega arith) (omega arith) (gap_more bytes (text_of xs) 32 from at refl e f g) c
-stands bytes (line ∷ xs) from at e h f g c =
+    stands bytes P d xs from (suc at) (drop_one bytes (text_of xs) 32 at e) (omega arith) (omega arith) (gap_more bytes (text_of xs) 32 from at refl e f g) c
+stands bytes P d (line ∷ xs) from at e h f g c =
     let w = below bytes at 1 (10 ∷ text_of xs) e h (omega arith) in
-    stands bytes xs from (suc at) (drop_one bytes (text_of xs) 10 at e) (omega arith) (omega arith) (gap_more bytes (text_of xs) 10 from at refl e f g) c
-stands bytes (word k t ∷ xs) from at e h f g c =
+    stands bytes P d xs from (suc at) (drop_one bytes (text_of xs) 10 at e) (omega arith) (omega arith) (gap_more bytes (text_of xs) 10 from at refl e f g) c
+stands bytes P d (word k t ∷ xs) from at e h f g c =
     let n = at + length t in
     let w = below bytes at (length t) (t ++ text_of xs) e h (omega (arith, length-append t (text_of xs))) in
-    let r = stands bytes xs (at + length t) (at + length t) (drop_word bytes t (text_of xs) at e) w (omega arith) (gap_none bytes (at + length t)) c.2 in
-    let i : IsFirst (drop at bytes) (length t) k = rw e (word_first t (text_of xs) k c.0 c.1) in
-    let d : length t ≡ (at + length t) - at = omega arith in
-    let i2 : IsFirst (drop at bytes) ((at + length t) - at) k = subst (λ (m : ℕ). IsFirst (drop at bytes) m k) d i in
+    let r = stands bytes P (depth_behind d k) xs (at + length t) (at + length t) (drop_word bytes t (text_of xs) at e) w (omega arith)
+    (gap_none bytes (at + length t)) c.2 in
+    let i : IsFirst (drop at bytes) (length t) k = rw e (word_first t (text_of xs) k c.0 (apart P d k (text_of xs) c.1)) in
+    let q : length t ≡ (at + length t) - at = omega arith in
+    let i2 : IsFirst (drop at bytes) ((at + length t) - at) k = subst (λ (m : ℕ). IsFirst (drop at bytes) m k) q i in
     record { to = r.to; tokens = (f, gap_all bytes from at g, omega arith, i2, r.tokens); within = r.within; rest = r.rest }
 
 -- the bytes of clear lexemes have just their tokens
-pub lexed : (xs : List Lexeme) → Clear xs → Lexed (text_of xs) (toks 0 xs)
-lexed xs c =
-    let r = stands (text_of xs) xs 0 0 refl (omega arith) (omega arith) (gap_none (text_of xs) 0) c in
+pub lexed : (P : ℕ → Type 0) (xs : List Lexeme) → Clear P 0 xs → Lexed (text_of xs) (toks 0 xs)
+lexed P xs c =
+    let r = stands (text_of xs) P 0 xs 0 0 refl (omega arith) (omega arith) (gap_none (text_of xs) 0) c in
     record { to = r.to; tokens = r.tokens; within = r.within; rest = r.rest }

@@ -1,9 +1,13 @@
 -- The parentheses and the tokens of a canonical text.
 use Rattle.std.proofs.Common.{◌≡◌, ℕ, zero, suc, ◌+◌, ◌-◌, ◌*◌, ◌<◌, ◌≤◌, Bool, true, false, cond, List, [], ◌∷◌, length, take, Option}
-use Rattle.std.proofs.Common.{Some, None, refl, ap, sym, ◌∙◌, subst, arith, codes}
-use Rattle.std.specs.Prelude.{nat_le, slice_get}
-use Rattle.std.proofs.lemmas.Bool.{le-leb}
-use Rattle.ln_lex.specs.declared.token.Kind.TheVariants.{ParL, ParR, Plus, Minus, Star}
+use Rattle.std.proofs.Common.{Some, None, refl, ap, sym, ◌∙◌, subst, arith, codes, ◌++◌, ◌==◌}
+use Rattle.std.specs.Fmt.{decimal}
+use Rattle.std.specs.Prelude.{nat_le, slice_get, unwrap_or, unsigned_abs}
+use Rattle.std.proofs.lemmas.Bool.{le-leb, and_parts}
+use Rattle.std.proofs.lemmas.Bool.Decides.{nat_tests}
+use Rattle.ln_base.specs.Words.{is_name, is_letter}
+use Rattle.ln_lex.specs.declared.token.Kind.{Kind}
+use Rattle.ln_lex.specs.declared.token.Kind.TheVariants.{ParL, ParR, Plus, Minus, Star, Caret, Number}
 use Rattle.ln_syntax.specs.Raw.{Is}
 use Rattle.ln_syntax.specs.Place.{depth_behind, depth_after, IsShallow}
 use Rattle.ln_tree.specs.Formula.{Formula, FNum, FInput, FName, FNeg, FAdd, FSub, FMul, FPow}
@@ -11,27 +15,21 @@ use Rattle.ln_tree.specs.Table.{ArgOf, SiteArg, ParamArg}
 use Rattle.ln_tree.specs.Whole.{tightness, pairs, nesting, input_tokens, tokens_of}
 use Rattle.ln_parse.specs.declared.printer.Room.{Room}
 use Rattle.ln_parse.specs.declared.printer.Room.TheVariants.{OfSum, OfProduct, OfUnary, OfAtom}
-use Rattle.ln_parse.specs.Lexemes.{Lexeme, gap, line, word}
-use Rattle.ln_parse.specs.Written.{Naming, written, input}
+use Rattle.ln_parse.specs.Lexemes.{Lexeme, gap, line, word, text_of}
+use Rattle.ln_parse.specs.Written.{Naming, written, input, coord_name, range_name, IsNamed}
 use Rattle.ln_parse.specs.Canonical.{fits, wrap, inside}
-use Rattle.ln_parse.proofs.Texts.LexBack.{toks}
+use Rattle.ln_parse.proofs.Texts.WordTokens.{number_kind, name_kind}
+use Rattle.ln_parse.proofs.Texts.LexBack.{toks, soft, undotted, Goes, Clear}
 
--- going over lexemes at this depth, no parenthesis makes it 65
-abbrev pub Shallow : ℕ → List Lexeme → Type 0
-Shallow d [] = Unit {0}
-Shallow d (gap ∷ xs) = Shallow d xs
-Shallow d (line ∷ xs) = Shallow d xs
-Shallow d (word k t ∷ xs) = (k ≡ ParL → d < 64) × Shallow (depth_behind d k) xs
-
-shallow_toks : (xs : List Lexeme) (at d : ℕ) → Shallow d xs → (j : ℕ) → Is (toks at xs) j ParL → depth_after d (take j (toks at xs)) < 64
+shallow_toks : (xs : List Lexeme) (at d : ℕ) → Clear (λ n. n < 64) d xs → (j : ℕ) → Is (toks at xs) j ParL → depth_after d (take j (toks at xs)) < 64
 shallow_toks [] at d h j p = absurd (cc)
 shallow_toks (gap ∷ xs) at d h j p = shallow_toks xs (suc at) d h j p
 shallow_toks (line ∷ xs) at d h j p = shallow_toks xs (suc at) d h j p
-shallow_toks (word k t ∷ xs) at d h zero p = let q : k ≡ ParL = cc in h.0 q
-shallow_toks (word k t ∷ xs) at d h (suc j) p = shallow_toks xs (at + length t) (depth_behind d k) h.1 j p
+shallow_toks (word k t ∷ xs) at d h zero p = let q : k ≡ ParL = cc in subst (λ (w : Kind). Goes (λ n. n < 64) d w (text_of xs)) q h.1
+shallow_toks (word k t ∷ xs) at d h (suc j) p = shallow_toks xs (at + length t) (depth_behind d k) h.2 j p
 
 -- the tokens of such lexemes are nested at most 64 deep
-pub shallow : (xs : List Lexeme) → Shallow 0 xs → IsShallow (toks 0 xs)
+pub shallow : (xs : List Lexeme) → Clear (λ n. n < 64) 0 xs → IsShallow (toks 0 xs)
 shallow xs h = shallow_toks xs 0 0 h
 
 -- how many words there are
@@ -112,48 +110,67 @@ tokens_are args k h (FPow at e n) = omega arith
 pairs_by : (n : Naming) (r : Room) (e : Formula) (v : Bool) → fits r (written n e) ≡ v → pairs (wanted r) (tightness e) ≡ cond v 0 1
 pairs_by n r e v h = let q = sym (fits_is n r e) ∙ h in rw q refl
 
--- an expression in its room at this depth, when it is so at its own
-wrap_shallow : (n : Naming) (r : Room) (e : Formula) (v : Bool) → fits r (written n e) ≡ v
-    → ((d : ℕ) → d + nesting 0 e ≤ 64 → (rest : List Lexeme) → Shallow d rest → Shallow d (inside (written n e) rest))
-    → (d : ℕ) → d + nesting (wanted r) e ≤ 64 → (rest : List Lexeme) → Shallow d rest
-    → Shallow d (cond v (inside (written n e) rest) (word ParL (codes "(") ∷ inside (written n e) (word ParR (codes ")") ∷ rest)))
-wrap_shallow n r e true h f d l rest s = let q = nesting_is (wanted r) (wanted_few r) e in f d (omega arith) rest s
-wrap_shallow n r e false h f d l rest s =
-    let q = nesting_is (wanted r) (wanted_few r) e in
-    let p = pairs_by n r e false h in
-    let b : d ≡ suc d - 1 = omega arith in
-    (λ z. omega arith, f (suc d) (omega arith) (word ParR (codes ")") ∷ rest) (λ z. absurd (cc), subst (λ (x : ℕ). Shallow x rest) b s))
+no_dot : (b : ℕ) → is_letter b ≡ true → (b == 46) ≡ false
+no_dot b h = grind (arith, nat_tests)
 
-input_shallow : (n : Naming) (o : Option ArgOf) (c d : ℕ) (rest : List Lexeme) → Shallow d rest → Shallow d (inside (input n o c) rest)
-input_shallow n None c d rest s = (λ z. absurd (cc), s)
-input_shallow n (Some (SiteArg a k)) c d rest s = (λ z. absurd (cc), (λ z. absurd (cc), (λ z. absurd (cc), s)))
-input_shallow n (Some (ParamArg p)) c d rest s = (λ z. absurd (cc), s)
+-- no name begins with a dot
+name_undotted : (t : List ℕ) → is_name t ≡ true → (rest : List ℕ) → undotted (t ++ rest) ≡ true
+name_undotted [] h rest = absurd (cc)
+name_undotted (b ∷ bs) h rest = rw (no_dot b (and_parts (is_letter b) _ (and_parts _ _ h).0).0) refl
 
-inside_shallow : (n : Naming) (e : Formula) (d : ℕ) → d + nesting 0 e ≤ 64 → (rest : List Lexeme) → Shallow d rest → Shallow d (inside (written n e) rest)
-inside_shallow n (FNum at c) d l rest s = (λ z. absurd (cc), s)
-inside_shallow n (FInput at a c) d l rest s = input_shallow n (slice_get n.args a) c d rest s
-inside_shallow n (FName at j) d l rest s = (λ z. absurd (cc), s)
-inside_shallow n (FNeg at e) d l rest s =
-    (λ z. absurd (cc), wrap_shallow n OfUnary e (fits OfUnary (written n e)) refl (inside_shallow n e) d (omega arith) rest s)
-inside_shallow n (FAdd at e f) d l rest s =
-    wrap_shallow n OfSum e (fits OfSum (written n e)) refl (inside_shallow n e) d (omega arith)
-    (gap ∷ word Plus (codes "+") ∷ gap ∷ wrap OfProduct (written n f) (inside (written n f)) rest)
-    (λ z. absurd (cc), wrap_shallow n OfProduct f (fits OfProduct (written n f)) refl (inside_shallow n f) d (omega arith) rest s)
-inside_shallow n (FSub at e f) d l rest s =
-    wrap_shallow n OfSum e (fits OfSum (written n e)) refl (inside_shallow n e) d (omega arith)
-    (gap ∷ word Minus (codes "-") ∷ gap ∷ wrap OfProduct (written n f) (inside (written n f)) rest)
-    (λ z. absurd (cc), wrap_shallow n OfProduct f (fits OfProduct (written n f)) refl (inside_shallow n f) d (omega arith) rest s)
-inside_shallow n (FMul at e f) d l rest s =
-    wrap_shallow n OfProduct e (fits OfProduct (written n e)) refl (inside_shallow n e) d (omega arith)
-    (word Star (codes "*") ∷ wrap OfUnary (written n f) (inside (written n f)) rest)
-    (λ z. absurd (cc), wrap_shallow n OfUnary f (fits OfUnary (written n f)) refl (inside_shallow n f) d (omega arith) rest s)
-inside_shallow n (FPow at e k) d l rest s =
-    wrap_shallow n OfAtom e (fits OfAtom (written n e)) refl (inside_shallow n e) d (omega arith) _ (λ z. absurd (cc), (λ z. absurd (cc), s))
+module _ (P : ℕ → Type 0) where
+  -- what is written at this depth is clear before what doesn't go on with its last token
+  abbrev pub Clears : ℕ → (List Lexeme → List Lexeme) → Type 0
+  Clears d f = (rest : List Lexeme) → soft (text_of rest) ≡ true → Clear P d rest → Clear P d (f rest)
 
--- a whole expression
-pub whole_shallow : (n : Naming) (e : Formula) (d : ℕ) → d + nesting 0 e ≤ 64 → (rest : List Lexeme) → Shallow d rest
-    → Shallow d (wrap OfSum (written n e) (inside (written n e)) rest)
-whole_shallow n e d l rest s = wrap_shallow n OfSum e (fits OfSum (written n e)) refl (inside_shallow n e) d l rest s
+  -- P holds of all depths below this one
+  abbrev pub Below : ℕ → Type 0
+  Below n = (d : ℕ) → d < n → P d
+
+  wrap_clear : (n : Naming) (r : Room) (e : Formula) (v : Bool) → fits r (written n e) ≡ v
+      → ((d : ℕ) → Below (d + nesting 0 e) → Clears d (inside (written n e)))
+      → (d : ℕ) → Below (d + nesting (wanted r) e)
+      → Clears d (λ rest. cond v (inside (written n e) rest) (word ParL (codes "(") ∷ inside (written n e) (word ParR (codes ")") ∷ rest)))
+  wrap_clear n r e true h f d l = let q = nesting_is (wanted r) (wanted_few r) e in f d (λ x m. l x (omega arith))
+  wrap_clear n r e false h f d l = λ rest s c.
+      let q = nesting_is (wanted r) (wanted_few r) e in
+      let p = pairs_by n r e false h in
+      let b : d ≡ suc d - 1 = omega arith in
+      (refl, l d (omega arith), f (suc d) (λ x m. l x (omega arith)) (word ParR (codes ")") ∷ rest) refl (refl, tt, subst (λ (x : ℕ). Clear P x rest) b c))
+
+  input_clear : (n : Naming) (o : Option ArgOf) (c d : ℕ) → IsNamed (input n o c) → Clears d (inside (input n o c))
+  input_clear n None c d m = λ rest s k. (name_kind [] m, s, k)
+  input_clear n (Some (SiteArg a k)) c d m =
+      let x = coord_name (slice_get n.sites k) c in
+      λ rest s z. (name_kind a m.0, refl, (refl, name_undotted x m.1 (text_of rest), (name_kind x m.1, s, z)))
+  input_clear n (Some (ParamArg p)) c d m = λ rest s k. (name_kind (range_name (slice_get n.params p)) m, s, k)
+
+  inside_clear : (n : Naming) (e : Formula) → IsNamed (written n e) → (d : ℕ) → Below (d + nesting 0 e) → Clears d (inside (written n e))
+  inside_clear n (FNum at c) m d l = λ rest s k. (number_kind (unsigned_abs c) m, s, k)
+  inside_clear n (FInput at a c) m d l = input_clear n (slice_get n.args a) c d m
+  inside_clear n (FName at j) m d l = λ rest s k. (name_kind (unwrap_or (slice_get n.lets j) []) m, s, k)
+  inside_clear n (FNeg at e) m d l =
+      λ rest s k. (refl, tt, wrap_clear n OfUnary e (fits OfUnary (written n e)) refl (inside_clear n e m) d (λ x y. l x (omega arith)) rest s k)
+  inside_clear n (FAdd at e f) m d l = λ rest s k.
+      wrap_clear n OfSum e (fits OfSum (written n e)) refl (inside_clear n e m.0) d (λ x y. l x (omega arith))
+      (gap ∷ word Plus (codes "+") ∷ gap ∷ wrap OfProduct (written n f) (inside (written n f)) rest) refl
+      (refl, tt, wrap_clear n OfProduct f (fits OfProduct (written n f)) refl (inside_clear n f m.1) d (λ x y. l x (omega arith)) rest s k)
+  inside_clear n (FSub at e f) m d l = λ rest s k.
+      wrap_clear n OfSum e (fits OfSum (written n e)) refl (inside_clear n e m.0) d (λ x y. l x (omega arith))
+      (gap ∷ word Minus (codes "-") ∷ gap ∷ wrap OfProduct (written n f) (inside (written n f)) rest) refl
+      (refl, tt, wrap_clear n OfProduct f (fits OfProduct (written n f)) refl (inside_clear n f m.1) d (λ x y. l x (omega arith)) rest s k)
+  inside_clear n (FMul at e f) m d l = λ rest s k.
+      wrap_clear n OfProduct e (fits OfProduct (written n e)) refl (inside_clear n e m.0) d (λ x y. l x (omega arith))
+      (word Star (codes "*") ∷ wrap OfUnary (written n f) (inside (written n f)) rest) refl
+      (refl, tt, wrap_clear n OfUnary f (fits OfUnary (written n f)) refl (inside_clear n f m.1) d (λ x y. l x (omega arith)) rest s k)
+  inside_clear n (FPow at e k) m d l = λ rest s c.
+      wrap_clear n OfAtom e (fits OfAtom (written n e)) refl (inside_clear n e m.0) d (λ x y. l x (omega arith))
+      (word Caret (codes "^") ∷ word Number (decimal k) ∷ rest) refl (refl, tt, (number_kind k m.1, s, c))
+
+  -- a whole expression whose texts are names and numbers is written clearly
+  pub whole_clear : (n : Naming) (e : Formula) → IsNamed (written n e) → (d : ℕ) → Below (d + nesting 0 e)
+      → Clears d (wrap OfSum (written n e) (inside (written n e)))
+  whole_clear n e m d l = wrap_clear n OfSum e (fits OfSum (written n e)) refl (inside_clear n e m) d l
 
 wrap_words : (n : Naming) (r : Room) (e : Formula) (v : Bool) → fits r (written n e) ≡ v
     → ((rest : List Lexeme) → words (inside (written n e) rest) ≡ tokens_of n.args 0 e + words rest)

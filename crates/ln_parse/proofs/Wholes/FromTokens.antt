@@ -1,6 +1,6 @@
 -- The canonical text of what tokens say has no more tokens than they are, and no deeper parentheses.
-use Rattle.std.proofs.Common.{◌≡◌, ℕ, suc, ◌+◌, ◌-◌, ◌≤◌, ◌||◌, ◌&&◌, true, false, List, take, Option, Some, None, refl, sym, ◌∙◌, subst, arith}
-use Rattle.std.specs.Prelude.{slice_get, position}
+use Rattle.std.proofs.Common.{◌≡◌, ℕ, suc, ◌+◌, ◌-◌, ◌≤◌, ◌||◌, ◌&&◌, true, false, List, take, Option, Some, None, refl, ◌∙◌, arith}
+use Rattle.std.specs.Prelude.{slice_get, position, max}
 use Rattle.std.proofs.lemmas.Bool.{and_parts}
 use Rattle.std.proofs.lemmas.Bool.Decides.{nat_tests}
 use Rattle.ln_base.specs.declared.span.Span.{Span}
@@ -11,9 +11,9 @@ use Rattle.ln_syntax.specs.declared.raw.RawArg.{RawArg}
 use Rattle.ln_syntax.specs.declared.raw.RawLet.{RawLet}
 use Rattle.ln_syntax.specs.Raw.{Item, Is, span_at, same}
 use Rattle.ln_syntax.specs.Place.{depth_behind, depth_after, IsShallow}
-use Rattle.ln_syntax.specs.Expression.{Tree, Sort, Atom, Power, Unary, Term, Sum, Factors, Terms, Derives, number, name, input, parens}
+use Rattle.ln_syntax.specs.Expression.{Tree, Sort, Atom, Term, Sum, Factors, Terms, Derives, number, name, input, parens}
 use Rattle.ln_syntax.specs.Expression.{plain, power, base, minus, term, no_factor, times, sum, no_term, plus, less}
-use Rattle.ln_syntax.proofs.Recognising.Depth.{depth_more}
+use Rattle.ln_syntax.proofs.Recognising.Depth.{depth_taken}
 use Rattle.ln_names.specs.Rules.{Scope, scope, has_let, has_param_arg, is_site_arg, is_param_arg}
 use Rattle.ln_tree.specs.Formula.{Formula}
 use Rattle.ln_tree.specs.Table.{ArgOf, SiteArg, ParamArg}
@@ -23,40 +23,6 @@ use Rattle.ln_parse.specs.Ready.{Fit}
 use Rattle.ln_parse.proofs.Expressions.Found.{found_at, no_position}
 use Rattle.ln_parse.proofs.Expressions.Fitting.{said, said_at, said_param}
 use Rattle.ln_parse.proofs.Texts.Nested.{nesting_is, tokens_are}
-
--- what a sort that goes on begins with
-abbrev FitBefore : List ℕ → Scope → Sort → Type 0
-FitBefore bytes s (Factors f) = Fit bytes s f
-FitBefore bytes s (Terms f) = Fit bytes s f
-FitBefore bytes s o = Unit {0}
-
--- what begins a fit expression is fit
-fit_front : (bytes : List ℕ) (s : Scope) {ts : List Token} {o : Sort} {i j : ℕ} {e : Tree} → Derives ts o i j e → Fit bytes s e → FitBefore bytes s o
-fit_front bytes s (number n) h = tt
-fit_front bytes s (name n) h = tt
-fit_front bytes s (input n d x) h = tt
-fit_front bytes s (parens n d c) h = tt
-fit_front bytes s (plain d) h = tt
-fit_front bytes s (power d c n) h = tt
-fit_front bytes s (base d) h = tt
-fit_front bytes s (minus m d) h = tt
-fit_front bytes s (term d r) h = tt
-fit_front bytes s no_factor h = h
-fit_front bytes s (times t d r) h = (fit_front bytes s r h).0
-fit_front bytes s (sum d r) h = tt
-fit_front bytes s no_term h = h
-fit_front bytes s (plus t d r) h = (fit_front bytes s r h).0
-fit_front bytes s (less t d r) h = (fit_front bytes s r h).0
-
--- the tightness that a sort has
-abbrev want : Sort → ℕ
-want Atom = 3
-want Power = 2
-want Unary = 2
-want Term = 1
-want Sum = 0
-want (Factors f) = 1
-want (Terms f) = 0
 
 few : (o : Option ArgOf) → input_tokens o ≤ 3
 few None = omega arith
@@ -86,154 +52,100 @@ name_one bytes is raws ls at None e h r =
 pairs_grow : (j k t : ℕ) → j ≤ k → (pairs j t ≤ pairs k t) × (pairs k t ≤ 1)
 pairs_grow j k t h = (grind (arith, nat_tests), grind (arith, nat_tests))
 
--- where more tightness is wanted there are more tokens, by one pair of parentheses at most
-grows : (args : List ArgOf) (j k : ℕ) → j ≤ k → k ≤ 3 → (e : Formula)
-    → (tokens_of args j e ≤ tokens_of args k e) × (tokens_of args k e ≤ 2 + tokens_of args j e)
-grows args j k l m e =
-    let a = tokens_are args j (omega arith) e in
-    let b = tokens_are args k m e in
-    let c = pairs_grow j k (tightness e) l in
-    let c0 = c.0 in let c1 = c.1 in (omega arith, omega arith)
+-- how many parentheses are open before place i
+abbrev depth : List Token → ℕ → ℕ
+depth ts i = depth_after 0 (take i ts)
 
-module _ (bytes : List ℕ) (is : List Item) (raws : List RawArg) (ls : List RawLet) where
-  abbrev tokens : ℕ → Tree → ℕ
-  tokens r e = tokens_of (said bytes is raws) r (resolved bytes (scope is raws ls) e)
+passed : (ts : List Token) (i : ℕ) (k : Kind) → Is ts i k → depth ts (suc i) ≡ depth_behind (depth ts i) k
+passed ts i k h = depth_taken ts i k 0 h
 
-  -- the tokens of what a sort that goes on begins with
-  abbrev before : Sort → ℕ
-  before (Factors f) = tokens 1 f
-  before (Terms f) = tokens 0 f
-  before o = 0
+-- From place i to place j there are at least the tokens of the canonical text of an expression where tightness r is wanted; no parenthesis
+-- is open that wasn't, and those of the canonical text are nested at most 64 deep.
+record Covers (args : List ArgOf) (ts : List Token) (r i j : ℕ) (e : Formula) : Type 0 where
+  pub enough : i + tokens_of args r e ≤ j
+  pub back : depth ts j ≡ depth ts i
+  pub shallow : nesting r e ≤ 64 - depth ts i
 
-  more : (j k : ℕ) → j ≤ k → k ≤ 3 → (e : Tree) → (tokens j e ≤ tokens k e) × (tokens k e ≤ 2 + tokens j e)
-  more j k l m e = grows (said bytes is raws) j k l m (resolved bytes (scope is raws ls) e)
+-- where less tightness is wanted there are fewer tokens and parentheses
+loose : {args : List ArgOf} {ts : List Token} {k i l : ℕ} {e : Formula} (j : ℕ) → j ≤ k → k ≤ 3 → Covers args ts k i l e → Covers args ts j i l e
+loose {args = args} {k = k} {e = e} j n m c =
+    let p = (pairs_grow j k (tightness e) n).0 in
+    let a = c.enough in
+    let b = c.shallow in
+    let t = tokens_are args j (omega arith) e in
+    let u = tokens_are args k m e in
+    let x = nesting_is j (omega arith) e in
+    let y = nesting_is k m e in
+    record { enough = omega arith; back = c.back; shallow = omega arith }
 
-  counted : {ts : List Token} {o : Sort} {i j : ℕ} {e : Tree} → Derives ts o i j e → Fit bytes (scope is raws ls) e → i + tokens (want o) e ≤ j + before o
-  counted (number n) m = omega arith
-  counted {ts = ts} (name {i = i} n) m =
-      let q = name_one bytes is raws ls (span_at ts i) (position (λ l. same bytes l.name (span_at ts i)) ls) refl m 3 in
-      omega arith
-  counted {ts = ts} (input {i = i} n d x) m =
-      let q = few (slice_get (said bytes is raws) (place (λ a. is_site_arg a && same bytes a.name (span_at ts i)) raws)) in
-      omega arith
-  counted (parens {e = e} n d c) m = let a = counted d m in let q = (more 0 3 (omega arith) (omega arith) e).1 in omega arith
-  counted (plain {e = e} d) m = let a = counted d m in let q = (more 2 3 (omega arith) (omega arith) e).0 in omega arith
-  counted (power d c n) m = let a = counted d m.0 in omega arith
-  counted (base d) m = counted d m
-  counted (minus k d) m = let a = counted d m in omega arith
-  counted (term {f = f} d r) m =
-      let a = counted d (fit_front bytes (scope is raws ls) r m) in
-      let b = counted r m in
-      let q = (more 1 2 (omega arith) (omega arith) f).0 in omega arith
-  counted no_factor m = omega arith
-  counted (times t d r) m = let a = counted d (fit_front bytes (scope is raws ls) r m).1 in let b = counted r m in omega arith
-  counted (sum {f = f} d r) m =
-      let a = counted d (fit_front bytes (scope is raws ls) r m) in
-      let b = counted r m in
-      let q = (more 0 1 (omega arith) (omega arith) f).0 in omega arith
-  counted no_term m = omega arith
-  counted (plus t d r) m = let a = counted d (fit_front bytes (scope is raws ls) r m).1 in let b = counted r m in omega arith
-  counted (less t d r) m = let a = counted d (fit_front bytes (scope is raws ls) r m).1 in let b = counted r m in omega arith
-
-  -- the canonical text of an expression has no more tokens than it is said with
-  pub expression_tokens : {ts : List Token} {i j : ℕ} {e : Tree} → Derives ts Sum i j e → Fit bytes (scope is raws ls) e → i + tokens 0 e ≤ j
-  expression_tokens d m = let a = counted d m in omega arith
-
--- the depth after one more token
-pub depth_step : (ts : List Token) (i : ℕ) (k : Kind) (d : ℕ) → Is ts i k → depth_after 0 (take i ts) ≡ d → depth_after 0 (take (suc i) ts) ≡ depth_behind d k
-depth_step ts i k d h e =
-    let s : i + 1 ≡ suc i = omega arith in
-    sym (subst (λ (m : ℕ). depth_behind d k ≡ depth_after 0 (take m ts)) s (depth_more ts i k d (depth_behind d k) (sym e) h refl))
-
--- where more tightness is wanted parentheses are nested deeper, by one at most
-looser : (j k : ℕ) → j ≤ k → k ≤ 3 → (e : Formula) → (nesting j e ≤ nesting k e) × (nesting k e ≤ 1 + nesting j e)
-looser j k l m e =
-    let a = nesting_is j (omega arith) e in
-    let b = nesting_is k m e in
-    let c = pairs_grow j k (tightness e) l in
-    let c0 = c.0 in let c1 = c.1 in (omega arith, omega arith)
-
--- what a sort that goes on begins with is nested no deeper
-abbrev deep_before : List ℕ → Scope → ℕ → Sort → Type 0
-deep_before bytes s d (Factors f) = d + nesting 1 (resolved bytes s f) ≤ 64
-deep_before bytes s d (Terms f) = d + nesting 0 (resolved bytes s f) ≤ 64
-deep_before bytes s d o = Unit {0}
-
--- after an expression the depth is as before it, and its canonical text is nested at most 64 deep there
-record Nests (bytes : List ℕ) (s : Scope) (ts : List Token) (r d j : ℕ) (e : Tree) : Type 0 where
-  back : depth_after 0 (take j ts) ≡ d
-  deep : d + nesting r (resolved bytes s e) ≤ 64
+-- two operands with a token between them
+two : {args : List ArgOf} {ts : List Token} {q r n i j : ℕ} {e f : Formula} → Covers args ts q n i e → depth ts (suc i) ≡ depth ts i
+    → Covers args ts r (suc i) j f → (k : ℕ) (g : Formula) → tokens_of args k g ≡ 1 + (tokens_of args q e + tokens_of args r f)
+    → nesting k g ≡ max (nesting q e) (nesting r f) → Covers args ts k n j g
+two a s b k g t u =
+    let a1 = a.enough in let a2 = a.back in let a3 = a.shallow in
+    let b1 = b.enough in let b2 = b.back in let b3 = b.shallow in
+    record { enough = omega arith; back = omega arith; shallow = omega arith }
 
 name_flat : (bytes : List ℕ) (s : Scope) (at : Span) (o : Option ℕ) (r : ℕ) → nesting r (name_of bytes s at o) ≡ 0
 name_flat bytes s at (Some j) r = refl
 name_flat bytes s at None r = refl
 
--- the depth at place i is d, at most 64
-record DepthAt (ts : List Token) (i d : ℕ) : Type 0 where
-  is : depth_after 0 (take i ts) ≡ d
-  most : d ≤ 64
+module _ (bytes : List ℕ) (is : List Item) (raws : List RawArg) (ls : List RawLet) (ts : List Token) (h : IsShallow ts) where
+  -- a fit expression is covered
+  abbrev Covered : ℕ → ℕ → ℕ → Tree → Type 0
+  Covered r i j e = Fit bytes (scope is raws ls) e → Covers (said bytes is raws) ts r i j (resolved bytes (scope is raws ls) e)
 
-module _ (bytes : List ℕ) (s : Scope) (ts : List Token) (h : IsShallow ts) where
-  nested : {o : Sort} {i j : ℕ} {e : Tree} → Derives ts o i j e → (d : ℕ) → DepthAt ts i d → deep_before bytes s d o → Nests bytes s ts (want o) d j e
-  nested (number {i = i} n) d e b = let l = e.most in record { back = depth_step ts i Number d n e.is; deep = omega arith }
-  nested (name {i = i} n) d e b = record {
-    back = depth_step ts i Name d n e.is;
-    deep = let l = e.most in let q = name_flat bytes s (span_at ts i) (position (λ m. same bytes m.name (span_at ts i)) s.lets) 3 in omega arith;
-  }
-  nested (input {i = i} n p x) d e b =
-      let l = e.most in
-      record { back = depth_step ts (suc (suc i)) Name d x (depth_step ts (suc i) Dot d p (depth_step ts i Name d n e.is)); deep = omega arith }
-  nested (parens {i = i} {j = j} {e = t} n x c) d e b =
-      let m = h i n in
-      let l = e.most in
-      let f = e.is in
-      let a = nested x (suc d) (record { is = depth_step ts i ParL d n f; most = omega arith }) tt in
-      let q = a.deep in
-      let u = (looser 0 3 (omega arith) (omega arith) (resolved bytes s t)).1 in
-      let z : suc d - 1 ≡ d = omega arith in
-      record { back = depth_step ts j ParR (suc d) c a.back ∙ z; deep = omega arith }
-  nested (plain {e = t} x) d e b =
-      let a = nested x d e tt in
-      let q = a.deep in
-      let u = (looser 2 3 (omega arith) (omega arith) (resolved bytes s t)).0 in
-      record { back = a.back; deep = omega arith }
-  nested (power {j = j} x c n) d e b =
-      let a = nested x d e tt in
-      let q = a.deep in
-      record { back = depth_step ts (suc j) Number d n (depth_step ts j Caret d c a.back); deep = omega arith }
-  nested (base x) d e b = nested x d e tt
-  nested (minus {i = i} k x) d e b =
-      let a = nested x d (record { is = depth_step ts i Minus d k e.is; most = e.most }) tt in
-      let q = a.deep in
-      record { back = a.back; deep = omega arith }
-  nested (term {f = f} x r) d e b =
-      let a = nested x d e tt in
-      let q = a.deep in
-      let u = (looser 1 2 (omega arith) (omega arith) (resolved bytes s f)).0 in
-      nested r d (record { is = a.back; most = e.most }) (omega arith)
-  nested no_factor d e b = record { back = e.is; deep = b }
-  nested (times {i = i} t x r) d e b =
-      let a = nested x d (record { is = depth_step ts i Star d t e.is; most = e.most }) tt in
-      let q = a.deep in
-      nested r d (record { is = a.back; most = e.most }) (omega arith)
-  nested (sum {f = f} x r) d e b =
-      let a = nested x d e tt in
-      let q = a.deep in
-      let u = (looser 0 1 (omega arith) (omega arith) (resolved bytes s f)).0 in
-      nested r d (record { is = a.back; most = e.most }) (omega arith)
-  nested no_term d e b = record { back = e.is; deep = b }
-  nested (plus {i = i} t x r) d e b =
-      let a = nested x d (record { is = depth_step ts i Plus d t e.is; most = e.most }) tt in
-      let q = a.deep in
-      nested r d (record { is = a.back; most = e.most }) (omega arith)
-  nested (less {i = i} t x r) d e b =
-      let a = nested x d (record { is = depth_step ts i Minus d t e.is; most = e.most }) tt in
-      let q = a.deep in
-      nested r d (record { is = a.back; most = e.most }) (omega arith)
+  -- what goes on with an expression covers it with what it goes on from
+  abbrev Result : Sort → ℕ → ℕ → Tree → Type 0
+  Result Atom i j e = Covered 3 i j e
+  Result Term i j e = Covered 1 i j e
+  Result Sum i j e = Covered 0 i j e
+  Result (Factors f) i j e = (n : ℕ) → Covered 1 n i f → Covered 1 n j e
+  Result (Terms f) i j e = (n : ℕ) → Covered 0 n i f → Covered 0 n j e
+  Result s i j e = Covered 2 i j e
 
--- an expression outside parentheses leaves none open, and its canonical text is nested at most 64 deep
-pub expression_nests : (bytes : List ℕ) (s : Scope) {ts : List Token} {i j : ℕ} {e : Tree} → IsShallow ts → Derives ts Sum i j e
-    → depth_after 0 (take i ts) ≡ 0 → (depth_after 0 (take j ts) ≡ 0) × (nesting 0 (resolved bytes s e) ≤ 64)
-expression_nests bytes s {ts = ts} h x e =
-    let a = nested bytes s ts h x 0 (record { is = e; most = omega arith }) tt in
-    let q = a.deep in (a.back, omega arith)
+  covers : {s : Sort} {i j : ℕ} {e : Tree} → Derives ts s i j e → Result s i j e
+  covers (number {i = i} n) = λ m. record { enough = omega arith; back = passed ts i Number n; shallow = omega arith }
+  covers (name {i = i} n) = λ m.
+      let o = position (λ (l : RawLet). same bytes l.name (span_at ts i)) ls in
+      let q = name_one bytes is raws ls (span_at ts i) o refl m 3 in
+      let f = name_flat bytes (scope is raws ls) (span_at ts i) o 3 in
+      record { enough = omega arith; back = passed ts i Name n; shallow = omega arith }
+  covers (input {i = i} n d x) = λ m.
+      let q = few (slice_get (said bytes is raws) (place (λ a. is_site_arg a && same bytes a.name (span_at ts i)) raws)) in
+      record { enough = omega arith; back = passed ts (suc (suc i)) Name x ∙ passed ts (suc i) Dot d ∙ passed ts i Name n; shallow = omega arith }
+  covers (parens {i = i} {j = j} {e = t} n d c) = λ m.
+      let f = resolved bytes (scope is raws ls) t in
+      let a = covers d m in
+      let x = a.enough in let y = a.back in let z = a.shallow in
+      let o = passed ts i ParL n in
+      let q = passed ts j ParR c in
+      let l = h i n in
+      let p = (pairs_grow 0 3 (tightness f) (omega arith)).1 in
+      let u = tokens_are (said bytes is raws) 3 (omega arith) f in
+      let v = nesting_is 3 (omega arith) f in
+      record { enough = omega arith; back = omega arith; shallow = omega arith }
+  covers (plain d) = λ m. loose 2 (omega arith) (omega arith) (covers d m)
+  covers (power {j = j} d c n) = λ m.
+      let a = covers d m.0 in
+      let x = a.enough in let z = a.shallow in
+      record { enough = omega arith; back = passed ts (suc j) Number n ∙ passed ts j Caret c ∙ a.back; shallow = omega arith }
+  covers (base d) = covers d
+  covers (minus {i = i} k d) = λ m.
+      let a = covers d m in
+      let x = a.enough in let z = a.shallow in
+      let p = passed ts i Minus k in
+      record { enough = omega arith; back = a.back ∙ p; shallow = omega arith }
+  covers (term {i = i} d r) = covers r i (λ m. loose 1 (omega arith) (omega arith) (covers d m))
+  covers no_factor = λ n b. b
+  covers (times {i = i} t d r) = λ n b. covers r n (λ m. two (b m.0) (passed ts i Star t) (covers d m.1) 1 _ (omega arith) (omega arith))
+  covers (sum {i = i} d r) = covers r i (λ m. loose 0 (omega arith) (omega arith) (covers d m))
+  covers no_term = λ n b. b
+  covers (plus {i = i} t d r) = λ n b. covers r n (λ m. two (b m.0) (passed ts i Plus t) (covers d m.1) 0 _ (omega arith) (omega arith))
+  covers (less {i = i} t d r) = λ n b. covers r n (λ m. two (b m.0) (passed ts i Minus t) (covers d m.1) 0 _ (omega arith) (omega arith))
+
+  -- the canonical text of a fit expression has no more tokens than it is said with, and its parentheses are nested at most 64 deep
+  pub expression_covers : {i j : ℕ} {e : Tree} → Derives ts Sum i j e → Fit bytes (scope is raws ls) e
+      → (i + tokens_of (said bytes is raws) 0 (resolved bytes (scope is raws ls) e) ≤ j) × (nesting 0 (resolved bytes (scope is raws ls) e) ≤ 64)
+  expression_covers d m = let a = covers d m in let z = a.shallow in (a.enough, omega arith)

@@ -1,25 +1,25 @@
 -- The canonical text of a whole table is a text of it.
-use Rattle.std.proofs.Common.{◌≡◌, ℕ, suc, ◌+◌, ◌≤◌, true, List, [], ◌∷◌, length, map, refl, ap, sym, arith}
+use Rattle.std.proofs.Common.{◌≡◌, ℕ, suc, ◌+◌, ◌≤◌, ◌<◌, true, List, [], ◌∷◌, length, map, refl, ap, sym, arith}
 use Rattle.std.specs.List.{list_all}
 use Rattle.std.proofs.lemmas.Bool.{and_parts, ltb-true}
 use Rattle.ln_tree.specs.declared.shape.VarInfo.{VarInfo}
 use Rattle.ln_tree.specs.Formula.{Formula, tree}
 use Rattle.ln_tree.specs.Fits.{is_fit, lets_fit}
 use Rattle.ln_tree.specs.Table.{CoordOf, SiteOf, ArgOf, SiteArg, ParamArg, PredOf, TableOf}
-use Rattle.ln_tree.specs.Whole.{vars_behind, is_one_of}
+use Rattle.ln_tree.specs.Whole.{vars_behind, is_one_of, nesting}
 use Rattle.ln_parse.specs.Canonical.{canonical, lexemes}
 use Rattle.ln_parse.specs.ReadsBack.{Every, CoordNamed, SiteNamed, ArgNamed, LetsNamed, PredNamed, TableNamed}
 use Rattle.ln_parse.specs.Spanless.{IsTextUpToSpans}
 use Rattle.ln_parse.specs.WholeTable.{IsShortName, SiteNames, ArgNames, PredKept, IsWhole}
 use Rattle.ln_parse.specs.Written.{Naming, naming}
 use Rattle.ln_parse.proofs.Texts.ItemsBack.{like_sites, like_params}
-use Rattle.ln_parse.proofs.Texts.ClearText.{table_clear, table_back}
+use Rattle.ln_parse.proofs.Texts.ClearText.{PredDeep, table_clear, table_back}
 use Rattle.ln_parse.proofs.ReadBack.FileClean.{file_done}
 use Rattle.ln_parse.proofs.ReadBack.InputsThere.{NamesGood, named, at_place, every_at}
 use Rattle.ln_parse.proofs.Texts.LexBack.{toks, lexed}
 use Rattle.ln_parse.proofs.Texts.Nested.{shallow, words_are}
-use Rattle.ln_parse.proofs.Wholes.TextTokens.{table_words, table_shallow}
-use Rattle.ln_parse.proofs.Wholes.WholeParts.{InRange, SiteParts, PredParts, table_parts}
+use Rattle.ln_parse.proofs.Wholes.TextTokens.{table_words}
+use Rattle.ln_parse.proofs.Wholes.WholeParts.{InRange, SiteParts, PredParts, table_parts, every_map}
 
 -- what two facts on each element give
 both : {A : Type 0} (P Q R : A → Type 0) (xs : List A) → ((x : A) → P x → Q x → R x) → Every P xs → Every Q xs → Every R xs
@@ -83,6 +83,13 @@ table_named t w =
       preds = both PredKept (PredParts t.sites t.params) (PredNamed t) t.preds (pred_named t w.sites w.params) w.preds p.preds;
     }
 
+deep_from : {S : List SiteOf} {P : List CoordOf} (p : PredOf) → PredParts S P p → PredDeep (λ d. d < 64) p
+deep_from p h = record {
+  args = omega arith;
+  lets = every_map (λ e. nesting 0 e ≤ 64) _ p.lets (λ e l d m. omega arith) h.lets;
+  root = let l = h.root in λ d m. omega arith;
+}
+
 -- the canonical text of a whole table is a text of it, up to spans
 pub has_table : (t : TableOf) → IsWhole t → IsTextUpToSpans (canonical t) t
 has_table t w =
@@ -95,13 +102,15 @@ has_table t w =
     let a = words_are 0 xs in
     let c = table_words t w.preds p.preds in
     let e = p.tokens in
+    let deep = every_map (PredParts t.sites t.params) (PredDeep (λ d. d < 64)) t.preds deep_from p.preds in
+    let k = table_clear (λ d. d < 64) t n deep in
     record {
       table = u;
       text = record {
         tokens = toks 0 xs;
-        lexed = lexed xs (table_clear t n);
+        lexed = lexed (λ d. d < 64) xs k;
         few = omega arith;
-        shallow = shallow xs (table_shallow t p.preds);
+        shallow = shallow xs k;
         items = b.items;
         spelt = b.derives;
         clean = d.clean;

@@ -5,7 +5,6 @@ use Rattle.std.specs.List.{list_all}
 use Rattle.std.proofs.lemmas.Bool.{and_parts, leb-true, eqb-true}
 use Rattle.std.proofs.lemmas.List.{length-map}
 use Rattle.ln_tree.specs.declared.name.Name.{Name}
-use Rattle.ln_tree.specs.declared.items.Coord.{Coord}
 use Rattle.ln_tree.specs.declared.items.Site.{Site}
 use Rattle.ln_tree.specs.declared.items.Param.{Param}
 use Rattle.ln_tree.specs.declared.items.Arg.{Arg}
@@ -19,7 +18,7 @@ use Rattle.ln_tree.specs.Fits.{is_fit, lets_fit}
 use Rattle.ln_tree.specs.Arguments.{are_of}
 use Rattle.ln_tree.specs.Table.{coord_of, site_of, param_of, arg_of, pred_of, table_of, pred_fits, is_table}
 use Rattle.ln_tree.specs.Whole.{is_whole}
-use Rattle.ln_parse.specs.ReadsBack.{Every}
+use Rattle.ln_parse.proofs.Wholes.TestLemmas.{every_image}
 use Rattle.ln_parse.specs.WholeTable.{IsShortName, SiteNames, ArgNames, PredKept, IsWhole}
 
 taken : (n : ℕ) (xs : List ℕ) → length (take n xs) ≤ n
@@ -28,26 +27,9 @@ taken n xs = omega (arith, length-take n xs)
 short_name : (n : Name) → IsShortName (name_bytes n)
 short_name n = let a = n.within in let b = taken n.len n.bytes in (n.named, omega arith)
 
-coords_short : (cs : List Coord) → Every (λ c. IsShortName c.name) (map coord_of cs)
-coords_short [] = tt
-coords_short (c ∷ cs) = (short_name c.name, coords_short cs)
-
-sites_short : (ss : List Site) → Every SiteNames (map site_of ss)
-sites_short [] = tt
-sites_short (s ∷ ss) = (record { name = short_name s.name; coords = coords_short s.coords }, sites_short ss)
-
-params_short : (ps : List Param) → Every (λ c. IsShortName c.name) (map param_of ps)
-params_short [] = tt
-params_short (p ∷ ps) = (short_name p.name, params_short ps)
-
-args_short : (as' : List Arg) → Every ArgNames (map arg_of as')
-args_short [] = tt
-args_short (IsSite n t ∷ as') = (short_name n, args_short as')
-args_short (IsParam p ∷ as') = (tt, args_short as')
-
-names_short : (ns : List Name) → Every IsShortName (map name_bytes ns)
-names_short [] = tt
-names_short (n ∷ ns) = (short_name n, names_short ns)
+arg_short : (a : Arg) → ArgNames (arg_of a)
+arg_short (IsSite n t) = short_name n
+arg_short (IsParam p) = tt
 
 trees_are : (vars : List VarInfo) (es : List Expr) → map (tree_of vars) es ≡ map (tree vars) (map formula es)
 trees_are vars [] = refl
@@ -72,18 +54,14 @@ pred_kept p =
     let y = leb-true (length p.lets) 64 a.1 in
     record {
       name = short_name p.name;
-      args = args_short p.args;
-      let_names = names_short p.let_names;
+      args = every_image ArgNames arg_of p.args arg_short;
+      let_names = every_image IsShortName name_bytes p.let_names short_name;
       as_many = omega arith;
       few_lets = omega arith;
       lets_fit = subst (λ w. lets_fit (length vars) 0 w ≡ true) (trees_are vars p.lets) c.1;
       root_fit = subst (λ (w : ℕ). is_fit (length vars) w (tree vars (formula p.root)) ≡ true) (sym l) d.1;
       few_nodes = leb-true _ _ e.1;
     }
-
-preds_kept : (ps : List Pred) → Every PredKept (map pred_of ps)
-preds_kept [] = tt
-preds_kept (p ∷ ps) = (pred_kept p, preds_kept ps)
 
 -- what its type keeps makes a table whole
 pub table_is_whole : (sites : List Site) (params : List Param) (preds : List Pred) → is_table sites params preds ≡ true
@@ -95,9 +73,10 @@ table_is_whole sites params preds k w =
     let x = leb-true (length sites) 16 a.0 in let y = leb-true (length params) 16 a.1 in let z = leb-true (length preds) 16 b.1 in
     let l = length-map sites site_of in let m = length-map params param_of in let n = length-map preds pred_of in
     record {
-      sites = sites_short sites;
-      params = params_short params;
-      preds = preds_kept preds;
+      sites = every_image SiteNames site_of sites
+          (λ s. record { name = short_name s.name; coords = every_image _ coord_of s.coords (λ c. short_name c.name) });
+      params = every_image _ param_of params (λ p. short_name p.name);
+      preds = every_image PredKept pred_of preds pred_kept;
       few_sites = omega arith;
       few_params = omega arith;
       few_preds = omega arith;

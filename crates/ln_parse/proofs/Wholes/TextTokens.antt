@@ -1,16 +1,16 @@
--- The canonical text of a whole table has few tokens, and no parenthesis of it is nested too deep.
-use Rattle.std.proofs.Common.{◌≡◌, ℕ, suc, ◌+◌, ◌*◌, ◌<◌, ◌≤◌, Bool, true, false, List, [], ◌∷◌, length, refl, arith, codes}
+-- How many tokens the canonical text of a whole table has.
+use Rattle.std.proofs.Common.{◌≡◌, ℕ, suc, ◌+◌, ◌*◌, ◌<◌, Bool, true, false, List, [], ◌∷◌, length, refl, arith, codes}
 use Rattle.std.specs.Prelude.{ℤ, pos, int_lt, unsigned_abs}
 use Rattle.ln_lex.specs.declared.token.Kind.TheVariants.{ParR, BraceL, BraceR, Semi, Dots}
 use Rattle.ln_tree.specs.Formula.{Formula}
 use Rattle.ln_tree.specs.Table.{CoordOf, SiteOf, ArgOf, SiteArg, ParamArg, PredOf, TableOf}
-use Rattle.ln_tree.specs.Whole.{nesting, tokens_of, total, end_tokens, range_tokens, site_tokens, param_tokens, pred_tokens, text_tokens}
+use Rattle.ln_tree.specs.Whole.{tokens_of, total, end_tokens, range_tokens, site_tokens, param_tokens, pred_tokens, text_tokens}
 use Rattle.ln_parse.specs.Lexemes.{Lexeme, gap, line, word, signed, minus_if, number, each}
 use Rattle.ln_parse.specs.Written.{Naming, naming}
 use Rattle.ln_parse.specs.Canonical.{ranged, coord, site, param, arg, further, args, lets, root, pred, lexemes}
 use Rattle.ln_parse.specs.ReadsBack.{Every}
 use Rattle.ln_parse.specs.WholeTable.{PredKept}
-use Rattle.ln_parse.proofs.Texts.Nested.{Shallow, words, whole_words, whole_shallow}
+use Rattle.ln_parse.proofs.Texts.Nested.{words, whole_words}
 use Rattle.ln_parse.proofs.Wholes.WholeParts.{PredParts}
 
 signed_words : (z : ℤ) (v : Bool) → int_lt z (pos 0) ≡ v → (rest : List Lexeme) → words (minus_if v (number (unsigned_abs z) rest)) ≡ end_tokens z + words rest
@@ -72,70 +72,3 @@ table_words t k h =
     let c = preds_words t t.preds k h in
     let b = each_words param param_tokens t.params param_words (each (pred t) t.preds []) in
     let a = each_words site site_tokens t.sites site_words (each param t.params (each (pred t) t.preds [])) in omega arith
-
-signed_shallow : (v : Bool) (n d : ℕ) (rest : List Lexeme) → Shallow d rest → Shallow d (minus_if v (number n rest))
-signed_shallow true n d rest s = (λ z. absurd (cc), (λ z. absurd (cc), s))
-signed_shallow false n d rest s = (λ z. absurd (cc), s)
-
-ranged_shallow : (c : CoordOf) (d : ℕ) (rest : List Lexeme) → Shallow d rest → Shallow d (ranged c rest)
-ranged_shallow c d rest s =
-    let b = signed_shallow (int_lt c.hi (pos 0)) (unsigned_abs c.hi) d (word Semi (codes ";") ∷ rest) (λ z. absurd (cc), s) in (
-      λ z. absurd (cc),
-      (
-        λ z. absurd (cc),
-        signed_shallow (int_lt c.lo (pos 0)) (unsigned_abs c.lo) d
-            (gap ∷ word Dots (codes "..") ∷ gap ∷ signed c.hi (word Semi (codes ";") ∷ rest)) (λ z. absurd (cc), b),
-      ),
-    )
-
-each_shallow : {A : Type 0} (f : A → List Lexeme → List Lexeme) (d : ℕ) (xs : List A)
-    → ((x : A) (rest : List Lexeme) → Shallow d rest → Shallow d (f x rest)) → (rest : List Lexeme) → Shallow d rest → Shallow d (each f xs rest)
-each_shallow f d [] h rest s = s
-each_shallow f d (x ∷ xs) h rest s = h x (each f xs rest) (each_shallow f d xs h rest s)
-
-site_shallow : (s : SiteOf) (rest : List Lexeme) → Shallow 0 rest → Shallow 0 (site s rest)
-site_shallow s rest h =
-    let a = each_shallow coord 0 s.coords (λ c r q. ranged_shallow c 0 (gap ∷ r) q) (word BraceR (codes "}") ∷ line ∷ rest) (λ z. absurd (cc), h) in
-    (λ z. absurd (cc), (λ z. absurd (cc), (λ z. absurd (cc), a)))
-
-param_shallow : (c : CoordOf) (rest : List Lexeme) → Shallow 0 rest → Shallow 0 (param c rest)
-param_shallow c rest h = (λ z. absurd (cc), ranged_shallow c 0 (line ∷ rest) h)
-
-arg_shallow : (t : TableOf) (d : ℕ) (a : ArgOf) (rest : List Lexeme) → Shallow d rest → Shallow d (arg t a rest)
-arg_shallow t d (SiteArg n s) rest h = (λ z. absurd (cc), (λ z. absurd (cc), (λ z. absurd (cc), h)))
-arg_shallow t d (ParamArg p) rest h = (λ z. absurd (cc), (λ z. absurd (cc), (λ z. absurd (cc), h)))
-
-args_shallow : (t : TableOf) (d : ℕ) (xs : List ArgOf) (rest : List Lexeme) → Shallow d rest → Shallow d (args t xs rest)
-args_shallow t d [] rest h = h
-args_shallow t d (a ∷ xs) rest h =
-    arg_shallow t d a (each (further t) xs rest) (each_shallow (further t) d xs (λ b r q. (λ z. absurd (cc), arg_shallow t d b r q)) rest h)
-
-lets_shallow : (n : Naming) (us : List (List ℕ)) (es : List Formula) → Every (λ e. nesting 0 e ≤ 64) es → (rest : List Lexeme)
-    → Shallow 0 rest → Shallow 0 (lets n us es rest)
-lets_shallow n [] es k rest h = h
-lets_shallow n (u ∷ us) [] k rest h = h
-lets_shallow n (u ∷ us) (e ∷ es) k rest h =
-    let l = k.0 in
-    let b = lets_shallow n us es k.1 rest h in
-    let a = whole_shallow n e 0 (omega arith) (word Semi (codes ";") ∷ gap ∷ lets n us es rest) (λ z. absurd (cc), b) in
-    (λ z. absurd (cc), (λ z. absurd (cc), (λ z. absurd (cc), a)))
-
-pred_shallow : (t : TableOf) (p : PredOf) → PredParts t.sites t.params p → (rest : List Lexeme) → Shallow 0 rest → Shallow 0 (pred t p rest)
-pred_shallow t p k rest h =
-    let n = naming t p in
-    let l = k.root in
-    let c = whole_shallow n p.root 0 (omega arith) (word Semi (codes ";") ∷ gap ∷ word BraceR (codes "}") ∷ line ∷ rest)
-    (λ z. absurd (cc), (λ z. absurd (cc), h)) in
-    let b = lets_shallow n p.let_names p.lets k.lets (root n p.root rest) (λ z. absurd (cc), c) in
-    let a = args_shallow t 1 p.args (word ParR (codes ")") ∷ gap ∷ word BraceL (codes "{") ∷ gap ∷ lets n p.let_names p.lets (root n p.root rest))
-    (λ z. absurd (cc), (λ z. absurd (cc), b)) in
-    (λ z. absurd (cc), (λ z. absurd (cc), (λ z. omega arith, a)))
-
-preds_shallow : (t : TableOf) (ps : List PredOf) → Every (PredParts t.sites t.params) ps → Shallow 0 (each (pred t) ps [])
-preds_shallow t [] h = tt
-preds_shallow t (p ∷ ps) h = pred_shallow t p h.0 (each (pred t) ps []) (preds_shallow t ps h.1)
-
--- no parenthesis of the canonical text is nested too deep
-pub table_shallow : (t : TableOf) → Every (PredParts t.sites t.params) t.preds → Shallow 0 (lexemes t [])
-table_shallow t h = each_shallow site 0 t.sites site_shallow (each param t.params (each (pred t) t.preds []))
-    (each_shallow param 0 t.params param_shallow (each (pred t) t.preds []) (preds_shallow t t.preds h))

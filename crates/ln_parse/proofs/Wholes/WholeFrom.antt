@@ -1,6 +1,6 @@
 -- The table of a file without a fault is whole.
 use Rattle.std.proofs.Common.{◌≡◌, ℕ, zero, suc, ◌+◌, ◌*◌, ◌<◌, ◌≤◌, ◌==◌, ◌&&◌, ◌||◌, Bool, true, false, nat_lt, List, [], ◌∷◌, ◌++◌}
-use Rattle.std.proofs.Common.{length, map, take, Option, Some, None, refl, ap, sym, ◌∙◌, subst, arith, append_assoc, append-nil}
+use Rattle.std.proofs.Common.{length, map, Option, Some, None, refl, ap, sym, ◌∙◌, subst, arith, append_assoc, append-nil}
 use Rattle.std.specs.Prelude.{filter_map, ℤ, pos, int_lt, nat_le, slice_get, bytes_eq, count_by}
 use Rattle.std.specs.List.{list_any, list_all}
 use Rattle.std.specs.Ordering.{int_eq}
@@ -13,8 +13,6 @@ use Rattle.std.proofs.lemmas.Slice.Eq.{bytes_eq-Decides}
 use Rattle.ln_base.specs.Limits.{most_tokens}
 use Rattle.ln_base.specs.declared.span.Span.{Span}
 use Rattle.ln_lex.specs.declared.token.Token.{Token}
-use Rattle.ln_lex.specs.declared.token.Kind.TheVariants.{Name, Number, Site, Param, Predicate, Let, Sign, BraceL, BraceR, ParL, ParR, Colon}
-use Rattle.ln_lex.specs.declared.token.Kind.TheVariants.{Semi, Comma, Dots, Minus, Equals}
 use Rattle.ln_syntax.specs.declared.raw.RawCoord.{RawCoord}
 use Rattle.ln_syntax.specs.declared.raw.RawRange.{RawRange}
 use Rattle.ln_syntax.specs.declared.raw.RawEnd.{RawEnd}
@@ -22,7 +20,7 @@ use Rattle.ln_syntax.specs.declared.raw.RawArg.{RawArg}
 use Rattle.ln_syntax.specs.declared.raw.RawLet.{RawLet}
 use Rattle.ln_syntax.specs.declared.raw.Places.{Places}
 use Rattle.ln_syntax.specs.Raw.{Item, SiteItem, ParamItem, PredItem, item_name, is_param, span_at, text, same}
-use Rattle.ln_syntax.specs.Place.{depth_after, IsShallow}
+use Rattle.ln_syntax.specs.Place.{IsShallow}
 use Rattle.ln_syntax.specs.File as file
 use Rattle.ln_syntax.specs.File.{Spelt}
 use Rattle.ln_syntax.proofs.Spellings.OneTree.{one_tree}
@@ -41,7 +39,7 @@ use Rattle.ln_parse.specs.Says.{params_said, is_site_said}
 use Rattle.ln_parse.specs.Ready.{ReadyValue, ReadyLet, ReadyPred, ReadyItem, ReadySite, ReadyFile, Declares}
 use Rattle.ln_parse.proofs.Expressions.Fitting.{said, all_known}
 use Rattle.ln_parse.proofs.Expressions.Found.{found_at, sites_named, params_named, any_param, get_longer, each_weaker}
-use Rattle.ln_parse.proofs.Wholes.FromTokens.{depth_step, expression_nests, expression_tokens}
+use Rattle.ln_parse.proofs.Wholes.FromTokens.{expression_covers}
 use Rattle.ln_parse.proofs.Building.Kept.{ranged_good, coords_good, sees, sites_are, params_are, declared, pred_name, preds_named}
 use Rattle.ln_parse.proofs.ReadBack.NamePlaces.{NoneIs, Differ}
 use Rattle.ln_parse.proofs.ReadBack.ScopeNames.{flip, coord_map}
@@ -150,84 +148,32 @@ args_named bytes is S P before (r ∷ raws) d e =
     let b = args_named bytes is S P (before ++ (r ∷ [])) raws d e.1 in
     rw (a, b) refl
 
--- what an expression at a depth of none says
-record ValueWhole (ts : List Token) (p : Places) (args : List ArgOf) (x : Formula) : Type 0 where
-  back : depth_after 0 (take p.to ts) ≡ 0
-  deep : nesting 0 x ≤ 64
-  tokens : p.from + tokens_of args 0 x ≤ p.to
-
+-- what an expression says: its canonical text has no more tokens than it, and is nested at most 64 deep
 value_whole : (bytes : List ℕ) (ts : List Token) (is : List Item) (raws : List RawArg) (ls : List RawLet) (p : Places) (x : Formula)
-    → IsShallow ts → Says bytes ts (scope is raws ls) p x → ReadyValue bytes ts (scope is raws ls) p → depth_after 0 (take p.from ts) ≡ 0
-    → ValueWhole ts p (said bytes is raws) x
-value_whole bytes ts is raws ls p x h s v e =
+    → IsShallow ts → Says bytes ts (scope is raws ls) p x → ReadyValue bytes ts (scope is raws ls) p
+    → (p.from + tokens_of (said bytes is raws) 0 x ≤ p.to) × (nesting 0 x ≤ 64)
+value_whole bytes ts is raws ls p x h s v =
     let t = (one_tree s.derives s.ends v.derives v.ends).tree in
     let q : resolved bytes (scope is raws ls) v.tree ≡ x = ap (resolved bytes (scope is raws ls)) (sym t) ∙ s.means in
-    let a = expression_nests bytes (scope is raws ls) h s.derives e in
-    let b = expression_tokens bytes is raws ls v.derives v.fit in
-    record {
-      back = a.0;
-      deep = subst (λ (w : Formula). nesting 0 w ≤ 64) s.means a.1;
-      tokens = subst (λ (w : Formula). p.from + tokens_of (said bytes is raws) 0 w ≤ p.to) q b;
-    }
+    subst (λ (w : Formula). (p.from + tokens_of (said bytes is raws) 0 w ≤ p.to) × (nesting 0 w ≤ 64)) q
+    (expression_covers bytes is raws ls ts h v.derives v.fit)
 
--- the same of lets
-record LetsWhole (ts : List Token) (i k : ℕ) (args : List ArgOf) (xs : List Formula) : Type 0 where
-  back : depth_after 0 (take k ts) ≡ 0
-  deep : list_all (λ e. nat_le (nesting 0 e) 64) xs ≡ true
-  tokens : i + total (λ e. 4 + tokens_of args 0 e) xs ≤ k
-
--- lets say these formulas and are ready, each after the lets before it
-record LetsRead (bytes : List ℕ) (ts : List Token) (is : List Item) (raws : List RawArg) (before ls : List RawLet) (xs : List Formula) : Type 0 where
-  say : LetsSay bytes ts is raws before ls xs
-  ready : Each (ReadyLet bytes ts is raws) before ls
-
--- the tokens are nested no deeper than the limit, and no parenthesis or brace is open at place i
-record Flat (ts : List Token) (i : ℕ) : Type 0 where
-  shallow : IsShallow ts
-  depth : depth_after 0 (take i ts) ≡ 0
-
-lets_whole : (bytes : List ℕ) (ts : List Token) (is : List Item) (raws : List RawArg) {i k : ℕ} {ls : List RawLet} → file.Lets ts i k ls
-    → (before : List RawLet) (xs : List Formula) → LetsRead bytes ts is raws before ls xs → Flat ts i → LetsWhole ts i k (said bytes is raws) xs
-lets_whole bytes ts is raws file.no_let before [] r e = record { back = e.depth; deep = refl; tokens = omega arith }
-lets_whole bytes ts is raws file.no_let before (x ∷ xs) r e = absurd r.say
-lets_whole bytes ts is raws (file.a_let l n q d m g) before [] r e = absurd r.say
-lets_whole bytes ts is raws (file.a_let {i = i} {j = j} l n q d m g) before (x ∷ xs) r e =
-    let s = r.say in
-    let u = r.ready in
-    let h = e.shallow in
-    let v = value_whole bytes ts is raws before (record { from = suc (suc (suc i)); to = j }) x h s.0 u.0.value
-    (depth_step ts (suc (suc i)) Equals 0 q (depth_step ts (suc i) Name 0 n (depth_step ts i Let 0 l e.depth))) in
-    let y = lets_whole bytes ts is raws g _ xs (record { say = s.1; ready = u.1 }) (record { shallow = h; depth = depth_step ts j Semi 0 m v.back }) in
-    let a = v.tokens in let b = y.tokens in let c = v.deep in
-    record { back = y.back; deep = and_from _ _ (le-leb (nesting 0 x) 64 c) y.deep; tokens = omega arith }
-
--- arguments leave the depth as it is
-arg_depth : {ts : List Token} {i : ℕ} {a : RawArg} (d : ℕ) → file.Arg ts i a → depth_after 0 (take i ts) ≡ d
-    → depth_after 0 (take (suc (suc (suc i))) ts) ≡ d
-arg_depth {ts = ts} d (file.site_arg {i = i} n c k) e =
-    depth_step ts (suc (suc i)) Name d k (depth_step ts (suc i) Colon d c (depth_step ts i Name d n e))
-arg_depth {ts = ts} d (file.param_arg {i = i} n c k) e =
-    depth_step ts (suc (suc i)) Param d k (depth_step ts (suc i) Colon d c (depth_step ts i Name d n e))
-
-args_depth : {ts : List Token} {i k : ℕ} {raws : List RawArg} (d : ℕ) → file.Args ts i k raws → depth_after 0 (take i ts) ≡ d → depth_after 0 (take k ts) ≡ d
-args_depth d (file.last_arg a) e = arg_depth d a e
-args_depth {ts = ts} d (file.more_args {i = i} a m r) e = args_depth d r (depth_step ts (suc (suc (suc i))) Comma d m (arg_depth d a e))
+-- the same of lets that say these formulas and are ready, each after the lets before it
+lets_whole : (bytes : List ℕ) (ts : List Token) (is : List Item) (raws : List RawArg) {i k : ℕ} {ls : List RawLet} → IsShallow ts → file.Lets ts i k ls
+    → (before : List RawLet) (xs : List Formula) → LetsSay bytes ts is raws before ls xs → Each (ReadyLet bytes ts is raws) before ls
+    → (i + total (λ e. 4 + tokens_of (said bytes is raws) 0 e) xs ≤ k) × (list_all (λ e. nat_le (nesting 0 e) 64) xs ≡ true)
+lets_whole bytes ts is raws h file.no_let before [] s r = (omega arith, refl)
+lets_whole bytes ts is raws h file.no_let before (x ∷ xs) s r = absurd s
+lets_whole bytes ts is raws h (file.a_let l n q d m g) before [] s r = absurd s
+lets_whole bytes ts is raws h (file.a_let {i = i} {j = j} l n q d m g) before (x ∷ xs) s r =
+    let v = value_whole bytes ts is raws before (record { from = suc (suc (suc i)); to = j }) x h s.0 r.0.value in
+    let y = lets_whole bytes ts is raws h g _ xs s.1 r.1 in
+    let a = v.0 in let b = y.0 in
+    (omega arith, and_from _ _ (le-leb (nesting 0 x) 64 v.1) y.1)
 
 args_some : {ts : List Token} {i k : ℕ} {raws : List RawArg} → file.Args ts i k raws → (0 < length raws) × (i + 4 * length raws ≤ suc k)
 args_some (file.last_arg a) = (omega arith, omega arith)
 args_some (file.more_args a m r) = let q = args_some r in let x = q.0 in let y = q.1 in (omega arith, omega arith)
-
-end_depth : {ts : List Token} {i j : ℕ} {v : RawEnd} (d : ℕ) → file.End ts i j v → depth_after 0 (take i ts) ≡ d → depth_after 0 (take j ts) ≡ d
-end_depth {ts = ts} d (file.plain {i = i} n) e = depth_step ts i Number d n e
-end_depth {ts = ts} d (file.minus {i = i} m n) e = depth_step ts (suc i) Number d n (depth_step ts i Minus d m e)
-
-range_depth : {ts : List Token} {i j : ℕ} {r : RawRange} (d : ℕ) → file.Range ts i j r → depth_after 0 (take i ts) ≡ d → depth_after 0 (take j ts) ≡ d
-range_depth {ts = ts} d (file.range {j = j} a m b) e = end_depth d b (depth_step ts j Dots d m (end_depth d a e))
-
-coords_depth : {ts : List Token} {i k : ℕ} {cs : List RawCoord} (d : ℕ) → file.Coords ts i k cs → depth_after 0 (take i ts) ≡ d → depth_after 0 (take k ts) ≡ d
-coords_depth d file.no_coord e = e
-coords_depth {ts = ts} d (file.coord {i = i} {j = j} n c r s m) e =
-    coords_depth d m (depth_step ts j Semi d s (range_depth d r (depth_step ts (suc i) Colon d c (depth_step ts i Name d n e))))
 
 plain_end : (n : ℕ) → int_lt (pos n) (pos 0) ≡ false
 plain_end n = grind (arith, ints)
@@ -254,12 +200,6 @@ coords_count : (bytes : List ℕ) {ts : List Token} {i k : ℕ} {cs : List RawCo
 coords_count bytes file.no_coord = omega arith
 coords_count bytes {ts = ts} (file.coord {i = i} n c r s m) = let x = range_count bytes r in let y = coords_count bytes m in omega arith
 
--- a predicate
-record PredWhole (S : List SiteOf) (P : List CoordOf) (ts : List Token) (i k : ℕ) (p : PredOf) : Type 0 where
-  whole : pred_whole S P p ≡ true
-  back : depth_after 0 (take k ts) ≡ 0
-  tokens : i + pred_tokens p ≤ k
-
 abbrev pred_tests : List SiteOf → List CoordOf → List ℕ → List ℕ → List ArgOf → ℕ → List VarInfo → List (List ℕ) → List Formula → Formula → Bool
 pred_tests S P shape name args sites vars names lets root =
     bytes_eq shape name && nat_lt 0 (length args) && list_all (is_one_of (length S) (length P)) args
@@ -276,47 +216,32 @@ record PredRead (bytes : List ℕ) (ts : List Token) (is : List Item) (t : Table
   args : Each (ArgWithin bytes is) [] raws
   lets : Each (LetWithin bytes ts is raws) [] ls
 
--- an item is this predicate, and is read so
-abbrev ItemRead : List ℕ → List Token → List Item → TableOf → Item → PredOf → Type 0
-ItemRead bytes ts is t (SiteItem name coords) p = ⊥
-ItemRead bytes ts is t (ParamItem name range) p = ⊥
-ItemRead bytes ts is t (PredItem name raws ls root) p = PredRead bytes ts is t name raws ls root p
-
-pred_from : (bytes : List ℕ) (ts : List Token) (is : List Item) (t : TableOf) (p : PredOf) {i j : ℕ} {x : Item} → file.IsItem ts i j x
-    → ItemRead bytes ts is t x p → Flat ts i → PredWhole t.sites t.params ts i j p
-pred_from bytes ts is t p (file.site a1 a2 a3 a4 a5) m f = absurd m
-pred_from bytes ts is t p (file.param a1 a2 a3 a4 a5) m f = absurd m
-pred_from bytes ts is t p (file.predicate {i = i} {j = j} {k = k} {l = l} {args = raws} {ls = ls} a1 a2 a3 a4 a5 a6 a7 a8 a9 b1 b2) m f =
+pred_from : {bytes : List ℕ} {ts : List Token} {is : List Item} {t : TableOf} {name : Span} {raws : List RawArg} {ls : List RawLet} (p : PredOf)
+    {i j k l : ℕ} → IsShallow ts → file.Args ts (suc (suc (suc i))) j raws → file.Lets ts (suc (suc j)) k ls
+    → PredRead bytes ts is t name raws ls (record { from = suc k; to = l }) p → (pred_whole t.sites t.params p ≡ true) × (i + pred_tokens p ≤ suc (suc l))
+pred_from {bytes = bytes} {ts = ts} {is = is} {t = t} {raws = raws} {ls = ls} p {k = k} {l = l} h as' lets m =
     let s = m.says in
     let r = m.ready in
-    let d = m.declares in
     let aw = m.args in
-    let lw = m.lets in
-    let h = f.shallow in
-    let e = f.depth in
     let S = t.sites in
     let P = t.params in
     let xs = said bytes is raws in
-    let g = sees bytes is raws S P d r.args in
-    let e1 = depth_step ts (suc (suc i)) ParL 0 a3 (depth_step ts (suc i) Name 0 a2 (depth_step ts i Predicate 0 a1 e)) in
-    let e2 = args_depth 1 a4 e1 in
-    let e3 = depth_step ts (suc j) BraceL 0 a6 (depth_step ts j ParR 1 a5 e2) in
-    let y = lets_whole bytes ts is raws a7 [] p.lets (record { say = s.lets_are; ready = r.lets }) (record { shallow = h; depth = e3 }) in
-    let v = value_whole bytes ts is raws ls (record { from = suc k; to = l }) p.root h s.root_is r.root (depth_step ts k Sign 0 a8 y.back) in
-    let e4 = depth_step ts (suc l) BraceR 0 b2 (depth_step ts l Semi 0 b1 v.back) in
-    let c = args_some a4 in
+    let g = sees bytes is raws S P m.declares r.args in
+    let y = lets_whole bytes ts is raws h lets [] p.lets s.lets_are r.lets in
+    let v = value_whole bytes ts is raws ls (record { from = suc k; to = l }) p.root h s.root_is r.root in
+    let c = args_some as' in
     let c0 = c.0 in let c1 = c.1 in
     let n = length-map raws (λ (a : RawArg). arg_said bytes is a a.is_param) in
     let q : p.args ≡ xs = s.args_are in
     let f1 = r.site_args in let f2 = r.param_args in
     let f3 = sites_are bytes is raws in let f4 = params_are bytes is raws in
-    let names : map (arg_name P) xs ≡ map (λ (a : RawArg). text bytes a.name) raws = args_named bytes is S P [] raws d aw in
+    let names : map (arg_name P) xs ≡ map (λ (a : RawArg). text bytes a.name) raws = args_named bytes is S P [] raws m.declares aw in
     let us = map (λ (a : RawArg). text bytes a.name) raws in
     let df1 : Differ us = each_differ [] (λ (a : RawArg). text bytes a.name) [] raws tt (each_weaker (ArgWithin bytes is) _ (λ b a w. w.new) [] raws aw) in
     let df2 = each_differ us (λ (l : RawLet). text bytes l.name) [] ls (rw append-nil df1) (each_weaker (LetWithin bytes ts is raws) _
-    (λ b l w. rw (any_map (λ (a : RawArg). text bytes a.name) (text bytes l.name) raws) at w.new) [] ls lw) in
+    (λ b l w. rw (any_map (λ (a : RawArg). text bytes a.name) (text bytes l.name) raws) at w.new) [] ls m.lets) in
     let df3 : Differ (map (arg_name P) xs ++ p.let_names) = rw (names, s.names_are) df2 in
-    let t0 = y.tokens in let t1 = v.tokens in let t2 = v.deep in
+    let t0 = y.0 in let t1 = v.0 in
     let tests : pred_tests S P p.shape_name p.name p.args p.sites p.vars p.let_names p.lets p.root ≡ true =
     subst (λ (w : List ArgOf). pred_tests S P p.shape_name p.name w p.sites p.vars p.let_names p.lets p.root ≡ true) (sym q)
     (and_from _ _ (and_from _ _ (and_from _ _ (and_from _ _ (and_from _ _ (and_from _ _
@@ -325,12 +250,12 @@ pred_from bytes ts is t p (file.predicate {i = i} {j = j} {k = k} {l = l} {args 
     (le-leb (count_by is_param_said xs) 8 (omega arith)))
     (eq-eqb p.sites (count_by is_site_said xs) (s.sites_are ∙ ap (count_by is_site_said) q)))
     (vars_same p.vars (vars_behind S P 0 0 xs) (s.vars_are ∙ ap (vars_behind S P 0 0) q)))
-    (differ_test (map (arg_name P) xs ++ p.let_names) df3)) y.deep) (le-leb (nesting 0 p.root) 64 t2)) in
+    (differ_test (map (arg_name P) xs ++ p.let_names) df3)) y.1) (le-leb (nesting 0 p.root) 64 v.1)) in
     let len : length p.args ≡ length xs = ap (λ (w : List ArgOf). length w) q in
     let k1 : total (λ z. 4 + tokens_of p.args 0 z) p.lets ≡ total (λ z. 4 + tokens_of xs 0 z) p.lets =
     ap (λ (w : List ArgOf). total (λ z. 4 + tokens_of w 0 z) p.lets) q in
     let k2 : tokens_of p.args 0 p.root ≡ tokens_of xs 0 p.root = ap (λ (w : List ArgOf). tokens_of w 0 p.root) q in
-    record { whole = tests; back = e4; tokens = omega arith }
+    (tests, omega arith)
   where
     name_same : (a b : List ℕ) → a ≡ b → bytes_eq a b ≡ true
     name_same a b h = (bytes_eq-Decides a b).1 h
@@ -345,58 +270,40 @@ record ItemsWhole (bytes : List ℕ) (t : TableOf) (i k : ℕ) (is : List Item) 
   preds : list_all (pred_whole t.sites t.params) ps ≡ true
   tokens : i + (total site_tokens (sites_said bytes is) + (total param_tokens (params_said bytes is) + total pred_tokens ps)) ≤ k
 
--- place i of a file without a fault: all its items, those before the place, and the remaining ones
-record ItemsRead (bytes : List ℕ) (ts : List Token) (t : TableOf) (all before is : List Item) (i : ℕ) : Type 0 where
+-- the items of a file: they are ready, say the site types and params of the table, and are nested no deeper than the limit
+record FileRead (bytes : List ℕ) (ts : List Token) (t : TableOf) (all : List Item) : Type 0 where
   sites : t.sites ≡ sites_said bytes all
   params : t.params ≡ params_said bytes all
-  all_ready : Each (ReadyItem bytes ts) [] all
-  whole : before ++ is ≡ all
-  ready : Each (ReadyItem bytes ts) before is
-  within : Each (ItemWithin bytes ts) before is
-  flat : Flat ts i
+  ready : Each (ReadyItem bytes ts) [] all
+  shallow : IsShallow ts
 
--- the place after one more item
-next_read : {bytes : List ℕ} {ts : List Token} {t : TableOf} {all before is : List Item} {x : Item} {i j : ℕ}
-    → ItemsRead bytes ts t all before (x ∷ is) i → depth_after 0 (take j ts) ≡ 0 → ItemsRead bytes ts t all (before ++ (x ∷ [])) is j
-next_read {before = before} {is = is} {x = x} r e = record {
-  sites = r.sites;
-  params = r.params;
-  all_ready = r.all_ready;
-  whole = append_assoc before (x ∷ []) is ∙ r.whole;
-  ready = r.ready.1;
-  within = r.within.1;
-  flat = record { shallow = r.flat.shallow; depth = e };
-}
-
-items_whole : (bytes : List ℕ) (ts : List Token) (t : TableOf) (all before : List Item) {i k : ℕ} {is : List Item} → file.Items ts i k is
-    → (ps : List PredOf) → PredsSay bytes ts before t is ps → ItemsRead bytes ts t all before is i → ItemsWhole bytes t i k is ps
-items_whole bytes ts t all before file.no_item [] s r = record { sites = refl; params = refl; preds = refl; tokens = omega arith }
-items_whole bytes ts t all before file.no_item (p ∷ ps) s r = absurd s
-items_whole bytes ts t all before (file.an_item {x = x} {xs = xs} (file.site {i = i} {j = j} {c = rc} {cs = rcs} a1 a2 a3 a4 a5) y) ps s r =
-    let e1 = depth_step ts j BraceR 0 a5
-    (coords_depth 0 a4 (depth_step ts (suc (suc i)) BraceL 0 a3 (depth_step ts (suc i) Name 0 a2 (depth_step ts i Site 0 a1 r.flat.depth)))) in
-    let m = items_whole bytes ts t all (before ++ (x ∷ [])) y ps s (next_read r e1) in
-    let c = coords_count bytes a4 in
-    let g = m.tokens in
-    let f = site_from bytes (span_at ts (suc i)) (rc ∷ rcs) r.ready.0 r.within.0.parts.1 in
-    record { sites = and_from _ _ f m.sites; params = m.params; preds = m.preds; tokens = omega arith }
-items_whole bytes ts t all before (file.an_item {x = x} {xs = xs} (file.param {i = i} {j = j} {r = rr} a1 a2 a3 a4 a5) y) ps s r =
-    let e1 = depth_step ts j Semi 0 a5
-    (range_depth 0 a4 (depth_step ts (suc (suc i)) Colon 0 a3 (depth_step ts (suc i) Name 0 a2 (depth_step ts i Param 0 a1 r.flat.depth)))) in
-    let m = items_whole bytes ts t all (before ++ (x ∷ [])) y ps s (next_read r e1) in
-    let c = range_count bytes a4 in
-    let g = m.tokens in
-    let f = ranged_good bytes (span_at ts (suc i)) rr r.within.0.parts in
-    record { sites = m.sites; params = and_from _ _ f m.params; preds = m.preds; tokens = omega arith }
-items_whole bytes ts t all before (file.an_item (file.predicate a1 a2 a3 a4 a5 a6 a7 a8 a9 b1 b2) y) [] s r = absurd s
-items_whole bytes ts t all before (file.an_item {x = x} {xs = xs} (file.predicate a1 a2 a3 a4 a5 a6 a7 a8 a9 b1 b2) y) (p ∷ ps) s r =
-    let w = r.within in
-    let d = declared bytes ts before (x ∷ xs) all t.sites t.params r.whole r.sites r.params r.all_ready in
-    let v = pred_from bytes ts before t p (file.predicate a1 a2 a3 a4 a5 a6 a7 a8 a9 b1 b2)
-    (record { says = s.0; ready = r.ready.0; declares = d; args = w.0.parts.args_each; lets = w.0.parts.lets_each }) r.flat in
-    let m = items_whole bytes ts t all (before ++ (x ∷ [])) y ps s.1 (next_read r v.back) in
-    let a = v.tokens in let g = m.tokens in
-    record { sites = m.sites; params = m.params; preds = and_from _ _ v.whole m.preds; tokens = omega arith }
+module _ (bytes : List ℕ) (ts : List Token) (t : TableOf) (all : List Item) (f : FileRead bytes ts t all) where
+  items_whole : (before : List Item) {i k : ℕ} {is : List Item} → file.Items ts i k is → (ps : List PredOf) → PredsSay bytes ts before t is ps
+      → before ++ is ≡ all → Each (ReadyItem bytes ts) before is → Each (ItemWithin bytes ts) before is → ItemsWhole bytes t i k is ps
+  items_whole before file.no_item [] s q r w = record { sites = refl; params = refl; preds = refl; tokens = omega arith }
+  items_whole before file.no_item (p ∷ ps) s q r w = absurd s
+  items_whole before (file.an_item {x = x} {xs = xs} (file.site {i = i} {c = rc} {cs = rcs} a1 a2 a3 a4 a5) y) ps s q r w =
+      let m = items_whole (before ++ (x ∷ [])) y ps s (append_assoc before (x ∷ []) xs ∙ q) r.1 w.1 in
+      let c = coords_count bytes a4 in
+      let g = m.tokens in
+      record {
+        sites = and_from _ _ (site_from bytes (span_at ts (suc i)) (rc ∷ rcs) r.0 w.0.parts.1) m.sites;
+        params = m.params;
+        preds = m.preds;
+        tokens = omega arith;
+      }
+  items_whole before (file.an_item {x = x} {xs = xs} (file.param {i = i} {r = rr} a1 a2 a3 a4 a5) y) ps s q r w =
+      let m = items_whole (before ++ (x ∷ [])) y ps s (append_assoc before (x ∷ []) xs ∙ q) r.1 w.1 in
+      let c = range_count bytes a4 in
+      let g = m.tokens in
+      record { sites = m.sites; params = and_from _ _ (ranged_good bytes (span_at ts (suc i)) rr w.0.parts) m.params; preds = m.preds; tokens = omega arith }
+  items_whole before (file.an_item (file.predicate a1 a2 a3 a4 a5 a6 a7 a8 a9 b1 b2) y) [] s q r w = absurd s
+  items_whole before (file.an_item {x = x} {xs = xs} (file.predicate a1 a2 a3 a4 a5 a6 a7 a8 a9 b1 b2) y) (p ∷ ps) s q r w =
+      let d = declared bytes ts before (x ∷ xs) all t.sites t.params q f.sites f.params f.ready in
+      let v = pred_from p f.shallow a4 a7 (record { says = s.0; ready = r.0; declares = d; args = w.0.parts.args_each; lets = w.0.parts.lets_each }) in
+      let m = items_whole (before ++ (x ∷ [])) y ps s.1 (append_assoc before (x ∷ []) xs ∙ q) r.1 w.1 in
+      let a = v.1 in let g = m.tokens in
+      record { sites = m.sites; params = m.params; preds = and_from _ _ v.0 m.preds; tokens = omega arith }
 
 -- a name that no item has is none of those of any kind
 record Spread (bytes : List ℕ) (t : List ℕ) (is : List Item) : Type 0 where
@@ -442,15 +349,8 @@ kinds_differ bytes (PredItem n as' ls r ∷ is) d =
 pub whole_from : (bytes : List ℕ) (ts : List Token) (is : List Item) → length ts ≤ most_tokens → IsShallow ts → Spelt ts is
     → ReadyFile bytes ts is → FileWithin bytes ts is → (t : TableOf) → ItemsSay bytes ts is t → is_whole t ≡ true
 whole_from bytes ts is l h d r w t s =
-    let m = items_whole bytes ts t is [] d t.preds s.preds_are (record {
-      sites = s.sites_are;
-      params = s.params_are;
-      all_ready = r.each;
-      whole = refl;
-      ready = r.each;
-      within = w.each;
-      flat = record { shallow = h; depth = refl };
-    }) in
+    let f : FileRead bytes ts t is = record { sites = s.sites_are; params = s.params_are; ready = r.each; shallow = h } in
+    let m = items_whole bytes ts t is f [] d t.preds s.preds_are refl r.each w.each in
     let a : list_all site_whole t.sites ≡ true = ap (list_all site_whole) s.sites_are ∙ m.sites in
     let b : list_all is_range t.params ≡ true = ap (list_all is_range) s.params_are ∙ m.params in
     let x = ap (map (λ (v : SiteOf). v.name)) s.sites_are ∙ sites_named bytes is in

@@ -1,6 +1,7 @@
 -- The terms of a scaled derivative.
 use Rattle.std.proofs.Common.{◌≡◌, All, Less, ℕ, ◌+◌, ◌-◌, ◌<◌, ◌≤◌, ◌^◌, zero, suc, refl, sym, ◌∙◌, ap, subst, arith, List, [], ◌∷◌}
 use Rattle.std.proofs.Common.{length, drop, get_or, Bool, true, false, leb, unsigned_abs, ◌&&◌}
+use Rattle.std.proofs.Math.Bool.{and-true}
 use Rattle.std.proofs.lemmas.Bool.{cases_lt, le-leb, lt-leb}
 use Rattle.std.proofs.lemmas.Int.{ints}
 use Rattle.std.proofs.lemmas.List.{drop_all}
@@ -40,10 +41,6 @@ covers-after : (w k v n : ℕ) (ps : Pairs) → v < w → covers (exponents_from
 covers-after w zero v n ps h = refl
 covers-after w (suc k) v n ps h =
     rw (single-apart v w n (λ e. absurd (omega arith)), le-leb 0 (exponent w ps) (omega arith), covers-after (suc w) k v n ps (omega arith)) refl
-
-and-true : (b : Bool) → (b && true) ≡ b
-and-true true = refl
-and-true false = refl
 
 covers-single : (w k v n : ℕ) (ps : Pairs) → w ≤ v → v < w + k → covers (exponents_from w k ps) (exponents_from w k ((v, n) ∷ [])) ≡ leb n (exponent v ps)
 covers-single w zero v n ps h l = absurd (omega arith)

@@ -49,12 +49,6 @@ pub concatenated-above : (out a b : Pairs) (i : ℕ) → out ≡ a ++ take i b �
 concatenated-above out a b i e l r h =
     subst (λ z. IsAbove z (get_or b i (0, 0)).0) (sym e) (above-append a (take i b) (get_or b i (0, 0)).0 (above-more a b i l r h) (above-take b i r h))
 
--- each exponent of rising pairs is above 0
-pub positive-at : (ps : Pairs) (i : ℕ) → IsRising ps → i < length ps → 0 < (get_or ps i (0, 0)).1
-positive-at [] i r h = absurd (omega arith)
-positive-at (p ∷ ps) zero r h = r.0
-positive-at (p ∷ ps) (suc i) r h = positive-at ps i r.3 (omega arith)
-
 -- ---- the product
 exponent-append : (v : ℕ) (a b : Pairs) → exponent v (a ++ b) ≡ exponent v a + exponent v b
 exponent-append v [] b = omega arith

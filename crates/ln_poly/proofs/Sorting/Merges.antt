@@ -38,16 +38,13 @@ module _ {K : Type 0} (Before : K → K → Type 0) where
   merge-passing test _ _ _ (both s t f g h e n m) = omega (arith, ints, merge-passing test f g h m, part-sum test s t e)
   merge-passing test _ _ _ (neither s t f g h e z m) = omega (arith, ints, merge-passing test f g h m, part-zero test s t e z)
 
-  abs-add : (x y : ℤ) → unsigned_abs (x +ℤ y) ≤ unsigned_abs x + unsigned_abs y
-  abs-add x y = omega (arith, ints)
-
   -- the sizes add up at most
   pub merge-weight : (f g h : List (K × ℤ)) → IsMerge Before f g h → weight_of h ≤ weight_of f + weight_of g
   merge-weight _ _ _ (left_over f) = omega arith
   merge-weight _ _ _ (right_over g) = omega arith
   merge-weight _ _ _ (first s t f g h l m) = omega (arith, merge-weight f (t ∷ g) h m)
   merge-weight _ _ _ (second s t f g h l m) = omega (arith, merge-weight (s ∷ f) g h m)
-  merge-weight _ _ _ (both s t f g h e n m) = omega (arith, merge-weight f g h m, abs-add s.1 t.1)
+  merge-weight _ _ _ (both s t f g h e n m) = omega (arith, ints, merge-weight f g h m)
   merge-weight _ _ _ (neither s t f g h e z m) = omega (arith, merge-weight f g h m)
 
   -- no key is new

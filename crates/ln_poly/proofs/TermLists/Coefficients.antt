@@ -3,7 +3,6 @@ use Rattle.std.proofs.Common.{◌≡◌, ℕ, ◌+◌, ◌<◌, ◌≤◌, zero,
 use Rattle.std.proofs.Common.{true, false, if◌then◌else◌, unsigned_abs}
 use Rattle.std.proofs.lemmas.Int.{ints}
 use Rattle.std.proofs.Math.IntN.{ℤ, pos, ◌+ℤ◌}
-use Rattle.std.proofs.lemmas.List.{take_more}
 use Rattle.std.proofs.lemmas.List.Sums.{get_or-le-sum_by, sum_by_push, sum_by_more, sum_by-take-le, sum_by-cons}
 use Rattle.ln_algebra.specs.Vector.{same_vector}
 use Rattle.ln_tree.specs.Exps.{Pairs, vector}
@@ -96,13 +95,10 @@ factor-small xs i d h = get_or-le-sum_by (λ t. unsigned_abs t.1) xs i d h
 pub item-small : (xs : Sparse) (i : ℕ) (x : Pairs × ℤ) → i < length xs → x ≡ get_or xs i x → unsigned_abs x.1 ≤ size_of xs
 item-small xs i x h e = let f : unsigned_abs x.1 ≡ unsigned_abs (get_or xs i x).1 = ap (λ z. unsigned_abs z.1) e in omega (arith, f, factor-small xs i x h)
 
-abs_add : (x y : ℤ) → unsigned_abs (x +ℤ y) ≤ unsigned_abs x + unsigned_abs y
-abs_add x y = omega (arith, ints)
-
 -- a term that is added to one adds at most its absolute factor to the size
 pub size-added : (xs : Sparse) (i : ℕ) (t : Pairs × ℤ) → size_of (added_at xs i t) ≤ size_of xs + unsigned_abs t.1
 size-added [] i t = omega arith
-size-added (x ∷ xs) zero t = omega (arith, size-cons x xs, size-cons (x.0, x.1 +ℤ t.1) xs, abs_add x.1 t.1)
+size-added (x ∷ xs) zero t = omega (arith, ints, size-cons x xs, size-cons (x.0, x.1 +ℤ t.1) xs)
 size-added (x ∷ xs) (suc i) t = omega (arith, size-added xs i t, size-cons x xs, size-cons x (added_at xs i t))
 
 -- the first n terms weigh no more with the next than the whole

@@ -33,13 +33,10 @@ coefficient-negated n m [] = omega (arith, ints, coefficient_at-nil n m)
 coefficient-negated n m (t ∷ f) =
     omega (arith, ints, coefficient_at-cons n m t f, coefficient_at-cons n m (t.0, neg_ℤ t.1) (negated f), part-negated n m t, coefficient-negated n m f)
 
-abs-negated : (z : ℤ) → unsigned_abs (neg_ℤ z) ≡ unsigned_abs z
-abs-negated z = omega (arith, ints)
-
 -- the sum of the absolute factors is the same
 pub size-negated : (f : Sparse) → size_of (negated f) ≡ size_of f
 size-negated [] = refl
-size-negated (t ∷ f) = omega (arith, size-cons t f, size-cons (t.0, neg_ℤ t.1) (negated f), abs-negated t.1, size-negated f)
+size-negated (t ∷ f) = omega (arith, ints, size-cons t f, size-cons (t.0, neg_ℤ t.1) (negated f), size-negated f)
 
 -- the pairs still rise
 pub rising-negated : (f : Sparse) → AreRising f → AreRising (negated f)

@@ -1,8 +1,10 @@
 -- The exponents of one variable in turn, each with what goes down from it for the remaining degree.
-use Rattle.std.proofs.Common.{◌≡◌, ℕ, zero, suc, ◌+◌, ◌-◌, ◌<◌, ◌≤◌, Bool, true, false, leb, List, [], ◌∷◌, length, get_or, set, drop}
+use Rattle.std.proofs.Common.{◌≡◌, ℕ, zero, suc, ◌+◌, ◌-◌, ◌<◌, ◌≤◌, true, false, leb, List, [], ◌∷◌, length, get_or, set, drop}
 use Rattle.std.proofs.Common.{refl, sym, ◌∙◌, ap, arith, inl, inr}
-use Rattle.std.specs.Prelude.{All, nat_le, ◌||◌}
+use Rattle.std.specs.Prelude.{All, nat_le}
+use Rattle.std.proofs.lemmas.Bool.{or_parts}
 use Rattle.std.proofs.lemmas.Bool.Decides.{nat_tests}
+use Rattle.std.proofs.lemmas.List.{nil_from_length}
 use Rattle.std.proofs.lemmas.List.Elements.{All-filter, All-head, All-tail}
 use Rattle.ln_algebra.specs.Vector.{In}
 use Rattle.ln_algebra.specs.Walk.{Found, Member, all_same, at_least, before, unless_none}
@@ -23,11 +25,6 @@ use Rattle.ln_stage.proofs.Walks.SiteWalkLemmas.{at_least-all, set-zero}
 pairs-degree : (n : ℕ) (vs : List ℕ) (a : Pairs) → AreFresh n vs → degree_on vs (vector n a) ≡ pairs_degree vs a
 pairs-degree n [] a f = refl
 pairs-degree n (v ∷ vs) a f = omega (arith, vector-get n v a f.0, pairs-degree n vs a f.2)
-
--- where one of two or the other is false, both are
-pub or_parts : (a b : Bool) → (a || b) ≡ false → (a ≡ false) × (b ≡ false)
-or_parts true b e = cc
-or_parts false b e = (refl, e)
 
 not_le : (d k : ℕ) → nat_le d k ≡ false → k < d
 not_le d k e = grind (arith, nat_tests)
@@ -118,10 +115,6 @@ module _ {f : Sparse} {vs kept p : List ℕ} (s : IsStep f vs kept p) (more : 0 
         let w : walk_at r left (rows (length q) f h) q ≡ down = rw (size s more e small eh some eq er, rows-are s more e small eh, er, eq, el) refl in
         record { size = size s more e small eh some eq er; next = in-turn ∙ ap (λ z. before z (listed_degree_from f vs kept p d (e + 1))) (sym w) }
 
-nil : (vs : List ℕ) → length vs ≡ 0 → vs ≡ []
-nil [] h = refl
-nil (v ∷ vs) h = absurd (omega arith)
-
 unless_none-twice : (ms : List (List ℕ)) (r : Found) → unless_none ms (unless_none ms r) ≡ unless_none ms r
 unless_none-twice [] r = refl
 unless_none-twice (m ∷ ms) r = refl
@@ -169,7 +162,7 @@ leaf-is f vs kept p d s e = ap (λ z. walk_at vs z (rows (length p) f kept) p) e
 
 -- where no variable remains and some of the degree does, nothing is listed
 pub leaf-none : (f : Sparse) (vs kept p : List ℕ) (d : ℕ) → length vs ≡ 0 → 0 < d → listed_degree f vs kept p d ≡ ([], false)
-leaf-none f vs kept p d h l = ap (λ x. listed_degree f x kept p d) (nil vs h) ∙ leaf-left f kept p d l
+leaf-none f vs kept p d h l = ap (λ x. listed_degree f x kept p d) (nil_from_length vs h) ∙ leaf-left f kept p d l
 
 -- the remaining ones are places of terms
 pub inside-high : (f : Sparse) (v e : ℕ) (kept h : List ℕ) → h ≡ high f v e kept → All (λ i. i < length f) kept → All (λ i. i < length f) h

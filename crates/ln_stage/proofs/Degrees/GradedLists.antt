@@ -8,7 +8,6 @@ use Rattle.std.proofs.lemmas.List.{length-take-le, take_all}
 use Rattle.ln_algebra.specs.Orders.{ByDegree, GradedEarlier}
 use Rattle.ln_algebra.specs.Stage.{IsStageListBy}
 use Rattle.ln_algebra.specs.Vector.{zeros}
-use Rattle.ln_algebra.proofs.Expanded.Expansion.{length-zeros}
 use Rattle.ln_tree.specs.declared.shape.VarInfo.{VarInfo}
 use Rattle.ln_tree.specs.Variables.{is_laid_out}
 use Rattle.ln_order.specs.Orders.{IsOrderOf}
@@ -31,27 +30,22 @@ use Rattle.ln_algebra.proofs.Walking.GradedStages.{layers-stages-by}
 use Rattle.ln_stage.proofs.Results.KeptLemmas as by_lists
 use Rattle.ln_stage.proofs.Monomials.MonomialLemmas.{poly-terms, rows-monomials}
 use Rattle.ln_stage.proofs.Results.FoldLemmas.{Sized}
-use Rattle.ln_stage.proofs.Results.KeptLemmas.{AreAlong, sized-in}
+use Rattle.ln_stage.proofs.Sights.Members.{each-in}
+use Rattle.ln_stage.proofs.Results.KeptLemmas.{AreAlong}
 use Rattle.ln_stage.proofs.Results.ResultLemmas.{by-prefixes, result-stages}
-use Rattle.ln_stage.proofs.Walks.StartLemmas.{fresh-ranking, rows-all}
+use Rattle.ln_stage.proofs.Walks.StartLemmas.{fresh-ranking, rows-all, rows-start}
 use Rattle.ln_stage.proofs.Walks.VisitLemmas.{nothing-behind, start-size}
 
 -- ---- what is at a prefix
 -- at a whole order is its stage list by total degree first
 pub at-whole : (k : ℕ) (vars : List VarInfo) (f : Sparse) (o : List ℕ) → length o ≡ k → graded_at k vars f o ≡ graded_list vars f o
 unfolding graded_at
-at-whole k vars f o e = go (eqb (length o) k) refl where
-  go : (b : Bool) → eqb (length o) k ≡ b → (if b then graded_list vars f o else []) ≡ graded_list vars f o
-  go true q = refl
-  go false q = let t : true ≡ false = sym (eq-eqb (length o) k e) ∙ q in cc
+at-whole k vars f o e = let q : eqb (length o) k ≡ true = eq-eqb (length o) k e in rw q refl
 
 -- nothing is at a prefix that isn't a whole order
 pub at-part : (k : ℕ) (vars : List VarInfo) (f : Sparse) (p : List ℕ) → (length p ≡ k → ⊥) → graded_at k vars f p ≡ []
 unfolding graded_at
-at-part k vars f p d = go (eqb (length p) k) refl where
-  go : (b : Bool) → eqb (length p) k ≡ b → (if b then graded_list vars f p else []) ≡ []
-  go true q = absurd (d (eqb-true (length p) k q))
-  go false q = refl
+at-part k vars f p d = let q : eqb (length p) k ≡ false = grind (arith, nat_tests, d) in rw q refl
 
 -- what is left out has nothing at it
 pub left-out : (by_degree cut : Bool) (k : ℕ) (vars : List VarInfo) (f : Sparse) (p : List ℕ) → cut ≡ cut_before (cut_by by_degree k vars f) p
@@ -91,10 +85,8 @@ module _ (k : ℕ) (vars : List VarInfo) (f : Sparse) (few : k ≤ 5) (laid : is
       (rows-largest (length vars) f (ranking_of vars o) (range_with_len 0 (length f)) (fresh-ranking (length vars) (sites_of vars o) (ranking_of vars o) r)) in
       let w = layers-stages-by (length vars) (sites_of vars o) (IsMonomialOf (length vars) f) (λ m s. s.size) limit (ranking_of vars o)
       (all_rows (length vars) f) r (rows-monomials (length vars) f (poly-terms f poly) b) low in
-      let m : rows (length (zeros (length vars))) f (range_with_len 0 (length f)) ≡ all_rows (length vars) f =
-      ap (λ z. rows z f (range_with_len 0 (length f))) (length-zeros (length vars)) ∙ all in
       let e : graded_list vars f o ≡ (layers limit 0 (ranking_of vars o) (all_rows (length vars) f) (zeros (length vars))).0 =
-      ap (λ z. (layers limit 0 (ranking_of vars o) z (zeros (length vars))).0) m in
+      ap (λ z. (layers limit 0 (ranking_of vars o) z (zeros (length vars))).0) (rows-start (length vars) f) in
       subst (λ l. IsStageListBy (GradedEarlier (sites_of vars o)) (length vars) (sites_of vars o) (IsMonomialOf (length vars) f) l) (sym e) w
 
   sized-part : (p : List ℕ) → IsPrefixOf k p → Sized (length vars) (graded_at k vars f p)
@@ -107,7 +99,7 @@ module _ (k : ℕ) (vars : List VarInfo) (f : Sparse) (few : k ≤ 5) (laid : is
         let s : r.places ≡ k = omega (arith, l, ap length r.front, length-take-le r.places r.order (omega (arith, r.within, r.full.size))) in
         let e : p ≡ r.order = r.front ∙ take_all r.places r.order (omega (arith, s, r.full.size)) in
         let w : IsOrderOf k p = subst (IsOrderOf k) (sym e) r.full in
-        sized-in (length vars) (graded_list vars f p) (λ a i. ((the-list p w).stages a i).over.size)
+        each-in (λ a. length a ≡ length vars) (graded_list vars f p) (λ a i. ((the-list p w).stages a i).over.size)
 
   shorter : (o : List ℕ) (j : ℕ) → IsOrderOf k o → j < k → graded_at k vars f (take j o) ≡ []
   shorter o j p l = at-part k vars f (take j o) (λ e. absurd (omega (arith, e, l, length-take-le j o (omega (arith, l, p.size)))))

@@ -1,6 +1,7 @@
 -- What is kept after several stages and several lists: numbers, count and weight.
 use Rattle.std.proofs.Common.{◌≡◌, ℕ, zero, suc, ◌+◌, ◌<◌, ◌≤◌, Bool, true, false, cond, not, List, [], ◌∷◌, ◌++◌, length, map, get_or}
 use Rattle.std.proofs.Common.{refl, sym, ◌∙◌, ap, arith, if◌then◌else◌, append_assoc}
+use Rattle.std.specs.List.{AllByRecursion}
 use Rattle.std.specs.Prelude.{All, ◌==◌}
 use Rattle.std.proofs.lemmas.Bool.Decides.{nat_tests}
 use Rattle.std.proofs.lemmas.List.{append-nil, length-map}
@@ -16,16 +17,11 @@ use Rattle.ln_stage.specs.Tally.{IsOver, Tallied, next_list, number_in, pairs_of
 use Rattle.ln_stage.proofs.Walks.PairsLemmas.{tests-of-vectors}
 use Rattle.ln_stage.proofs.Walks.StepLemmas.{over-more}
 use Rattle.ln_stage.proofs.Results.TallyLemmas.{number-more}
+use Rattle.ln_stage.proofs.Sights.Members.{each-behind, each-put}
 
 -- each vector has n exponents
 abbrev pub Sized : ℕ → List (List ℕ) → Type 0
-Sized n [] = Unit {0}
-Sized n (a ∷ as') = (length a ≡ n) × Sized n as'
-
--- each list has such vectors
-abbrev pub AllSized : ℕ → List (List (List ℕ)) → Type 0
-AllSized n [] = Unit {0}
-AllSized n (l ∷ ls) = Sized n l × AllSized n ls
+Sized n = AllByRecursion (λ a. length a ≡ n)
 
 -- ---- one vector more
 -- the place of a vector, or the next one
@@ -40,13 +36,6 @@ place-cons b bs a = refl
 place-nil : (a : List ℕ) → place [] a ≡ 0
 unfolding place
 place-nil a = refl
-
-put-sized : (n : ℕ) (bs : List (List ℕ)) (a : List ℕ) → Sized n bs → length a ≡ n → Sized n (put_last bs a)
-put-sized n [] a s e = (e, tt)
-put-sized n (b ∷ bs) a s e = go (same_vector a b) (put-sized n bs a s.1 e) where
-  go : (t : Bool) → Sized n (put_last bs a) → Sized n (if t then b ∷ bs else b ∷ put_last bs a)
-  go true h = s
-  go false h = (s.0, h)
 
 -- the same in pairs
 put-pairs : (n : ℕ) (bs : List (List ℕ)) (a : List ℕ) → Sized n bs → length a ≡ n → put_exps (map pairs_of bs) (pairs_of a) ≡ map pairs_of (put_last bs a)
@@ -122,10 +111,6 @@ pub numbers : List (List ℕ) → List (List ℕ) → List ℕ
 numbers bs [] = []
 numbers bs (a ∷ as') = place bs a ∷ numbers (put_last bs a) as'
 
-behind-sized : (n : ℕ) (bs xs : List (List ℕ)) → Sized n bs → Sized n xs → Sized n (seen_behind bs xs)
-behind-sized n bs [] s t = s
-behind-sized n bs (x ∷ xs) s t = behind-sized n (put_last bs x) xs (put-sized n bs x s t.0) t.1
-
 extends-behind : (bs xs : List (List ℕ)) → Extends bs (seen_behind bs xs)
 extends-behind bs [] = extends-refl bs
 extends-behind bs (x ∷ xs) = extends-trans bs (put_last bs x) (seen_behind (put_last bs x) xs) (extends-put bs x) (extends-behind (put_last bs x) xs)
@@ -151,7 +136,7 @@ all-seen n f bs t (x ∷ xs) e s z =
     let q : number_in t.exps (pairs_of x) ≡ place bs x = ap (λ es. number_in es (pairs_of x)) e ∙ number-pairs n bs x s z.0 in
     let l : length t.exps ≡ length bs = ap length e ∙ length-map bs pairs_of in
     let u : Tallied = see (covering n f x) t (pairs_of x) in
-    let ih = all-seen n f (put_last bs x) u xs (ap (λ es. put_exps es (pairs_of x)) e ∙ put-pairs n bs x s z.0) (put-sized n bs x s z.0) z.1 in
+    let ih = all-seen n f (put_last bs x) u xs (ap (λ es. put_exps es (pairs_of x)) e ∙ put-pairs n bs x s z.0) (each-put (λ a. length a ≡ n) bs x s z.0) z.1 in
     let w : u.weight ≡ t.weight + (if place bs x == length bs then covering n f x else 0) =
     weigh-more t.weight (covering n f x) (number_in t.exps (pairs_of x) == length t.exps)
     ∙ ap (λ b. t.weight + (if b then covering n f x else 0)) (rw (q, l) refl) in
@@ -193,11 +178,6 @@ extends-all : (bs : List (List ℕ)) (ls : List (List (List ℕ))) → Extends b
 extends-all bs [] = extends-refl bs
 extends-all bs (l ∷ ls) = extends-trans bs (seen_behind bs l) (all_seen_behind (seen_behind bs l) ls) (extends-behind bs l) (extends-all (seen_behind bs l) ls)
 
--- the vectors that are seen after several lists have n exponents where those before and those of the lists have
-pub all-sized : (n : ℕ) (bs : List (List ℕ)) (ls : List (List (List ℕ))) → Sized n bs → AllSized n ls → Sized n (all_seen_behind bs ls)
-all-sized n bs [] s t = s
-all-sized n bs (l ∷ ls) s t = all-sized n (seen_behind bs l) ls (behind-sized n bs l s t.0) t.1
-
 -- ---- any lists, one at each of these
 -- what is kept after the lists at several places: the blocks by first sight, their numbers, count and weight, and the limits as before
 pub record IsAllSeenBy (L : List ℕ → List (List ℕ)) (n : ℕ) (f : Sparse) (bs : List (List ℕ)) (t : Tallied) (ps : List (List ℕ)) : Type 0 where
@@ -213,7 +193,7 @@ pub record IsAllSeenBy (L : List ℕ → List (List ℕ)) (n : ℕ) (f : Sparse)
 module _ (L : List ℕ → List (List ℕ)) (n : ℕ) (f : Sparse) where
   -- what is kept after the lists at several places is what their vectors in order of first sight make up
   pub seen-by : (bs : List (List ℕ)) (t : Tallied) (ps : List (List ℕ)) → t.exps ≡ map pairs_of bs → t.list ≡ [] → Sized n bs
-      → AllSized n (map L ps) → IsAllSeenBy L n f bs t ps
+      → AllByRecursion (Sized n) (map L ps) → IsAllSeenBy L n f bs t ps
   unfolding tallied_by numbers_by
   seen-by bs t [] e z s a = record {
     exps = e;
@@ -228,7 +208,7 @@ module _ (L : List ℕ → List (List ℕ)) (n : ℕ) (f : Sparse) where
   seen-by bs t (p ∷ ps) e z s a =
       let r : IsSeen n f bs t (L p) (see_all n f t (L p)) = all-seen n f bs t (L p) e s a.0 in
       let ih : IsAllSeenBy L n f (seen_behind bs (L p)) (next_list (see_all n f t (L p))) ps =
-      seen-by (seen_behind bs (L p)) (next_list (see_all n f t (L p))) ps r.exps refl (behind-sized n bs (L p) s a.0) a.1 in
+      seen-by (seen_behind bs (L p)) (next_list (see_all n f t (L p))) ps r.exps refl (each-behind (λ a. length a ≡ n) bs (L p) s a.0) a.1 in
       let list : (see_all n f t (L p)).list ≡ numbers bs (L p) = r.list ∙ ap (λ k. k ++ numbers bs (L p)) z in
       record {
         exps = ih.exps;

@@ -3,12 +3,12 @@ use Rattle.std.proofs.Common.{◌≡◌, ◌⊎◌, inl, inr, ℕ, zero, suc, �
 use Rattle.std.proofs.Common.{take, ◌++◌, refl, sym, ◌∙◌, ap, arith}
 use Rattle.std.specs.Prelude.{All, Contains, Some, slice_get}
 use Rattle.std.proofs.lemmas.List.{append-nil, get_or-map, length-map, map-append}
-use Rattle.std.proofs.lemmas.List.Elements.{All-cons, All-head, All-map, All-nil, All-tail, Contains-get_or}
+use Rattle.std.proofs.lemmas.List.Elements.{All-cons, All-contains, All-from_recursion, All-map, All-nil, Contains-get_or}
 use Rattle.std.proofs.lemmas.Option.{get_or_from_slice_get, slice_get-get_or, slice_get_within}
-use Rattle.std.specs.List.{range_with_len}
+use Rattle.std.proofs.lemmas.Simd.{map-map}
+use Rattle.std.specs.List.{AllByRecursion, range_with_len}
 use Rattle.ln_algebra.specs.Orders.{Before, Rank}
 use Rattle.ln_algebra.specs.Stage.{IsStageListBy}
-use Rattle.ln_algebra.specs.Vector.{In}
 use Rattle.ln_tree.specs.declared.shape.VarInfo.{VarInfo}
 use Rattle.ln_tree.specs.Exps.{IsAbove, Pairs, vector}
 use Rattle.ln_order.specs.Orders.{IsOrderOf, orders_of}
@@ -28,13 +28,9 @@ use Rattle.ln_stage.specs.Visit.{AreListed}
 use Rattle.ln_stage.specs.declared.stop.StageStop.{StageStop}
 use Rattle.ln_stage.specs.declared.stop.StageStop.TheVariants.{Zero, Stages, NoMemory}
 use Rattle.ln_stage.proofs.Sights.FirstSightLemmas.{first-sight-by-prefixes, segments-are-fewer}
-use Rattle.ln_stage.proofs.Results.FoldLemmas.{AllSized, IsAllSeenBy, Sized, all-sized, extends-refl, seen-by}
+use Rattle.ln_stage.proofs.Sights.Members.{each-seen}
+use Rattle.ln_stage.proofs.Results.FoldLemmas.{IsAllSeenBy, Sized, extends-refl, seen-by}
 use Rattle.ln_stage.proofs.Walks.PairsLemmas.{above-pairs, vector-pairs_of}
-
--- each of its vectors has all variables
-pub sized-in : (n : ℕ) (xs : List (List ℕ)) → ((a : List ℕ) → In xs a → length a ≡ n) → Sized n xs
-sized-in n [] h = tt
-sized-in n (x ∷ xs) h = (h x (inl refl), sized-in n xs (λ a i. h a (inr i)))
 
 -- ---- the list of an order from its segments
 range-suc : {A : Type 0} (g : ℕ → A) (a m : ℕ) → map g (range_with_len (suc a) m) ≡ map (λ i. g (suc i)) (range_with_len a m)
@@ -58,17 +54,14 @@ range-same F G a (suc n) h =
     let ih = range-same F G (a + 1) n (λ i l m. h i (omega (arith, l)) (omega (arith, m))) in
     ap (λ z. z ∷ map F (range_with_len (a + 1) n)) (h a (omega arith) (omega arith)) ∙ ap (λ z. G a ∷ z) ih
 
-map-map : {A B C : Type 0} (g : B → C) (h : A → B) (xs : List A) → map g (map h xs) ≡ map (λ x. g (h x)) xs
-map-map g h [] = refl
-map-map g h (x ∷ xs) = ap (λ z. g (h x) ∷ z) (map-map g h xs)
-
 maps-agree : {A B : Type 0} (F G : A → B) (xs : List A) → ((x : A) → Contains xs x → F x ≡ G x) → map F xs ≡ map G xs
 maps-agree F G [] h = refl
 maps-agree F G (x ∷ xs) h =
     let ih = maps-agree F G xs (λ y c. h y (suc c.0, omega (arith, c.1), c.2)) in
     ap (λ z. z ∷ map F xs) (h x (0, omega arith, refl)) ∙ ap (λ z. G x ∷ z) ih
 
-count-map : (g : ℕ → List ℕ) (ls : List (List ℕ)) → count_numbers ls ≡ stage_count (map (map g) ls)
+-- the numbers in all lists are as many as the stage count of the lists with a vector in place of each number
+pub count-map : (g : ℕ → List ℕ) (ls : List (List ℕ)) → count_numbers ls ≡ stage_count (map (map g) ls)
 count-map g [] = refl
 count-map g (l ∷ ls) = omega (arith, count-map g ls, length-map l g)
 
@@ -86,7 +79,7 @@ module _ {rank : Rank} {k : ℕ} {vars : List VarInfo} {f : Sparse} {L S : List 
   abbrev pub parts : List (List (List ℕ))
   parts = map S (prefixes_of k)
 
-  sized-parts : (ps : List (List ℕ)) → ((p : List ℕ) → Contains ps p → Contains (prefixes_of k) p) → AllSized (length vars) (map S ps)
+  sized-parts : (ps : List (List ℕ)) → ((p : List ℕ) → Contains ps p → Contains (prefixes_of k) p) → AllByRecursion (Sized (length vars)) (map S ps)
   sized-parts [] h = tt
   sized-parts (p ∷ ps) h = (x.sized p (prefix-is k p (h p (0, omega arith, refl))), sized-parts ps (λ u c. h u (suc c.0, omega (arith, c.1), c.2)))
 
@@ -147,26 +140,22 @@ module _ {rank : Rank} {k : ℕ} {vars : List VarInfo} {f : Sparse} {L S : List 
     blocks = all_seen_behind [] parts
 
     blocks-sized : Sized (length vars) blocks
-    blocks-sized = all-sized (length vars) [] parts tt (sized-parts (prefixes_of k) (λ p c. c))
+    blocks-sized = each-seen (λ a. length a ≡ length vars) [] parts tt (sized-parts (prefixes_of k) (λ p c. c))
 
     -- the vector of a block
     at-block : (cs : List (List ℕ)) (i : ℕ) → Sized (length vars) cs → i < length cs → block_vector (length vars) (map pairs_of cs) i ≡ get_or cs i []
-    at-block cs i s h = ap (vector (length vars)) (get_or-map pairs_of cs i [] [] h) ∙ vector-pairs_of (length vars) (get_or cs i []) (size cs i s h) where
-      size : (cs : List (List ℕ)) (i : ℕ) → Sized (length vars) cs → i < length cs → length (get_or cs i []) ≡ length vars
-      size [] i s h = absurd (omega arith)
-      size (c ∷ cs) zero s h = s.0
-      size (c ∷ cs) (suc i) s h = size cs i s.1 (omega (arith, h))
+    at-block cs i s h = ap (vector (length vars)) (get_or-map pairs_of cs i [] [] h)
+        ∙ vector-pairs_of (length vars) (get_or cs i []) (All-from_recursion (λ a. length a ≡ length vars) cs s i [] h)
 
     at-blocks : (cs : List (List ℕ)) (l : List ℕ) → Sized (length vars) cs → All (λ i. i < length cs) l
         → map (block_vector (length vars) (map pairs_of cs)) l ≡ map (λ i. get_or cs i []) l
-    at-blocks cs [] s h = refl
-    at-blocks cs (i ∷ l) s h = rw (at-block cs i s (All-head (λ i. i < length cs) i l h), at-blocks cs l s (All-tail (λ i. i < length cs) i l h)) refl
+    at-blocks cs l s h = maps-agree (block_vector (length vars) (map pairs_of cs)) (λ i. get_or cs i []) l
+        (λ i c. at-block cs i s (All-contains (λ i. i < length cs) l i h c))
 
     at-lists : (cs : List (List ℕ)) (ls : List (List ℕ)) → Sized (length vars) cs → All (λ l. All (λ i. i < length cs) l) ls
         → map (λ l. map (block_vector (length vars) (map pairs_of cs)) l) ls ≡ map (λ l. map (λ i. get_or cs i []) l) ls
-    at-lists cs [] s h = refl
-    at-lists cs (l ∷ ls) s h =
-        rw (at-blocks cs l s (All-head (λ l. All (λ i. i < length cs) l) l ls h), at-lists cs ls s (All-tail (λ l. All (λ i. i < length cs) l) l ls h)) refl
+    at-lists cs ls s h = maps-agree (map (block_vector (length vars) (map pairs_of cs))) (map (λ i. get_or cs i [])) ls
+        (λ l c. at-blocks cs l s (All-contains (λ l. All (λ i. i < length cs) l) ls l h c))
 
     vectors-back : (cs : List (List ℕ)) → Sized (length vars) cs → map (vector (length vars)) (map pairs_of cs) ≡ cs
     vectors-back [] s = refl

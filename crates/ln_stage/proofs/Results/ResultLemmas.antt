@@ -2,47 +2,25 @@
 use Rattle.std.proofs.Common.{◌≡◌, Bool, false, ℕ, zero, suc, ◌+◌, ◌<◌, ◌≤◌, true, List, [], ◌∷◌, length, get_or, take, ◌++◌}
 use Rattle.std.proofs.Common.{refl, sym, ◌∙◌, ap, subst, arith}
 use Rattle.std.specs.Prelude.{◌↔◌, IsTrue}
-use Rattle.std.specs.List.{range_with_len}
 use Rattle.ln_algebra.specs.Orders.{BySmallest}
-use Rattle.ln_algebra.specs.Vector.{zeros}
-use Rattle.ln_algebra.specs.Walk.{walk}
-use Rattle.ln_algebra.proofs.Expanded.Expansion.{length-zeros}
 use Rattle.ln_tree.specs.declared.shape.VarInfo.{VarInfo}
 use Rattle.ln_tree.specs.Variables.{is_laid_out}
 use Rattle.ln_order.specs.Orders.{IsOrderOf}
-use Rattle.ln_order.specs.Sites.{ranking_of, sites_of}
-use Rattle.ln_order.proofs.Signs.RankingLemmas.{ranking-is}
+use Rattle.ln_order.specs.Sites.{sites_of}
 use Rattle.ln_poly.specs.Sparse.{AreBelow, IsPoly, Sparse}
 use Rattle.ln_stage.specs.FirstSight.{last_walk, prefix_walk}
-use Rattle.ln_stage.specs.Kept.{all_rows, list_of, listed, rows}
+use Rattle.ln_stage.specs.Kept.{all_rows, list_of}
 use Rattle.ln_stage.specs.Segments.{AreSegments, IsSegmentOf}
 use Rattle.ln_stage.specs.SiteWalk.{prefix_walks, site_walk, site_walks}
-use Rattle.ln_stage.specs.StageList.{IsStageListOf}
 use Rattle.ln_stage.specs.Staged.{AreStagesOf}
 use Rattle.ln_stage.specs.Visit.{segment_at}
 use Rattle.ln_stage.proofs.Sights.FirstSightLemmas.{list-along}
 use Rattle.ln_stage.proofs.Results.FoldLemmas.{Sized}
-use Rattle.ln_stage.proofs.Results.KeptLemmas.{AreAlong, sized-in}
+use Rattle.ln_stage.proofs.Sights.Members.{each-in}
+use Rattle.ln_stage.proofs.Results.KeptLemmas.{AreAlong}
 use Rattle.ln_stage.proofs.Results.KeptLemmas as by_lists
 pub use Rattle.ln_stage.proofs.Monomials.MonomialLemmas.{poly-terms}
-use Rattle.ln_stage.proofs.Monomials.MonomialLemmas.{IsTerms, rows-monomials, rows-small}
-use Rattle.ln_stage.proofs.Walks.SiteWalkLemmas.{walks-are-segments}
-use Rattle.ln_stage.proofs.Monomials.StageLemmas.{walk-stages}
-use Rattle.ln_stage.proofs.Walks.StartLemmas.{rows-all}
-
--- what is listed is the stage list
-list-stages : (k : ℕ) (vars : List VarInfo) (f : Sparse) (o : List ℕ) → is_laid_out k vars ≡ true → IsOrderOf k o → IsTerms f
-    → AreBelow (length vars) f → IsStageListOf (length vars) (sites_of vars o) f (list_of vars f o)
-unfolding list_of listed
-list-stages k vars f o h p t b =
-    let w : IsStageListOf (length vars) (sites_of vars o) f (walk 128 (ranking_of vars o) (all_rows (length vars) f) (zeros (length vars))).0 =
-    walk-stages (length vars) (sites_of vars o) f 128 (ranking_of vars o) (all_rows (length vars) f) (ranking-is k vars o h p.size p.each)
-    (rows-monomials (length vars) f t b) (rows-small (length vars) f t.rising) in
-    let m : rows (length (zeros (length vars))) f (range_with_len 0 (length f)) ≡ all_rows (length vars) f =
-    ap (λ z. rows z f (range_with_len 0 (length f))) (length-zeros (length vars)) ∙ rows-all (length vars) f in
-    let e : list_of vars f o ≡ (walk 128 (ranking_of vars o) (all_rows (length vars) f) (zeros (length vars))).0 =
-    ap (λ z. (walk 128 (ranking_of vars o) z (zeros (length vars))).0) m in
-    subst (λ l. IsStageListOf (length vars) (sites_of vars o) f l) (sym e) w
+use Rattle.ln_stage.proofs.Walks.SiteWalkLemmas.{list-stages, walks-are-segments}
 
 -- ---- the segment of each prefix
 segments-at : (n : ℕ) (vars : List VarInfo) (o : List ℕ) (f : Sparse) (i : ℕ) (ls : List (List (List ℕ))) (j m : ℕ) → m ≡ i + j
@@ -87,8 +65,8 @@ module _ (k : ℕ) (vars : List VarInfo) (f : Sparse) (few : k ≤ 5) (laid : is
   unfolding segment_at
   by-prefixes = record {
     few = few;
-    lists = λ o p. list-stages k vars f o laid p (poly-terms f poly) b;
-    sized = λ p r. subst (λ q. Sized (length vars) (segment_at vars f q)) (sym r.front) (sized-in (length vars)
+    lists = λ o p. list-stages k vars f o laid p poly b;
+    sized = λ p r. subst (λ q. Sized (length vars) (segment_at vars f q)) (sym r.front) (each-in (λ a. length a ≡ length vars)
         (segment_at vars f (take r.places r.order)) (λ a i. ((the-segment r.order r.places r.full r.within).stages a i).0.over.size));
     along = λ o p. list-along vars f o;
   }

@@ -1,13 +1,17 @@
 -- Segments: one after the other they are the list, and each is that of its prefix.
 use Rattle.std.proofs.Common.{◌≡◌, ◌≢◌, ◌⊎◌, inl, inr, ℕ, zero, suc, ◌+◌, ◌<◌, ◌≤◌, Bool, true, false, eqb, eq-eqb, cond, ◌&&◌, List, []}
 use Rattle.std.proofs.Common.{◌∷◌, ◌++◌, length, map, get_or, take, refl, sym, ◌∙◌, ap, arith, add-one, Option, Some, None}
-use Rattle.std.specs.Prelude.{filter, ◌||◌}
+use Rattle.std.specs.Bool.{Decides}
+use Rattle.std.specs.Prelude.{filter, min}
 use Rattle.std.specs.List.{range_with_len}
 use Rattle.std.proofs.lemmas.Bool.{and_parts, cases_eq, cases_lt, cases_order, eqb-true}
+use Rattle.std.proofs.lemmas.Bool.Decides.{Decides-below_or, not_from_Decides}
 use Rattle.std.proofs.lemmas.List.{get_or_past}
 use Rattle.ln_algebra.specs.Vector.{In}
-use Rattle.ln_algebra.specs.Earlier.{Earlier, IndicesDiffer, IsInOrder, IsOver, Of, RanksBefore, Sites}
-use Rattle.ln_algebra.proofs.Ordering.Order.{earlier-irreflexive, earlier-total, earlier-transitive}
+use Rattle.ln_algebra.specs.Earlier.{Earlier, IndicesDiffer, IsInOrder, IsOver, IsSortedIn, Of, RanksBefore, Sites}
+use Rattle.ln_algebra.proofs.Ordering.Admissible.{earlier-admissible}
+use Rattle.ln_algebra.proofs.Ordering.Order.{earlier-total}
+use Rattle.ln_algebra.proofs.Ordering.Unique.{sorted-same}
 use Rattle.ln_algebra.proofs.Walking.Walk.{In-append_left, In-append_right, In-append}
 use Rattle.ln_tree.specs.declared.shape.VarInfo.{VarInfo}
 use Rattle.ln_order.specs.Prefixes.{joined}
@@ -18,36 +22,12 @@ use Rattle.ln_stage.specs.Segments.{AreSegments, Ends, IndicesBelow, IsSegmentOf
 use Rattle.ln_stage.specs.Segments.{SegmentIsUnique, SegmentsMakeTheList, at_index, isnt_zero, part, reach, touches}
 
 -- ---- members
-order-join : (sites : Sites) (xs ys : List (List ℕ)) → IsInOrder sites xs → IsInOrder sites ys
-    → ((a b : List ℕ) → In xs a → In ys b → Earlier sites a b) → IsInOrder sites (xs ++ ys)
-order-join sites [] ys s t h = t
-order-join sites (x ∷ xs) ys s t h =
-    ((λ b i. elim (In-append xs ys b i) [ inl k ↦ s.0 b k | inr k ↦ h x b (inl refl) k ]), order-join sites xs ys s.1 t (λ a b i j. h a b (inr i) j))
-
--- two lists in order with the same members are one
-lists-same : (sites : Sites) → IndicesDiffer sites → (xs ys : List (List ℕ)) → IsInOrder sites xs → IsInOrder sites ys
-    → ((a : List ℕ) → In xs a → In ys a) → ((a : List ℕ) → In ys a → In xs a) → xs ≡ ys
-lists-same sites d [] [] s t h k = refl
-lists-same sites d [] (y ∷ ys) s t h k = absurd (k y (inl refl))
-lists-same sites d (x ∷ xs) [] s t h k = absurd (h x (inl refl))
-lists-same sites d (x ∷ xs) (y ∷ ys) s t h k =
-    let r : xs ≡ ys = lists-same sites d xs ys s.1 t.1 (λ a i. down a i (h a (inr i))) (λ a i. up a i (k a (inr i))) in
-    ap (λ z. z ∷ xs) heads ∙ ap (λ z. y ∷ z) r where
-      join : (x ≡ y) ⊎ In ys x → (y ≡ x) ⊎ In xs y → x ≡ y
-      join (inl q) j = q
-      join (inr i) (inl q) = sym q
-      join (inr i) (inr j) = absurd (earlier-irreflexive sites x (earlier-transitive sites d x y x (s.0 y j) (t.0 x i)))
-
-      heads : x ≡ y
-      heads = join (h x (inl refl)) (k y (inl refl))
-
-      down : (a : List ℕ) → In xs a → (a ≡ y) ⊎ In ys a → In ys a
-      down a i (inl q) = absurd (earlier-irreflexive sites x (let l : Earlier sites x a = s.0 a i in let z : a ≡ x = q ∙ sym heads in rw z at l))
-      down a i (inr j) = j
-
-      up : (a : List ℕ) → In ys a → (a ≡ x) ⊎ In xs a → In xs a
-      up a i (inl q) = absurd (earlier-irreflexive sites y (let l : Earlier sites y a = t.0 a i in let z : a ≡ y = q ∙ heads in rw z at l))
-      up a i (inr j) = j
+-- one list in order after another
+pub order-join : (R : List ℕ → List ℕ → Type 0) (xs ys : List (List ℕ)) → IsSortedIn R xs → IsSortedIn R ys
+    → ((a b : List ℕ) → In xs a → In ys b → R a b) → IsSortedIn R (xs ++ ys)
+order-join R [] ys s t h = t
+order-join R (x ∷ xs) ys s t h =
+    ((λ b i. elim (In-append xs ys b i) [ inl k ↦ s.0 b k | inr k ↦ h x b (inl refl) k ]), order-join R xs ys s.1 t (λ a b i j. h a b (inr i) j))
 
 -- ---- where a vector ends
 -- it ends at one place
@@ -80,65 +60,39 @@ ends-earlier n sites i j a b d over_a over_b e f l = go (earlier-total sites d n
   go (inr (inr h)) = absurd (later-ends sites i j a b e f l h)
 
 -- ---- where, by a test
-or_cases : (p q : Bool) → (p || q) ≡ true → (p ≡ true) ⊎ (q ≡ true)
-or_cases true q h = inl refl
-or_cases false q h = inr h
+-- variable v has an exponent that isn't 0, and belongs to the site with index i
+abbrev Touched : Sites → List ℕ → ℕ → ℕ → Type 0
+Touched sites a i v = (s : ℕ) × Of sites v s × (sites.index s ≡ i) × (get_or a v 0 ≢ 0)
 
-or_not : (p q : Bool) → (p || q) ≡ false → (p ≡ false) × (q ≡ false)
-or_not true q h = cc
-or_not false q h = (refl, h)
+touched-is : (sites : Sites) (a : List ℕ) (i v : ℕ) → Decides (at_index sites (sites.site v) i && isnt_zero (get_or a v 0)) (Touched sites a i v)
+touched-is sites a i v = by_site (sites.site v) refl (get_or a v 0) refl where
+  by_site : (o : Option ℕ) → sites.site v ≡ o → (e : ℕ) → get_or a v 0 ≡ e
+      → Decides (at_index sites o i && isnt_zero e) ((s : ℕ) × Of sites v s × (sites.index s ≡ i) × (get_or a v 0 ≢ 0))
+  by_site None q e z = ((λ h. cc), (λ t. absurd (let w : None ≡ Some t.0 = sym q ∙ t.1 in cc)))
+  by_site (Some s) q zero z = ((λ h. absurd (let w : false ≡ true = (and_parts (eqb (sites.index s) i) false h).1 in cc)), (λ t. absurd (t.3 z)))
+  by_site (Some s) q (suc e) z = (
+    (λ h. (s, q, eqb-true (sites.index s) i (and_parts (eqb (sites.index s) i) true h).0, λ y. omega (arith, y, z))),
+    (λ t. let w : Some t.0 ≡ Some s = sym t.1 ∙ q in let y : t.0 ≡ s = cc in rw (eq-eqb (sites.index s) i (ap (λ x. sites.index x) (sym y) ∙ t.2)) refl),
+  )
 
-at_index-is : (sites : Sites) (o : Option ℕ) (i : ℕ) → at_index sites o i ≡ true → (s : ℕ) × (o ≡ Some s) × (sites.index s ≡ i)
-at_index-is sites None i h = cc
-at_index-is sites (Some s) i h = (s, refl, eqb-true (sites.index s) i h)
-
-isnt_zero-is : (e : ℕ) → isnt_zero e ≡ true → e ≢ 0
-isnt_zero-is zero h = cc
-isnt_zero-is (suc e) h = λ q. omega (arith, q)
-
-is_zero-is : (e : ℕ) → isnt_zero e ≡ false → e ≡ 0
-is_zero-is zero h = refl
-is_zero-is (suc e) h = cc
-
-touches-is : (sites : Sites) (a : List ℕ) (n i : ℕ) → touches sites a n i ≡ true → (v : ℕ) × (s : ℕ) × Of sites v s × (sites.index s ≡ i) × (get_or a v 0 ≢ 0)
-touches-is sites a zero i h = cc
-touches-is sites a (suc n) i h = go (touches-is sites a n i) (or_cases (at_index sites (sites.site n) i && isnt_zero (get_or a n 0)) (touches sites a n i) h)
-  where
-    go : (touches sites a n i ≡ true → (v : ℕ) × (s : ℕ) × Of sites v s × (sites.index s ≡ i) × (get_or a v 0 ≢ 0))
-        → ((at_index sites (sites.site n) i && isnt_zero (get_or a n 0)) ≡ true) ⊎ (touches sites a n i ≡ true)
-        → (v : ℕ) × (s : ℕ) × Of sites v s × (sites.index s ≡ i) × (get_or a v 0 ≢ 0)
-    go ih (inl k) =
-        let p = and_parts (at_index sites (sites.site n) i) (isnt_zero (get_or a n 0)) k in
-        let q = at_index-is sites (sites.site n) i p.0 in
-        (n, q.0, q.1, q.2, isnt_zero-is (get_or a n 0) p.1)
-    go ih (inr k) = ih k
-
-touches-not : (sites : Sites) (a : List ℕ) (n i : ℕ) → touches sites a n i ≡ false → (v s : ℕ) → v < n → Of sites v s → sites.index s ≡ i → get_or a v 0 ≡ 0
-touches-not sites a zero i h v s l o e = absurd (omega arith)
-touches-not sites a (suc n) i h v s l o e =
-    go (touches-not sites a n i (or_not (at_index sites (sites.site n) i && isnt_zero (get_or a n 0)) (touches sites a n i) h).1 v s)
-    (or_not (at_index sites (sites.site n) i && isnt_zero (get_or a n 0)) (touches sites a n i) h).0 (cases_lt v n)
-  where
-    go : (v < n → Of sites v s → sites.index s ≡ i → get_or a v 0 ≡ 0)
-        → (at_index sites (sites.site n) i && isnt_zero (get_or a n 0)) ≡ false → (v < n) ⊎ (n ≤ v) → get_or a v 0 ≡ 0
-    go ih k (inl m) = ih m o e
-    go ih k (inr m) =
-        let q : n ≡ v = omega (arith, l, m) in
-        let there : sites.site n ≡ Some s = ap (λ z. sites.site z) q ∙ o in
-        let t : at_index sites (sites.site n) i ≡ true = rw there (eq-eqb (sites.index s) i e) in
-        let z : isnt_zero (get_or a n 0) ≡ false = rw t at k in
-        ap (λ y. get_or a y 0) (sym q) ∙ is_zero-is (get_or a n 0) z
+touches-is : (sites : Sites) (a : List ℕ) (n i : ℕ) → Decides (touches sites a n i) ((v : ℕ) × (v < n) × Touched sites a i v)
+touches-is sites a n i = Decides-below_or (λ v. at_index sites (sites.site v) i && isnt_zero (get_or a v 0)) (Touched sites a i) (λ n. touches sites a n i)
+    (touched-is sites a i) refl (λ n. refl) n
 
 reach-ends : (sites : Sites) (n : ℕ) (a : List ℕ) (k : ℕ) → length a ≡ n → NeedsBelow sites k a → Ends sites (reach sites n k a) a
 reach-ends sites n a zero size h = record { below = h; last = λ i e. absurd (omega (arith, e)) }
 reach-ends sites n a (suc i) size h = go (touches sites a n i) refl (reach-ends sites n a i size) where
   go : (b : Bool) → touches sites a n i ≡ b → (NeedsBelow sites i a → Ends sites (reach sites n i a) a) → Ends sites (cond b (suc i) (reach sites n i a)) a
-  go true e ih = record { below = h; last = λ m q. (let r = touches-is sites a n i e in (r.0, r.1, r.2, omega (arith, q, r.3), r.4)) }
+  go true e ih = record { below = h; last = λ m q. (let r = (touches-is sites a n i).0 e in (r.0, r.2.0, r.2.1, omega (arith, q, r.2.2), r.2.3)) }
   go false e ih = ih (λ v s o l. at_place v s o l (cases_eq (sites.index s) i)) where
     at_place : (v s : ℕ) → Of sites v s → i ≤ sites.index s → (sites.index s ≡ i) ⊎ (sites.index s ≡ i → ⊥) → get_or a v 0 ≡ 0
     at_place v s o l (inl q) = inside (cases_lt v n) where
+      not-touched : v < n → (z : ℕ) → get_or a v 0 ≡ z → get_or a v 0 ≡ 0
+      not-touched m zero w = w
+      not-touched m (suc z) w = absurd (not_from_Decides _ (touches-is sites a n i) e (v, m, (s, o, q, λ y. omega (arith, y, w))))
+
       inside : (v < n) ⊎ (n ≤ v) → get_or a v 0 ≡ 0
-      inside (inl m) = touches-not sites a n i e v s m o q
+      inside (inl m) = not-touched m (get_or a v 0) refl
       inside (inr m) = get_or_past a v 0 (omega (arith, m, size))
     at_place v s o l (inr ne) = h v s o (omega (arith, l, ne))
 
@@ -174,7 +128,7 @@ module _ (n : ℕ) (sites : Sites) (f : Sparse) (d : IndicesDiffer sites) where
   joined-order : (j : ℕ) (lists : List (List (List ℕ))) → AreSegments n sites f j lists → IsInOrder sites (joined lists)
   joined-order j [] h = tt
   joined-order j (list ∷ lists) h =
-      order-join sites list (joined lists) h.0.in_order (joined-order (suc j) lists h.1)
+      order-join (Earlier sites) list (joined lists) h.0.in_order (joined-order (suc j) lists h.1)
       (λ a b i k.
       let p = h.0.stages a i in
       let q = joined-are (suc j) lists b h.1 k in
@@ -256,8 +210,8 @@ module _ (n : ℕ) (sites : Sites) (f : Sparse) (d : IndicesDiffer sites) where
     has-segments =
         let w = makes-list k (map (part sites n k list) (range_with_len 0 (suc k))) b (parts-length (suc k) 0) (parts-from (suc k) 0) in (
           parts-from (suc k) 0,
-          lists-same sites d (joined (map (part sites n k list) (range_with_len 0 (suc k)))) list w.in_order l.in_order
-              (λ a i. l.all a (w.stages a i)) (λ a i. w.all a (l.stages a i)),
+          sorted-same n sites (Earlier sites) (earlier-admissible n sites d) (joined (map (part sites n k list) (range_with_len 0 (suc k))))
+              list w.in_order l.in_order (λ a i. l.all a (w.stages a i)) (λ a i. w.all a (l.stages a i)),
         )
 
 -- the segments of all prefixes of an order, one after the other, are its stage list
@@ -271,27 +225,16 @@ list-has-its-segments n k sites f list d b l = has-segments n sites f d k list b
 -- there is at most one segment that ends with the j-th site
 pub segment-is-unique : SegmentIsUnique
 segment-is-unique n j sites f xs ys d s t =
-    lists-same sites d xs ys s.in_order t.in_order (λ a i. (let r = s.stages a i in t.all a r.0 r.1)) (λ a i. (let r = t.stages a i in s.all a r.0 r.1))
+    sorted-same n sites (Earlier sites) (earlier-admissible n sites d) xs ys s.in_order t.in_order
+    (λ a i. (let r = s.stages a i in t.all a r.0 r.1)) (λ a i. (let r = t.stages a i in s.all a r.0 r.1))
 
 -- ---- two orders with the same first places
 record Agree (j : ℕ) (s t : Sites) : Type 0 where
   same_site : (v : ℕ) → s.site v ≡ t.site v
-  near : (x : ℕ) → s.index x < j → t.index x ≡ s.index x
-  far : (x : ℕ) → j ≤ s.index x → j ≤ t.index x
+  same_index : (x : ℕ) → min (s.index x) j ≡ min (t.index x) j
 
 agree-back : (j : ℕ) (s t : Sites) → Agree j s t → Agree j t s
-agree-back j s t g = record { same_site = λ v. sym (g.same_site v); near = near; far = far } where
-  near : (x : ℕ) → t.index x < j → s.index x ≡ t.index x
-  near x l = go (cases_lt (s.index x) j) where
-    go : (s.index x < j) ⊎ (j ≤ s.index x) → s.index x ≡ t.index x
-    go (inl m) = sym (g.near x m)
-    go (inr m) = absurd (omega (arith, g.far x m, l))
-
-  far : (x : ℕ) → j ≤ t.index x → j ≤ s.index x
-  far x l = go (cases_lt (s.index x) j) where
-    go : (s.index x < j) ⊎ (j ≤ s.index x) → j ≤ s.index x
-    go (inl m) = absurd (omega (arith, g.near x m, l, m))
-    go (inr m) = m
+agree-back j s t g = record { same_site = λ v. sym (g.same_site v); same_index = λ x. sym (g.same_index x) }
 
 module _ (n j : ℕ) (s t : Sites) (g : Agree j s t) where
   of-there : (v x : ℕ) → Of t v x → Of s v x
@@ -301,12 +244,12 @@ module _ (n j : ℕ) (s t : Sites) (g : Agree j s t) where
   of-here v x o = sym (g.same_site v) ∙ o
 
   below-there : (a : List ℕ) → NeedsBelow s j a → NeedsBelow t j a
-  below-there a h v x o l = h v x (of-there v x o) ((agree-back j s t g).far x l)
+  below-there a h v x o l = h v x (of-there v x o) (omega (arith, g.same_index x, l))
 
   ends-there : (a : List ℕ) → Ends s j a → Ends t j a
   ends-there a e = record {
     below = below-there a e.below;
-    last = λ i q. (let r = e.last i q in (r.0, r.1, of-here r.0 r.1 r.2, g.near r.1 (omega (arith, r.3, q)) ∙ r.3, r.4));
+    last = λ i q. (let r = e.last i q in (r.0, r.1, of-here r.0 r.1 r.2, omega (arith, g.same_index r.1, r.3, q), r.4));
   }
 
   earlier-there : (a b : List ℕ) → NeedsBelow s j a → NeedsBelow s j b → Earlier s a b → Earlier t a b
@@ -319,7 +262,7 @@ module _ (n j : ℕ) (s t : Sites) (g : Agree j s t) where
 
       at : (s.index y < j) ⊎ (j ≤ s.index y) → (t.index x' < t.index y) ⊎ ((x' ≡ y) × (w < v)) → get_or a w 0 ≡ get_or b w 0
       at (inr past) k = within_a w y (of-there w y q) past ∙ sym (within_b w y (of-there w y q) past)
-      at (inl m) (inl less) = same w (x, y, o, of-there w y q, inl (omega (arith, less, g.near x close, g.near y m, ap (λ z. t.index z) one)))
+      at (inl m) (inl less) = same w (x, y, o, of-there w y q, inl (omega (arith, less, g.same_index x, close, g.same_index y, m, ap (λ z. t.index z) one)))
       at (inl m) (inr k) = same w (x, y, o, of-there w y q, inr (sym one ∙ k.0, k.1))
 
   over-there : (a : List ℕ) → IsOver n s a → IsOver n t a
@@ -347,38 +290,18 @@ segment-there n j s t f list g h = record {
   in_order = order-there n j s t g f list (λ a i. (h.stages a i).1.below) h.in_order;
 }
 
--- where a site is among the first places
-front-near : (j : ℕ) (o : List ℕ) (s : ℕ) → place_in o s < j → place_in (take j o) s ≡ place_in o s
-front-near zero o s l = absurd (omega arith)
-front-near (suc j) [] s l = refl
-front-near (suc j) (x ∷ o) s l = go (eqb x s) l (front-near j o s) where
-  go : (b : Bool) → cond b 0 (suc (place_in o s)) < suc j → (place_in o s < j → place_in (take j o) s ≡ place_in o s)
-      → cond b 0 (suc (place_in (take j o) s)) ≡ cond b 0 (suc (place_in o s))
-  go true l ih = refl
-  go false l ih = ap suc (ih (omega (arith, l)))
-
-front-far : (j : ℕ) (o : List ℕ) (s : ℕ) → j ≤ place_in o s → place_in (take j o) s ≡ j
-front-far zero o s l = refl
-front-far (suc j) [] s l = absurd (omega arith)
-front-far (suc j) (x ∷ o) s l = go (eqb x s) l (front-far j o s) where
-  go : (b : Bool) → suc j ≤ cond b 0 (suc (place_in o s)) → (j ≤ place_in o s → place_in (take j o) s ≡ j) → cond b 0 (suc (place_in (take j o) s)) ≡ suc j
-  go true l ih = absurd (omega arith)
-  go false l ih = ap suc (ih (omega (arith, l)))
-
-fronts-near : (j : ℕ) (o u : List ℕ) (s : ℕ) → take j o ≡ take j u → place_in o s < j → place_in u s ≡ place_in o s
-fronts-near j o u s e l = go (cases_lt (place_in u s) j) where
-  q : place_in (take j u) s ≡ place_in o s
-  q = ap (λ z. place_in z s) (sym e) ∙ front-near j o s l
-
-  go : (place_in u s < j) ⊎ (j ≤ place_in u s) → place_in u s ≡ place_in o s
-  go (inl m) = sym (front-near j u s m) ∙ q
-  go (inr m) = absurd (omega (arith, front-far j u s m, q, l))
+-- the place of a site among the first j places
+front-place : (j : ℕ) (o : List ℕ) (s : ℕ) → place_in (take j o) s ≡ min (place_in o s) j
+front-place zero o s = omega arith
+front-place (suc j) [] s = omega arith
+front-place (suc j) (x ∷ o) s = go (eqb x s) (front-place j o s) where
+  go : (b : Bool) → place_in (take j o) s ≡ min (place_in o s) j → cond b 0 (suc (place_in (take j o) s)) ≡ min (cond b 0 (suc (place_in o s))) (suc j)
+  go true ih = omega arith
+  go false ih = omega (arith, ih)
 
 fronts-agree : (j : ℕ) (vars : List VarInfo) (o u : List ℕ) → take j o ≡ take j u → Agree j (sites_of vars o) (sites_of vars u)
-fronts-agree j vars o u e = record { same_site = λ v. refl; near = λ x l. fronts-near j o u x e l; far = λ x l. far x l (cases_lt (place_in u x) j) } where
-  far : (x : ℕ) → j ≤ place_in o x → (place_in u x < j) ⊎ (j ≤ place_in u x) → j ≤ place_in u x
-  far x l (inl m) = absurd (omega (arith, l, m, fronts-near j u o x (sym e) m))
-  far x l (inr m) = m
+fronts-agree j vars o u e =
+    record { same_site = λ v. refl; same_index = λ x. sym (front-place j o x) ∙ ap (λ z. place_in z x) e ∙ front-place j u x }
 
 -- two orders with the same first j sites have the same j-th segment
 pub segment-is-of-the-prefix : SegmentIsOfThePrefix

@@ -1,11 +1,10 @@
 -- First sight through segments, and the count.
-use Rattle.std.proofs.Common.{◌≡◌, ℕ, ◌≤◌, zero, suc, ◌+◌, ◌-◌, ◌*◌, Bool, true, false, List, [], ◌∷◌, ◌++◌, append_assoc, length}
-use Rattle.std.proofs.Common.{length-append, map, refl, sym, ◌∙◌, ap, subst, arith, if◌then◌else◌}
-use Rattle.std.specs.Prelude.{◌||◌}
-use Rattle.std.proofs.lemmas.List.{append-nil, length-map}
+use Rattle.std.proofs.Common.{◌≡◌, ℕ, ◌≤◌, zero, suc, ◌+◌, ◌-◌, ◌*◌, inl, inr, List, [], ◌∷◌, ◌++◌, append_assoc, length}
+use Rattle.std.proofs.Common.{length-append, map, refl, sym, ◌∙◌, ap, subst, arith}
+use Rattle.std.proofs.lemmas.List.{append-nil, length-map, map-append}
 use Rattle.std.proofs.Math.Nat.{add-mul}
-use Rattle.ln_algebra.specs.Vector.{same_vector}
-use Rattle.ln_algebra.proofs.Expanded.Normal.{same_vector-refl}
+use Rattle.ln_algebra.specs.Vector.{In}
+use Rattle.ln_algebra.proofs.Walking.Walk.{In-append_left, In-append_right}
 use Rattle.ln_tree.specs.declared.shape.VarInfo.{VarInfo}
 use Rattle.ln_order.specs.Orders.{behind, firsts, orders_of, past}
 use Rattle.ln_poly.specs.Sparse.{Sparse}
@@ -14,70 +13,38 @@ use Rattle.ln_stage.specs.Lists.{all_seen_behind, put_last, seen_behind, stage_c
 use Rattle.ln_order.specs.Prefixes.{joined, prefixes_of}
 use Rattle.ln_stage.specs.SiteWalk.{front_walk, site_walk, site_walks}
 use Rattle.ln_stage.specs.FirstSight.{FirstSightByPrefixes, SegmentsAreFewer, last_walk, list_along, prefix_walk, shared_count}
+use Rattle.ln_stage.proofs.Sights.SightLemmas.{put-cases}
 use Rattle.ln_stage.proofs.Walks.SiteWalkLemmas.{lists-are-walked-by-prefixes}
 
 -- ---- what was seen
-has : List (List ℕ) → List ℕ → Bool
-has [] a = false
-has (b ∷ bs) a = same_vector a b || has bs a
+abbrev AllIn : List (List ℕ) → List (List ℕ) → Type 0
+AllIn bs xs = (a : List ℕ) → In xs a → In bs a
 
-put-known : (bs : List (List ℕ)) (a : List ℕ) → has bs a ≡ true → put_last bs a ≡ bs
-unfolding has
-put-known [] a h = cc
-put-known (b ∷ bs) a h = go (same_vector a b) h (put-known bs a) where
-  go : (t : Bool) → (t || has bs a) ≡ true → (has bs a ≡ true → put_last bs a ≡ bs) → (if t then b ∷ bs else b ∷ put_last bs a) ≡ b ∷ bs
-  go true k ih = refl
-  go false k ih = ap (λ z. b ∷ z) (ih k)
+put-known : (bs : List (List ℕ)) (a : List ℕ) → In bs a → put_last bs a ≡ bs
+put-known bs a i = elim (put-cases bs a) [ inl k ↦ k.1 | inr k ↦ absurd (k.0 i) ]
 
-has-put : (bs : List (List ℕ)) (b a : List ℕ) → has bs a ≡ true → has (put_last bs b) a ≡ true
-unfolding has
-has-put [] b a h = cc
-has-put (c ∷ bs) b a h = go (same_vector b c) (same_vector a c) h (has-put bs b a) where
-  go : (t s : Bool) → (s || has bs a) ≡ true → (has bs a ≡ true → has (put_last bs b) a ≡ true) → has (if t then c ∷ bs else c ∷ put_last bs b) a ≡ true
-  go true s k ih = h
-  go false s k ih = more (same_vector a c) h ih where
-    more : (s : Bool) → (s || has bs a) ≡ true → (has bs a ≡ true → has (put_last bs b) a ≡ true) → (s || has (put_last bs b) a) ≡ true
-    more true k ih = refl
-    more false k ih = ih k
+in-put : (bs : List (List ℕ)) (b a : List ℕ) → In bs a → In (put_last bs b) a
+in-put bs b a i = elim (put-cases bs b) [ inl k ↦ rw k.1 i | inr k ↦ rw k.1 (In-append_left bs (b ∷ []) a i) ]
 
-has-new : (bs : List (List ℕ)) (a : List ℕ) → has (put_last bs a) a ≡ true
-unfolding has
-has-new [] a = rw (same_vector-refl a) refl
-has-new (b ∷ bs) a = go (same_vector a b) refl (has-new bs a) where
-  go : (t : Bool) → same_vector a b ≡ t → has (put_last bs a) a ≡ true → has (if t then b ∷ bs else b ∷ put_last bs a) a ≡ true
-  go true e ih = rw e refl
-  go false e ih = rw e ih
+new-put : (bs : List (List ℕ)) (a : List ℕ) → In (put_last bs a) a
+new-put bs a = elim (put-cases bs a) [ inl k ↦ rw k.1 k.0 | inr k ↦ rw k.1 (In-append_right bs (a ∷ []) a (inl refl)) ]
 
-AllHas : List (List ℕ) → List (List ℕ) → Type 0
-AllHas bs [] = Unit {0}
-AllHas bs (a ∷ as') = (has bs a ≡ true) × AllHas bs as'
+in-behind : (bs ys : List (List ℕ)) (a : List ℕ) → In bs a → In (seen_behind bs ys) a
+in-behind bs [] a i = i
+in-behind bs (y ∷ ys) a i = in-behind (put_last bs y) ys a (in-put bs y a i)
 
-all-put : (bs xs : List (List ℕ)) (b : List ℕ) → AllHas bs xs → AllHas (put_last bs b) xs
-unfolding AllHas
-all-put bs [] b h = tt
-all-put bs (x ∷ xs) b h = (has-put bs b x h.0, all-put bs xs b h.1)
+in-lists : (bs : List (List ℕ)) (ls : List (List (List ℕ))) (a : List ℕ) → In bs a → In (all_seen_behind bs ls) a
+in-lists bs [] a i = i
+in-lists bs (l ∷ ls) a i = in-lists (seen_behind bs l) ls a (in-behind bs l a i)
 
-all-behind : (bs xs ys : List (List ℕ)) → AllHas bs xs → AllHas (seen_behind bs ys) xs
-all-behind bs xs [] h = h
-all-behind bs xs (y ∷ ys) h = all-behind (put_last bs y) xs ys (all-put bs xs y h)
+all-seen : (bs xs : List (List ℕ)) → AllIn (seen_behind bs xs) xs
+all-seen bs [] a i = absurd i
+all-seen bs (x ∷ xs) a (inl e) = in-behind (put_last bs x) xs a (rw e (new-put bs x))
+all-seen bs (x ∷ xs) a (inr i) = all-seen (put_last bs x) xs a i
 
-all-lists : (bs xs : List (List ℕ)) (ls : List (List (List ℕ))) → AllHas bs xs → AllHas (all_seen_behind bs ls) xs
-all-lists bs xs [] h = h
-all-lists bs xs (l ∷ ls) h = all-lists (seen_behind bs l) xs ls (all-behind bs xs l h)
-
-has-behind : (bs : List (List ℕ)) (a : List ℕ) (ys : List (List ℕ)) → has bs a ≡ true → has (seen_behind bs ys) a ≡ true
-has-behind bs a [] h = h
-has-behind bs a (y ∷ ys) h = has-behind (put_last bs y) a ys (has-put bs y a h)
-
-all-seen : (bs xs : List (List ℕ)) → AllHas (seen_behind bs xs) xs
-unfolding AllHas
-all-seen bs [] = tt
-all-seen bs (x ∷ xs) = (has-behind (put_last bs x) x xs (has-new bs x), all-seen (put_last bs x) xs)
-
-behind-known : (bs xs : List (List ℕ)) → AllHas bs xs → seen_behind bs xs ≡ bs
-unfolding AllHas
+behind-known : (bs xs : List (List ℕ)) → AllIn bs xs → seen_behind bs xs ≡ bs
 behind-known bs [] h = refl
-behind-known bs (x ∷ xs) h = ap (λ z. seen_behind z xs) (put-known bs x h.0) ∙ behind-known bs xs h.1
+behind-known bs (x ∷ xs) h = ap (λ z. seen_behind z xs) (put-known bs x (h x (inl refl))) ∙ behind-known bs xs (λ a i. h a (inr i))
 
 behind-join : (bs xs ys : List (List ℕ)) → seen_behind bs (xs ++ ys) ≡ seen_behind (seen_behind bs xs) ys
 behind-join bs [] ys = refl
@@ -88,10 +55,6 @@ lists-join bs [] ms = refl
 lists-join bs (l ∷ ls) ms = lists-join (seen_behind bs l) ls ms
 
 -- ---- orders and prefixes
-map-join : {A B : Type 0} (f : A → B) (xs ys : List A) → map f (xs ++ ys) ≡ map f xs ++ map f ys
-map-join f [] ys = refl
-map-join f (x ∷ xs) ys = ap (λ z. f x ∷ z) (map-join f xs ys)
-
 map-same : {A B C : Type 0} (f : B → C) (g : A → B) (h : A → C) (xs : List A) → ((x : A) → f (g x) ≡ h x) → map f (map g xs) ≡ map h xs
 map-same f g h [] e = refl
 map-same f g h (x ∷ xs) e = rw (e x, map-same f g h xs e) refl
@@ -146,10 +109,10 @@ module _ (C : List (List ℕ)) (segment : List ℕ → List (List ℕ)) where
         ∙ sym (split (seen_behind bs (C ++ segment [])))
 
 Claim : ℕ → Type 0
-Claim k = (C : List (List ℕ)) (segment : List ℕ → List (List ℕ)) (bs : List (List ℕ)) → AllHas bs C
+Claim k = (C : List (List ℕ)) (segment : List ℕ → List (List ℕ)) (bs : List (List ℕ)) → AllIn bs C
     → all_seen_behind bs (map (λ o. C ++ list_along segment o) (orders_of k)) ≡ all_seen_behind bs (map segment (prefixes_of k))
 
-seen-firsts : (k : ℕ) → Claim k → (C : List (List ℕ)) (segment : List ℕ → List (List ℕ)) (n : ℕ) (bs : List (List ℕ)) → AllHas bs (C ++ segment [])
+seen-firsts : (k : ℕ) → Claim k → (C : List (List ℕ)) (segment : List ℕ → List (List ℕ)) (n : ℕ) (bs : List (List ℕ)) → AllIn bs (C ++ segment [])
     → all_seen_behind bs (map (λ o. C ++ list_along segment o) (firsts n (orders_of k))) ≡ all_seen_behind bs (map segment (firsts n (prefixes_of k)))
 unfolding Claim
 seen-firsts k claim C segment zero bs h = refl
@@ -161,14 +124,14 @@ seen-firsts k claim C segment (suc n) bs h =
     map-same F (behind n) (λ o. (C ++ segment []) ++ list_along (λ p. segment (behind n p)) o) (orders_of k) (listed-behind C segment n) in
     let right : map segment (map (behind n) (prefixes_of k)) ≡ map (λ p. segment (behind n p)) (prefixes_of k) =
     map-same segment (behind n) (λ p. segment (behind n p)) (prefixes_of k) (λ p. refl) in
-    ap (all_seen_behind bs) (map-join F (firsts n (orders_of k)) (map (behind n) (orders_of k)))
+    ap (all_seen_behind bs) (map-append F (firsts n (orders_of k)) (map (behind n) (orders_of k)))
     ∙ lists-join bs (map F (firsts n (orders_of k))) (map F (map (behind n) (orders_of k)))
     ∙ ap (λ z. all_seen_behind z (map F (map (behind n) (orders_of k)))) ih
     ∙ ap (all_seen_behind X) left
-    ∙ claim (C ++ segment []) (λ p. segment (behind n p)) X (all-lists bs (C ++ segment []) (map segment (firsts n (prefixes_of k))) h)
+    ∙ claim (C ++ segment []) (λ p. segment (behind n p)) X (λ a i. in-lists bs (map segment (firsts n (prefixes_of k))) a (h a i))
     ∙ ap (all_seen_behind X) (sym right)
     ∙ sym (lists-join bs (map segment (firsts n (prefixes_of k))) (map segment (map (behind n) (prefixes_of k))))
-    ∙ ap (all_seen_behind bs) (sym (map-join segment (firsts n (prefixes_of k)) (map (behind n) (prefixes_of k))))
+    ∙ ap (all_seen_behind bs) (sym (map-append segment (firsts n (prefixes_of k)) (map (behind n) (prefixes_of k))))
 
 claim : (k : ℕ) → Claim k
 unfolding Claim
@@ -222,7 +185,7 @@ count-firsts k c segment (suc n) =
     let L : List ℕ → List (List ℕ) = list_along (λ p. segment (behind n p)) in
     let split : stage_count (map (list_along segment) (firsts n (orders_of k) ++ map (behind n) (orders_of k)))
     ≡ stage_count (map (list_along segment) (firsts n (orders_of k))) + stage_count (map (list_along segment) (map (behind n) (orders_of k))) =
-    ap stage_count (map-join (list_along segment) (firsts n (orders_of k)) (map (behind n) (orders_of k)))
+    ap stage_count (map-append (list_along segment) (firsts n (orders_of k)) (map (behind n) (orders_of k)))
     ∙ count-join (map (list_along segment) (firsts n (orders_of k))) (map (list_along segment) (map (behind n) (orders_of k))) in
     let last : stage_count (map (list_along segment) (map (behind n) (orders_of k)))
     ≡ length (orders_of k) * length (segment []) + stage_count (map (list_along (λ p. segment (behind n p))) (orders_of k)) =
@@ -255,8 +218,8 @@ count-claim (suc k) segment =
 
 -- through the lists of all orders and the segments of all prefixes the same vectors are first seen, and as many stages are counted
 pub first-sight-by-prefixes : FirstSightByPrefixes
-unfolding Claim CountClaim AllHas
-first-sight-by-prefixes k segment = (claim k [] segment [] tt, count-claim k segment)
+unfolding Claim CountClaim
+first-sight-by-prefixes k segment = (claim k [] segment [] (λ a i. i), count-claim k segment)
 
 -- ---- the walk's
 walks-along : (b : ℕ) (vars : List VarInfo) (ms : List (List ℕ)) (q : List ℕ) (s : ℕ) (o : List ℕ)

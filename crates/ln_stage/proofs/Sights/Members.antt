@@ -2,8 +2,9 @@
 -- vector of zeros comes first, and the distinct ones are no more than their count and their weight.
 use Rattle.std.proofs.Common.{◌≡◌, inl, inr, ℕ, ◌+◌, ◌<◌, ◌≤◌, zero, suc, Bool, true, false, cond, List, [], ◌∷◌, length, map, get_or, refl}
 use Rattle.std.proofs.Common.{ap, sym, subst, ◌∙◌, arith, None, if◌then◌else◌}
+use Rattle.std.specs.List.{AllByRecursion}
 use Rattle.std.specs.Prelude.{◌≢◌, All, AllPairs}
-use Rattle.std.proofs.lemmas.List.{get_or-map, get_or_default, length-append, length-map}
+use Rattle.std.proofs.lemmas.List.{ext_get_or, get_or-map, get_or_default, length-append, length-map}
 use Rattle.std.proofs.lemmas.List.Elements.{All-cons, All-nil}
 use Rattle.std.proofs.lemmas.List.Sums.{sum_by-cons}
 use Rattle.ln_algebra.proofs.Expanded.Expansion.{length-zeros}
@@ -29,43 +30,39 @@ use Rattle.ln_stage.specs.Lists.{AreStageListsIn, all_covering, all_seen_behind,
 use Rattle.ln_stage.specs.StageList.{IsMonomialOf}
 use Rattle.ln_stage.specs.Staged.{Staged, block_vector, vectors_of}
 use Rattle.ln_stage.proofs.Monomials.MonomialLemmas.{poly-terms, rows-monomials}
+use Rattle.ln_stage.proofs.Walks.StepLemmas.{ones}
 
 -- ---- what holds of each vector of the lists holds of each distinct one
--- a claim holds of each vector of a list
-abbrev pub EachIs : (List ℕ → Type 0) → List (List ℕ) → Type 0
-EachIs P [] = Unit {0}
-EachIs P (a ∷ as') = P a × EachIs P as'
-
--- it holds of each vector of each list
-abbrev pub AllAre : (List ℕ → Type 0) → List (List (List ℕ)) → Type 0
-AllAre P [] = Unit {0}
-AllAre P (l ∷ ls) = EachIs P l × AllAre P ls
-
 module _ (P : List ℕ → Type 0) where
-  each-in : (xs : List (List ℕ)) → ((a : List ℕ) → In xs a → P a) → EachIs P xs
+  -- it holds of each member
+  pub each-in : (xs : List (List ℕ)) → ((a : List ℕ) → In xs a → P a) → AllByRecursion P xs
   each-in [] h = tt
   each-in (x ∷ xs) h = (h x (inl refl), each-in xs (λ a i. h a (inr i)))
 
-  each-put : (bs : List (List ℕ)) (a : List ℕ) → EachIs P bs → P a → EachIs P (put_last bs a)
+  -- one vector more
+  pub each-put : (bs : List (List ℕ)) (a : List ℕ) → AllByRecursion P bs → P a → AllByRecursion P (put_last bs a)
   each-put [] a h p = (p, tt)
   each-put (b ∷ bs) a h p = by_case (same_vector a b) (each-put bs a h.1 p) where
-    by_case : (t : Bool) → EachIs P (put_last bs a) → EachIs P (if t then b ∷ bs else b ∷ put_last bs a)
+    by_case : (t : Bool) → AllByRecursion P (put_last bs a) → AllByRecursion P (if t then b ∷ bs else b ∷ put_last bs a)
     by_case true r = h
     by_case false r = (h.0, r)
 
-  each-behind : (bs xs : List (List ℕ)) → EachIs P bs → EachIs P xs → EachIs P (seen_behind bs xs)
+  -- several
+  pub each-behind : (bs xs : List (List ℕ)) → AllByRecursion P bs → AllByRecursion P xs → AllByRecursion P (seen_behind bs xs)
   each-behind bs [] h k = h
   each-behind bs (x ∷ xs) h k = each-behind (put_last bs x) xs (each-put bs x h k.0) k.1
 
-  each-seen : (bs : List (List ℕ)) (ls : List (List (List ℕ))) → EachIs P bs → AllAre P ls → EachIs P (all_seen_behind bs ls)
+  -- several lists
+  pub each-seen : (bs : List (List ℕ)) (ls : List (List (List ℕ))) → AllByRecursion P bs → AllByRecursion (AllByRecursion P) ls
+      → AllByRecursion P (all_seen_behind bs ls)
   each-seen bs [] h k = h
   each-seen bs (l ∷ ls) h k = each-seen (seen_behind bs l) ls (each-behind bs l h k.0) k.1
 
-  all-are : (ls : List (List (List ℕ))) → ((j : ℕ) → j < length ls → (a : List ℕ) → In (get_or ls j []) a → P a) → AllAre P ls
+  all-are : (ls : List (List (List ℕ))) → ((j : ℕ) → j < length ls → (a : List ℕ) → In (get_or ls j []) a → P a) → AllByRecursion (AllByRecursion P) ls
   all-are [] h = tt
   all-are (l ∷ ls) h = (each-in l (h 0 (omega arith)), all-are ls (λ j g. h (suc j) (omega arith)))
 
-  each-vector : (n : ℕ) (exps : List Pairs) → EachIs P (map (vector n) exps) → All (λ e. P (vector n e)) exps
+  each-vector : (n : ℕ) (exps : List Pairs) → AllByRecursion P (map (vector n) exps) → All (λ e. P (vector n e)) exps
   each-vector n [] h = All-nil (λ e. P (vector n e))
   each-vector n (e ∷ exps) h = All-cons (λ y. P (vector n y)) e exps h.0 (each-vector n exps h.1)
 
@@ -148,9 +145,6 @@ some-orders zero = omega arith
 some-orders (suc k) = some-firsts k (orders_of k) (some-orders k)
 
 -- ---- each is covered
-abbrev ones : Bool → ℕ
-ones b = cond b 1 0
-
 covering-more : (n : ℕ) (f : Sparse) (a m : List ℕ) → In (all_rows n f) m → covers m a ≡ true → 0 < covering n f a
 covering-more n [] a m i c = absurd i
 covering-more n (t ∷ f) a m (inl q) c =
@@ -161,7 +155,7 @@ covering-more n (t ∷ f) a m (inr i) c = omega (arith, covering-more n f a m i 
 covered-some : (n : ℕ) (f : Sparse) → IsPoly f → AreBelow n f → (a : List ℕ) → CoveredBy (IsMonomialOf n f) a → 0 < covering n f a
 covered-some n f p b a c = covering-more n f a c.0 ((rows-monomials n f (poly-terms f p) b).all c.0 c.1) c.2
 
-weighs-each : (n : ℕ) (f : Sparse) (as' : List (List ℕ)) → EachIs (λ a. 0 < covering n f a) as' → length as' ≤ all_covering n f as'
+weighs-each : (n : ℕ) (f : Sparse) (as' : List (List ℕ)) → AllByRecursion (λ a. 0 < covering n f a) as' → length as' ≤ all_covering n f as'
 weighs-each n f [] h = omega arith
 weighs-each n f (a ∷ as') h = omega (arith, h.0, weighs-each n f as' h.1)
 
@@ -171,8 +165,9 @@ module _ (rank : Rank) (k : ℕ) (vars : List VarInfo) (f : Sparse) (ls : List (
   -- no distinct member has an exponent of a variable without a site
   pub of-sites : All (λ e. IsOfSites vars (vector (length vars) e)) exps
   of-sites =
-      let a : AllAre (IsOfSites vars) ls = all-are (IsOfSites vars) ls (λ j h b i. ((s.each j h).stages b i).over.of_sites) in
-      let e : EachIs (IsOfSites vars) (map (vector (length vars)) exps) = subst (EachIs (IsOfSites vars)) (sym sight) (each-seen (IsOfSites vars) [] ls tt a) in
+      let a : AllByRecursion (AllByRecursion (IsOfSites vars)) ls = all-are (IsOfSites vars) ls (λ j h b i. ((s.each j h).stages b i).over.of_sites) in
+      let e : AllByRecursion (IsOfSites vars) (map (vector (length vars)) exps) =
+      subst (AllByRecursion (IsOfSites vars)) (sym sight) (each-seen (IsOfSites vars) [] ls tt a) in
       each-vector (IsOfSites vars) (length vars) exps e
 
   -- they are no more than the stages
@@ -183,7 +178,7 @@ module _ (rank : Rank) (k : ℕ) (vars : List VarInfo) (f : Sparse) (ls : List (
     -- nor more than the monomials that cover them
     pub light-blocks : length exps ≤ stage_weight (length vars) f ls
     light-blocks =
-        let a : AllAre (λ a. 0 < covering (length vars) f a) ls =
+        let a : AllByRecursion (AllByRecursion (λ a. 0 < covering (length vars) f a)) ls =
         all-are (λ a. 0 < covering (length vars) f a) ls (λ j h a i. covered-some (length vars) f p b a ((s.each j h).stages a i).covered) in
         omega (
           arith,
@@ -261,14 +256,6 @@ module _ (rank : Rank) (k : ℕ) (vars : List VarInfo) (f : Sparse) (st : Staged
   )
 
 -- ---- a polynomial has one set of stage lists
-same-places : {A : Type 0} (xs ys : List A) (d : A) → length xs ≡ length ys → ((j : ℕ) → j < length xs → get_or xs j d ≡ get_or ys j d) → xs ≡ ys
-same-places [] [] d l h = refl
-same-places [] (y ∷ ys) d l h = absurd (omega arith)
-same-places (x ∷ xs) [] d l h = absurd (omega arith)
-same-places (x ∷ xs) (y ∷ ys) d l h =
-    let r : xs ≡ ys = same-places xs ys d (omega arith) (λ j g. h (suc j) (omega arith)) in
-    ap (λ z. z ∷ xs) (h 0 (omega arith)) ∙ ap (λ z. y ∷ z) r
-
 -- what is at a place in the list of all orders is an order
 pub order-at : (k j : ℕ) → j < length (orders_of k) → IsOrderOf k (get_or (orders_of k) j [])
 order-at k j h = member-is k (get_or (orders_of k) j []) (j, h, get_or_default (orders_of k) j (get_or (orders_of k) j []) [] h)
@@ -276,7 +263,7 @@ order-at k j h = member-is k (get_or (orders_of k) j []) (j, h, get_or_default (
 -- a polynomial has at most one set of stage lists
 pub lists-one : (rank : Rank) (k : ℕ) (vars : List VarInfo) (f : Sparse) (ls ms : List (List (List ℕ))) → is_laid_out k vars ≡ true
     → AreStageListsIn rank k vars f ls → AreStageListsIn rank k vars f ms → ls ≡ ms
-lists-one rank k vars f ls ms h a b = same-places ls ms [] (a.size ∙ sym b.size) (λ j l.
+lists-one rank k vars f ls ms h a b = ext_get_or [] ls ms (a.size ∙ sym b.size) (λ j l.
     let d = orders-differ k vars (get_or (orders_of k) j []) h (order-at k j (omega (arith, l, a.size))) in
     stage_list-unique-by (length vars) (sites_of vars (get_or (orders_of k) j [])) (Before rank (sites_of vars (get_or (orders_of k) j [])))
     (both-admissible rank (length vars) (sites_of vars (get_or (orders_of k) j [])) d) (IsMonomialOf (length vars) f)

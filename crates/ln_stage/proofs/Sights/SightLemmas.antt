@@ -9,9 +9,11 @@ use Rattle.ln_order.specs.Prefixes.{joined}
 use Rattle.ln_order.proofs.Signs.RowSigns.{order-moves}
 use Rattle.ln_stage.specs.Lists.{all_seen_behind, first_seen, put_last, seen_behind}
 use Rattle.ln_stage.specs.Sighted.{FirstSeenAreSighted, SightedBefore}
+use Rattle.ln_stage.proofs.Results.SegmentLemmas.{order-join}
 
 -- ---- one vector more
-put-cases : (bs : List (List ℕ)) (a : List ℕ) → (In bs a × (put_last bs a ≡ bs)) ⊎ ((In bs a → ⊥) × (put_last bs a ≡ bs ++ a ∷ []))
+-- a vector is there already, or it isn't and is appended
+pub put-cases : (bs : List (List ℕ)) (a : List ℕ) → (In bs a × (put_last bs a ≡ bs)) ⊎ ((In bs a → ⊥) × (put_last bs a ≡ bs ++ a ∷ []))
 put-cases [] a = inr (λ i. i, refl)
 put-cases (b ∷ bs) a = by_case (same_vector a b) refl (put-cases bs a) where
   by_case : (t : Bool) → same_vector a b ≡ t → (In bs a × (put_last bs a ≡ bs)) ⊎ ((In bs a → ⊥) × (put_last bs a ≡ bs ++ a ∷ []))
@@ -22,15 +24,6 @@ put-cases (b ∷ bs) a = by_case (same_vector a b) refl (put-cases bs a) where
     not : In (b ∷ bs) a → ⊥
     not (inl k) = let z : same_vector a b ≡ true = rw k (same_vector-refl b) in let w : true ≡ false = sym z ∙ e in cc
     not (inr i) = n i
-
-sorted-more : (R : List ℕ → List ℕ → Type 0) (bs : List (List ℕ)) (a : List ℕ) → IsSortedIn R bs → ((b : List ℕ) → In bs b → R b a)
-    → IsSortedIn R (bs ++ a ∷ [])
-sorted-more R [] a s h = (λ b i. absurd i, tt)
-sorted-more R (b ∷ bs) a s h = (λ c i. at c (In-append bs (a ∷ []) c i), sorted-more R bs a s.1 (λ c i. h c (inr i))) where
-  at : (c : List ℕ) → In bs c ⊎ In (a ∷ []) c → R b c
-  at c (inl i) = s.0 c i
-  at c (inr (inl e)) = rw e (h b (inl refl))
-  at c (inr (inr i)) = absurd i
 
 further : (xs zs : List (List ℕ)) (a b : List ℕ) → SightedBefore xs a b → SightedBefore (xs ++ zs) a b
 further xs zs a b (us, vs, e, i, n) = (us, vs ++ zs, ap (λ q. q ++ zs) e ∙ append_assoc us vs zs, i, n)
@@ -56,9 +49,13 @@ found-more xs bs a f = by_case (put-cases bs a) where
   by_case (inr (n, q)) = subst (Found (xs ++ a ∷ [])) (sym q) (record {
     to = λ b j. into b (In-append bs (a ∷ []) b j);
     from = λ b j. at b (In-append xs (a ∷ []) b j);
-    in_order = sorted-more (SightedBefore (xs ++ a ∷ [])) bs a (order-moves (SightedBefore xs) (SightedBefore (xs ++ a ∷ []))
-        (further xs (a ∷ [])) bs f.in_order) (λ b j. (xs, a ∷ [], refl, f.to b j, λ k. n (f.from a k)));
+    in_order = order-join (SightedBefore (xs ++ a ∷ [])) bs (a ∷ []) (order-moves (SightedBefore xs) (SightedBefore (xs ++ a ∷ []))
+        (further xs (a ∷ [])) bs f.in_order) ((λ b i. absurd i), tt) last;
   }) where
+    last : (b c : List ℕ) → In bs b → In (a ∷ []) c → SightedBefore (xs ++ a ∷ []) b c
+    last b c j (inl e) = rw e (xs, a ∷ [], refl, f.to b j, λ k. n (f.from a k))
+    last b c j (inr i) = absurd i
+
     into : (b : List ℕ) → In bs b ⊎ In (a ∷ []) b → In (xs ++ a ∷ []) b
     into b (inl j) = In-append_left xs (a ∷ []) b (f.to b j)
     into b (inr j) = In-append_right xs (a ∷ []) b j

@@ -1,5 +1,5 @@
 -- Proves the test of two neighbouring sites, and of all neighbours.
-use Rattle.std.proofs.Common.{◌≡◌, ℕ, zero, suc, ◌+◌, ◌<◌, ◌≤◌, refl, sym, ◌∙◌, ap, subst, arith, List, length, Bool, true, false, All, ◌⊎◌, inl, inr}
+use Rattle.std.proofs.Common.{◌≡◌, ℕ, suc, ◌+◌, ◌<◌, ◌≤◌, sym, ◌∙◌, ap, subst, arith, List, length, Bool, true, false, All, ◌⊎◌, inl, inr}
 use Rattle.std.specs.Bool.{Decides}
 use Rattle.std.proofs.lemmas.Bool.{cases_lt}
 use Rattle.ln_algebra.specs.Coefficient.{normal_coefficient}
@@ -8,10 +8,9 @@ use Rattle.ln_algebra.specs.Tree.{Tree}
 use Rattle.ln_algebra.proofs.Exchanging.Vectors.{exchanged-same}
 use Rattle.ln_tree.specs.declared.shape.VarInfo.{VarInfo}
 use Rattle.ln_tree.specs.Variables.{is_laid_out}
-use Rattle.ln_order.specs.Exchanged.{AreAlike, AreShifted, IsShift, NeighboursTurn, partner_at, shift_of}
+use Rattle.ln_order.specs.Exchanged.{AreShifted, IsShift, shift_of}
 use Rattle.ln_order.proofs.Exchanging.Shifted.{alike-shifted}
 use Rattle.ln_order.proofs.Exchanging.Shifts.{shifts-alike}
-use Rattle.ln_poly.specs.Expansion.{IsNormal}
 use Rattle.ln_poly.specs.Sparse.{Sparse}
 use Rattle.ln_stage.specs.declared.symmetry.Symmetry.{Symmetry}
 use Rattle.ln_stage.specs.declared.symmetry.Symmetry.TheVariants.{Alternating, Symmetric}

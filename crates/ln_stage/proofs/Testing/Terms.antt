@@ -1,20 +1,20 @@
 -- Proves what is tested of the terms of a polynomial.
 use Rattle.std.proofs.Common.{◌≡◌, ◌≢◌, ℕ, zero, suc, ◌+◌, ◌^◌, ◌<◌, ◌≤◌, unsigned_abs, refl, sym, ◌∙◌, ap, subst, arith, List, [], ◌∷◌, length, get_or, take}
-use Rattle.std.proofs.Common.{Bool, true, false, All, Contains, map, ◌⊎◌, inl, inr}
+use Rattle.std.proofs.Common.{Bool, true, false, All, Contains, ◌⊎◌, inl, inr}
 use Rattle.std.specs.Bool.{Decides}
-use Rattle.std.proofs.lemmas.Bool.{cases_lt}
 use Rattle.std.proofs.lemmas.Int.{ints}
-use Rattle.std.proofs.lemmas.List.{get_or-map, get_or_default, length-map, take_all}
+use Rattle.std.proofs.lemmas.List.{ext_get_or, get_or-map, get_or_default, length-map, take_all}
 use Rattle.std.proofs.lemmas.List.Elements.{All-contains, All-map, All-more}
-use Rattle.std.proofs.Math.IntN.{ℤ, pos, negsuc, ◌+ℤ◌, ◌*ℤ◌}
-use Rattle.ln_algebra.specs.Exchange.{Turns, exchanged, listed}
+use Rattle.std.proofs.Math.IntN.{ℤ, pos, negsuc, ◌*ℤ◌}
+use Rattle.ln_algebra.specs.Exchange.{Turns, exchanged}
 use Rattle.ln_algebra.specs.Terms.{IsCollected, Lacks, Term, factor_at, same_vector}
 use Rattle.ln_algebra.specs.Tree.{Tree}
 use Rattle.ln_algebra.proofs.Exchanging.Tests.{Found, find, found, lacking, lacks-zero, terms-turn}
-use Rattle.ln_algebra.proofs.Exchanging.Vectors.{get-listed, length-exchanged}
+use Rattle.ln_algebra.proofs.Exchanging.Vectors.{get-listed, length-exchanged, length-listed}
 use Rattle.ln_algebra.proofs.Expanded.Normal.{same_vector-is, same_vector-refl}
 use Rattle.ln_tree.specs.declared.shape.VarInfo.{VarInfo}
-use Rattle.ln_tree.specs.Exps.{Pairs, exponent, exponents_from, vector}
+use Rattle.ln_tree.specs.Exps.{Pairs, exponent, vector}
+use Rattle.ln_tree.proofs.Powers.{vector-get, vector-length}
 use Rattle.ln_order.specs.Exchanged.{IsShift, partner_at}
 use Rattle.ln_order.proofs.Exchanging.Shifts.{shifts-alike}
 use Rattle.ln_poly.specs.Expansion.{IsNormal}
@@ -25,42 +25,25 @@ use Rattle.ln_stage.specs.declared.symmetry.Symmetry.TheVariants.{Alternating, S
 use Rattle.ln_stage.specs.Symmetry.{ArePartners, HasPartner, IsPartner, turn_of}
 
 -- ---- exponents
--- exponents as a list of values
-listed-exponents : (k n : ℕ) (ps : Pairs) (f : ℕ → ℕ) → ((v : ℕ) → v < n → f v ≡ exponent (k + v) ps) → listed n f ≡ exponents_from k n ps
-listed-exponents k zero ps f h = refl
-listed-exponents k (suc n) ps f h =
-    let z : k + 0 ≡ k = omega arith in
-    ap (λ e. e ∷ listed n (λ v. f (suc v))) (h 0 (omega arith) ∙ ap (λ w. exponent w ps) z)
-    ∙ ap (λ r. exponent k ps ∷ r) (listed-exponents (suc k) n ps (λ v. f (suc v)) (λ v l.
-    h (suc v) (omega (arith, l)) ∙ ap (λ w. exponent w ps) (let q : k + suc v ≡ suc k + v = omega arith in q)))
-
--- of n variables
-length-exponents : (k n : ℕ) (ps : Pairs) → length (exponents_from k n ps) ≡ n
-length-exponents k zero ps = refl
-length-exponents k (suc n) ps = ap suc (length-exponents (suc k) n ps)
-
--- each at its place
-get-vector : (n : ℕ) (ps : Pairs) (w : ℕ) → w < n → get_or (vector n ps) w 0 ≡ exponent w ps
-get-vector n ps w l =
-    ap (λ z. get_or z w 0) (sym (listed-exponents 0 n ps (λ v. exponent v ps) (λ v h. let q : 0 + v ≡ v = omega arith in ap (λ u. exponent u ps) (sym q))))
-    ∙ get-listed n (λ v. exponent v ps) w l
-
 module _ (vars : List VarInfo) (j d : ℕ) (within : (v : ℕ) → v < length vars → partner_at vars j d v < length vars) where
   -- where the exponents of all variables are those of their partners
   are-partners : (t u : Pairs) → ((v : ℕ) → v < length vars → exponent v u ≡ exponent (partner_at vars j d v) t) → ArePartners vars j d t u
   are-partners t u same =
       let n : ℕ = length vars in
-      sym (ap (λ k. listed k (λ v. get_or (vector n t) (partner_at vars j d v) 0)) (length-exponents 0 n t)
-      ∙ listed-exponents 0 n u (λ v. get_or (vector n t) (partner_at vars j d v) 0) (λ v l.
-      get-vector n t (partner_at vars j d v) (within v l) ∙ sym (same v l) ∙ (let q : 0 + v ≡ v = omega arith in ap (λ w. exponent w u) (sym q))))
+      let m : List ℕ = vector n t in
+      ext_get_or 0 (vector n u) (exchanged (partner_at vars j d) m)
+      (vector-length n u ∙ sym (length-listed (length m) (λ v. get_or m (partner_at vars j d v) 0) ∙ vector-length n t))
+      (λ v i. let l : v < length vars = omega (arith, i, vector-length n u) in
+      vector-get n v u l ∙ same v l ∙ sym (get-listed (length m) (λ v. get_or m (partner_at vars j d v) 0) v (omega (arith, l, vector-length n t))
+      ∙ vector-get n (partner_at vars j d v) t (within v l)))
 
   -- and back
   partners-each : (t u : Pairs) → ArePartners vars j d t u → (v : ℕ) → v < length vars → exponent v u ≡ exponent (partner_at vars j d v) t
   partners-each t u h v l =
       let n : ℕ = length vars in
-      sym (get-vector n u v l) ∙ ap (λ z. get_or z v 0) h
-      ∙ get-listed (length (vector n t)) (λ v. get_or (vector n t) (partner_at vars j d v) 0) v (omega (arith, l, length-exponents 0 n t))
-      ∙ get-vector n t (partner_at vars j d v) (within v l)
+      sym (vector-get n v u l) ∙ ap (λ z. get_or z v 0) h
+      ∙ get-listed (length (vector n t)) (λ v. get_or (vector n t) (partner_at vars j d v) 0) v (omega (arith, l, vector-length n t))
+      ∙ vector-get n (partner_at vars j d v) t (within v l)
 
 -- all exponents are those of their partners
 pub partners_all : (vars : List VarInfo) (j d n : ℕ) (t u : Pairs) → ((v : ℕ) → v < length vars → partner_at vars j d v < length vars)
@@ -72,15 +55,6 @@ pub partners_not : (vars : List VarInfo) (j d v a b : ℕ) (t u : Pairs) → ((v
     → v < length vars → a ≡ exponent v u → b ≡ exponent (partner_at vars j d v) t → a ≢ b → Decides false (ArePartners vars j d t u)
 partners_not vars j d v a b t u within l x y n =
     ((λ z. cc), (λ h. absurd (n (x ∙ partners-each vars j d within t u h v l ∙ sym y))))
-
--- one variable more
-pub partners_next : (vars : List VarInfo) (j d n a b : ℕ) (t u : Pairs) → a ≡ exponent n u → b ≡ exponent (partner_at vars j d n) t → a ≡ b
-    → ((v : ℕ) → v < n → exponent v u ≡ exponent (partner_at vars j d v) t) → (v : ℕ) → v < n + 1 → exponent v u ≡ exponent (partner_at vars j d v) t
-partners_next vars j d n a b t u x y e h v l = by_place (cases_lt v n) where
-  by_place : (v < n) ⊎ (n ≤ v) → exponent v u ≡ exponent (partner_at vars j d v) t
-  by_place (inl m) = h v m
-  by_place (inr m) =
-      let q : n ≡ v = omega (arith, l, m) in subst (λ w. exponent w u ≡ exponent (partner_at vars j d w) t) q (sym x ∙ e ∙ y)
 
 -- ---- factors
 -- of equal factors
@@ -221,7 +195,7 @@ module _ (vars : List VarInfo) (j d : ℕ) (y : Symmetry) (f : Sparse) (shift : 
       let t : Pairs × ℤ = get_or f k z in
       let m : List ℕ = vector n t.0 in
       let a = shifts-alike vars j d shift in
-      let size : length m ≡ n = length-exponents 0 n t.0 in
+      let size : length m ≡ n = vector-length n t.0 in
       let there : factor_at F (exchanged P m) ≡ turn_of y *ℤ t.1 =
       normal.normal.coefficients (exchanged P m) (length-exchanged n P a.within a.twice m ∙ size) ∙ turns.each m size
       ∙ ap (λ w. turn_of y *ℤ w) (sym (normal.normal.coefficients m size) ∙ factors k z l) in

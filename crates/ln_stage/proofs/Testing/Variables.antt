@@ -1,6 +1,6 @@
 -- Proves what is tested of the variables of two neighbouring sites.
-use Rattle.std.proofs.Common.{◌≡◌, ℕ, zero, suc, ◌+◌, ◌-◌, ◌<◌, ◌≤◌, refl, sym, ◌∙◌, ap, subst, arith, List, [], ◌∷◌, length, get_or, drop, Option, Some}
-use Rattle.std.proofs.Common.{None, Bool, true, false, cond, ◌⊎◌, inl, inr, ℤ, pos}
+use Rattle.std.proofs.Common.{◌≡◌, ℕ, zero, suc, ◌+◌, ◌-◌, ◌<◌, ◌≤◌, refl, sym, ◌∙◌, ap, subst, arith, List, [], ◌∷◌, length, get_or, drop, Some}
+use Rattle.std.proofs.Common.{None, Bool, true, false, ◌⊎◌, inl, inr, ℤ, pos}
 use Rattle.std.specs.Bool.{Decides}
 use Rattle.std.specs.Prelude.{if◌then◌else◌}
 use Rattle.std.proofs.lemmas.Bool.{cases_lt}
@@ -134,13 +134,9 @@ pub record ShiftsAt (vars : List VarInfo) (j d v : ℕ) : Type 0 where
   pub above : IsAbove vars j d v
   pub below : IsBelow vars j d v
 
--- One more variable has its counterpart a shift away.
-pub shift_more : (vars : List VarInfo) (j d n : ℕ) (a b : Bool) → Decides a (IsAbove vars j d n) → a ≡ true → Decides b (IsBelow vars j d n)
-    → b ≡ true → ((v : ℕ) → v < n → ShiftsAt vars j d v) → (v : ℕ) → v < n + 1 → ShiftsAt vars j d v
-shift_more vars j d n a b x p y q h v l = by_place (cases_lt v n) where
-  by_place : (v < n) ⊎ (n ≤ v) → ShiftsAt vars j d v
-  by_place (inl m) = h v m
-  by_place (inr m) = let e : n ≡ v = omega (arith, l, m) in subst (ShiftsAt vars j d) e (record { above = x.0 p; below = y.0 q })
+-- What holds of all before n and of n holds of all before n + 1.
+pub below_next : (P : ℕ → Type 0) (n : ℕ) → P n → ((v : ℕ) → v < n → P v) → (v : ℕ) → v < n + 1 → P v
+below_next P n p h v l = elim (cases_lt v n) [ inl m ↦ h v m | inr m ↦ (let e : n ≡ v = omega (arith, l, m) in subst P e p) ]
 
 -- Where all variables have theirs, the sites are a shift apart.
 pub shift_all : (vars : List VarInfo) (j d n : ℕ) → length vars ≤ n → ((v : ℕ) → v < n → ShiftsAt vars j d v) → Decides true (IsShift vars j d)

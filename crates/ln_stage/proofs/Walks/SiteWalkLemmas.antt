@@ -2,9 +2,8 @@
 use Rattle.std.proofs.Common.{◌≡◌, ◌≢◌, ◌⊎◌, inl, inr, ℕ, zero, suc, ◌+◌, ◌<◌, ◌≤◌, Bool, true, false, cond, eqb, eq-eqb, eqb-true}
 use Rattle.std.proofs.Common.{List, [], ◌∷◌, ◌++◌, append_assoc, length, length-append, get_or, set, refl, sym, ◌∙◌, ap, subst, arith, Some}
 use Rattle.std.proofs.Common.{if◌then◌else◌}
-use Rattle.std.specs.List.{range_with_len}
 use Rattle.std.proofs.lemmas.Bool.{le-leb}
-use Rattle.std.proofs.lemmas.List.{append-nil, get_or-set_same, get_or-set_other, set-get_or}
+use Rattle.std.proofs.lemmas.List.{append-nil, get_or_append_left, get_or_at, get_or-set_same, get_or-set_other, set-get_or}
 use Rattle.std.proofs.Math.ListN.{length-set}
 use Rattle.ln_algebra.specs.Vector.{In, zeros}
 use Rattle.ln_algebra.specs.Earlier.{IsInOrder, Sites}
@@ -18,27 +17,18 @@ use Rattle.ln_tree.specs.Variables.{is_laid_out, same_site}
 use Rattle.ln_tree.proofs.LaidLemmas.{same-site}
 use Rattle.ln_order.specs.Orders.{IsOrderOf}
 use Rattle.ln_order.specs.Sites.{place_in, ranking_of, site_of, sites_of, vars_of}
-use Rattle.ln_order.proofs.Signs.RankingLemmas.{member-cases, member-right, ranking-is, ranking-append}
+use Rattle.ln_order.proofs.Signs.RankingLemmas.{member-at, member-cases, member-right, ranking-is, ranking-append}
 use Rattle.ln_poly.specs.Sparse.{AreBelow, IsPoly, Sparse}
-use Rattle.ln_stage.specs.Kept.{all_rows, list_of, listed, rows, tail}
+use Rattle.ln_stage.specs.Kept.{all_rows, list_of, listed, tail}
 use Rattle.ln_stage.specs.StageList.{IsStageListOf, IsStageOf}
 use Rattle.ln_stage.proofs.Monomials.MonomialLemmas.{poly-terms, rows-monomials, rows-small}
 use Rattle.ln_stage.proofs.Monomials.StageLemmas.{walk-stages}
-use Rattle.ln_stage.proofs.Walks.StartLemmas.{rows-all}
+use Rattle.ln_stage.proofs.Walks.StartLemmas.{rows-start}
+use Rattle.ln_stage.proofs.Walks.TurnLemmas.{before-assoc, before-end}
 use Rattle.ln_order.specs.Prefixes.{joined}
 use Rattle.ln_stage.specs.Segments.{AreSegments, Ends, IsSegmentOf}
 use Rattle.ln_stage.proofs.Results.SegmentLemmas.{ends-order}
 use Rattle.ln_stage.specs.SiteWalk.{ListsAreWalkedByPrefixes, WalkGoesSiteBySite, WalksAreSegments, front_walk, prefix_walks, site_walk, site_walks, unless_cut}
-
--- ---- one list before another
-before-none : (r : Found) → r ≡ before r ([], false)
-before-none (l, true) = refl
-before-none (l, false) = ap (λ z. (z, false)) (sym (append-nil l))
-
-before-assoc : (r s t : Found) → before (before r s) t ≡ before r (before s t)
-before-assoc (l, true) s t = refl
-before-assoc (l, false) (m, true) t = refl
-before-assoc (l, false) (m, false) t = ap (λ z. (z, t.1)) (append_assoc l m t.0)
 
 -- ---- exponents of 0
 -- all monomials have at least the exponent 0
@@ -72,7 +62,7 @@ zero-first go v m ms p S z =
 -- along the variables us and then the rest: what needs none of us, and then what needs one
 walk-tail : (b : ℕ) (us rest : List ℕ) (ms : List (List ℕ)) (p : List ℕ) → ((v : ℕ) → Member us v → get_or p v 0 ≡ 0)
     → walk (suc b) (us ++ rest) ms p ≡ before (walk (suc b) rest ms p) (tail b us rest ms p)
-walk-tail b [] rest ms p z = before-none (walk (suc b) rest ms p)
+walk-tail b [] rest ms p z = sym (before-end (walk (suc b) rest ms p))
 walk-tail b (v ∷ us) rest [] p z = walk-nothing b (v ∷ us ++ rest) p ∙ sym (rw (walk-nothing b rest p, tail-nothing b (v ∷ us) rest p) refl)
 walk-tail b (v ∷ us) rest (m ∷ ms) p z =
     let ih = walk-tail b us rest (m ∷ ms) p (λ w i. z w (inr i)) in
@@ -109,10 +99,7 @@ fronts-joined b vars ms p (s ∷ o) =
 
 list-walks : (vars : List VarInfo) (f : Sparse) (o : List ℕ) → list_of vars f o ≡ (front_walk 127 vars (all_rows (length vars) f) o).0
 unfolding list_of listed
-list-walks vars f o =
-    let m : rows (length (zeros (length vars))) f (range_with_len 0 (length f)) ≡ all_rows (length vars) f =
-    ap (λ z. rows z f (range_with_len 0 (length f))) (length-zeros (length vars)) ∙ rows-all (length vars) f in
-    ap (λ z. (walk 128 (ranking_of vars o) z (zeros (length vars))).0) m
+list-walks vars f o = ap (λ z. (walk 128 (ranking_of vars o) z (zeros (length vars))).0) (rows-start (length vars) f)
 
 -- the list of an order is what the walk lists at its prefixes, one after the other
 pub lists-are-walked-by-prefixes : ListsAreWalkedByPrefixes
@@ -272,27 +259,22 @@ module _ (k : ℕ) (vars : List VarInfo) (f : Sparse) (o : List ℕ) (laid : is_
   small : AllBelow 128 (all_rows (length vars) f)
   small = rows-small (length vars) f (poly-terms f poly).rising
 
+  -- the list of an order is its stage list
+  pub list-stages : IsStageListOf (length vars) (sites_of vars o) f (list_of vars f o)
+  list-stages = rw (list-walks vars f o) (walk-stages (length vars) (sites_of vars o) f 128 (ranking_of vars o) (all_rows (length vars) f) ranking
+      (rows-monomials (length vars) f (poly-terms f poly) below) small)
+
   the-list : IsStageListOf (length vars) (sites_of vars o) f (joined (prefix_walks 127 vars (all_rows (length vars) f) o))
-  the-list =
-      let w : IsStageListOf (length vars) (sites_of vars o) f (front_walk 127 vars (all_rows (length vars) f) o).0 = walk-stages (length vars)
-      (sites_of vars o) f 128 (ranking_of vars o) (all_rows (length vars) f) ranking (rows-monomials (length vars) f (poly-terms f poly) below) small in
-      subst (λ l. IsStageListOf (length vars) (sites_of vars o) f l) (sym (fronts-joined 127 vars (all_rows (length vars) f) [] o)) w
+  the-list = subst (IsStageListOf (length vars) (sites_of vars o) f) (lists-are-walked-by-prefixes vars f o) list-stages
 
   -- no site occurs twice
   not-before : (p q : List ℕ) (s : ℕ) → o ≡ p ++ s ∷ q → Member p s → ⊥
   not-before p q s e m =
-      let r = at-front p (s ∷ q) s m in
+      let r = member-at p s m in
       let l : length o ≡ length p + suc (length q) = ap length e ∙ length-append p (s ∷ q) in
-      full.each.differ r.0 (length p) 0 r.1 (omega (arith, l)) (ap (λ z. get_or z r.0 0) e ∙ r.2 ∙ sym (seam p q s) ∙ ap (λ z. get_or z (length p) 0) (sym e))
-    where
-      at-front : (p q : List ℕ) (s : ℕ) → Member p s → (i : ℕ) × (i < length p) × (get_or (p ++ q) i 0 ≡ s)
-      at-front [] q s m = absurd m
-      at-front (x ∷ p) q s (inl e) = (0, omega arith, sym e)
-      at-front (x ∷ p) q s (inr m) = let r = at-front p q s m in (suc r.0, omega (arith, r.1), r.2)
-
-      seam : (p q : List ℕ) (s : ℕ) → get_or (p ++ s ∷ q) (length p) 0 ≡ s
-      seam [] q s = refl
-      seam (x ∷ p) q s = seam p q s
+      let first : get_or o r.0 0 ≡ s = ap (λ z. get_or z r.0 0) e ∙ get_or_append_left p (s ∷ q) 0 r.0 r.1 ∙ r.2 in
+      let second : get_or o (length p) 0 ≡ s = ap (λ z. get_or z (length p) 0) e ∙ get_or_at p s q 0 (length p) refl in
+      full.each.differ r.0 (length p) 0 r.1 (omega (arith, l)) (first ∙ sym second)
 
   walked-end : (p q : List ℕ) (s : ℕ) (a : List ℕ) → o ≡ p ++ s ∷ q → In (site_walk 127 vars (all_rows (length vars) f) p s).0 a
       → Ends (sites_of vars o) (suc (length p)) a

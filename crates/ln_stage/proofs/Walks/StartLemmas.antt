@@ -3,7 +3,6 @@ use Rattle.std.proofs.Common.{◌≡◌, inl, inr, ℕ, zero, suc, ◌+◌, ◌<
 use Rattle.std.proofs.Common.{eqb-true, List, [], ◌∷◌, ◌++◌, length, get_or, replicate, refl, sym, ◌∙◌, ap, arith, pos}
 use Rattle.std.specs.Prelude.{All, filter}
 use Rattle.std.specs.List.{AllByRecursion, IsDistinct, list_any, range_with_len}
-use Rattle.std.proofs.lemmas.Bool.{le-leb}
 use Rattle.std.proofs.lemmas.List.{get_or-map, length-map, same_lists}
 use Rattle.std.proofs.lemmas.List.Elements.{All-replicate}
 use Rattle.std.proofs.lemmas.Map.Steps.{length-le_from_distinct_below}
@@ -13,6 +12,7 @@ use Rattle.ln_algebra.specs.Vector.{covers, zeros}
 use Rattle.ln_algebra.specs.Walk.{IsRanked, IsRanking, Member}
 use Rattle.ln_algebra.proofs.Expanded.Expansion.{length-zeros}
 use Rattle.ln_algebra.proofs.Ordering.Order.{before-irreflexive}
+use Rattle.ln_algebra.proofs.Vectors.Zeros.{covers-zeros}
 use Rattle.ln_algebra.proofs.Walking.Stages.{zeros-get}
 use Rattle.ln_tree.specs.Exps.{vector}
 use Rattle.ln_tree.proofs.Powers.{vector-length}
@@ -37,15 +37,13 @@ rows-all n f =
     (λ k d h. let l : k < length f = omega (arith, h, length-map-range_with_len (λ i. vector n (term_at f i).0) 0 (length f)) in
     get_or-map-range_with_len (λ i. vector n (term_at f i).0) 0 (length f) k k d l (omega arith) ∙ sym (get_or-map (λ t. vector n t.0) f k ([], pos 0) d l))
 
-covers-zeros : (n : ℕ) (m : List ℕ) → length m ≡ n → covers m (zeros n) ≡ true
-covers-zeros zero [] e = refl
-covers-zeros zero (k ∷ m) e = absurd (omega arith)
-covers-zeros (suc n) [] e = absurd (omega arith)
-covers-zeros (suc n) (k ∷ m) e = rw (le-leb 0 k (omega arith)) (covers-zeros n m (omega (arith, e)))
+-- and so with as many variables as the vector of zeros has
+pub rows-start : (n : ℕ) (f : Sparse) → rows (length (zeros n)) f (range_with_len 0 (length f)) ≡ all_rows n f
+rows-start n f = ap (λ z. rows z f (range_with_len 0 (length f))) (length-zeros n) ∙ rows-all n f
 
 covered-all : (n : ℕ) (f : Sparse) → filter (λ m. covers m (zeros n)) (all_rows n f) ≡ all_rows n f
 covered-all n [] = refl
-covered-all n (t ∷ f) = rw (covers-zeros n (vector n t.0) (vector-length n t.0), covered-all n f) refl
+covered-all n (t ∷ f) = rw (covers-zeros (vector n t.0) n (vector-length n t.0), covered-all n f) refl
 
 inside-all : (n : ℕ) → All (λ i. i < n) (range_with_len 0 n)
 inside-all n k d h = let l : k < n = omega (arith, h, length-range_with_len 0 n) in omega (arith, l, get_or-range_with_len 0 n k d l)

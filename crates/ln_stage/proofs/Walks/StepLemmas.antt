@@ -1,6 +1,7 @@
 -- Steps of the listing: the remaining terms, and what is listed.
 use Rattle.std.proofs.Common.{◌≡◌, inl, inr, ℕ, zero, suc, ◌+◌, ◌<◌, ◌≤◌, ℤ, Bool, true, false, take, cond, leb, List, [], ◌∷◌, ◌++◌}
 use Rattle.std.proofs.Common.{length, get_or, set, refl, sym, ◌∙◌, ap, arith, if◌then◌else◌, ◌&&◌}
+use Rattle.std.specs.List.{AllByRecursion}
 use Rattle.std.specs.Prelude.{All, filter, nat_le, ◌==◌}
 use Rattle.std.proofs.lemmas.Bool.Decides.{nat_tests}
 use Rattle.std.proofs.lemmas.List.{append-nil, length-map, get_or-set_other, take_more}
@@ -77,16 +78,12 @@ covers-set (n ∷ m) (k ∷ p) (suc v) e s h z =
       assoc true y w = refl
       assoc false y w = refl
 
-abbrev AllOfSize : ℕ → List (List ℕ) → Type 0
-AllOfSize n [] = Unit {0}
-AllOfSize n (m ∷ ms) = (length m ≡ n) × AllOfSize n ms
-
-rows-size : (n : ℕ) (f : Sparse) → AllOfSize n (all_rows n f)
+rows-size : (n : ℕ) (f : Sparse) → AllByRecursion (λ m. length m ≡ n) (all_rows n f)
 rows-size n [] = tt
 rows-size n (t ∷ f) = (vector-length n t.0, rows-size n f)
 
 -- so are those that cover it
-covering-set : (p : List ℕ) (v e : ℕ) (ms : List (List ℕ)) → AllOfSize (length p) ms → v < length p → get_or p v 0 ≡ 0
+covering-set : (p : List ℕ) (v e : ℕ) (ms : List (List ℕ)) → AllByRecursion (λ m. length m ≡ length p) ms → v < length p → get_or p v 0 ≡ 0
     → at_least v e (filter (λ m. covers m p) ms) ≡ filter (λ m. covers m (set p v e)) ms
 covering-set p v e [] s h z = refl
 covering-set p v e (m ∷ ms) s h z = go (covers m p) refl (leb e (get_or m v 0)) refl (covers-set m p v e s.0 h z) (covering-set p v e ms s.1 h z) where
@@ -133,9 +130,8 @@ rows-some : (n : ℕ) (f : Sparse) (kept : List ℕ) (r : Found) → 0 < length 
 rows-some n f [] r h = absurd (omega arith)
 rows-some n f (i ∷ kept) r h = refl
 
--- as many remain as cover the vector
 -- what one term counts for
-abbrev ones : Bool → ℕ
+abbrev pub ones : Bool → ℕ
 ones x = cond x 1 0
 
 covering-count : (n : ℕ) (f : Sparse) (p : List ℕ) → length (filter (λ m. covers m p) (all_rows n f)) ≡ covering n f p

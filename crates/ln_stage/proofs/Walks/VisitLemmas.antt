@@ -2,7 +2,7 @@
 use Rattle.std.proofs.Common.{◌≡◌, ◌⊎◌, inl, inr, ℕ, zero, suc, ◌+◌, ◌-◌, ◌<◌, ◌≤◌, Bool, true, false, List, [], ◌∷◌, ◌++◌, length}
 use Rattle.std.proofs.Common.{length-append, get_or, set, take, drop, refl, sym, ◌∙◌, ap, subst, arith}
 use Rattle.std.specs.List.{range_with_len}
-use Rattle.std.proofs.lemmas.List.{get_or-set_other, get_or-set_same, take-append-drop, take_all, take_more}
+use Rattle.std.proofs.lemmas.List.{get_or-set_other, get_or-set_same, take-append-drop, take-take, take_all, take_more}
 use Rattle.std.proofs.lemmas.Bool.{cases_lt}
 use Rattle.std.proofs.Math.Seq.{drop-append_seam, take-append_seam}
 use Rattle.ln_algebra.specs.Vector.{zeros}
@@ -16,12 +16,12 @@ use Rattle.ln_order.proofs.Signs.RankingLemmas.{ranking-is, ranking-append}
 use Rattle.ln_order.proofs.Signs.SitesLemmas.{kept as shape-keeps}
 use Rattle.ln_poly.specs.Sparse.{AreBelow, AreRising, Sparse}
 use Rattle.ln_stage.specs.FirstSight.{last_walk, prefix_walk}
-use Rattle.ln_stage.specs.Kept.{AreFresh, all_rows, listed, listed_at, listed_behind, rows, tail}
+use Rattle.ln_stage.specs.Kept.{AreFresh, all_rows, listed, listed_at, listed_behind, tail}
 use Rattle.ln_stage.specs.SiteWalk.{front_walk, site_walk, unless_cut}
 use Rattle.ln_stage.specs.Visit.{AreCuts, AreCutsFor, IsStart, cut_before, cut_in, is_cut_at, segment_at}
 use Rattle.ln_stage.proofs.Walks.SiteLemmas.{fresh-behind}
 use Rattle.ln_stage.proofs.Walks.SiteWalkLemmas.{ranking-last, walk-goes-site-by-site}
-use Rattle.ln_stage.proofs.Walks.StartLemmas.{fresh-few, fresh-ranking, rows-all, start-step}
+use Rattle.ln_stage.proofs.Walks.StartLemmas.{fresh-few, fresh-ranking, rows-start, start-step}
 use Rattle.ln_stage.proofs.Walks.WalkLemmas.{at-zero}
 
 -- ---- a prefix and its last site
@@ -86,15 +86,12 @@ module _ (vars : List VarInfo) (f : Sparse) where
       at-last p n.0 n.1 ∙ z
 
   -- ---- what the program lists
-  rows-start : rows (length (zeros (length vars))) f (range_with_len 0 (length f)) ≡ all_rows (length vars) f
-  rows-start = ap (λ z. rows z f (range_with_len 0 (length f))) (length-zeros (length vars)) ∙ rows-all (length vars) f
-
   module _ {p vs kept exps : List ℕ} (w : IsStart vars f p vs kept exps) {sites : List ℕ} (places : sites ≡ p) where
     -- at the empty prefix
     pub first-is : length sites ≡ 0 → listed_at f vs kept exps 0 ≡ (segment_at vars f p, is_cut_at vars f p)
     unfolding listed segment_at is_cut_at
     first-is e = at-zero f vs kept exps ∙ rw (w.ranking, w.all, w.none, none p (ap length (sym places) ∙ e))
-        (ap (λ ms. walk 128 [] ms (zeros (length vars))) rows-start) where
+        (ap (λ ms. walk 128 [] ms (zeros (length vars))) (rows-start (length vars) f)) where
           none : (q : List ℕ) → length q ≡ 0 → q ≡ []
           none [] h = refl
           none (x ∷ q) h = absurd (omega (arith, h))
@@ -127,7 +124,7 @@ module _ (vars : List VarInfo) (f : Sparse) where
           let z = unless-false (front_walk 127 vars (all_rows (length vars) f) (take (length sites - 1) p))
           (tail 127 (vars_of (get_or p (length sites - 1) 0) vars 0) (ranking_of vars (take (length sites - 1) p)) (all_rows (length vars) f)
           (zeros (length vars))) (front-cut (take (length sites - 1) p) false (sym (before-is p (length sites - 1) one-more) ∙ c)) in
-          rw (l, r, of-last, w.all, w.none, rows-start) (sym z) ∙ sym (at-last p (length sites - 1) one-more)
+          rw (l, r, of-last, w.all, w.none, rows-start (length vars) f) (sym z) ∙ sym (at-last p (length sites - 1) one-more)
 
   -- ---- the first step
   -- in the ranking of a prefix each variable is one of the predicate's, and none occurs twice
@@ -184,17 +181,11 @@ module _ (cut : List ℕ → Bool) where
         rw q (get_or-set_same cuts (length p) b false (omega (arith, six, few)) ∙ e ∙ ap cut (sym (take_all (length p) p (omega arith))))
 
   -- at the prefix that follows
-  take-less : (j m : ℕ) (xs : List ℕ) → j ≤ m → take j (take m xs) ≡ take j xs
-  take-less zero m xs h = refl
-  take-less (suc j) zero xs h = absurd (omega arith)
-  take-less (suc j) (suc m) [] h = refl
-  take-less (suc j) (suc m) (x ∷ xs) h = ap (λ z. x ∷ z) (take-less j m xs (omega (arith, h)))
-
   cuts-next : (p q : List ℕ) (cuts : List Bool) → Follows p q → AreCuts cut (length p + 1) p cuts → AreCuts cut (length q) q cuts
   cuts-next p q cuts w h j l =
       let m : ℕ = length q - 1 in
       let le : j ≤ length q - 1 = omega (arith, l) in
-      let same : take j p ≡ take j q = sym (take-less j (length q - 1) p le) ∙ ap (take j) w.shared ∙ take-less j (length q - 1) q le in
+      let same : take j p ≡ take j q = sym (take-take j (length q - 1) p le) ∙ ap (take j) w.shared ∙ take-take j (length q - 1) q le in
       h j (omega (arith, l, w.near)) ∙ ap cut same
 
   -- where each prefix in a list follows the one before it, the cuts kept up to one of them are those that the next one needs

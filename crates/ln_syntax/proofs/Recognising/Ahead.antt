@@ -1,5 +1,6 @@
 -- Which tokens have to follow in a text that is whole: no expression has a semicolon in it, so the next one ends it.
-use Rattle.std.proofs.Common.{◌≡◌, ℕ, suc, ◌<◌, ◌≤◌, ◌⊎◌, inl, inr, List, subst, arith}
+use Rattle.std.proofs.Common.{◌≡◌, ℕ, suc, ◌<◌, ◌≤◌, inl, inr, List, subst, arith}
+use Rattle.std.proofs.lemmas.Bool.{cases_lt}
 use Rattle.ln_lex.specs.declared.token.Token.{Token}
 use Rattle.ln_lex.specs.declared.token.Kind.TheVariants.{Semi}
 use Rattle.ln_syntax.specs.Raw.{Is}
@@ -10,10 +11,6 @@ use Rattle.ln_syntax.specs.Expression.{sum, no_term, plus, less, IsExpr}
 pub record NoSemi (ts : List Token) (i j : ℕ) : Type 0 where
   pub rises : i ≤ j
   pub none : (m : ℕ) → i ≤ m → m < j → Is ts m Semi → ⊥
-
--- a place is before j or not
-pub before : (m j : ℕ) → (m < j) ⊎ (j ≤ m)
-before m j = grind arith
 
 nothing : {ts : List Token} (i : ℕ) → NoSemi ts i i
 nothing i = record { rises = omega arith; none = λ m h l s. omega arith }
@@ -27,7 +24,7 @@ one {ts = ts} i n = record {
 joined : {ts : List Token} {i j k : ℕ} → NoSemi ts i j → NoSemi ts j k → NoSemi ts i k
 joined {ts = ts} {i = i} {j = j} {k = k} a b = record {
   rises = let p = a.rises in let q = b.rises in omega arith;
-  none = λ m h l s. elim (before m j) [ inl p ↦ a.none m h p s | inr p ↦ b.none m p l s ];
+  none = λ m h l s. elim (cases_lt m j) [ inl p ↦ a.none m h p s | inr p ↦ b.none m p l s ];
 }
 
 -- a token of another kind before
@@ -57,9 +54,9 @@ pub next_semi : {ts : List Token} {i j k : ℕ} → IsExpr ts i j → Is ts j Se
 next_semi {j = j} {k = k} e s r n t =
     let a = no_semi e.1 in
     let p = a.rises in
-    elim (before k j) [
+    elim (cases_lt k j) [
       | inl l ↦ absurd (a.none k r l t)
-      | inr h ↦ elim (before j k) [ inl l ↦ absurd (n j p l s) | inr g ↦ omega arith ]
+      | inr h ↦ elim (cases_lt j k) [ inl l ↦ absurd (n j p l s) | inr g ↦ omega arith ]
     ]
 
 -- an expression before a semicolon has one end

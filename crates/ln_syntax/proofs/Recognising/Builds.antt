@@ -1,5 +1,5 @@
 -- What the automaton has read is a prefix of a derivation: what a state still wants is the function that takes it.
-use Rattle.std.proofs.Common.{◌≡◌, ℕ, zero, suc, ◌+◌, List, [], ◌∷◌, length, drop, Some, None, refl, ap, sym, subst, arith}
+use Rattle.std.proofs.Common.{◌≡◌, ℕ, zero, suc, ◌+◌, ◌<◌, List, [], ◌∷◌, length, drop, Some, None, refl, ap, sym, subst, arith}
 use Rattle.ln_lex.specs.declared.token.Token.{Token}
 use Rattle.ln_lex.specs.declared.token.Kind.{Kind}
 use Rattle.ln_lex.specs.declared.token.Kind.TheVariants.{Name, Number, Site, Param, Predicate, Let, Sign, BraceL, BraceR, ParL, ParR, Colon}
@@ -260,87 +260,65 @@ more : (ts : List Token) (s : State) (d j : ℕ) (k : Kind) → ComesBeforeIn ts
 more ts AnItem d j Site h is = λ n b. site_begins h is n b
 more ts AnItem d j Param h is = λ n c. param_begins h is n c
 more ts AnItem d j Predicate h is = λ n o. predicate_begins h is n o
-more ts AnItem d j k h is = tt
 more ts SiteName d j Name h is = h is
-more ts SiteName d j k h is = tt
 more ts SiteOpen d j BraceL h is = h is
-more ts SiteOpen d j k h is = tt
 more ts CoordName d j Name h is = λ c. first_coord h is c
-more ts CoordName d j k h is = tt
 more ts CoordColon d j Colon h is = h is
-more ts CoordColon d j k h is = tt
 more ts CoordOrEnd d j Name h is = λ c. coord_more h is c
 more ts CoordOrEnd d j BraceR h is = h j [] no_coord is
-more ts CoordOrEnd d j k h is = tt
 more ts ParamName d j Name h is = h is
-more ts ParamName d j k h is = tt
 more ts ParamColon d j Colon h is = h is
-more ts ParamColon d j k h is = tt
 more ts (Low r) d j Number h is = h (suc j) _ (File.plain is)
 more ts (Low r) d j Minus h is = λ n. h (suc (suc j)) _ (File.minus is n)
-more ts (Low r) d j k h is = tt
 more ts (LowNumber r) d j Number h is = h is
-more ts (LowNumber r) d j k h is = tt
 more ts (Between r) d j Dots h is = h is
-more ts (Between r) d j k h is = tt
 more ts (High r) d j Number h is = h (suc j) _ (File.plain is)
 more ts (High r) d j Minus h is = λ n. h (suc (suc j)) _ (File.minus is n)
-more ts (High r) d j k h is = tt
 more ts (HighNumber r) d j Number h is = h is
-more ts (HighNumber r) d j k h is = tt
 more ts (RangeEnd Coordinate) d j Semi h is = h is
 more ts (RangeEnd Parameter) d j Semi h is = h is
-more ts (RangeEnd r) d j k h is = tt
 more ts PredicateName d j Name h is = h is
-more ts PredicateName d j k h is = tt
 more ts PredicateOpen d j ParL h is = h is
-more ts PredicateOpen d j k h is = tt
 more ts ArgName d j Name h is = λ c. (λ n. arg_ends h (site_arg is c n), λ p. arg_ends h (param_arg is c p))
-more ts ArgName d j k h is = tt
 more ts ArgColon d j Colon h is = h is
-more ts ArgColon d j k h is = tt
 more ts ArgKind d j Name h is = h.0 is
 more ts ArgKind d j Param h is = h.1 is
-more ts ArgKind d j k h is = tt
 more ts ArgEnd d j Comma h is = h.0 is
 more ts ArgEnd d j ParR h is = h.1 is
-more ts ArgEnd d j k h is = tt
 more ts BodyOpen d j BraceL h is = h is
-more ts BodyOpen d j k h is = tt
 more ts Body d j Let h is = λ n q. let_more h is n q
 more ts Body d j Sign h is = (suc j, h j [] no_let is, begins ts (suc j))
-more ts Body d j k h is = tt
 more ts LetName d j Name h is = h is
-more ts LetName d j k h is = tt
 more ts LetEquals d j Equals h is = (suc j, h is, begins ts (suc j))
-more ts LetEquals d j k h is = tt
 more ts (Operand p) d j Name h is = record { from = j; before = h; is = is; next = refl }
 more ts (Operand p) d j Number h is = record { from = j; tree = _; before = h; derives = number is }
 more ts (Operand p) d j ParL h is = (j, h, is, begins ts (suc j))
 more ts (Operand p) d j Minus h is = inner p d (negated is) h
-more ts (Operand p) d j k h is = tt
 more ts (InputName p) d j Name h is = h is
-more ts (InputName p) d j k h is = tt
 more ts (Exponent p) d j Number h is = h is
-more ts (Exponent p) d j k h is = tt
 more ts (After p l) d j k h is = past ts p l d j k h is
 more ts BodyEnd d j BraceR h is = h is
-more ts BodyEnd d j k h is = tt
+more ts s d j k h is = tt
 
 more_at : (ts : List Token) (o : Standing) (j : ℕ) (k : Kind) → ComesBefore ts o j → Is ts j k → ComesBefore ts (next_at o k) (suc j)
 more_at ts None j k h is = tt
 more_at ts (Some c) j k h is = more ts c.0 c.1 j k h is
 
 -- the list from place j on
-record From (ts : List Token) (j : ℕ) (t : Token) (us : List Token) : Type 0 where
-  first : Is ts j t.kind
-  rest : drop (suc j) ts ≡ us
+pub record From (ts : List Token) (j : ℕ) (t : Token) (us : List Token) : Type 0 where
+  pub first : Is ts j t.kind
+  pub span : span_at ts j ≡ t.span
+  pub rest : drop (suc j) ts ≡ us
+  pub more : j < length ts
 
-from : (ts : List Token) (j : ℕ) (t : Token) (us : List Token) → drop j ts ≡ t ∷ us → From ts j t us
+-- so it is where the remaining list begins with a token
+pub from : (ts : List Token) (j : ℕ) (t : Token) (us : List Token) → drop j ts ≡ t ∷ us → From ts j t us
 from [] zero t us e = absurd (cc)
 from [] (suc j) t us e = absurd (cc)
-from (x ∷ xs) zero t us e = record { first = let q : x ≡ t = cc in ap (λ (w : Token). Some w.kind) q; rest = cc }
-from (x ∷ xs) (suc j) t us e = let r = from xs j t us e in record { first = r.first; rest = r.rest }
+from (x ∷ xs) zero t us e =
+    let q : x ≡ t = cc in
+    record { first = ap (λ (w : Token). Some w.kind) q; span = ap (λ (w : Token). w.span) q; rest = cc; more = omega arith }
+from (x ∷ xs) (suc j) t us e = let r = from xs j t us e in record { first = r.first; span = r.span; rest = r.rest; more = omega (arith, r.more) }
 
 stands_all : (ts us : List Token) (o : Standing) (j : ℕ) → drop j ts ≡ us → ComesBefore ts o j → ComesBefore ts (goes o us) (j + length us)
 stands_all ts [] o j e h = let q : j ≡ j + 0 = omega arith in subst (λ (w : ℕ). ComesBefore ts o w) q h

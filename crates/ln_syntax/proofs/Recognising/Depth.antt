@@ -7,7 +7,8 @@ use Rattle.ln_lex.specs.declared.token.Kind.TheVariants.{ParL}
 use Rattle.ln_syntax.specs.Raw.{Is}
 use Rattle.ln_syntax.specs.Place.{depth_behind, depth_after, IsShallow, IsNestingFault}
 
-depth_taken : (ts : List Token) (i : ℕ) (k : Kind) (d : ℕ) → Is ts i k → depth_after d (take (suc i) ts) ≡ depth_behind (depth_after d (take i ts)) k
+-- the depth after one more token
+pub depth_taken : (ts : List Token) (i : ℕ) (k : Kind) (d : ℕ) → Is ts i k → depth_after d (take (suc i) ts) ≡ depth_behind (depth_after d (take i ts)) k
 depth_taken [] i k d is = absurd (cc)
 depth_taken (t ∷ ts) zero k d is = let e : t.kind ≡ k = cc in ap (λ (w : Kind). depth_behind d w) e
 depth_taken (t ∷ ts) (suc i) k d is = depth_taken ts i k (depth_behind d t.kind) is

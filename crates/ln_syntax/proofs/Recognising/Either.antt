@@ -1,6 +1,7 @@
 -- Tokens have a fault of nesting or none, and of syntax.
 use Rattle.std.proofs.Common.{◌≡◌, ℕ, zero, suc, ◌+◌, ◌<◌, ◌≤◌, ◌⊎◌, inl, inr, Bool, true, false, List, [], ◌∷◌, length, take, Option, Some}
 use Rattle.std.proofs.Common.{None, refl, arith, subst}
+use Rattle.std.proofs.lemmas.Bool.{cases_lt}
 use Rattle.ln_lex.specs.declared.token.Token.{Token}
 use Rattle.ln_lex.specs.declared.token.Kind.{Kind}
 use Rattle.ln_lex.specs.declared.token.Kind.TheVariants.{ParL, ParR}
@@ -27,9 +28,6 @@ behind_small d ParL h n = let p = n refl in omega arith
 behind_small d ParR h n = omega arith
 behind_small d k h n = h
 
-below : (m n : ℕ) → (m < n) ⊎ (n ≤ m)
-below m n = grind arith
-
 -- up to place i parentheses are nested at most 64 deep
 record To (ts : List Token) (i : ℕ) : Type 0 where
   pub shallow : ShallowTo ts i
@@ -48,7 +46,7 @@ opened ts i t is h = let s = t.small in record { opens = is; deep = omega arith;
 depth_at : (n : ℕ) (ts : List Token) (i : ℕ) (k : Kind) → To ts i → Is ts i k
     → (To ts (i + 1) → ((k : ℕ) × IsNestingFault ts k) ⊎ IsShallow ts) → ((k : ℕ) × IsNestingFault ts k) ⊎ IsShallow ts
 depth_at n ts i k t is on = elim (is_par k) [
-  | inl e ↦ elim (below (depth_after 0 (take i ts)) 64) [
+  | inl e ↦ elim (cases_lt (depth_after 0 (take i ts)) 64) [
     | inl l ↦ on (to_more ts i k t is (λ q. l))
     | inr h ↦ inl (i, opened ts i t (subst (λ (w : Kind). Is ts i w) e is) h)
   ]

@@ -1,6 +1,7 @@
 -- Where the automaton stops is the place of the fault: each state has tokens that finish the file.
 use Rattle.std.proofs.Common.{◌≡◌, ℕ, zero, suc, ◌+◌, ◌<◌, ◌≤◌, Bool, true, false, List, [], ◌∷◌, ◌++◌, length, slice_index_or, take, Some}
 use Rattle.std.proofs.Common.{None, refl, ap, sym, ◌∙◌, subst, arith, inl, inr}
+use Rattle.std.proofs.Math.Seq.{take-length}
 use Rattle.std.proofs.lemmas.Bool.{cases_lt}
 use Rattle.std.proofs.lemmas.List.{append-nil}
 use Rattle.ln_lex.specs.declared.token.Token.{Token}
@@ -98,14 +99,6 @@ finished (Operand p) d = let r = closes p Whole d in record { depth = r.depth; c
 finished (InputName p) d = let r = closes p Whole d in record { depth = r.depth; comes = r.comes }
 finished (Exponent p) d = let r = closes p Raised d in record { depth = r.depth; comes = r.comes }
 finished (After p l) d = closes p l d
-finished AnItem d = record { depth = d; comes = refl }
-finished SiteName d = record { depth = d; comes = refl }
-finished SiteOpen d = record { depth = d; comes = refl }
-finished CoordName d = record { depth = d; comes = refl }
-finished CoordColon d = record { depth = d; comes = refl }
-finished CoordOrEnd d = record { depth = d; comes = refl }
-finished ParamName d = record { depth = d; comes = refl }
-finished ParamColon d = record { depth = d; comes = refl }
 finished (Low Coordinate) d = record { depth = d; comes = refl }
 finished (Low Parameter) d = record { depth = d; comes = refl }
 finished (LowNumber Coordinate) d = record { depth = d; comes = refl }
@@ -118,17 +111,7 @@ finished (HighNumber Coordinate) d = record { depth = d; comes = refl }
 finished (HighNumber Parameter) d = record { depth = d; comes = refl }
 finished (RangeEnd Coordinate) d = record { depth = d; comes = refl }
 finished (RangeEnd Parameter) d = record { depth = d; comes = refl }
-finished PredicateName d = record { depth = 0; comes = refl }
-finished PredicateOpen d = record { depth = 0; comes = refl }
-finished ArgName d = record { depth = 0; comes = refl }
-finished ArgColon d = record { depth = 0; comes = refl }
-finished ArgKind d = record { depth = 0; comes = refl }
-finished ArgEnd d = record { depth = 0; comes = refl }
-finished BodyOpen d = record { depth = 0; comes = refl }
-finished Body d = record { depth = 0; comes = refl }
-finished LetName d = record { depth = 0; comes = refl }
-finished LetEquals d = record { depth = 0; comes = refl }
-finished BodyEnd d = record { depth = d; comes = refl }
+finished s d = record { depth = _; comes = refl }
 
 -- what takes the automaton to a state is a prefix of a file
 front : (xs : List Token) (s : State) (d : ℕ) → goes start xs ≡ Some (s, d) → IsPrefixOf IsText xs
@@ -165,10 +148,6 @@ fault_at ts i k s d h w is n = record {
   unfinished = λ e. absurd (omega arith);
 }
 
-take_all : (ts : List Token) → take (length ts) ts ≡ ts
-take_all [] = refl
-take_all (t ∷ ts) = ap (λ (w : List Token). t ∷ w) (take_all ts)
-
 abbrev ends_at : Standing → Bool
 ends_at None = false
 ends_at (Some c) = is_end c.0
@@ -185,13 +164,13 @@ fault_end ts s d w n = record {
   front = front (take (length ts) ts) s d w;
   refused = λ l. absurd (omega arith);
   unfinished = λ e t.
-      let v : goes start ts ≡ Some (s, d) = subst (λ (x : List Token). goes start x ≡ Some (s, d)) (take_all ts) w in
+      let v : goes start ts ≡ Some (s, d) = subst (λ (x : List Token). goes start x ≡ Some (s, d)) (take-length ts) w in
       at_end s d (goes start ts) n v (whole t);
 }
 
 -- tokens after which it is at its end are a file
 pub is_text : (ts : List Token) (s : State) (d : ℕ) → goes start (take (length ts) ts) ≡ Some (s, d) → is_end s ≡ true → IsText ts
-is_text ts s d w n = ended s d (goes start ts) n (subst (λ (x : List Token). goes start x ≡ Some (s, d)) (take_all ts) w) (λ e. text ts d e)
+is_text ts s d w n = ended s d (goes start ts) n (subst (λ (x : List Token). goes start x ≡ Some (s, d)) (take-length ts) w) (λ e. text ts d e)
   where
     ended : {T : Type 0} (s : State) (d : ℕ) (o : Standing) → is_end s ≡ true → o ≡ Some (s, d) → (o ≡ Some (AnItem, d) → T) → T
     ended AnItem d o n e f = f e
@@ -227,6 +206,6 @@ is_at (t ∷ ts) (suc i) x h = is_at ts i x (omega arith)
 pub no_text : (ts : List Token) (i : ℕ) → IsSyntaxFault ts i → IsText ts → ⊥
 no_text ts i f t = elim (cases_lt i (length ts)) [
   | inl h ↦ f.refused h (front_of ts (suc i) (length ts) (omega arith)
-      ([], subst (λ (w : List Token). IsText w) (sym (append-nil (take (length ts) ts) ∙ take_all ts)) t))
+      ([], subst (λ (w : List Token). IsText w) (sym (append-nil (take (length ts) ts) ∙ take-length ts)) t))
   | inr h ↦ f.unfinished (omega (arith, f.within)) t
 ]

@@ -1,5 +1,6 @@
 -- A derivation of a file takes the automaton from its start to its end.
-use Rattle.std.proofs.Common.{◌≡◌, ℕ, zero, suc, List, [], ◌∷◌, ◌++◌, length, drop, Some, None, refl, ap, ◌∙◌}
+use Rattle.std.proofs.Common.{◌≡◌, ℕ, zero, suc, List, [], ◌∷◌, ◌++◌, length, drop, Some, None, refl, ap, ◌∙◌, arith}
+use Rattle.std.proofs.lemmas.List.{drop_all}
 use Rattle.ln_lex.specs.declared.token.Token.{Token}
 use Rattle.ln_lex.specs.declared.token.Kind.{Kind}
 use Rattle.ln_lex.specs.declared.token.Kind.TheVariants.{Name, Number, Site, Param, Predicate, Let, Sign, BraceL, BraceR, ParL, ParR, Colon}
@@ -27,7 +28,7 @@ use Rattle.ln_syntax.specs.File.{End, Range, range, Coords, no_coord, coord, Arg
 use Rattle.ln_syntax.specs.File.{no_let, a_let, IsItem, site, param, predicate, Items, no_item, an_item}
 use Rattle.ln_syntax.specs.File as File
 use Rattle.ln_syntax.specs.Place.{IsText}
-use Rattle.ln_syntax.specs.Automaton.{Standing, next_at, goes, start}
+use Rattle.ln_syntax.specs.Automaton.{Standing, behind, next_at, goes, start}
 
 -- steps at tokens and then at more
 pub goes_append : (o : Standing) (xs ys : List Token) → goes o (xs ++ ys) ≡ goes (goes o xs) ys
@@ -66,23 +67,19 @@ Reads ts Sum p d i j = Comes ts p (Operand p) d i j
 Reads ts (Factors f) p d i j = (l : Last) → Comes ts p (After p l) d i j
 Reads ts (Terms f) p d i j = (l : Last) → Comes ts p (After p l) d i j
 
-atom_named : (ts : List Token) (p : Part) (d i j : ℕ)
-    → goes (Some (Operand p, d)) (drop i ts) ≡ goes (Some (After p Named, d)) (drop j ts) → ComesAtom ts p d i j
-atom_named ts p d i j e = record { last = Named; same = e; raised = λ h. one ts j Caret (Some (After p Named, d)) h }
-
-atom_whole : (ts : List Token) (p : Part) (d i j : ℕ)
-    → goes (Some (Operand p, d)) (drop i ts) ≡ goes (Some (After p Whole, d)) (drop j ts) → ComesAtom ts p d i j
-atom_whole ts p d i j e = record { last = Whole; same = e; raised = λ h. one ts j Caret (Some (After p Whole, d)) h }
+atom : (ts : List Token) (p : Part) (l : Last) (d i j : ℕ) → behind p l d Caret ≡ Some (Exponent p, d)
+    → goes (Some (Operand p, d)) (drop i ts) ≡ goes (Some (After p l, d)) (drop j ts) → ComesAtom ts p d i j
+atom ts p l d i j q e = record { last = l; same = e; raised = λ h. one ts j Caret (Some (After p l, d)) h ∙ ap (λ (o : Standing). goes o (drop (suc j) ts)) q }
 
 -- a derivation within an expression is a run
 reads : {ts : List Token} {s : Sort} {i j : ℕ} {e : Tree} (p : Part) (d : ℕ) → Derives ts s i j e → Reads ts s p d i j
-reads {ts = ts} {i = i} {j = j} p d (number is) = atom_whole ts p d i j (one ts i Number (Some (Operand p, d)) is)
-reads {ts = ts} {i = i} {j = j} p d (name is) = atom_named ts p d i j (one ts i Name (Some (Operand p, d)) is)
-reads {ts = ts} {i = i} {j = j} p d (input is o n) = atom_whole ts p d i j
+reads {ts = ts} {i = i} {j = j} p d (number is) = atom ts p Whole d i j refl (one ts i Number (Some (Operand p, d)) is)
+reads {ts = ts} {i = i} {j = j} p d (name is) = atom ts p Named d i j refl (one ts i Name (Some (Operand p, d)) is)
+reads {ts = ts} {i = i} {j = j} p d (input is o n) = atom ts p Whole d i j refl
     (one ts i Name (Some (Operand p, d)) is ∙ one ts (suc i) Dot (Some (After p Named, d)) o ∙ one ts (suc (suc i)) Name (Some (InputName p, d)) n)
 reads {ts = ts} {i = i} p d (parens {j = j} is x e) =
     let r = reads p (suc d) x in
-    atom_whole ts p d i (suc j) (one ts i ParL (Some (Operand p, d)) is ∙ r.same ∙ one ts j ParR (Some (After p r.last, suc d)) e)
+    atom ts p Whole d i (suc j) refl (one ts i ParL (Some (Operand p, d)) is ∙ r.same ∙ one ts j ParR (Some (After p r.last, suc d)) e)
 reads p d (plain x) = let r = reads p d x in record { last = r.last; same = r.same }
 reads {ts = ts} p d (power {j = j} x h n) =
     let r = reads p d x in
@@ -160,10 +157,6 @@ items : {ts : List Token} {i j : ℕ} {xs : List Item} → Items ts i j xs → g
 items no_item = refl
 items (an_item x xs) = item x ∙ items xs
 
-drop_all : (ts : List Token) → drop (length ts) ts ≡ []
-drop_all [] = refl
-drop_all (t ∷ ts) = drop_all ts
-
 -- a file takes the automaton to its end
 pub whole : {ts : List Token} → IsText ts → goes start ts ≡ Some (AnItem, 0)
-whole {ts = ts} x = items x.1 ∙ ap (λ (w : List Token). goes (Some (AnItem, 0)) w) (drop_all ts)
+whole {ts = ts} x = items x.1 ∙ ap (λ (w : List Token). goes (Some (AnItem, 0)) w) (drop_all (length ts) ts (omega arith))

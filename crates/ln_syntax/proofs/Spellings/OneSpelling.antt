@@ -1,5 +1,6 @@
 -- No tokens spell two lists of items: each part of an item has one end and one value.
-use Rattle.std.proofs.Common.{◌≡◌, ℕ, suc, List, [], ◌∷◌, length, None, refl, ap, sym, subst}
+use Rattle.std.proofs.Common.{◌≡◌, ℕ, suc, List, length, None, refl, ap, sym, subst, arith, option_map}
+use Rattle.std.proofs.lemmas.Option.{slice_get_past}
 use Rattle.ln_lex.specs.declared.token.Token.{Token}
 use Rattle.ln_lex.specs.declared.token.Kind.TheVariants.{Sign, BraceR, ParR}
 use Rattle.ln_syntax.specs.declared.raw.RawEnd.{RawEnd}
@@ -94,8 +95,7 @@ item_same {ts = ts} (predicate {j = p} {k = q} a b c d e f g h v semi k1) (predi
     record { place = ap (λ (w : ℕ). suc (suc w)) u; value = rw (s.value, t.value, t.place, u) refl }
 
 past : (us : List Token) → kind_at us (length us) ≡ None
-past [] = refl
-past (u ∷ us) = past us
+past us = ap (option_map (λ (t : Token). t.kind)) (slice_get_past us (length us) (omega arith))
 
 -- no item follows the last token
 pub no_more : {ts : List Token} {i j : ℕ} {x : Item} → i ≡ length ts → IsItem ts i j x → ⊥

@@ -1,6 +1,7 @@
 -- The parts of an item, one after the other: what a part is, where it is, and where the next one begins.
 use Rattle.std.proofs.Common.{◌≡◌, true, false, ℕ, zero, suc, ◌+◌, ◌<◌, ◌≤◌, inl, inr, List, [], ◌∷◌, ◌++◌, length, refl, ap, sym, ◌∙◌}
 use Rattle.std.proofs.Common.{subst, arith, append_assoc, ◌^◌, Fits, w64}
+use Rattle.std.proofs.lemmas.Bool.{cases_lt}
 use Rattle.ln_base.specs.declared.span.Span.{Span}
 use Rattle.ln_lex.specs.declared.token.Token.{Token}
 use Rattle.ln_lex.specs.declared.token.Kind.{Kind}
@@ -14,8 +15,8 @@ use Rattle.ln_syntax.specs.Raw.{Item, SiteItem, ParamItem, PredItem, Is, span_at
 use Rattle.ln_syntax.specs.Expression.{IsExpr}
 use Rattle.ln_syntax.specs.File.{End, plain, minus, Range, range, Coords, no_coord, coord, Arg, site_arg, param_arg, Args, last_arg}
 use Rattle.ln_syntax.specs.File.{more_args, Lets, no_let, a_let, IsItem, site, param, predicate, Items, no_item, an_item, Spelt}
-use Rattle.ln_syntax.specs.Reading.{HasEnd, HasRange, HasCoords, HasArg, HasArgs, HasLets, HasExpr, HasItem}
-use Rattle.ln_syntax.proofs.Recognising.Ahead.{NoSemi, before, no_semi, one_end}
+use Rattle.ln_syntax.specs.Reading.{HasEnd, HasRange, HasCoords, HasArg, HasArgs, HasLets, HasExpr}
+use Rattle.ln_syntax.proofs.Recognising.Ahead.{NoSemi, no_semi, one_end}
 use Rattle.ln_syntax.proofs.Spellings.OneSpelling.{end_same, range_same, coords_same, args_same, lets_same, item_same, no_more}
 
 -- a token that is there is before the end
@@ -33,7 +34,7 @@ pub end_ahead : {ts : List Token} {i k : ℕ} → HasExpr ts i → NoSemi ts i k
 end_ahead {ts = ts} {k = k} h n =
     let a = (no_semi h.derives.1).rises in
     let w = is_within ts h.to Semi h.stops in
-    elim (before h.to k) [ inl l ↦ absurd (n.none h.to a l h.stops) | inr g ↦ omega arith ]
+    elim (cases_lt h.to k) [ inl l ↦ absurd (n.none h.to a l h.stops) | inr g ↦ omega arith ]
 
 -- each part ends after its beginning
 end_rises : {ts : List Token} {i j : ℕ} {e : RawEnd} → End ts i j e → i < j
@@ -66,49 +67,33 @@ items_rise : {ts : List Token} {i j : ℕ} {xs : List Item} → Items ts i j xs 
 items_rise no_item = omega arith
 items_rise (an_item h t) = let a = item_rises h in let b = items_rise t in omega arith
 
--- the high end of a range follows the low end
-high_by : {ts : List Token} {i j k : ℕ} {a : RawEnd} {r : RawRange} → Range ts i k r → End ts i j a → HasEnd ts (j + 1)
-high_by {ts = ts} {j = j} {k = k} (range {j = q} {b = b} l m h) d =
+-- in a range, after the low end and the dots comes the high end
+pub high_there : {ts : List Token} {i j k : ℕ} {a : RawEnd} {r : RawRange} → Range ts i k r → End ts i j a → HasEnd ts (j + 1)
+high_there {ts = ts} {j = j} {k = k} (range {j = q} {b = b} l m h) d =
     let p = (end_same l d).place in
     let e : suc q ≡ j + 1 = omega arith in
     record { to = k; value = b; derives = subst (λ (w : ℕ). End ts w k b) e h }
 
--- in a range, after the low end and the dots comes the high end
-pub high_there : {ts : List Token} {i j : ℕ} {a : RawEnd} → HasRange ts i → End ts i j a → HasEnd ts (j + 1)
-high_there h d = high_by h.derives d
-
-end_fits_by : {i j : ℕ} {e : RawEnd} (ts : List Token) → End ts i j e → length ts < 2 ^ 32 → Fits w64 (i + 1)
-end_fits_by {i = i} ts (plain m) s = near_fits ts i 1 Number m s (omega arith)
-end_fits_by {i = i} ts (minus m n) s = near_fits ts i 1 Minus m s (omega arith)
-
 -- so is the place after the first token of an end
-pub end_fits : {ts : List Token} {i : ℕ} → HasEnd ts i → length ts < 2 ^ 32 → Fits w64 (i + 1)
-end_fits {ts = ts} h s = end_fits_by ts h.derives s
-
-low_fits_by : {i j k : ℕ} {a : RawEnd} {r : RawRange} (ts : List Token) → Range ts i k r → End ts i j a → length ts < 2 ^ 32 → Fits w64 (j + 1)
-low_fits_by {j = j} ts (range l d h) x s = near_fits ts j 1 Dots (subst (λ (w : ℕ). Is ts w Dots) (end_same l x).place d) s (omega arith)
+pub end_fits : {ts : List Token} {i j : ℕ} {e : RawEnd} → End ts i j e → length ts < 2 ^ 32 → Fits w64 (i + 1)
+end_fits {ts = ts} {i = i} (plain m) s = near_fits ts i 1 Number m s (omega arith)
+end_fits {ts = ts} {i = i} (minus m n) s = near_fits ts i 1 Minus m s (omega arith)
 
 -- the place after the dots of a range is small
-pub low_fits : {ts : List Token} {i j : ℕ} {a : RawEnd} → HasRange ts i → End ts i j a → length ts < 2 ^ 32 → Fits w64 (j + 1)
-low_fits {ts = ts} h x s = low_fits_by ts h.derives x s
-
-arg_fits_by : {i : ℕ} {a : RawArg} (ts : List Token) (m : ℕ) → Arg ts i a → length ts < 2 ^ 32 → m ≤ 4 → Fits w64 (i + m)
-arg_fits_by {i = i} ts m (site_arg n c k) s l = near_fits ts i m Name n s l
-arg_fits_by {i = i} ts m (param_arg n c k) s l = near_fits ts i m Name n s l
+pub low_fits : {ts : List Token} {i j k : ℕ} {a : RawEnd} {r : RawRange} → Range ts i k r → End ts i j a → length ts < 2 ^ 32 → Fits w64 (j + 1)
+low_fits {ts = ts} {j = j} (range l d h) x s = near_fits ts j 1 Dots (subst (λ (w : ℕ). Is ts w Dots) (end_same l x).place d) s (omega arith)
 
 -- the places of an argument are small
-pub arg_fits : {ts : List Token} {i : ℕ} (m : ℕ) → HasArg ts i → length ts < 2 ^ 32 → m ≤ 4 → Fits w64 (i + m)
-arg_fits {ts = ts} m h s l = arg_fits_by ts m h.derives s l
-
-range_by : {ts : List Token} {i j k m : ℕ} {a b : RawEnd} {r : RawRange} → Range ts i k r → End ts i j a → End ts (j + 1) m b
-    → Range ts i m (record { low = a; high = b })
-range_by {ts = ts} {j = j} {m = m} {b = b} (range l d h) x y =
-    let e : j + 1 ≡ suc j = omega arith in
-    range x (subst (λ (w : ℕ). Is ts w Dots) (end_same l x).place d) (subst (λ (w : ℕ). End ts w m b) e y)
+pub arg_fits : {ts : List Token} {i : ℕ} {a : RawArg} (m : ℕ) → Arg ts i a → length ts < 2 ^ 32 → m ≤ 4 → Fits w64 (i + m)
+arg_fits {ts = ts} {i = i} m (site_arg n c k) s l = near_fits ts i m Name n s l
+arg_fits {ts = ts} {i = i} m (param_arg n c k) s l = near_fits ts i m Name n s l
 
 -- both ends make the range
-pub range_read : {ts : List Token} {i j m : ℕ} {a b : RawEnd} → HasRange ts i → End ts i j a → End ts (j + 1) m b → Range ts i m (record { low = a; high = b })
-range_read h x y = range_by h.derives x y
+pub range_read : {ts : List Token} {i j k m : ℕ} {a b : RawEnd} {r : RawRange} → Range ts i k r → End ts i j a → End ts (j + 1) m b
+    → Range ts i m (record { low = a; high = b })
+range_read {ts = ts} {j = j} {m = m} {b = b} (range l d h) x y =
+    let e : j + 1 ≡ suc j = omega arith in
+    range x (subst (λ (w : ℕ). Is ts w Dots) (end_same l x).place d) (subst (λ (w : ℕ). End ts w m b) e y)
 
 -- the coordinates up to place i, and what follows
 pub record CoordsRead (ts : List Token) (at i : ℕ) (cs : List RawCoord) : Type 0 where
@@ -119,27 +104,21 @@ pub record CoordsRead (ts : List Token) (at i : ℕ) (cs : List RawCoord) : Type
 pub coords_begin : {ts : List Token} {at : ℕ} → HasCoords ts at → CoordsRead ts at at []
 coords_begin h = record { done = no_coord; rest = h }
 
-coord_range_by : {ts : List Token} {i k : ℕ} {cs : List RawCoord} → Coords ts i k cs → Is ts k BraceR → Is ts i Name → HasRange ts (i + 2)
-coord_range_by no_coord b n = absurd (cc)
-coord_range_by {ts = ts} {i = i} (coord {j = j} {r = r} p q d s t) b n =
+-- a name among coordinates begins one, which has a range
+pub coord_range : {ts : List Token} {i k : ℕ} {cs : List RawCoord} → Coords ts i k cs → Is ts k BraceR → Is ts i Name → HasRange ts (i + 2)
+coord_range no_coord b n = absurd (cc)
+coord_range {ts = ts} {i = i} (coord {j = j} {r = r} p q d s t) b n =
     let e : suc (suc i) ≡ i + 2 = omega arith in
     record { to = j; value = r; derives = subst (λ (w : ℕ). Range ts w j r) e d }
 
--- a name among coordinates begins one, which has a range
-pub coord_range : {ts : List Token} {i : ℕ} → HasCoords ts i → Is ts i Name → HasRange ts (i + 2)
-coord_range h n = coord_range_by h.derives h.stops n
-
-coord_semi_by : {ts : List Token} {i j k : ℕ} {r : RawRange} {cs : List RawCoord} → Coords ts i k cs → Is ts k BraceR → Is ts i Name
+-- after the range of a coordinate comes its semicolon
+pub coord_semi : {ts : List Token} {i j k : ℕ} {r : RawRange} {cs : List RawCoord} → Coords ts i k cs → Is ts k BraceR → Is ts i Name
     → Range ts (i + 2) j r → Is ts j Semi
-coord_semi_by no_coord b n x = absurd (cc)
-coord_semi_by {ts = ts} {i = i} {j = j} {r = r} (coord p q d s t) b n x =
+coord_semi no_coord b n x = absurd (cc)
+coord_semi {ts = ts} {i = i} {j = j} {r = r} (coord p q d s t) b n x =
     let e : i + 2 ≡ suc (suc i) = omega arith in
     let y : Range ts (suc (suc i)) j r = subst (λ (w : ℕ). Range ts w j r) e x in
     subst (λ (w : ℕ). Is ts w Semi) (range_same d y).place s
-
--- after the range of a coordinate comes its semicolon
-pub coord_semi : {ts : List Token} {i j : ℕ} {r : RawRange} → HasCoords ts i → Is ts i Name → Range ts (i + 2) j r → Is ts j Semi
-coord_semi h n x = coord_semi_by h.derives h.stops n x
 
 -- one more coordinate after the others
 coords_with : {ts : List Token} {i j k : ℕ} {cs : List RawCoord} {r : RawRange} → Coords ts i j cs → Is ts j Name → Is ts (suc j) Colon
@@ -148,11 +127,12 @@ coords_with : {ts : List Token} {i j k : ℕ} {cs : List RawCoord} {r : RawRange
 coords_with no_coord n c r s = coord n c r s no_coord
 coords_with (coord p q d m t) n c r s = coord p q d m (coords_with t n c r s)
 
-coord_more_by : {ts : List Token} {at i j k : ℕ} {cs ds : List RawCoord} {r : RawRange} {sp : Span} → Coords ts at i cs → Coords ts i k ds
+-- one more coordinate is read, with its semicolon
+pub coord_more : {ts : List Token} {at i j k : ℕ} {cs ds : List RawCoord} {r : RawRange} {sp : Span} → Coords ts at i cs → Coords ts i k ds
     → Is ts k BraceR → Is ts i Name → sp ≡ span_at ts i → Range ts (i + 2) j r
     → CoordsRead ts at (j + 1) (cs ++ (record { name = sp; range = r } ∷ []))
-coord_more_by a no_coord b n q x = absurd (cc)
-coord_more_by {ts = ts} {at = at} {i = i} {j = j} {k = k} {cs = cs} {r = r} {sp = sp} a (coord {j = m} {cs = es} p c d s t) b n q x =
+coord_more a no_coord b n q x = absurd (cc)
+coord_more {ts = ts} {at = at} {i = i} {j = j} {k = k} {cs = cs} {r = r} {sp = sp} a (coord {j = m} {cs = es} p c d s t) b n q x =
     let e : i + 2 ≡ suc (suc i) = omega arith in
     let y : Range ts (suc (suc i)) j r = subst (λ (w : ℕ). Range ts w j r) e x in
     let o = (range_same d y).place in
@@ -164,33 +144,22 @@ coord_more_by {ts = ts} {at = at} {i = i} {j = j} {k = k} {cs = cs} {r = r} {sp 
       rest = record { to = k; value = es; derives = subst (λ (w : ℕ). Coords ts w k es) g t; stops = b };
     }
 
--- one more coordinate is read, with its semicolon
-pub coord_more : {ts : List Token} {at i j : ℕ} {cs : List RawCoord} {r : RawRange} {sp : Span} → CoordsRead ts at i cs → Is ts i Name
-    → sp ≡ span_at ts i → Range ts (i + 2) j r
-    → CoordsRead ts at (j + 1) (cs ++ (record { name = sp; range = r } ∷ []))
-coord_more a n q x = coord_more_by a.done a.rest.derives a.rest.stops n q x
-
-end_minus_by : {ts : List Token} {i k : ℕ} {r : RawEnd} → End ts i k r → Is ts i Minus → End ts i (i + 2) (record { negative = true; at = span_at ts (i + 1) })
-end_minus_by (plain p) m = absurd (cc)
-end_minus_by {ts = ts} {i = i} (minus p q) m =
+-- an end of a range with a minus sign
+pub end_minus : {ts : List Token} {i k : ℕ} {r : RawEnd} → End ts i k r → Is ts i Minus → End ts i (i + 2) (record { negative = true; at = span_at ts (i + 1) })
+end_minus (plain p) m = absurd (cc)
+end_minus {ts = ts} {i = i} (minus p q) m =
     let e : suc (suc i) ≡ i + 2 = omega arith in
     let f : suc i ≡ i + 1 = omega arith in
     subst (λ (w : ℕ). End ts i w (record { negative = true; at = span_at ts (i + 1) })) e
     (subst (λ (w : ℕ). End ts i (suc (suc i)) (record { negative = true; at = span_at ts w })) f (minus p q))
 
--- an end of a range with a minus sign
-pub end_minus : {ts : List Token} {i : ℕ} → HasEnd ts i → Is ts i Minus → End ts i (i + 2) (record { negative = true; at = span_at ts (i + 1) })
-end_minus h m = end_minus_by h.derives m
-
-end_plain_by : {ts : List Token} {i k : ℕ} {r : RawEnd} → End ts i k r → (Is ts i Minus → ⊥) → End ts i (i + 1) (record { negative = false; at = span_at ts i })
-end_plain_by {ts = ts} {i = i} (plain p) n =
+-- an end of a range without a minus sign
+pub end_plain : {ts : List Token} {i k : ℕ} {r : RawEnd} → End ts i k r → (Is ts i Minus → ⊥)
+    → End ts i (i + 1) (record { negative = false; at = span_at ts i })
+end_plain {ts = ts} {i = i} (plain p) n =
     let f : suc i ≡ i + 1 = omega arith in
     subst (λ (w : ℕ). End ts i w (record { negative = false; at = span_at ts i })) f (plain p)
-end_plain_by (minus p q) n = absurd (n p)
-
--- an end of a range without a minus sign
-pub end_plain : {ts : List Token} {i : ℕ} → HasEnd ts i → (Is ts i Minus → ⊥) → End ts i (i + 1) (record { negative = false; at = span_at ts i })
-end_plain h n = end_plain_by h.derives n
+end_plain (minus p q) n = absurd (n p)
 
 -- the arguments before place i, at which one more begins
 pub record ArgsRead (ts : List Token) (at i : ℕ) (as' : List RawArg) : Type 0 where
@@ -201,25 +170,19 @@ pub record ArgsRead (ts : List Token) (at i : ℕ) (as' : List RawArg) : Type 0 
 pub args_begin : {ts : List Token} {at : ℕ} → HasArgs ts at → ArgsRead ts at at []
 args_begin h = record { joins = λ k bs r. r; rest = h }
 
-arg_first_by : {ts : List Token} {i k : ℕ} {as' : List RawArg} → Args ts i k as' → HasArg ts i
-arg_first_by (last_arg {a = a} d) = record { value = a; derives = d }
-arg_first_by (more_args {a = a} d c r) = record { value = a; derives = d }
-
 -- arguments begin with an argument
-pub arg_first : {ts : List Token} {i : ℕ} → HasArgs ts i → HasArg ts i
-arg_first h = arg_first_by h.derives
-
-args_stop_by : {ts : List Token} {i k : ℕ} {as' : List RawArg} → Args ts i k as' → Is ts k ParR → (Is ts (i + 3) Comma → ⊥) → Is ts (i + 3) ParR
-args_stop_by {ts = ts} {i = i} (last_arg d) p n =
-    let e : suc (suc (suc i)) ≡ i + 3 = omega arith in
-    subst (λ (w : ℕ). Is ts w ParR) e p
-args_stop_by {ts = ts} {i = i} (more_args d c r) p n =
-    let e : suc (suc (suc i)) ≡ i + 3 = omega arith in
-    absurd (n (subst (λ (w : ℕ). Is ts w Comma) e c))
+pub arg_first : {ts : List Token} {i k : ℕ} {as' : List RawArg} → Args ts i k as' → HasArg ts i
+arg_first (last_arg {a = a} d) = record { value = a; derives = d }
+arg_first (more_args {a = a} d c r) = record { value = a; derives = d }
 
 -- where no comma follows an argument, the parenthesis does
-pub args_stop : {ts : List Token} {i : ℕ} → HasArgs ts i → (Is ts (i + 3) Comma → ⊥) → Is ts (i + 3) ParR
-args_stop h n = args_stop_by h.derives h.stops n
+pub args_stop : {ts : List Token} {i k : ℕ} {as' : List RawArg} → Args ts i k as' → Is ts k ParR → (Is ts (i + 3) Comma → ⊥) → Is ts (i + 3) ParR
+args_stop {ts = ts} {i = i} (last_arg d) p n =
+    let e : suc (suc (suc i)) ≡ i + 3 = omega arith in
+    subst (λ (w : ℕ). Is ts w ParR) e p
+args_stop {ts = ts} {i = i} (more_args d c r) p n =
+    let e : suc (suc (suc i)) ≡ i + 3 = omega arith in
+    absurd (n (subst (λ (w : ℕ). Is ts w Comma) e c))
 
 -- the last argument
 pub args_last : {ts : List Token} {at i : ℕ} {as' : List RawArg} {a : RawArg} → ArgsRead ts at i as' → Arg ts i a → Args ts at (i + 3) (as' ++ (a ∷ []))
@@ -255,34 +218,29 @@ pub record LetsRead (ts : List Token) (at i : ℕ) (ls : List RawLet) : Type 0 w
 pub lets_begin : {ts : List Token} {at : ℕ} → HasLets ts at → LetsRead ts at at []
 lets_begin h = record { done = no_let; rest = h }
 
-let_expr_by : {ts : List Token} {i k : ℕ} {ls : List RawLet} → Lets ts i k ls → Is ts k Sign → Is ts i Let → HasExpr ts (i + 3)
-let_expr_by no_let s n = absurd (cc)
-let_expr_by {ts = ts} {i = i} (a_let {j = j} p c r e m t) s n =
+-- after the name of a let and `=` comes an expression
+pub let_expr : {ts : List Token} {i k : ℕ} {ls : List RawLet} → Lets ts i k ls → Is ts k Sign → Is ts i Let → HasExpr ts (i + 3)
+let_expr no_let s n = absurd (cc)
+let_expr {ts = ts} {i = i} (a_let {j = j} p c r e m t) s n =
     let o : suc (suc (suc i)) ≡ i + 3 = omega arith in
     record { to = j; derives = subst (λ (w : ℕ). IsExpr ts w j) o e; stops = m }
 
--- after the name of a let and `=` comes an expression
-pub let_expr : {ts : List Token} {i : ℕ} → HasLets ts i → Is ts i Let → HasExpr ts (i + 3)
-let_expr h n = let_expr_by h.derives h.stops n
-
-lets_stop_by : {ts : List Token} {i k : ℕ} {ls : List RawLet} → Lets ts i k ls → Is ts k Sign → (Is ts i Let → ⊥) → Is ts i Sign
-lets_stop_by no_let s n = s
-lets_stop_by (a_let p c r e m t) s n = absurd (n p)
-
 -- where no let begins, `sign` does
-pub lets_stop : {ts : List Token} {i : ℕ} → HasLets ts i → (Is ts i Let → ⊥) → Is ts i Sign
-lets_stop h n = lets_stop_by h.derives h.stops n
+pub lets_stop : {ts : List Token} {i k : ℕ} {ls : List RawLet} → Lets ts i k ls → Is ts k Sign → (Is ts i Let → ⊥) → Is ts i Sign
+lets_stop no_let s n = s
+lets_stop (a_let p c r e m t) s n = absurd (n p)
 
 -- one more let after the others
 lets_with : {ts : List Token} {i j k : ℕ} {ls : List RawLet} {x : RawLet} → Lets ts i j ls → Lets ts j k (x ∷ []) → Lets ts i k (ls ++ (x ∷ []))
 lets_with no_let d = d
 lets_with (a_let p q r e m t) d = a_let p q r e m (lets_with t d)
 
-let_more_by : {ts : List Token} {at i j k : ℕ} {ls ms : List RawLet} {sp : Span} → Lets ts at i ls → Lets ts i k ms → Is ts k Sign
+-- one more let is read, with its semicolon
+pub let_more : {ts : List Token} {at i j k : ℕ} {ls ms : List RawLet} {sp : Span} → Lets ts at i ls → Lets ts i k ms → Is ts k Sign
     → Is ts i Let → sp ≡ span_at ts (i + 1) → IsExpr ts (i + 3) j → Is ts j Semi
     → LetsRead ts at (j + 1) (ls ++ (record { name = sp; value = record { from = i + 3; to = j } } ∷ []))
-let_more_by a no_let s n q x y = absurd (cc)
-let_more_by {ts = ts} {at = at} {i = i} {j = j} {k = k} {ls = ls} {sp = sp} a (a_let {j = m} {ls = us} p c r e semi t) s n q x y =
+let_more a no_let s n q x y = absurd (cc)
+let_more {ts = ts} {at = at} {i = i} {j = j} {k = k} {ls = ls} {sp = sp} a (a_let {j = m} {ls = us} p c r e semi t) s n q x y =
     let o : i + 3 ≡ suc (suc (suc i)) = omega arith in
     let w : IsExpr ts (suc (suc (suc i))) j = subst (λ (w : ℕ). IsExpr ts w j) o x in
     let z = one_end e semi w y in
@@ -297,30 +255,22 @@ let_more_by {ts = ts} {at = at} {i = i} {j = j} {k = k} {ls = ls} {sp = sp} a (a
       rest = record { to = k; value = us; derives = subst (λ (u : ℕ). Lets ts u k us) g t; stops = s };
     }
 
--- one more let is read, with its semicolon
-pub let_more : {ts : List Token} {at i j : ℕ} {ls : List RawLet} {sp : Span} → LetsRead ts at i ls → Is ts i Let → sp ≡ span_at ts (i + 1)
-    → IsExpr ts (i + 3) j → Is ts j Semi
-    → LetsRead ts at (j + 1) (ls ++ (record { name = sp; value = record { from = i + 3; to = j } } ∷ []))
-let_more a n q x y = let_more_by a.done a.rest.derives a.rest.stops n q x y
-
 -- an item at an equal place is an equal one
 item_is : {ts : List Token} {i j k : ℕ} {x y : Item} → IsItem ts i j x → j ≡ k → x ≡ y → IsItem ts i k y
 item_is {ts = ts} {i = i} {j = j} {y = y} d p q = subst (λ (w : ℕ). IsItem ts i w y) p (subst (λ (w : Item). IsItem ts i j w) q d)
 
-site_coords_by : {ts : List Token} {i j : ℕ} {x : Item} → IsItem ts i j x → Is ts i Site → HasCoords ts (i + 3)
-site_coords_by {ts = ts} {i = i} (site {j = j} {c = c} {cs = cs} a b m d e) k =
+-- a site type has coordinates
+pub site_coords : {ts : List Token} {i j : ℕ} {x : Item} → IsItem ts i j x → Is ts i Site → HasCoords ts (i + 3)
+site_coords {ts = ts} {i = i} (site {j = j} {c = c} {cs = cs} a b m d e) k =
     let o : suc (suc (suc i)) ≡ i + 3 = omega arith in
     record { to = j; value = c ∷ cs; derives = subst (λ (w : ℕ). Coords ts w j (c ∷ cs)) o d; stops = e }
-site_coords_by (param a b m d e) k = absurd (cc)
-site_coords_by (predicate a b m d e f g h v s r) k = absurd (cc)
+site_coords (param a b m d e) k = absurd (cc)
+site_coords (predicate a b m d e f g h v s r) k = absurd (cc)
 
--- a site type has coordinates
-pub site_coords : {ts : List Token} {i : ℕ} → HasItem ts i → Is ts i Site → HasCoords ts (i + 3)
-site_coords h k = site_coords_by h.derives k
-
-site_by : {ts : List Token} {i j k : ℕ} {x : Item} {sp : Span} {ds : List RawCoord} → IsItem ts i j x → Is ts i Site
+-- a name and all coordinates make the item of a site type
+pub site_read : {ts : List Token} {i j k : ℕ} {x : Item} {sp : Span} {ds : List RawCoord} → IsItem ts i j x → Is ts i Site
     → sp ≡ span_at ts (i + 1) → Coords ts (i + 3) k ds → Is ts k BraceR → IsItem ts i (k + 1) (SiteItem sp ds)
-site_by {ts = ts} {i = i} {k = k} {sp = sp} {ds = ds} (site {j = j} {c = c} {cs = cs} a b m d e) n q x y =
+site_read {ts = ts} {i = i} {k = k} {sp = sp} {ds = ds} (site {j = j} {c = c} {cs = cs} a b m d e) n q x y =
     let o : i + 3 ≡ suc (suc (suc i)) = omega arith in
     let b1 : suc i ≡ i + 1 = omega arith in
     let s = coords_same d e (subst (λ (w : ℕ). Coords ts w k ds) o x) y in
@@ -328,40 +278,30 @@ site_by {ts = ts} {i = i} {k = k} {sp = sp} {ds = ds} (site {j = j} {c = c} {cs 
     let r : suc j ≡ k + 1 = omega arith in
     let q2 : span_at ts (suc i) ≡ sp = ap (span_at ts) b1 ∙ sym q in
     item_is (site a b m d e) r (ap (λ (w : Span). SiteItem w (c ∷ cs)) q2 ∙ ap (λ (w : List RawCoord). SiteItem sp w) s.value)
-site_by (param a b m d e) n q x y = absurd (cc)
-site_by (predicate a b m d e f g h v s r) n q x y = absurd (cc)
-
--- a name and all coordinates make the item of a site type
-pub site_read : {ts : List Token} {i k : ℕ} {sp : Span} {ds : List RawCoord} → HasItem ts i → Is ts i Site → sp ≡ span_at ts (i + 1)
-    → Coords ts (i + 3) k ds → Is ts k BraceR → IsItem ts i (k + 1) (SiteItem sp ds)
-site_read h n q x y = site_by h.derives n q x y
-
-param_range_by : {ts : List Token} {i j : ℕ} {x : Item} → IsItem ts i j x → Is ts i Param → HasRange ts (i + 3)
-param_range_by (site a b m d e) k = absurd (cc)
-param_range_by {ts = ts} {i = i} (param {j = j} {r = r} a b m d e) k =
-    let o : suc (suc (suc i)) ≡ i + 3 = omega arith in
-    record { to = j; value = r; derives = subst (λ (w : ℕ). Range ts w j r) o d }
-param_range_by (predicate a b m d e f g h v s r) k = absurd (cc)
+site_read (param a b m d e) n q x y = absurd (cc)
+site_read (predicate a b m d e f g h v s r) n q x y = absurd (cc)
 
 -- a param has a range
-pub param_range : {ts : List Token} {i : ℕ} → HasItem ts i → Is ts i Param → HasRange ts (i + 3)
-param_range h k = param_range_by h.derives k
-
-param_semi_by : {ts : List Token} {i j k : ℕ} {x : Item} {r : RawRange} → IsItem ts i j x → Is ts i Param → Range ts (i + 3) k r → Is ts k Semi
-param_semi_by (site a b m d e) n y = absurd (cc)
-param_semi_by {ts = ts} {i = i} {k = k} {r = r} (param a b m d e) n y =
-    let o : i + 3 ≡ suc (suc (suc i)) = omega arith in
-    subst (λ (w : ℕ). Is ts w Semi) (range_same d (subst (λ (w : ℕ). Range ts w k r) o y)).place e
-param_semi_by (predicate a b m d e f g h v s r) n y = absurd (cc)
+pub param_range : {ts : List Token} {i j : ℕ} {x : Item} → IsItem ts i j x → Is ts i Param → HasRange ts (i + 3)
+param_range (site a b m d e) k = absurd (cc)
+param_range {ts = ts} {i = i} (param {j = j} {r = r} a b m d e) k =
+    let o : suc (suc (suc i)) ≡ i + 3 = omega arith in
+    record { to = j; value = r; derives = subst (λ (w : ℕ). Range ts w j r) o d }
+param_range (predicate a b m d e f g h v s r) k = absurd (cc)
 
 -- after the range of a param comes its semicolon
-pub param_semi : {ts : List Token} {i k : ℕ} {r : RawRange} → HasItem ts i → Is ts i Param → Range ts (i + 3) k r → Is ts k Semi
-param_semi h n y = param_semi_by h.derives n y
+pub param_semi : {ts : List Token} {i j k : ℕ} {x : Item} {r : RawRange} → IsItem ts i j x → Is ts i Param → Range ts (i + 3) k r → Is ts k Semi
+param_semi (site a b m d e) n y = absurd (cc)
+param_semi {ts = ts} {i = i} {k = k} {r = r} (param a b m d e) n y =
+    let o : i + 3 ≡ suc (suc (suc i)) = omega arith in
+    subst (λ (w : ℕ). Is ts w Semi) (range_same d (subst (λ (w : ℕ). Range ts w k r) o y)).place e
+param_semi (predicate a b m d e f g h v s r) n y = absurd (cc)
 
-param_by : {ts : List Token} {i j k : ℕ} {x : Item} {sp : Span} {r : RawRange} → IsItem ts i j x → Is ts i Param → sp ≡ span_at ts (i + 1)
+-- a name and a range make the item of a param
+pub param_read : {ts : List Token} {i j k : ℕ} {x : Item} {sp : Span} {r : RawRange} → IsItem ts i j x → Is ts i Param → sp ≡ span_at ts (i + 1)
     → Range ts (i + 3) k r → IsItem ts i (k + 1) (ParamItem sp r)
-param_by (site a b m d e) n q y = absurd (cc)
-param_by {ts = ts} {i = i} {k = k} {sp = sp} {r = r} (param {j = j} {r = t} a b m d e) n q y =
+param_read (site a b m d e) n q y = absurd (cc)
+param_read {ts = ts} {i = i} {k = k} {sp = sp} {r = r} (param {j = j} {r = t} a b m d e) n q y =
     let o : i + 3 ≡ suc (suc (suc i)) = omega arith in
     let b1 : suc i ≡ i + 1 = omega arith in
     let s = range_same d (subst (λ (w : ℕ). Range ts w k r) o y) in
@@ -369,45 +309,34 @@ param_by {ts = ts} {i = i} {k = k} {sp = sp} {r = r} (param {j = j} {r = t} a b 
     let v : suc j ≡ k + 1 = omega arith in
     let q2 : span_at ts (suc i) ≡ sp = ap (span_at ts) b1 ∙ sym q in
     item_is (param a b m d e) v (ap (λ (w : Span). ParamItem w t) q2 ∙ ap (λ (w : RawRange). ParamItem sp w) s.value)
-param_by (predicate a b m d e f g h v s r) n q y = absurd (cc)
+param_read (predicate a b m d e f g h v s r) n q y = absurd (cc)
 
--- a name and a range make the item of a param
-pub param_read : {ts : List Token} {i k : ℕ} {sp : Span} {r : RawRange} → HasItem ts i → Is ts i Param → sp ≡ span_at ts (i + 1)
-    → Range ts (i + 3) k r → IsItem ts i (k + 1) (ParamItem sp r)
-param_read h n q y = param_by h.derives n q y
-
-pred_args_by : {ts : List Token} {i j : ℕ} {x : Item} → IsItem ts i j x → (Is ts i Site → ⊥) → (Is ts i Param → ⊥) → HasArgs ts (i + 3)
-pred_args_by (site a b m d e) n p = absurd (n a)
-pred_args_by (param a b m d e) n p = absurd (p a)
-pred_args_by {ts = ts} {i = i} (predicate {j = j} {args = args} a b m d e f g h v s r) n p =
+-- an item that is no site type and no param has arguments
+pub pred_args : {ts : List Token} {i j : ℕ} {x : Item} → IsItem ts i j x → (Is ts i Site → ⊥) → (Is ts i Param → ⊥) → HasArgs ts (i + 3)
+pred_args (site a b m d e) n p = absurd (n a)
+pred_args (param a b m d e) n p = absurd (p a)
+pred_args {ts = ts} {i = i} (predicate {j = j} {args = args} a b m d e f g h v s r) n p =
     let o : suc (suc (suc i)) ≡ i + 3 = omega arith in
     record { to = j; value = args; derives = subst (λ (w : ℕ). Args ts w j args) o d; stops = e }
 
--- an item that is no site type and no param has arguments
-pub pred_args : {ts : List Token} {i : ℕ} → HasItem ts i → (Is ts i Site → ⊥) → (Is ts i Param → ⊥) → HasArgs ts (i + 3)
-pred_args h n p = pred_args_by h.derives n p
-
-pred_lets_by : {ts : List Token} {i j k : ℕ} {x : Item} {us : List RawArg} → IsItem ts i k x → (Is ts i Site → ⊥) → (Is ts i Param → ⊥)
+-- after its arguments come its lets
+pub pred_lets : {ts : List Token} {i j k : ℕ} {x : Item} {us : List RawArg} → IsItem ts i k x → (Is ts i Site → ⊥) → (Is ts i Param → ⊥)
     → Args ts (i + 3) j us → Is ts j ParR → HasLets ts (j + 2)
-pred_lets_by (site a b m d e) n p y z = absurd (n a)
-pred_lets_by (param a b m d e) n p y z = absurd (p a)
-pred_lets_by {ts = ts} {i = i} {j = j} {us = us} (predicate {j = q} {k = k} {ls = ls} a b m d e f g h v s r) n p y z =
+pred_lets (site a b m d e) n p y z = absurd (n a)
+pred_lets (param a b m d e) n p y z = absurd (p a)
+pred_lets {ts = ts} {i = i} {j = j} {us = us} (predicate {j = q} {k = k} {ls = ls} a b m d e f g h v s r) n p y z =
     let o : i + 3 ≡ suc (suc (suc i)) = omega arith in
     let t = (args_same d e (subst (λ (w : ℕ). Args ts w j us) o y) z).place in
     let u : suc (suc q) ≡ j + 2 = omega arith in
     record { to = k; value = ls; derives = subst (λ (w : ℕ). Lets ts w k ls) u g; stops = h }
 
--- after its arguments come its lets
-pub pred_lets : {ts : List Token} {i j : ℕ} {us : List RawArg} → HasItem ts i → (Is ts i Site → ⊥) → (Is ts i Param → ⊥)
-    → Args ts (i + 3) j us → Is ts j ParR → HasLets ts (j + 2)
-pred_lets h n p y z = pred_lets_by h.derives n p y z
-
-pred_expr_by : {ts : List Token} {i j k l : ℕ} {x : Item} {us : List RawArg} {vs : List RawLet} → IsItem ts i l x → (Is ts i Site → ⊥)
+-- after its lets comes its sign expression
+pub pred_expr : {ts : List Token} {i j k l : ℕ} {x : Item} {us : List RawArg} {vs : List RawLet} → IsItem ts i l x → (Is ts i Site → ⊥)
     → (Is ts i Param → ⊥) → Args ts (i + 3) j us → Is ts j ParR → Lets ts (j + 2) k vs → Is ts k Sign
     → HasExpr ts (k + 1)
-pred_expr_by (site a b m d e) n p y z g2 h2 = absurd (n a)
-pred_expr_by (param a b m d e) n p y z g2 h2 = absurd (p a)
-pred_expr_by {ts = ts} {i = i} {j = j} {k = k} {us = us} {vs = vs} (predicate {j = q} {k = c} {l = l} a b m d e f g h v s r) n p y z g2 h2 =
+pred_expr (site a b m d e) n p y z g2 h2 = absurd (n a)
+pred_expr (param a b m d e) n p y z g2 h2 = absurd (p a)
+pred_expr {ts = ts} {i = i} {j = j} {k = k} {us = us} {vs = vs} (predicate {j = q} {k = c} {l = l} a b m d e f g h v s r) n p y z g2 h2 =
     let o : i + 3 ≡ suc (suc (suc i)) = omega arith in
     let t = (args_same d e (subst (λ (w : ℕ). Args ts w j us) o y) z).place in
     let u : j + 2 ≡ suc (suc q) = omega arith in
@@ -415,19 +344,14 @@ pred_expr_by {ts = ts} {i = i} {j = j} {k = k} {us = us} {vs = vs} (predicate {j
     let x : suc c ≡ k + 1 = omega arith in
     record { to = l; derives = subst (λ (w : ℕ). IsExpr ts w l) x v; stops = s }
 
--- after its lets comes its sign expression
-pub pred_expr : {ts : List Token} {i j k : ℕ} {us : List RawArg} {vs : List RawLet} → HasItem ts i → (Is ts i Site → ⊥)
-    → (Is ts i Param → ⊥) → Args ts (i + 3) j us → Is ts j ParR → Lets ts (j + 2) k vs → Is ts k Sign
-    → HasExpr ts (k + 1)
-pred_expr h n p y z g2 h2 = pred_expr_by h.derives n p y z g2 h2
-
-pred_by : {ts : List Token} {i j k l m : ℕ} {x : Item} {sp : Span} {us : List RawArg} {vs : List RawLet} → IsItem ts i m x
+-- a name, the arguments, the lets and the sign expression make the item of a predicate
+pub pred_read : {ts : List Token} {i j k l m : ℕ} {x : Item} {sp : Span} {us : List RawArg} {vs : List RawLet} → IsItem ts i m x
     → (Is ts i Site → ⊥) → (Is ts i Param → ⊥) → sp ≡ span_at ts (i + 1)
     → Args ts (i + 3) j us → Is ts j ParR → Lets ts (j + 2) k vs → Is ts k Sign → IsExpr ts (k + 1) l → Is ts l Semi
     → IsItem ts i (l + 2) (PredItem sp us vs (record { from = k + 1; to = l }))
-pred_by (site a b m d e) n p q y z g2 h2 v2 s2 = absurd (n a)
-pred_by (param a b m d e) n p q y z g2 h2 v2 s2 = absurd (p a)
-pred_by {ts = ts} {i = i} {j = j} {k = k} {l = l} {sp = sp} {us = us} {vs = vs} (predicate {j = a1} {k = a2} {l = a3} a b m d e f g h v s
+pred_read (site a b m d e) n p q y z g2 h2 v2 s2 = absurd (n a)
+pred_read (param a b m d e) n p q y z g2 h2 v2 s2 = absurd (p a)
+pred_read {ts = ts} {i = i} {j = j} {k = k} {l = l} {sp = sp} {us = us} {vs = vs} (predicate {j = a1} {k = a2} {l = a3} a b m d e f g h v s
     r) n p q y z g2 h2 v2 s2 =
     let o : i + 3 ≡ suc (suc (suc i)) = omega arith in
     let b1 : suc i ≡ i + 1 = omega arith in
@@ -442,13 +366,6 @@ pred_by {ts = ts} {i = i} {j = j} {k = k} {l = l} {sp = sp} {us = us} {vs = vs} 
     let x : suc (suc a3) ≡ l + 2 = omega arith in
     let o3 : suc a2 ≡ k + 1 = omega arith in
     item_is (predicate a b m d e f g h v s r) x (rw (q2, t.value, t2.value, o3, t3) refl)
-
--- a name, the arguments, the lets and the sign expression make the item of a predicate
-pub pred_read : {ts : List Token} {i j k l : ℕ} {sp : Span} {us : List RawArg} {vs : List RawLet} → HasItem ts i → (Is ts i Site → ⊥)
-    → (Is ts i Param → ⊥) → sp ≡ span_at ts (i + 1)
-    → Args ts (i + 3) j us → Is ts j ParR → Lets ts (j + 2) k vs → Is ts k Sign → IsExpr ts (k + 1) l → Is ts l Semi
-    → IsItem ts i (l + 2) (PredItem sp us vs (record { from = k + 1; to = l }))
-pred_read h n p q y z g2 h2 v2 s2 = pred_by h.derives n p q y z g2 h2 v2 s2
 
 -- the items up to place i, and what follows
 pub record ItemsRead (ts : List Token) (i : ℕ) (xs : List Item) : Type 0 where

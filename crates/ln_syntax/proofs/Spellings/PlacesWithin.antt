@@ -72,17 +72,13 @@ item_by {ts = ts} (Pred n us vs p) q (predicate {k = k} {l = l} {ls = ls} a b m 
     let y : _ ≡ p = ap (root_of p) q in
     (subst (λ (w : List RawLet). All (λ l. AreWithin (length ts) l.value) w) x (lets_within g), subst (λ (w : Places). AreWithin (length ts) w) y (places v s))
 
--- equal lists have equal parts
-head_is : {x y : Item} {xs ys : List Item} → (x ∷ xs) ≡ (y ∷ ys) → x ≡ y
-head_is q = cc
-
-tail_is : {x y : Item} {xs ys : List Item} → (x ∷ xs) ≡ (y ∷ ys) → xs ≡ ys
-tail_is q = cc
-
 items_by : {ts : List Token} {i j : ℕ} {xs : List Item} (rs : List RawItem) → xs ≡ items rs → Items ts i j xs → All (IsWithin (length ts)) rs
 items_by {ts = ts} [] q d = All-nil (IsWithin (length ts))
 items_by (r ∷ rs) q no_item = absurd (cc)
-items_by {ts = ts} (r ∷ rs) q (an_item h t) = All-cons (IsWithin (length ts)) r rs (item_by r (head_is q) h) (items_by rs (tail_is q) t)
+items_by {ts = ts} (r ∷ rs) q (an_item {x = x} {xs = xs} h t) =
+    let a : x ≡ item r = cc in
+    let b : xs ≡ items rs = cc in
+    All-cons (IsWithin (length ts)) r rs (item_by r a h) (items_by rs b t)
 
 -- each item that the tokens spell lies within them
 pub all_within : (ts : List Token) (rs : List RawItem) → Spelt ts (items rs) → All (IsWithin (length ts)) rs

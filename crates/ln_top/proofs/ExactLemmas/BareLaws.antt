@@ -2,7 +2,7 @@
 use Rattle.std.proofs.Common.{◌≡◌, ◌≢◌, ℕ, suc, zero, ◌+◌, ◌<◌, ◌≤◌, List, [], ◌∷◌, ◌++◌, length, take, map, refl, ap, sym, ◌∙◌, subst, arith, None, Some}
 use Rattle.std.specs.Prelude.{All, AllPairs}
 use Rattle.std.proofs.lemmas.List.{length-map, map-append, take_all}
-use Rattle.std.proofs.lemmas.List.Elements.{All-map, All-nil}
+use Rattle.std.proofs.lemmas.List.Elements.{All-cons, All-map, All-nil}
 use Rattle.std.proofs.lemmas.List.Kept.{AllPairs-cons}
 use Rattle.ln_algebra.specs.Orders.{BySmallest, Rank}
 use Rattle.ln_algebra.specs.Terms.{Term}
@@ -33,7 +33,8 @@ use Rattle.ln_cemit.proofs.Writing.Whole.{begun_kept}
 use Rattle.ln_top.proofs.TextsLemmas.EmitLaws.{AreNamed, names_of, names_there, same_number, small_more}
 use Rattle.ln_top.proofs.Theorem.HeadlineLaws.{never_zero}
 use Rattle.ln_top.specs.Exact.{BeginsExact, IsBareAt}
-use Rattle.ln_top.specs.ExactSigns.{CallSigns, CallsSign, IsExactC}
+use Rattle.ln_top.specs.ExactSigns.{CallsSign, IsExactC}
+use Rattle.ln_top.specs.Target.Target.{OnRows}
 
 -- ---- a part without its filter
 -- it carries what the part carries
@@ -91,14 +92,14 @@ call_sign file p c row k o n sound range s =
 
 -- so for all predicates
 all_signs : (file : List Fun) (ps : List Pred) (cs : List Part) → AreProgramsOf (map pred_of ps) cs → AreNamed (map pred_of ps)
-    → AreSound (map pred_of ps) → AreKept (map without_filter cs) → AllSay file (map without_filter cs) → CallSigns file (map pred_of ps)
-all_signs file [] [] a n d k s = tt
+    → AreSound (map pred_of ps) → AreKept (map without_filter cs) → AllSay file (map without_filter cs) → All (OnRows (CallsSign file)) (map pred_of ps)
+all_signs file [] [] a n d k s = All-nil (OnRows (CallsSign file))
 all_signs file [] (c ∷ cs) a n d k s = absurd a
 all_signs file (p ∷ ps) [] a n d k s = absurd a
-all_signs file (p ∷ ps) (c ∷ cs) a n d k s = (
-  λ row range. call_sign file p c row k.0 a.0 n.0 d.0 range (s.0 row (rw (a.0.sites, a.0.vars) range)),
-  all_signs file ps cs a.1 n.1 d.1 k.1 s.1,
-)
+all_signs file (p ∷ ps) (c ∷ cs) a n d k s =
+    All-cons (OnRows (CallsSign file)) (pred_of p) (map pred_of ps)
+    (λ row range. call_sign file p c row k.0 a.0 n.0 d.0 range (s.0 row (rw (a.0.sites, a.0.vars) range)))
+    (all_signs file ps cs a.1 n.1 d.1 k.1 s.1)
 
 -- a program has its name without its filter too
 same_names : (cs : List Part) → map part_name (map without_filter cs) ≡ map part_name cs

@@ -68,6 +68,15 @@ lift w (c.unread q u r e) = c.unread q (both_ways w.reads w.lacks u) r e
 lift w (c.cut p l r) = c.cut p (lift_fronts w.owes (both_ways w.reads w.lacks) l) r
 lift w (c.short q l r) = c.short q (lift_part w.owes w.part l) r
 
+-- What is carried out is so by something that holds.
+pub carried_by : {owes : Said → Type 0} {part : List ℕ → List ℕ → Type 0} {lacks reads claim : Type 0} {puts : Count}
+    {result : Result End Early} {was now : Option Shown} → claim → CarriesOut owes part lacks reads puts result was now
+    → CarriesOut (λ s. owes s × claim) part lacks reads puts result was now
+carried_by {owes = owes} {part = part} {lacks = lacks} {reads = reads} {claim = claim} h =
+    lift {a = record { owes = owes; part = part; lacks = lacks; reads = reads }}
+    {b = record { owes = λ s. owes s × claim; part = part; lacks = lacks; reads = reads }}
+    (record { owes = λ s o. (o, h); part = λ out err q. q; lacks = λ l. l; reads = λ r. r })
+
 -- A stop that was written is carried out where its steps require it.
 pub says_carried : {A : Type 0} (step : Outcome A → Type 0) (s : Stop) (d : Duty) (puts : Count) (result : Result End Early)
     (was now : Option Shown)

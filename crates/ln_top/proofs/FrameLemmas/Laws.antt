@@ -8,7 +8,7 @@ use Rattle.ln_top.specs.Frame.Said.{Said}
 use Rattle.ln_top.specs.Frame.Stop.{why_end}
 use Rattle.ln_top.specs.Frame.Signature.{Asked}
 use Rattle.ln_top.specs.Frame.Given.{Given}
-use Rattle.ln_top.specs.Frame.Work.{IsWorkEnd, Work}
+use Rattle.ln_top.specs.Frame.Work.{IsWorkEnd, Work, work_by}
 use Rattle.ln_top.proofs.FrameLemmas.Grounded.{IsGrounded}
 
 -- it doesn't object with the usage
@@ -24,6 +24,16 @@ pub record IsLawful (suits : Asked) (w : Work) : Type 0 where
   pub objects : IsNoUsage suits
   pub said : w.one → (boxes : List State) (g : Given) → IsGrounded g → suits.asks g.preds → (a b : Said) → w.owes boxes g a
       → w.owes boxes g b → a ≡ b
+
+-- the laws hold of a work that is required to be done by something, where they hold of the work
+pub lawful_by : (claim : List PredOf → Type 0) {suits : Asked} {w : Work} → IsLawful suits w → IsLawful suits (work_by claim w)
+lawful_by claim l = record {
+  tells = λ boxes g a o. l.tells boxes g a o.0;
+  single = l.single;
+  kind = l.kind;
+  objects = l.objects;
+  said = λ v boxes g i s a b o k. l.said v boxes g i s a b o.0 k.0;
+}
 
 -- where each end is that of something that is required, and that is one thing, there is one end
 pub one_by_said : {O : Said → Type 0} {E : End → Type 0} → ((e : End) → E e → (a : Said) × O a × (a.end ≡ e))

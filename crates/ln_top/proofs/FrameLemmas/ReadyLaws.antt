@@ -1,5 +1,6 @@
 -- What is ready stands for what is given: its one number, its one file or two.
 use Rattle.std.proofs.Common.{◌≡◌, ℕ, ◌≤◌, List, [], ◌∷◌, length, map, ap, sym, subst, arith, get_or}
+use Rattle.std.proofs.lemmas.List.Elements.{All-head, All-tail}
 use Rattle.ln_base.specs.Limits.{most_file}
 use Rattle.ln_top.specs.Frame.Ready.{IsFit, AreShort}
 use Rattle.ln_top.specs.Frame.Signature.{Form}
@@ -25,4 +26,10 @@ one_name f n t h l m = omega (arith, h.least, h.most)
 
 -- the one further file
 pub one_short : (texts : List (List ℕ)) (bytes : List ℕ) → texts ≡ bytes ∷ [] → AreShort texts → length bytes ≤ most_file
-one_short texts bytes e h = (subst AreShort e h).0
+one_short texts bytes e h = All-head (λ t. length t ≤ most_file) bytes [] (subst AreShort e h)
+
+-- the second of two
+pub second_short : (texts : List (List ℕ)) (first second : List ℕ) → texts ≡ first ∷ second ∷ [] → AreShort texts → length second ≤ most_file
+second_short texts first second e h =
+    let both = subst AreShort e h in
+    All-head (λ t. length t ≤ most_file) second [] (All-tail (λ t. length t ≤ most_file) first (second ∷ []) both)

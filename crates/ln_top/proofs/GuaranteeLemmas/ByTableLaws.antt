@@ -41,7 +41,7 @@ use Rattle.ln_top.specs.Frame.Said.{put_both, line}
 use Rattle.ln_top.specs.Signs.Run.{HasRecords}
 use Rattle.ln_top.specs.declared.words.Command.{Command}
 use Rattle.ln_top.specs.declared.words.Command.TheVariants.{Emit, List as ListCommand, Run}
-use Rattle.ln_top.specs.Emitted.{CallPerturbedSigns, CallsArePerturbed, CallsPerturbedSign, PutC}
+use Rattle.ln_top.specs.Emitted.{CallsArePerturbed, CallsPerturbedSign, PutC}
 use Rattle.ln_csyn.specs.Tree.{Fun}
 use Rattle.ln_top.specs.Causes as cause
 use Rattle.ln_top.specs.Causes.{Ends, EndsExactly, IsSettled}
@@ -72,7 +72,8 @@ use Rattle.ln_top.proofs.Theorem.HeadlineLaws.{headline, never_zero}
 use Rattle.ln_top.specs.Listed.{GivesPerturbedSign}
 use Rattle.ln_top.specs.Perturbed.{IsSignOn}
 use Rattle.ln_top.specs.Headline as head
-use Rattle.ln_top.specs.Headline.{HasPerturbedSign, HavePerturbedSigns, NoFeed, PutSigns, SignsArePerturbed}
+use Rattle.ln_top.specs.Headline.{HasPerturbedSign, HavePerturbedSigns, PutSigns, SignsArePerturbed}
+use Rattle.ln_top.specs.Target.Target.{OnRows}
 use Rattle.ln_top.specs.Plan.{Plan, plan_of}
 use Rattle.ln_top.specs.Signature.{Asks}
 use Rattle.ln_top.specs.Steps as step
@@ -255,10 +256,6 @@ row_read sites vars fields row h range =
     ∙ ap (unless_fault cs made) r.fault ∙ ap (differing cs made) differ ∙ ap Ok is
 
 -- ---- the lines
-no_feed : (text : List ℕ) → NoFeed text → All (λ b. b ≢ 10) text
-no_feed [] n = All-nil (λ b. b ≢ 10)
-no_feed (b ∷ bs) n = All-cons (λ b. b ≢ 10) b bs n.0 (no_feed bs n.1)
-
 begins : (p : PredOf) (row : Row) (text body : List ℕ) → text ≡ line body → HasPerturbedSign BySmallest p row text
     → BeginsWithSign p row body
 begins p row text body e h = record {
@@ -274,7 +271,7 @@ are_lines p head.none = no_line
 are_lines p (head.more {fields = fields} {rest = rest} text texts one f h) =
     let e : text ++ texts ≡ one.body ++ 10 ∷ texts = ap (λ (x : List ℕ). x ++ texts) one.is ∙ append_assoc one.body (10 ∷ []) texts in
     subst (λ (x : List ℕ). AreSignLines p (fields ∷ rest) x) (sym e)
-    (a_line one.body (no_feed one.body one.none)
+    (a_line one.body one.none
     (λ row r i. begins p row text one.body one.is (f row (row_read p.sites p.vars fields row r i))) (are_lines p h))
 
 put_out : (lines err : List ℕ) (was : Option Shown)
@@ -350,20 +347,13 @@ table_given shelf c file source t g a k (step.goes bytes r (step.goes table x (s
     let e : g ≡ record { table = table; preds = preds; texts = texts } = cc in
     ap (λ (z : Given). z.table) e ∙ same
 
-all_calls : (file : List Fun) (ps : List PredOf) → CallPerturbedSigns file ps
-    → All (λ p. (row : Row) → InRange p.sites p.vars row → CallsPerturbedSign file p row) ps
-all_calls file [] s = All-nil (λ p. (row : Row) → InRange p.sites p.vars row → CallsPerturbedSign file p row)
-all_calls file (p ∷ ps) s =
-    All-cons (λ p. (row : Row) → InRange p.sites p.vars row → CallsPerturbedSign file p row) p ps s.0 (all_calls file ps s.1)
-
 put_calls : (preds : List PredOf) (was now : Option Shown) → PutC preds was now → WritesC preds was now
 put_calls preds was now h = record {
   bytes = h.bytes;
   file = h.file;
   text = h.text;
   calls = λ p row has range.
-      let c = All-contains (λ q. (r : Row) → InRange q.sites q.vars r → CallsPerturbedSign h.file q r) preds p
-      (all_calls h.file preds h.signs) has row range in
+      let c = All-contains (OnRows (CallsPerturbedSign h.file)) preds p h.signs has row range in
       record { sign = c.sign; counts = c.counts; called = c.called; perturbed = c.perturbed; never_zero = c.never_zero };
   out = ap (option_map (λ (s : Shown). s.out)) h.shown ∙ put_out h.bytes [] was;
 }

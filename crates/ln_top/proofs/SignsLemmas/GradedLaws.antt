@@ -1,6 +1,7 @@
 -- `graded`: a predicate with few stages by total degree has a program in that order, with its verdicts.
 use Rattle.std.proofs.Common.{◌≡◌, inl, inr, ℕ, ◌≤◌, ◌<◌, List, [], ◌∷◌, length, map, ap, sym, ◌∙◌, subst, arith}
-use Rattle.std.proofs.Common.{Some, Ok, Err, Result}
+use Rattle.std.proofs.Common.{All, Some, Ok, Err, Result}
+use Rattle.std.proofs.lemmas.List.Elements.{All-nil, All-cons}
 use Rattle.std.specs.Prelude.{IfErr, IfOk, IsErrAnd, IsSomeAnd, Option, slice_get, slice_index_or}
 use Rattle.ln_base.specs.Outside.{refused}
 use Rattle.ln_algebra.specs.Orders.{ByDegree}
@@ -24,7 +25,11 @@ use Rattle.ln_graded.specs.Graded.{CanBegin, IsGradable, IsGradedFrom, IsWithin,
 use Rattle.ln_graded.specs.declared.stop.GradedStop.{GradedStop}
 use Rattle.ln_graded.specs.declared.stop.GradedStop.TheVariants.{NoMemory, Stages}
 use Rattle.ln_stage.proofs.Results.SamePoly.{one-normal}
+use Rattle.ln_top.specs.Frame.Given.{Given}
 use Rattle.ln_top.specs.Signs.Graded.{FirstHasFew, HasFewGraded, KeepsGraded}
+use Rattle.ln_top.specs.Signs.Named.{IsGivenBy}
+use Rattle.ln_top.specs.Target.Target.{Belongs, HasProgram, TargetOf, pred_in}
+use Rattle.ln_top.proofs.TargetLemmas.TargetLaws.{has_program}
 
 -- ---- the first of the named predicates
 -- a predicate by its number has few stages, and this program by total degree
@@ -53,6 +58,13 @@ pub kept_first : (table : List PredOf) (numbers : List ℕ) (kept : Option Part)
     → IsSomeAnd kept (λ q. (p : PredOf) → slice_get table (slice_index_or numbers 0 0) ≡ Some p → AnswersFor ByDegree p q)
 kept_first table [] kept l h = absurd (omega (arith, l))
 kept_first table (i ∷ is) kept l h = h
+
+-- the one predicate that is given has a program, that of the target that is it
+pub program_given : {g : Given} {t : TargetOf} → IsGivenBy g t → t.rank ≡ ByDegree → Belongs t.rank t.pred t.program
+    → All (HasProgram ByDegree) g.preds
+program_given {t = t} given rank b =
+    rw given.pred (All-cons (HasProgram ByDegree) (pred_in t) [] (has_program ByDegree (pred_in t) t.program b.kept (rw rank at b.answers))
+    (All-nil (HasProgram ByDegree)))
 
 -- ---- few stages
 -- stage lists that pass a limit

@@ -1,8 +1,9 @@
 -- `product`: each record has a line, and one line, and so what it requires is one.
-use Rattle.std.proofs.Common.{◌≡◌, ℕ, List, [], ◌∷◌, ◌++◌, refl, ap, sym, ◌∙◌, true, subst, None, Ok}
+use Rattle.std.proofs.Common.{◌≡◌, ℕ, List, [], ◌∷◌, ◌++◌, refl, ap, sym, ◌∙◌, true, subst, None, All, Ok}
 use Rattle.std.specs.Prelude.{◌*ℤ◌}
 use Rattle.ln_base.specs.declared.sign.Sign.{Sign}
 use Rattle.ln_base.specs.declared.sign.Sign.TheVariants.{Minus, Zero, Plus}
+use Rattle.ln_algebra.specs.Orders.{BySmallest}
 use Rattle.ln_algebra.specs.Product.{multiplied_numbers}
 use Rattle.ln_tree.specs.declared.shape.Shape.{Shape}
 use Rattle.ln_tree.specs.Row.{InRange, Row}
@@ -13,9 +14,10 @@ use Rattle.ln_top.specs.Frame.Given.{Given}
 use Rattle.ln_top.specs.Target.Alike.{are_alike}
 use Rattle.ln_top.specs.Target.Factors.{AreFactors, AreProgramsAt, FactorsOf}
 use Rattle.ln_top.specs.Target.Line.{decider_text}
+use Rattle.ln_top.specs.Target.Target.{HasProgram}
 use Rattle.ln_top.proofs.TargetLemmas.FactorsLaws.{range_as, IsOver, alike_over, owed_all}
 use Rattle.ln_top.specs.Signs.Product.{AreDue, IsMultiplied, Multiplied, ProductLine, deciders_after, product_text, product_work}
-use Rattle.ln_top.proofs.FrameLemmas.Laws.{IsLawful, shape_objects}
+use Rattle.ln_top.proofs.FrameLemmas.Laws.{IsLawful, lawful_by, shape_objects}
 use Rattle.ln_top.proofs.FrameLemmas.Grounded.{IsGrounded, each_found}
 use Rattle.ln_code.specs.declared.verdict.Verdict.{Verdict}
 use Rattle.ln_due.specs.Due.{sign_number}
@@ -114,5 +116,6 @@ one_product q ps over names n fields x y a b =
 -- the laws of a work hold for `product`
 pub lawful : IsLawful (asks_shape (λ preds. are_alike preds ≡ true)) product_work
 lawful =
-    lawful_rows (asks_shape (λ preds. are_alike preds ≡ true)) [] ProductLine (λ boxes. []) shape_objects (λ g i s q others f.
-    one_product q g.preds (subst (Every (IsOver q.shape.sites q.shape.vars)) (sym f) (all_over g i s (pred_of q) others f)))
+    lawful_by (All (HasProgram BySmallest))
+    (lawful_rows (asks_shape (λ preds. are_alike preds ≡ true)) [] ProductLine (λ boxes. []) shape_objects (λ g i s q others f.
+    one_product q g.preds (subst (Every (IsOver q.shape.sites q.shape.vars)) (sym f) (all_over g i s (pred_of q) others f))))

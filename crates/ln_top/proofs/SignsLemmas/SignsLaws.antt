@@ -1,5 +1,5 @@
 -- `run` and `graded`: each record has a line, and one line, and so what they require is one.
-use Rattle.std.proofs.Common.{◌≡◌, ℕ, ◌+◌, List, [], ◌∷◌, refl, ap, Ok, Option, Result, Some}
+use Rattle.std.proofs.Common.{◌≡◌, ℕ, ◌+◌, List, [], ◌∷◌, refl, ap, All, Ok, Option, Result, Some}
 use Rattle.ln_base.specs.Outside.{Shown}
 use Rattle.ln_algebra.specs.Orders.{BySmallest, ByDegree, Rank}
 use Rattle.ln_tree.specs.Table.{PredOf, pred_of}
@@ -21,9 +21,9 @@ use Rattle.ln_top.specs.Frame.Signature.{asks_nothing}
 use Rattle.ln_top.specs.Signs.Graded.{FirstHasFew, many_stages}
 use Rattle.ln_top.specs.Target.Line.{said_text}
 use Rattle.ln_top.specs.Signs.Signs.{RunLine, RunPart, RunSaid, graded_work, run_work, shown_of}
-use Rattle.ln_top.specs.Target.Target.{Belongs, TargetOf, pred_in}
+use Rattle.ln_top.specs.Target.Target.{Belongs, HasProgram, TargetOf, pred_in}
 use Rattle.ln_top.specs.Signs.Watching.{watching}
-use Rattle.ln_top.proofs.FrameLemmas.Laws.{IsLawful, shape_objects, usage_other}
+use Rattle.ln_top.proofs.FrameLemmas.Laws.{IsLawful, lawful_by, shape_objects, usage_other}
 use Rattle.ln_top.proofs.SignsLemmas.OneLine.{line_of, said_there, says_alike}
 use Rattle.ln_top.proofs.SignsLemmas.RowsLaws.{HasLines, HasOneLine, SameLine, lawful_rows, one_line, unseen}
 use Rattle.ln_top.proofs.TargetLemmas.TargetLaws.{owed_there}
@@ -62,8 +62,8 @@ lawful = lawful_rows asks_nothing [] (λ preds. RunLine BySmallest) (λ boxes. b
 -- the laws of a work hold for `graded`
 pub lawful_graded : IsLawful (record { asks = FirstHasFew; objection = many_stages }) graded_work
 lawful_graded =
-    lawful_rows (record { asks = FirstHasFew; objection = many_stages }) [] (λ preds. RunLine ByDegree) (λ boxes. []) many_objects
-    (λ g i s q others f. one_run ByDegree q)
+    lawful_by (All (HasProgram ByDegree)) (lawful_rows (record { asks = FirstHasFew; objection = many_stages }) []
+    (λ preds. RunLine ByDegree) (λ boxes. []) many_objects (λ g i s q others f. one_run ByDegree q))
 
 -- what is carried out in one order and for some watchers, where these are others by name
 pub carried_as : {rank order : Rank} {boxes these : List State} {g : Given} {puts : Count} {result : Result End Early} {was now : Option Shown}

@@ -1,5 +1,6 @@
 -- What the steps of a plan give: it stands for a table in memory, suits the command, and its files are within their limit.
 use Rattle.std.proofs.Common.{◌≡◌, ℕ, ◌≤◌, List, [], ◌∷◌, length, Option, Some}
+use Rattle.std.proofs.lemmas.List.Elements.{All-cons, All-nil}
 use Rattle.ln_base.specs.Limits.{most_file}
 use Rattle.ln_base.specs.Outside.{Shelf}
 use Rattle.ln_tree.specs.Table.{PredOf, TableOf}
@@ -27,10 +28,10 @@ short_read : (told : Option Shelf) (name bytes : List ℕ) → Reads told most_f
 short_read told name bytes (step.there _ m l) = l
 
 short_each : (told : Option Shelf) (names texts : List (List ℕ)) → Each (Reads told most_file) names (gives texts) → AreShort texts
-short_each told [] texts h = let e : texts ≡ [] = cc in rw e tt
+short_each told [] texts h = let e : texts ≡ [] = cc in rw e (All-nil (λ t. length t ≤ most_file))
 short_each told (n ∷ ns) texts (step.goes t r (step.goes ts f h)) =
     let e : texts ≡ t ∷ ts = cc in
-    rw e (short_read told n t r, short_each told ns ts f)
+    rw e (All-cons (λ t. length t ≤ most_file) t ts (short_read told n t r) (short_each told ns ts f))
 
 accepted_of : (bytes : List ℕ) (t : TableOf) → Compiles bytes (gives t) → IsAccepted bytes t
 accepted_of bytes t (step.accepted _ a) = a

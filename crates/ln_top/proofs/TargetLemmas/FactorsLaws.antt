@@ -10,6 +10,7 @@ use Rattle.std.proofs.lemmas.Option.{none-some, same_Some, slice_get_within}
 use Rattle.std.proofs.lemmas.Slice.Eq.{bytes_eq-Decides}
 use Rattle.std.proofs.lemmas.Slice.Zip.{AllZip-long, all_zipped_more}
 use Rattle.std.specs.List.{AllZip}
+use Rattle.ln_algebra.specs.Orders.{BySmallest}
 use Rattle.ln_tree.specs.declared.pred.Pred.{Pred}
 use Rattle.ln_tree.specs.declared.shape.VarInfo.{VarInfo}
 use Rattle.ln_tree.specs.declared.table.Table.{Table}
@@ -33,12 +34,14 @@ use Rattle.ln_code.specs.declared.verdict.Verdict.{Verdict}
 use Rattle.ln_code.proofs.Verdicts.Machine.{programs-run, rows-have}
 use Rattle.ln_compile.specs.Compiled.{AreNumbered, IsProgramAt, IsProgramOf}
 use Rattle.ln_compile.proofs.Making.BuildingLemmas.{names-differ}
-use Rattle.ln_compile.proofs.Listing.FilteredLemmas.{programs_answer}
+use Rattle.ln_compile.proofs.Listing.FilteredLemmas.{answers_for, programs_answer}
 use Rattle.ln_compile.proofs.Numbers.{same_at}
 use Rattle.ln_factor.specs.Factors.{AreMadeFor, AreOver, AreVerdicts, IsFactor, IsRowOfFactors}
 use Rattle.ln_top.specs.Target.Alike.{are_alike, same_arg, same_args}
 use Rattle.ln_top.specs.Target.Factors.{AreDue, AreFactors, AreMade, AreMadeAt, AreProgramsAt}
 use Rattle.ln_top.specs.Target.Factors.{FactorsOf, Grows, HaveOneShape, IsInRangeOf, IsMadeOf, IsRoomFor, StandAt, factors_of}
+use Rattle.ln_top.specs.Target.Target.{HasProgram}
+use Rattle.ln_top.proofs.TargetLemmas.TargetLaws.{has_program}
 
 -- ---- lists that are related place by place
 module _ {A B : Type 0} (R : A → B → Type 0) where
@@ -300,6 +303,18 @@ module _ (sites : ℕ) (vars : List VarInfo) (programs : List Part)
       let rest = owed_all row ks ps (λ j part g. o (suc j) part (later k ks j part g)) range
       (All-tail (λ (i : ℕ). i < length programs) k ks pl) a.1 in
       (v.0 ∷ rest.0, (programs_answer p here.0 row v.0 (kept k here.0 here.1) carries within v.1, rest.1))
+
+-- each predicate of factors has a program
+pub programs_had : (programs : List Part) → ((i : ℕ) (part : Part) → slice_get programs i ≡ Some part → IsProgram part) → (ks : List ℕ)
+    (ps : List PredOf) → All (λ i. i < length programs) ks → AreProgramsAt programs ks ps → All (HasProgram BySmallest) ps
+programs_had programs kept [] [] pl a = All-nil (HasProgram BySmallest)
+programs_had programs kept [] (p ∷ ps) pl a = absurd a
+programs_had programs kept (k ∷ ks) [] pl a = absurd a
+programs_had programs kept (k ∷ ks) (p ∷ ps) pl a =
+    let here = at_place programs k (All-head (λ (i : ℕ). i < length programs) k ks pl) in
+    All-cons (HasProgram BySmallest) p ps
+    (has_program BySmallest p here.0 (kept k here.0 here.1) (answers_for p here.0 (a.0 here.0 here.1)))
+    (programs_had programs kept ks ps (All-tail (λ (i : ℕ). i < length programs) k ks pl) a.1)
 
 -- the row that arrays hold is one of factors, and their verdicts on it are those required
 pub row_of_factors : (t : FactorsOf) (programs : List Part) (which : List ℕ) (r : code.Row) → AreFactors t → programs ≡ t.programs

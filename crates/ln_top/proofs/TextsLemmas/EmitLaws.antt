@@ -23,7 +23,8 @@ use Rattle.ln_cemit.specs.Whole.{part_name}
 use Rattle.ln_cemit.specs.Emitted.{AllSay, AreKept, BeginsFile, CallSays, IsEmitted, sign_as_number}
 use Rattle.ln_cemit.proofs.Writing.Whole.{begun_kept}
 use Rattle.ln_top.specs.Frame.Signature.{asks_nothing}
-use Rattle.ln_top.specs.Texts.Emit.{AllAreDue, BeginsCOfFirst, CallIsDue, IsCOf, emit_work}
+use Rattle.ln_top.specs.Texts.Emit.{BeginsCOfFirst, CallIsDue, IsCOf, emit_work}
+use Rattle.ln_top.specs.Target.Target.{OnRows}
 use Rattle.ln_top.proofs.FrameLemmas.Laws.{IsLawful}
 use Rattle.ln_top.proofs.TextsLemmas.TextLaws.{lawful as text_lawful}
 
@@ -67,12 +68,13 @@ row_there p part row o range = rw (o.sites, o.vars) range
 
 -- so for all predicates
 all_due : (file : List Fun) (ps : List PredOf) (parts : List Part) → AreProgramsOf ps parts → AreNamed ps → AreKept parts
-    → AllSay file parts → AllAreDue file ps
-all_due file [] [] a n k s = tt
+    → AllSay file parts → All (OnRows (CallIsDue file)) ps
+all_due file [] [] a n k s = All-nil (OnRows (CallIsDue file))
 all_due file [] (c ∷ cs) a n k s = absurd a
 all_due file (p ∷ ps) [] a n k s = absurd a
 all_due file (p ∷ ps) (c ∷ cs) a n k s =
-    (λ row range. call_due file p c row k.0 a.0 n.0 range (s.0 row (row_there p c row a.0 range)), all_due file ps cs a.1 n.1 k.1 s.1)
+    All-cons (OnRows (CallIsDue file)) p ps (λ row range. call_due file p c row k.0 a.0 n.0 range (s.0 row (row_there p c row a.0 range)))
+    (all_due file ps cs a.1 n.1 k.1 s.1)
 
 -- programs have the names of their predicates
 pub names_of : (ps : List PredOf) (parts : List Part) → AreProgramsOf ps parts → AreNamed ps

@@ -1,5 +1,7 @@
 -- The listing of compiled programs is the lines of good parts, and so it is valid.
 use Rattle.std.proofs.Common.{◌≡◌, ℕ, suc, List, [], ◌∷◌, ◌++◌, length, map, refl, sym, ◌∙◌, ap, subst}
+use Rattle.std.proofs.lemmas.Slice.Zip.{AllZip-long}
+use Rattle.std.specs.List.{AllZip}
 use Rattle.std.specs.Prelude.{Option, Some, None}
 use Rattle.ln_algebra.specs.Orders.{BySmallest}
 use Rattle.ln_tree.specs.Table.{PredOf}
@@ -22,8 +24,9 @@ use Rattle.ln_verify.specs.Good.{AreGoodParts, all_lines, block_lines, triple_pa
 use Rattle.ln_verify.specs.Judge.{Go}
 use Rattle.ln_verify.specs.Line.{Outside, Subject, Written}
 use Rattle.ln_verify.specs.Verified.{AreSubjectsOf}
-use Rattle.ln_verify.proofs.Judging.Put.{parts-go, same-size}
-use Rattle.ln_top.specs.Texts.Listing.{AreListable, IsListingOf, PartsAreDue}
+use Rattle.ln_verify.specs.Good.{IsGoodPart}
+use Rattle.ln_verify.proofs.Judging.Put.{parts-go}
+use Rattle.ln_top.specs.Texts.Listing.{AreListable, IsListingOf, PartIsDue}
 use Rattle.ln_top.proofs.TextsLemmas.GoodParts.{good_part, lines_in, piece_of, subject_of, written_of}
 use Rattle.ln_top.proofs.TextsLemmas.ListedParts.{part_due}
 
@@ -87,7 +90,7 @@ goods (p ∷ ps) (c ∷ cs) a k l =
     }
 
 -- ---- the listing
-parts_due : (ps : List PredOf) (parts : List Part) → AreProgramsOf ps parts → AreKept parts → PartsAreDue ps (map written_of parts)
+parts_due : (ps : List PredOf) (parts : List Part) → AreProgramsOf ps parts → AreKept parts → AllZip PartIsDue ps (map written_of parts)
 parts_due [] [] a k = tt
 parts_due [] (c ∷ cs) a k = absurd a
 parts_due (p ∷ ps) [] a k = absurd a
@@ -121,7 +124,7 @@ listing_is ps parts bytes a k l t =
           good =
               subst (λ (xs : List Said). Go version_2 g.subjects (Outside []) xs (Outside (map written_of parts)))
               (sym (e ∙ g.lines)) (parts-go [] g.subjects [] (map written_of parts) refl g.good);
-          all = same-size g.subjects (map written_of parts) g.good;
+          all = AllZip-long (IsGoodPart version_2) g.subjects (map written_of parts) g.good;
         };
       };
       due = parts_due ps parts a k;

@@ -1,5 +1,6 @@
 -- The calls of the C that was written mean the perturbed signs, under the names of the source's predicates.
-use Rattle.std.proofs.Common.{◌≡◌, ℕ, List, [], ◌∷◌, map, Option, ap, refl, ◌∙◌, subst}
+use Rattle.std.proofs.Common.{◌≡◌, ℕ, All, List, [], ◌∷◌, map, Option, ap, refl, ◌∙◌, subst}
+use Rattle.std.proofs.lemmas.List.Elements.{All-cons, All-head, All-nil, All-tail}
 use Rattle.ln_base.specs.Outside.{Shown}
 use Rattle.ln_algebra.specs.Orders.{BySmallest}
 use Rattle.ln_watch.specs.Panel.{State}
@@ -18,11 +19,12 @@ use Rattle.ln_top.specs.declared.frame.status.Status.{Status}
 use Rattle.ln_top.specs.Frame.Said.{Said, put_both}
 use Rattle.ln_top.specs.Frame.Given.{Given}
 use Rattle.ln_top.specs.declared.words.Command.TheVariants.{Emit}
-use Rattle.ln_top.specs.Texts.Emit.{AllAreDue, CallIsDue, EmitSaid}
+use Rattle.ln_top.specs.Texts.Emit.{CallIsDue, EmitSaid}
 use Rattle.ln_top.specs.Texts.Text.{prints}
-use Rattle.ln_top.specs.Emitted.{CallsPerturbedSign, CallPerturbedSigns, PutC}
+use Rattle.ln_top.specs.Emitted.{CallsPerturbedSign, PutC}
 use Rattle.ln_top.specs.ByValue.{IsByValue, IsVerdictByValue, Takes}
 use Rattle.ln_top.specs.Perturbed.{FilterDecides}
+use Rattle.ln_top.specs.Target.Target.{OnRows}
 use Rattle.ln_top.proofs.TextsLemmas.EmitLaws.{AreNamed, names_there}
 use Rattle.ln_top.proofs.Theorem.ByValueLaws.{by_value}
 use Rattle.ln_top.proofs.Theorem.HeadlineLaws.{never_zero}
@@ -75,10 +77,14 @@ call_signed file p row sound range d =
       plain = λ z. called_by_value file (pred_of p) row d (by_value BySmallest p.shape (pred_of p) row d.verdict refl refl range z d.due);
     }
 
-all_signed : (file : List Fun) (ps : List Pred) → AreSound (map pred_of ps) → AllAreDue file (map pred_of ps)
-    → CallPerturbedSigns file (map pred_of ps)
-all_signed file [] s d = tt
-all_signed file (p ∷ ps) s d = (λ row range. call_signed file p row s.0 range (d.0 row range), all_signed file ps s.1 d.1)
+all_signed : (file : List Fun) (ps : List Pred) → AreSound (map pred_of ps) → All (OnRows (CallIsDue file)) (map pred_of ps)
+    → All (OnRows (CallsPerturbedSign file)) (map pred_of ps)
+all_signed file [] s d = All-nil (OnRows (CallsPerturbedSign file))
+all_signed file (p ∷ ps) s d =
+    let due = OnRows (CallIsDue file) in
+    All-cons (OnRows (CallsPerturbedSign file)) (pred_of p) (map pred_of ps)
+    (λ row range. call_signed file p row s.0 range (All-head due (pred_of p) (map pred_of ps) d row range))
+    (all_signed file ps s.1 (All-tail due (pred_of p) (map pred_of ps) d))
 
 -- what is required for a source's predicates
 put_c : (g : Given) (a : Said) (was now : Option Shown) → IsGrounded g → EmitSaid g a

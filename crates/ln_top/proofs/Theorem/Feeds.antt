@@ -2,8 +2,9 @@
 use Rattle.std.proofs.Common.{◌≡◌, ◌≢◌, ℕ, zero, suc, ◌+◌, ◌/◌, ◌%◌, ◌==◌, nat_lt, not}
 use Rattle.std.proofs.Common.{cond, Bool, true, false, true≢false, List, [], ◌∷◌, ◌++◌, codes, map, Option, Some, None}
 use Rattle.std.proofs.Common.{Result, Ok, Err, refl, ap, sym, ◌∙◌, subst, arith, decimal}
-use Rattle.std.specs.Prelude.{slice_get, slice_index_or}
+use Rattle.std.specs.Prelude.{All, slice_get, slice_index_or}
 use Rattle.std.proofs.lemmas.Bool.{and_parts}
+use Rattle.std.proofs.lemmas.List.Elements.{All-append, All-cons, All-head, All-nil, All-tail}
 use Rattle.std.specs.Fmt.{digits, digits_onto, digit_glyph}
 use Rattle.ln_base.specs.Words.{is_word, is_keyword, is_letter, is_name_byte, every}
 use Rattle.ln_base.specs.declared.sign.Sign.{Sign}
@@ -33,8 +34,11 @@ use Rattle.ln_rows.proofs.HeaderLaws.{columns_like}
 
 -- one text after another
 pub behind : (xs ys : List ℕ) → NoFeed xs → NoFeed ys → NoFeed (xs ++ ys)
-behind [] ys f g = g
-behind (x ∷ xs) ys f g = (f.0, behind xs ys f.1 g)
+behind = All-append (λ b. b ≢ 10)
+
+-- a byte before a text
+pub before : (b : ℕ) (bs : List ℕ) → b ≢ 10 → NoFeed bs → NoFeed (b ∷ bs)
+before = All-cons (λ b. b ≢ 10)
 
 -- digits
 glyph : (d : ℕ) → digit_glyph false d ≢ 10
@@ -46,11 +50,14 @@ glyph d = by_test (nat_lt d 10)
 
 digits_feed : (k n : ℕ) (acc : List ℕ) → NoFeed acc → NoFeed (digits_onto k 10 false n acc)
 digits_feed zero n acc f = f
-digits_feed (suc k) n acc f = by_test (n / 10 == 0) (digits_feed k (n / 10) (digit_glyph false (n % 10) ∷ acc) (glyph (n % 10), f))
+digits_feed (suc k) n acc f = by_test (n / 10 == 0) (digits_feed k (n / 10) (digit_glyph false (n % 10) ∷ acc) more)
   where
+    more : NoFeed (digit_glyph false (n % 10) ∷ acc)
+    more = before (digit_glyph false (n % 10)) acc (glyph (n % 10)) f
+
     by_test : (b : Bool) → NoFeed (digits_onto k 10 false (n / 10) (digit_glyph false (n % 10) ∷ acc))
         → NoFeed (cond b (digit_glyph false (n % 10) ∷ acc) (digits_onto k 10 false (n / 10) (digit_glyph false (n % 10) ∷ acc)))
-    by_test true g = (glyph (n % 10), f)
+    by_test true g = more
     by_test false g = g
 
 digits_are : (n : ℕ) → digits_onto 64 10 false n [] ≡ digits 10 false n
@@ -58,7 +65,7 @@ unfolding digits
 digits_are n = refl
 
 decimal_feed : (n : ℕ) → NoFeed (decimal n)
-decimal_feed n = subst NoFeed (digits_are n) (digits_feed 64 n [] tt)
+decimal_feed n = subst NoFeed (digits_are n) (digits_feed 64 n [] (All-nil (λ b. b ≢ 10)))
 
 -- one byte isn't a line feed
 pub other : (b : ℕ) → nat_lt 10 b ≡ true → b ≢ 10
@@ -66,10 +73,10 @@ other b e f = true≢false (sym e ∙ ap (nat_lt 10) f)
 
 -- bytes that pass a test, which a line feed doesn't
 every_feed : (p : ℕ → Bool) → p 10 ≡ false → (bs : List ℕ) → every p bs ≡ true → NoFeed bs
-every_feed p f [] e = tt
+every_feed p f [] e = All-nil (λ b. b ≢ 10)
 every_feed p f (b ∷ bs) e =
     let k = and_parts (p b) (every p bs) e in
-    (λ i. true≢false (sym k.0 ∙ ap p i ∙ f), every_feed p f bs k.1)
+    before b bs (λ i. true≢false (sym k.0 ∙ ap p i ∙ f)) (every_feed p f bs k.1)
 
 above : (bs : List ℕ) → every (nat_lt 10) bs ≡ true → NoFeed bs
 above bs e = every_feed (nat_lt 10) refl bs e
@@ -88,44 +95,40 @@ decider_feed Nothing = above (codes "-") refl
 
 -- names
 word_feed : (bs : List ℕ) → is_word bs ≡ true → NoFeed bs
-word_feed [] e = tt
+word_feed [] e = All-nil (λ b. b ≢ 10)
 word_feed (b ∷ bs) e =
     let k = and_parts (is_letter b) (every is_name_byte bs) e in
-    (λ i. true≢false (sym k.0 ∙ ap is_letter i), every_feed is_name_byte refl bs k.1)
+    before b bs (λ i. true≢false (sym k.0 ∙ ap is_letter i)) (every_feed is_name_byte refl bs k.1)
 
 name_feed : (n : Name) → NoFeed (name_bytes n)
 name_feed n = word_feed (name_bytes n) (and_parts (is_word (name_bytes n)) (not (is_keyword (name_bytes n))) n.named).0
 
 -- each text has none
 abbrev pub HaveNoFeed : List (List ℕ) → Type 0
-HaveNoFeed [] = Unit {0}
-HaveNoFeed (t ∷ ts) = NoFeed t × HaveNoFeed ts
-
-join : (xs ys : List (List ℕ)) → HaveNoFeed xs → HaveNoFeed ys → HaveNoFeed (xs ++ ys)
-join [] ys f g = g
-join (x ∷ xs) ys f g = (f.0, join xs ys f.1 g)
+HaveNoFeed = All NoFeed
 
 coords_feed : (n : Name) (cs : List Coord) → HaveNoFeed (map (coord_column n) cs)
-coords_feed n [] = tt
+coords_feed n [] = All-nil NoFeed
 coords_feed n (c ∷ cs) =
-    (behind (name_bytes n) (46 ∷ name_bytes c.name) (name_feed n) (other 46 refl, name_feed c.name), coords_feed n cs)
+    All-cons NoFeed (coord_column n c) (map (coord_column n) cs)
+    (behind (name_bytes n) (46 ∷ name_bytes c.name) (name_feed n) (before 46 (name_bytes c.name) (other 46 refl) (name_feed c.name))) (coords_feed n cs)
 
 site_feed : (n : Name) (o : Option Site) → HaveNoFeed (site_columns n o)
-site_feed n None = (name_feed n, tt)
-site_feed n (Some t) = (name_feed n, coords_feed n t.coords)
+site_feed n None = All-cons NoFeed (name_bytes n) [] (name_feed n) (All-nil NoFeed)
+site_feed n (Some t) = All-cons NoFeed (name_bytes n) (map (coord_column n) t.coords) (name_feed n) (coords_feed n t.coords)
 
 param_feed : (o : Option Param) → HaveNoFeed (param_columns o)
-param_feed None = tt
-param_feed (Some p) = (name_feed p.name, tt)
+param_feed None = All-nil NoFeed
+param_feed (Some p) = All-cons NoFeed (name_bytes p.name) [] (name_feed p.name) (All-nil NoFeed)
 
 arg_feed : (sites : List Site) (params : List Param) (a : Arg) → HaveNoFeed (arg_columns sites params a)
 arg_feed sites params (IsSite n t) = site_feed n (slice_get sites t)
 arg_feed sites params (IsParam p) = param_feed (slice_get params p)
 
 args_feed : (sites : List Site) (params : List Param) (args : List Arg) → HaveNoFeed (column_names sites params args)
-args_feed sites params [] = tt
+args_feed sites params [] = All-nil NoFeed
 args_feed sites params (a ∷ as') =
-    join (arg_columns sites params a) (column_names sites params as') (arg_feed sites params a) (args_feed sites params as')
+    All-append NoFeed (arg_columns sites params a) (column_names sites params as') (arg_feed sites params a) (args_feed sites params as')
 
 -- the columns of what is given stand for those of a table in memory
 pub columns_no_feed : (g : Given) (q : Pred) (p : PredOf) (names : List (List ℕ)) (t : Table) → view t ≡ g.table
@@ -136,9 +139,9 @@ columns_no_feed g q p names t e f n =
     subst HaveNoFeed same (args_feed t.sites t.params q.args)
 
 nth : (names : List (List ℕ)) (k : ℕ) → HaveNoFeed names → NoFeed (slice_index_or names k [])
-nth [] k f = tt
-nth (n ∷ ns) zero f = f.0
-nth (n ∷ ns) (suc k) f = nth ns k f.1
+nth [] k f = All-nil (λ b. b ≢ 10)
+nth (n ∷ ns) zero f = All-head NoFeed n ns f
+nth (n ∷ ns) (suc k) f = nth ns k (All-tail NoFeed n ns f)
 
 -- the text of a refused record has no line feed where the names of the columns have none
 pub stop_feed : (names : List (List ℕ)) (s : RowStop) → HaveNoFeed names → NoFeed (stop_text names s)
@@ -149,5 +152,6 @@ stop_feed names (Index k) f = behind (codes "! index ") (slice_index_or names k 
 
 -- what is said of a record is one line
 pub said_no_feed : (names : List (List ℕ)) (said : Result Verdict RowStop) → HaveNoFeed names → NoFeed (said_text names said)
-said_no_feed names (Ok v) f = behind (sign_text v.sign) (32 ∷ decider_text v.by) (sign_feed v.sign) (other 32 refl, decider_feed v.by)
+said_no_feed names (Ok v) f = behind (sign_text v.sign) (32 ∷ decider_text v.by) (sign_feed v.sign)
+    (before 32 (decider_text v.by) (other 32 refl) (decider_feed v.by))
 said_no_feed names (Err s) f = stop_feed names s f

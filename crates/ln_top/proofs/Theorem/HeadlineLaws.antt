@@ -2,6 +2,7 @@
 use Rattle.std.proofs.Common.{◌≡◌, ◌≢◌, ◌⊎◌, inl, inr, ℕ, List, [], ◌∷◌, ◌++◌, length, Option, None, Result, Ok, refl, ap}
 use Rattle.std.proofs.Common.{◌∙◌, subst, sym}
 use Rattle.std.specs.Prelude.{All}
+use Rattle.std.proofs.lemmas.List.Elements.{All-head}
 use Rattle.std.proofs.Math.IntN.{pos}
 use Rattle.ln_base.specs.Outside.{Shown}
 use Rattle.ln_base.specs.declared.sign.Sign.{Sign}
@@ -51,6 +52,7 @@ use Rattle.ln_top.specs.declared.frame.status.Status.{Status}
 use Rattle.ln_top.specs.Frame.Said.{Said, line, put_both}
 use Rattle.ln_top.specs.Frame.Given.{Given}
 use Rattle.ln_top.specs.Target.Line.{said_text, Says, due, refused_}
+use Rattle.ln_top.specs.Target.Target.{HasProgram}
 use Rattle.ln_top.specs.Frame.Lines as l
 use Rattle.ln_top.specs.Frame.Lines.{Lines}
 
@@ -159,5 +161,8 @@ headline g i w p names records k = run_signs BySmallest _ g p names records w.sa
 -- and what `graded` says by total degree first
 pub graded_headline : {boxes : List State} {result : Status} {was now : Option Shown} (g : Given) → IsFine Graded g
     → Worked Graded boxes g result was now → (p : PredOf) (names : List (List ℕ)) (records : Records)
-    → HasRecords g p names (names ∷ records) → PutSigns ByDegree p records [] was now
-graded_headline g i w p names records k = run_signs ByDegree [] g p names records w.said _ _ i.grounded w.owed k w.shown
+    → HasRecords g p names (names ∷ records) → PutSigns ByDegree p records [] was now × HasProgram ByDegree p
+graded_headline g i w p names records k = (
+  run_signs ByDegree [] g p names records w.said _ _ i.grounded w.owed.0 k w.shown,
+  All-head (HasProgram ByDegree) p k.others (subst (All (HasProgram ByDegree)) k.pred w.owed.1),
+)

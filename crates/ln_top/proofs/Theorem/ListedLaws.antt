@@ -1,6 +1,7 @@
 -- The listing that was written has the perturbed signs, and is valid.
 use Rattle.std.proofs.Common.{◌≡◌, ℕ, List, [], ◌∷◌, length, map, Option, ap, refl, sym, ◌∙◌, subst}
 use Rattle.std.specs.Prelude.{codes}
+use Rattle.std.specs.List.{AllZip}
 use Rattle.ln_base.specs.Outside.{Shown}
 use Rattle.ln_algebra.specs.Orders.{BySmallest}
 use Rattle.ln_watch.specs.Panel.{State}
@@ -24,8 +25,8 @@ use Rattle.ln_top.specs.Frame.Said.{Said, line, put_both, whole}
 use Rattle.ln_top.specs.Frame.Given.{Given}
 use Rattle.ln_top.specs.declared.words.Command.TheVariants as command
 use Rattle.ln_top.specs.Texts.Text.{prints}
-use Rattle.ln_top.specs.Texts.Listing.{AnswersDue, IsListingOf, ListSaid, PartIsDue, PartsAreDue}
-use Rattle.ln_top.specs.Listed.{GivesFilteredSign, PartGives, PartsGive, PutListing}
+use Rattle.ln_top.specs.Texts.Listing.{AnswersDue, IsListingOf, ListSaid, PartIsDue}
+use Rattle.ln_top.specs.Listed.{GivesFilteredSign, PartGives, PutListing}
 use Rattle.ln_top.specs.Judges.Verify as v
 use Rattle.ln_top.proofs.TextsLemmas.EmitLaws.{AreNamed}
 use Rattle.ln_top.proofs.Theorem.ByValueLaws.{by_value}
@@ -66,7 +67,7 @@ part_signed p w sound named d = record {
 }
 
 all_signed : (ps : List Pred) (ws : List Written) → AreSound (map pred_of ps) → AreNamed (map pred_of ps)
-    → PartsAreDue (map pred_of ps) ws → PartsGive GivesFilteredSign (map pred_of ps) ws
+    → AllZip PartIsDue (map pred_of ps) ws → AllZip (PartGives GivesFilteredSign) (map pred_of ps) ws
 all_signed [] [] s n d = tt
 all_signed [] (w ∷ ws) s n d = absurd d
 all_signed (p ∷ ps) [] s n d = absurd d
@@ -92,7 +93,7 @@ put_listing g a was now i n (prints text c) q =
       listing = c.listing;
       text = c.text;
       valid = c.valid;
-      signs = subst (λ (ps : List PredOf). PartsGive GivesFilteredSign ps c.valid.valid.parts) preds
+      signs = subst (λ (ps : List PredOf). AllZip (PartGives GivesFilteredSign) ps c.valid.valid.parts) preds
           (all_signed i.table.preds c.valid.valid.parts (rw preds i.sound) (rw preds n) (rw preds c.due));
       verified = verified g text c;
       shown = q;

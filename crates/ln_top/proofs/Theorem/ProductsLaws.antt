@@ -1,8 +1,9 @@
 -- The lines of products that were written begin with the perturbed signs of the products, and each is one line.
-use Rattle.std.proofs.Common.{◌≡◌, ◌≢◌, inl, inr, ℕ, zero, suc, true, List, [], ◌∷◌, map, length, Option, Some}
+use Rattle.std.proofs.Common.{◌≡◌, ◌≢◌, inl, inr, ℕ, zero, suc, true, List, [], ◌∷◌, ◌++◌, map, length, Option, Some}
 use Rattle.std.proofs.Common.{Result, Ok, Err, refl, ap, sym, ◌∙◌, subst}
-use Rattle.std.specs.Prelude.{slice_get}
+use Rattle.std.specs.Prelude.{All, slice_get}
 use Rattle.std.proofs.Math.IntN.{ℤ}
+use Rattle.std.proofs.lemmas.List.Elements.{All-nil}
 use Rattle.std.proofs.lemmas.Option.{none-some}
 use Rattle.ln_base.specs.Outside.{Shown}
 use Rattle.ln_base.specs.declared.sign.Sign.{Sign}
@@ -38,6 +39,7 @@ use Rattle.ln_top.specs.Frame.Said.{Said, line, put_both}
 use Rattle.ln_top.specs.Frame.Given.{Given}
 use Rattle.ln_top.specs.Target.Alike.{are_alike}
 use Rattle.ln_top.specs.Target.Line.{decider_text, due, refused_, sign_text}
+use Rattle.ln_top.specs.Target.Target.{HasProgram}
 use Rattle.ln_top.specs.Signs.Product.{AreDue, IsMultiplied, Multiplied, ProductSaid, SaysProduct, ProductLine}
 use Rattle.ln_top.specs.Signs.Product.{deciders_after, product_text}
 use Rattle.ln_top.specs.Products.{HasProductSign, HasSummedFirsts, HaveProductSigns, OneIsZeroOn, PutProducts}
@@ -46,7 +48,7 @@ use Rattle.ln_top.specs.Signs.Run.{HasRecords}
 use Rattle.ln_top.specs.declared.words.Command.TheVariants.{Product}
 use Rattle.ln_top.proofs.TargetLemmas.FactorsLaws.{IsOver}
 use Rattle.ln_top.proofs.SignsLemmas.ProductLaws.{all_over}
-use Rattle.ln_top.proofs.Theorem.Feeds.{HaveNoFeed, behind, columns_no_feed, decider_feed, other, sign_feed, stop_feed}
+use Rattle.ln_top.proofs.Theorem.Feeds.{HaveNoFeed, before, behind, columns_no_feed, decider_feed, other, sign_feed, stop_feed}
 use Rattle.ln_top.proofs.Steps.TopLaws.{Worked}
 use Rattle.ln_top.proofs.FrameLemmas.Grounded.{IsGrounded, in_memory}
 use Rattle.ln_top.proofs.Steps.Grounded.{IsFine}
@@ -107,9 +109,10 @@ zero_from s row r (p ∷ ps) (v ∷ vs) o d (suc k) x e z = inr (zero_from s row
 
 -- ---- lines
 deciders_feed : (byte : ℕ) (vs : List Verdict) → byte ≢ 10 → NoFeed (deciders_after byte vs)
-deciders_feed byte [] h = tt
+deciders_feed byte [] h = All-nil (λ b. b ≢ 10)
 deciders_feed byte (v ∷ vs) h =
-    (h, behind (decider_text v.by) (deciders_after 44 vs) (decider_feed v.by) (deciders_feed 44 vs (other 44 refl)))
+    before byte (decider_text v.by ++ deciders_after 44 vs) h
+    (behind (decider_text v.by) (deciders_after 44 vs) (decider_feed v.by) (deciders_feed 44 vs (other 44 refl)))
 
 product_feed : (names : List (List ℕ)) (said : Result Multiplied RowStop) → HaveNoFeed names → NoFeed (product_text names said)
 product_feed names (Ok m) f =
@@ -186,7 +189,7 @@ product_signs : (g : Given) (p : PredOf) (others : List PredOf) (names : List (L
     → HasRecords g p names (names ∷ records) → now ≡ put_both a.out a.err was → PutProducts p others records was now
 product_signs g p others names records a was now i v o f k e =
     let q = in_memory g p others i f in
-    let r = of_rows [] (ProductLine g.preds) [] g o k in
+    let r = of_rows [] (ProductLine g.preds) [] g o.0 k in
     let over = subst (λ (t : PredOf). Every (IsOver t.sites t.vars) (t ∷ others)) (sym q.1) (all_over g i v p others f) in
     let x0 = subst (λ (ps : List PredOf). Lines (RowStep (ProductLine ps p names)) (watching 0 []) records r.out r.err r.left) f r.lines in
     let x = subst (λ t. Lines (RowStep (ProductLine (t ∷ others) t names)) (watching 0 []) records r.out r.err r.left) (sym q.1) x0 in
@@ -196,6 +199,7 @@ product_signs g p others names records a was now i v o f k e =
       signs =
           subst (λ t. HaveProductSigns t others records r.out) q.1
           (lines_signs q.0 others over names feed records r.out r.err (watching 0 []) r.left x);
+      programs = subst (All (HasProgram BySmallest)) f o.1;
       shown =
           e ∙ ap (λ (s : Said). put_both s.out s.err was) r.is
           ∙ ap (λ (t : List ℕ). put_both r.out t was)

@@ -1,5 +1,5 @@
 -- Defines what the program has ready for the work, and what it stands for.
-use Rattle.std.specs.Prelude.{◌≡◌, ℕ, ◌≤◌, List, [], ◌∷◌, map, length}
+use Rattle.std.specs.Prelude.{◌≡◌, ℕ, ◌≤◌, All, List, map, length}
 use Rattle.ln_base.specs.Limits.{most_file}
 use Rattle.ln_tree.specs.Table.{pred_of}
 use Rattle.ln_compile.specs.Accepted.{AreSound}
@@ -11,8 +11,7 @@ use Rattle.ln_top.specs.Frame.Signature.{Form, Signature}
 
 -- the further files are within their limit
 abbrev pub AreShort : List (List ℕ) → Type 0
-AreShort [] = Unit {0}
-AreShort (t ∷ ts) = (length t ≤ most_file) × AreShort ts
+AreShort = All (λ t. length t ≤ most_file)
 
 -- what is ready stands for this
 pub record StandsFor (r : Ready) (g : Given) : Type 0 where

@@ -2,6 +2,7 @@
 -- how and where it ends. Names no command.
 use Rattle.ln_watch.specs.Panel.{State}
 use Rattle.std.specs.Prelude.{ℕ, List}
+use Rattle.ln_tree.specs.Table.{PredOf}
 use Rattle.ln_top.specs.declared.frame.status.End.{End}
 use Rattle.ln_top.specs.declared.frame.status.End.TheVariants as end
 use Rattle.ln_top.specs.Frame.Said.{Said}
@@ -17,6 +18,15 @@ pub record Work : Type 1 where
   pub ends : Given → End → Type 0
   -- that it says one thing: not so where more than one text may be true of a source
   pub one : Type 0
+
+-- the same work, which is required besides to be done by what is claimed of its predicates
+abbrev pub work_by : (List PredOf → Type 0) → Work → Work
+work_by claim w = record {
+  owes = λ boxes g said. w.owes boxes g said × claim g.preds;
+  part = w.part;
+  ends = w.ends;
+  one = w.one;
+}
 
 -- an end that works have; any other comes with its line alone
 pub data IsWorkEnd : End → Type 0 where

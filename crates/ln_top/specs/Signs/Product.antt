@@ -1,5 +1,6 @@
 -- `product FILE NAME NAME.. ROWS`: a line for each record after the header, with the sign of the product and each factor's decider.
-use Rattle.std.specs.Prelude.{◌≡◌, ℕ, List, [], codes, true, None, Result}
+use Rattle.std.specs.Prelude.{◌≡◌, ℕ, List, [], All, codes, true, None, Result}
+use Rattle.ln_algebra.specs.Orders.{BySmallest}
 use Rattle.ln_algebra.specs.Product.{multiplied_numbers}
 use Rattle.ln_tree.specs.Table.{PredOf}
 use Rattle.ln_due.specs.Due.{sign_number}
@@ -9,9 +10,10 @@ use Rattle.ln_top.specs.Target.Alike.{are_alike}
 pub use Rattle.ln_top.specs.Target.Factors.{AreDue}
 use Rattle.ln_top.specs.Target.Line.{SaysOf}
 pub use Rattle.ln_top.specs.Target.Line.{Multiplied, deciders_after, product_text}
+use Rattle.ln_top.specs.Target.Target.{HasProgram}
 use Rattle.ln_top.specs.Frame.Said.{Said, line}
 use Rattle.ln_top.specs.Frame.Given.{Given}
-use Rattle.ln_top.specs.Frame.Work.{Work}
+use Rattle.ln_top.specs.Frame.Work.{Work, work_by}
 use Rattle.ln_top.specs.Frame.Signature.{Signature, asks_shape}
 use Rattle.ln_top.specs.Signs.Rows.{LineOf, RowsPart, RowsSaid, SaysLine, rows_work}
 
@@ -28,9 +30,9 @@ SaysProduct p ps = SaysOf (λ row m. AreDue ps row m.verdicts × IsMultiplied m)
 abbrev pub ProductLine : List PredOf → LineOf
 ProductLine ps p names number fields = SaysLine (SaysProduct p ps fields) (λ said. None) (λ said. line (product_text names said))
 
--- what is required: nothing comes to Err but the error line of a wrong header
+-- what is required: nothing comes to Err but the error line of a wrong header, and each factor has a program
 abbrev pub ProductSaid : Given → Said → Type 0
-ProductSaid g = RowsSaid [] (ProductLine g.preds) [] g
+ProductSaid g said = RowsSaid [] (ProductLine g.preds) [] g said × All (HasProgram BySmallest) g.preds
 
 -- the part that may be left when memory runs out
 abbrev pub ProductPart : Given → List ℕ → List ℕ → Type 0
@@ -46,4 +48,4 @@ product_signature = record {
 
 -- the work of `product`
 abbrev pub product_work : Work
-product_work = rows_work [] ProductLine (λ boxes. [])
+product_work = work_by (All (HasProgram BySmallest)) (rows_work [] ProductLine (λ boxes. []))

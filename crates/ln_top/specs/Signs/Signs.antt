@@ -1,6 +1,6 @@
 -- `run FILE NAME ROWS`: a line on Out for each record after the header, and the watchers' lines on Err. `graded FILE NAME ROWS` is the
 -- same in the other order of infinitesimals, without watchers.
-use Rattle.std.specs.Prelude.{ℕ, List, [], Option, Some, None, Result, Ok, Err}
+use Rattle.std.specs.Prelude.{ℕ, List, [], All, Option, Some, None, Result, Ok, Err}
 use Rattle.ln_algebra.specs.Orders.{ByDegree, BySmallest, Rank}
 use Rattle.ln_code.specs.declared.verdict.Verdict.{Verdict}
 use Rattle.ln_rows.specs.declared.record.RowStop.{RowStop}
@@ -8,8 +8,9 @@ use Rattle.ln_watch.specs.Panel.{State}
 use Rattle.ln_top.specs.Frame.Said.{Said, line}
 use Rattle.ln_top.specs.Frame.Given.{Given}
 use Rattle.ln_top.specs.Target.Line.{Says, said_text}
+use Rattle.ln_top.specs.Target.Target.{HasProgram}
 use Rattle.ln_top.specs.Signs.Rows.{LineOf, RowsPart, RowsSaid, SaysLine, rows_work}
-use Rattle.ln_top.specs.Frame.Work.{Work}
+use Rattle.ln_top.specs.Frame.Work.{Work, work_by}
 
 -- watchers are shown the verdict on a row, and nothing of a record that is refused
 abbrev pub shown_of : Result Verdict RowStop → Option Verdict
@@ -32,6 +33,10 @@ RunPart rank = RowsPart [] (RunLine rank)
 abbrev pub run_work : Work
 run_work = rows_work [] (λ preds. RunLine BySmallest) (λ boxes. boxes)
 
+-- what is required by total degree first: the lines, by a program of the predicate in that order
+abbrev pub GradedSaid : Given → Said → Type 0
+GradedSaid g said = RunSaid ByDegree [] g said × All (HasProgram ByDegree) g.preds
+
 -- the work of `graded`
 abbrev pub graded_work : Work
-graded_work = rows_work [] (λ preds. RunLine ByDegree) (λ boxes. [])
+graded_work = work_by (All (HasProgram ByDegree)) (rows_work [] (λ preds. RunLine ByDegree) (λ boxes. []))

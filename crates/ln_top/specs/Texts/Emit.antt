@@ -1,7 +1,7 @@
 -- `emit FILE`: C for the predicates of a source.
 use Rattle.std.specs.Prelude.{◌≡◌, ◌≤◌, ℕ, All, List, [], ◌∷◌, length, map, take, Some, codes}
 use Rattle.ln_base.specs.Limits.{most_stages}
-use Rattle.ln_tree.specs.Row.{InRange, Row}
+use Rattle.ln_tree.specs.Row.{Row}
 use Rattle.ln_tree.specs.Table.{PredOf}
 use Rattle.ln_code.specs.declared.verdict.Verdict.{Verdict}
 use Rattle.ln_code.specs.declared.verdict.By.TheVariants.{Filter}
@@ -21,6 +21,7 @@ use Rattle.ln_top.specs.Frame.Given.{Given}
 use Rattle.ln_top.specs.Frame.Work.{Work}
 use Rattle.ln_top.specs.Frame.Signature.{Signature}
 use Rattle.ln_top.specs.Texts.Text.{Prints, source_signature, text_work}
+use Rattle.ln_top.specs.Target.Target.{OnRows}
 pub use Rattle.ln_top.specs.Texts.Text.{done}
 
 -- on this row the call of `ln_NAME` returns the sign of the verdict that the row requires, with its calls, and with no wide operation where
@@ -33,17 +34,12 @@ pub record CallIsDue (file : List Fun) (p : PredOf) (row : Row) : Type 0 where
   pub calls : counts.calls ≡ verdict.calls
   pub narrow : verdict.by ≡ Filter → counts.wide ≡ 0
 
--- so for each predicate, on each row in range
-abbrev pub AllAreDue : List Fun → List PredOf → Type 0
-AllAreDue file [] = Unit {0}
-AllAreDue file (p ∷ ps) = ((row : Row) → InRange p.sites p.vars row → CallIsDue file p row) × AllAreDue file ps
-
 -- the bytes are a file of the C subset, whose calls return what rows of these predicates require. Its functions are those of programs of
 -- the predicates, one for each in order, and no other; each is named after its predicate, whose name the program's shape has
 pub record IsCOf (preds : List PredOf) (bytes : List ℕ) : Type 0 where
   pub file : List Fun
   pub text : CText bytes file
-  pub due : AllAreDue file preds
+  pub due : All (OnRows (CallIsDue file)) preds
   pub programs : List Part
   pub are_programs : AreProgramsOf preds programs
   pub names : map part_name programs ≡ map (λ (p : PredOf). p.name) preds

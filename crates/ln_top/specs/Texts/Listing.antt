@@ -1,5 +1,6 @@
 -- `list FILE`: the listing of the programs of a source.
 use Rattle.std.specs.Prelude.{◌≡◌, ℕ, List, [], ◌∷◌, take, codes}
+use Rattle.std.specs.List.{AllZip}
 use Rattle.ln_tree.specs.declared.shape.Shape.{Shape}
 use Rattle.ln_tree.specs.Names.{name_bytes}
 use Rattle.ln_tree.specs.Row.{InRange, Row}
@@ -45,13 +46,6 @@ pub record PartIsDue (p : PredOf) (w : Written) : Type 0 where
   pub vars : shape.vars ≡ p.vars
   pub rows : (row : Row) → InRange p.sites p.vars row → AnswersDue p (part_of shape w) row
 
--- so does that of each predicate, in order
-abbrev pub PartsAreDue : List PredOf → List Written → Type 0
-PartsAreDue [] [] = Unit {0}
-PartsAreDue [] (w ∷ ws) = ⊥
-PartsAreDue (p ∷ ps) [] = ⊥
-PartsAreDue (p ∷ ps) (w ∷ ws) = PartIsDue p w × PartsAreDue ps ws
-
 -- the bytes are the text of a listing of version 2 that is valid for these predicates, and whose parts have the verdicts that their rows require;
 -- it is that of programs of the predicates, one for each, that follow the rules
 pub record IsListingOf (preds : List PredOf) (bytes : List ℕ) : Type 0 where
@@ -59,7 +53,7 @@ pub record IsListingOf (preds : List PredOf) (bytes : List ℕ) : Type 0 where
   pub second : listing.version ≡ 2
   pub text : ListText bytes listing.version (parts_of listing.entries)
   pub valid : IsValidFor preds listing
-  pub due : PartsAreDue preds valid.valid.parts
+  pub due : AllZip PartIsDue preds valid.valid.parts
   pub programs : List Part
   pub are_programs : AreProgramsOf preds programs
   pub kept : AreKept programs

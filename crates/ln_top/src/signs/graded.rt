@@ -12,7 +12,7 @@ ghost use Rattle.ln_top.specs.Frame.Signature.{Refuses};
 ghost use Rattle.ln_top.specs.Signs.Run.{graded_signature};
 ghost use Rattle.ln_top.specs.Frame.Said.{count};
 ghost use Rattle.ln_top.specs.Frame.Given.{Given};
-ghost use Rattle.ln_top.specs.Signs.Signs.{RunPart, RunSaid};
+ghost use Rattle.ln_top.specs.Signs.Signs.{GradedSaid, RunPart};
 
 use crate::frame::place::place_at;
 use crate::frame::ready::{Ready, short_text};
@@ -78,12 +78,13 @@ pub fn graded_first(
     }
 }
 
-/// Writes a line for each record after the header, by total degree first; or refuses the header. The watchers are shown nothing.
+/// Writes a line for each record after the header, by total degree first; or refuses the header. The watchers are shown nothing. No operation of the
+/// program that it runs leaves its width.
 pub fn work<C: Console>(alloc: Global, con: &mut C, ready: &Ready) -> Result<End, Early>
     requires ready { IsReadyFor graded_signature ready.now }
     requires kept { KeepsGraded (map pred_of ready.now.compiled.table.preds) ready.now.numbers.items ready.now.kept }
     ensures { (g : Given) → StandsFor ready.now g
-        → CarriesOut (RunSaid ByDegree [] g) (RunPart ByDegree [] g) ⊥ ⊥
+        → CarriesOut (GradedSaid g) (RunPart ByDegree [] g) ⊥ ⊥
         (count (C.faults con.old) (C.faults con.new)) result (C.shown con.old) (C.shown con.new) }
 {
     let target = degree_target(ready);

@@ -8,6 +8,8 @@ ghost use Rattle.ln_top.specs.Signs.Graded.{KeepsGraded};
 ghost use Rattle.ln_top.specs.Signs.Named.{AreGivenBy, IsGivenBy};
 ghost use Rattle.ln_top.specs.Signs.Product.{product_signature};
 ghost use Rattle.ln_top.specs.Signs.Run.{graded_signature};
+ghost use Rattle.ln_top.specs.Target.Factors.{AreFactors};
+ghost use Rattle.ln_top.specs.Target.Target.{Belongs};
 
 use crate::frame::ready::Ready;
 use crate::target::Target;
@@ -32,6 +34,7 @@ pub fn degree_target(ready: &Ready) -> Target<'_>
     requires kept { KeepsGraded (map pred_of ready.now.compiled.table.preds) ready.now.numbers.items ready.now.kept }
     ensures given { (g : Given) → StandsFor ready.now g → IsGivenBy g result }
     ensures rank { result.rank ≡ ByDegree }
+    ensures belongs { Belongs result.rank result.pred result.program }
 {
     match &ready.kept {
         Some(program) => { Target::graded(&ready.compiled, ready.numbers.as_slice()[0], program) }
@@ -42,7 +45,8 @@ pub fn degree_target(ready: &Ready) -> Target<'_>
 /// Returns the named predicates of a product, with their programs.
 pub fn product_factors(alloc: Global, ready: &Ready) -> Result<Factors<'_>, NoMemory>
     requires { IsReadyFor product_signature ready.now }
-    ensures { IfOk result (λ t. (g : Given) → StandsFor ready.now g → AreGivenBy g t) }
+    ensures given { IfOk result (λ t. (g : Given) → StandsFor ready.now g → AreGivenBy g t) }
+    ensures factors { IfOk result AreFactors }
 {
     let factors = Factors::new(alloc, &ready.compiled, ready.numbers.as_slice())?;
     Ok(factors)

@@ -91,7 +91,7 @@ impl<'a> RecordWriter for Factors<'a> {
     }
 }
 
-/// Writes a line for each record after the header, or refuses the header.
+/// Writes a line for each record after the header, or refuses the header. No operation of a factor's program leaves its width.
 pub fn work<C: Console>(alloc: Global, con: &mut C, ready: &Ready) -> Result<End, Early>
     requires { IsReadyFor product_signature ready.now }
     ensures { (g : Given) → StandsFor ready.now g → CarriesOut (ProductSaid g) (ProductPart g) ⊥ ⊥

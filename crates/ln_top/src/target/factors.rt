@@ -167,6 +167,7 @@ impl<'a> Factors<'a> {
         requires few { length numbers.now ≤ 8 }
         ensures pred { IfOk result (λ t. slice_get c.now.table.preds (slice_index_or numbers.now 0 0) ≡ Some t.pred) }
         ensures names { IfOk result (λ t. t.names ≡ names_of c.now.table t.pred) }
+        ensures factors { IfOk result AreFactors }
         ensures programs { IfOk result (λ t. (ps : List PredOf) → AreNumbered (map pred_of c.now.table.preds) numbers.now ps
             → AreProgramsAt t.programs t.which ps) }
     {

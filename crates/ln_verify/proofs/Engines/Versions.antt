@@ -1,6 +1,6 @@
 -- Proves that what follows the rules of version 1 follows those of version 2: an input's range covers what version 2 asks for,
 -- and running sizes are no larger.
-use Rattle.std.proofs.Common.{◌≡◌, ℕ, ◌+◌, ◌*◌, ◌/◌, ◌^◌, ◌≤◌, Bool, true, false, List, refl, arith, unsigned_abs, ◌&&◌, [], ◌∷◌, ◌∙◌, ap, ℤ, sym, pos, neg_ℤ}
+use Rattle.std.proofs.Common.{◌≡◌, ℕ, ◌+◌, ◌*◌, ◌/◌, ◌^◌, ◌≤◌, true, List, refl, arith, unsigned_abs, ◌&&◌, [], ◌∷◌, ◌∙◌, ap, ℤ, sym, pos, neg_ℤ}
 use Rattle.std.proofs.Common.{◌*ℤ◌, subst}
 use Rattle.std.specs.Prelude.{Option, Some, None, if◌then◌else◌, ◌==◌, nat_le, slice_get, ◌≤ℤ◌}
 use Rattle.std.proofs.Math.Nat.{mul-le-mul}
@@ -20,14 +20,14 @@ use Rattle.ln_bound.specs.Widths.{least, limit, no_wider, wider}
 use Rattle.ln_code.specs.declared.op.Triple.{Triple}
 use Rattle.ln_code.specs.Engine.{Line, answer, next, Engine, State, only, run, step}
 use Rattle.ln_code.specs.FilterRules.{FilterKnown, covers, error_after, filter_known, push_error, two_known}
-use Rattle.ln_code.specs.Numbers.{no_locals, with_local}
+use Rattle.ln_code.specs.Numbers.{no_locals}
 use Rattle.ln_code.specs.Rules.{Known, declared, known}
-use Rattle.ln_code.proofs.Engines.Follow.{Follows, Reaches, when_some, relined}
-use Rattle.ln_code.proofs.Following.Known.{if_some, next_some}
+use Rattle.ln_code.proofs.Engines.Follow.{Follows, LocalsStand, Reaches, local_stands, when_some, relined}
+use Rattle.ln_code.proofs.Following.Known.{both, if_some, known_some, next_some}
 use Rattle.ln_code.proofs.Engines.Runs.{answer_follows, reached_some, same_lines}
 use Rattle.ln_verify.specs.BlockRules.{balanced, block_rules, triple_rules, version_1, version_2}
 use Rattle.ln_verify.specs.Law.{IsNoLarger, IsNoLargerCut, Version1Follows}
-use Rattle.ln_verify.proofs.Values.Ranges.{known-is, known-says, balanced-within, both, least-balanced}
+use Rattle.ln_verify.proofs.Values.Ranges.{known-is, balanced-within, least-balanced}
 use Rattle.ln_code.specs.declared.op.Op.{Op}
 use Rattle.ln_code.specs.declared.op.Op.TheVariants.{Set, Add, Sub, Mul, Neg, Cut}
 use Rattle.std.specs.Int.{int_max, int_min}
@@ -35,28 +35,14 @@ use Rattle.ln_algebra.proofs.Expanded.Ring.{mul_comm, mul_neg}
 use Rattle.ln_bound.proofs.Soundness.WidthLaws.{limit_most}
 use Rattle.ln_verify.specs.Bounds.{Bounded, IsOnBounds, IsSame, bound_rules, bounded, on_ranges}
 
--- ---- locals
--- each local that is set in the one has a value in the other that stands for it
-abbrev pub HaveReached : {A B : Type 0} → (A → B → Type 0) → (ℕ → Option A) → (ℕ → Option B) → Type 0
-HaveReached {A} R l m = (j : ℕ) (x : A) → l j ≡ Some x → Reaches R x (m j)
-
--- and so it is with one more
-pub put-reached : {A B : Type 0} (R : A → B → Type 0) (l : ℕ → Option A) (m : ℕ → Option B) (j : ℕ) (x : A) (k : B) → HaveReached R l m → R x k
-    → HaveReached R (with_local l j x) (with_local m j k)
-put-reached {A} {B} R l m j x k h f i y = by_case (i == j)
-  where
-    by_case : (b : Bool) → (if b then Some x else l i) ≡ Some y → Reaches R y (if b then Some k else m i)
-    by_case true q = let r : x ≡ y = cc in rw (← r) f
-    by_case false q = h i y q
-
 -- ---- blocks
 -- a range that covers more covers less, and a smaller size fits too
 covers-less : (more less p : Range) (w : Width) (m n : ℕ) (t : Tree) (x : Known) → (Covers p more → Covers p less) → n ≤ m
     → known more p w m t ≡ Some x → Reaches IsNoLarger x (known less p w n t)
 covers-less more less p w m n t x h s q =
-    let r = known-says more p w m t x q in
-    let e = known-is less p w n t (h r.covers) r.within (omega (arith, s, r.small)) in
-    rw (e, ← r.is) (record { range = refl; width = refl; tree = refl; size = s })
+    let r = known_some more p w m t x q in
+    let e = known-is less p w n t (h r.0) r.1 (omega (arith, s, r.2)) in
+    rw (e, ← r.3) (record { range = refl; width = refl; tree = refl; size = s })
 
 same-less : (enough p : Range) (w : Width) (m n : ℕ) (t : Tree) (x : Known) → n ≤ m → known enough p w m t ≡ Some x
     → Reaches IsNoLarger x (known enough p w n t)
@@ -109,16 +95,17 @@ again-less x k p z s q =
     let a = same-less x.range p (wider x.width (least (magnitude p))) x.size k.size x.tree z s.size q in
     rw (← s.tree, ← s.range, ← s.width) a
 
-blocks-follow : (vars : List VarInfo) → Follows (block_rules version_1 vars) (block_rules version_2 vars) (λ (p : Range). p) IsNoLarger (HaveReached IsNoLarger)
+blocks-follow : (vars : List VarInfo)
+    → Follows (block_rules version_1 vars) (block_rules version_2 vars) (λ (p : Range). p) IsNoLarger (LocalsStand (Reaches IsNoLarger))
 blocks-follow vars = record {
   push = λ c p x q. same-less (point c) p (least (magnitude p)) (unsigned_abs c) (unsigned_abs c) (tree.Num c) x (omega arith) q;
-  input = λ v p x q. input-less vars v p x q;
-  again = λ x k p z s q. again-less x k p z s q;
-  two = λ t w p x y k m z s u q. two-less t w p x y k m z s u q;
-  minus = λ w p x k z s q. minus-less w p x k z s q;
+  input = input-less vars;
+  again = again-less;
+  two = two-less;
+  minus = minus-less;
   cut = λ n p x k z s q. cc;
   got = λ l m j x h q. h j x q;
-  put = put-reached IsNoLarger;
+  put = λ l m j x k h f. local_stands (Reaches IsNoLarger) l m j x (Some k) h f;
   room = λ n q. q;
 }
 
@@ -189,7 +176,7 @@ cut-cut n a x k z s q =
     rw (← s.triple, ← s.tree) c
 
 filters-follow : (vars : List VarInfo)
-    → Follows (triple_rules version_1 vars) (triple_rules version_2 vars) (λ (a : Triple). a) IsNoLargerCut (HaveReached IsNoLargerCut)
+    → Follows (triple_rules version_1 vars) (triple_rules version_2 vars) (λ (a : Triple). a) IsNoLargerCut (LocalsStand (Reaches IsNoLargerCut))
 filters-follow vars = record {
   push = λ c a x q. cut-less a.k (unsigned_abs c / 2 ^ a.k) (push_error a.k) (unsigned_abs c) (unsigned_abs c) (tree.Num c) a x (omega arith) q;
   input = λ v a x q. cut-input vars v a x q;
@@ -198,26 +185,27 @@ filters-follow vars = record {
   minus = λ w a x k z s q. cut-minus w a x k z s q;
   cut = λ n a x k z s q. cut-cut n a x k z s q;
   got = λ l m j x h q. h j x q;
-  put = put-reached IsNoLargerCut;
+  put = λ l m j x k h f. local_stands (Reaches IsNoLargerCut) l m j x (Some k) h f;
   room = λ n q. q;
 }
 
 -- ---- the law
 -- what follows the rules of version 1 follows those of version 2
-pub version-1-follows : Version1Follows
-version-1-follows = record { block = block; filter = filter }
+pub version_1_follows : Version1Follows
+version_1_follows = record { block = block; filter = filter }
   where
     block : (vars : List VarInfo) (lines : List (Line Range)) (x : Known) → answer (block_rules version_1 vars) no_locals lines ≡ Some x
         → (y : Known) × (answer (block_rules version_2 vars) no_locals lines ≡ Some y) × IsNoLarger x y
     block vars lines x q =
-        let a = answer_follows (block_rules version_1 vars) (block_rules version_2 vars) (λ (p : Range). p) IsNoLarger (HaveReached IsNoLarger)
+        let a = answer_follows (block_rules version_1 vars) (block_rules version_2 vars) (λ (p : Range). p) IsNoLarger (LocalsStand (Reaches IsNoLarger))
         (blocks-follow vars) no_locals no_locals lines x (λ j y r. cc) q in
         reached_some IsNoLarger x _ (rw same_lines at a)
 
     filter : (vars : List VarInfo) (lines : List (Line Triple)) (x : FilterKnown) → answer (triple_rules version_1 vars) no_locals lines ≡ Some x
         → (y : FilterKnown) × (answer (triple_rules version_2 vars) no_locals lines ≡ Some y) × IsNoLargerCut x y
     filter vars lines x q =
-        let a = answer_follows (triple_rules version_1 vars) (triple_rules version_2 vars) (λ (p : Triple). p) IsNoLargerCut (HaveReached IsNoLargerCut)
+        let a = answer_follows (triple_rules version_1 vars) (triple_rules version_2 vars) (λ (p : Triple). p) IsNoLargerCut
+        (LocalsStand (Reaches IsNoLargerCut))
         (filters-follow vars) no_locals no_locals lines x (λ j y r. cc) q in
         reached_some IsNoLargerCut x _ (rw same_lines at a)
 
@@ -267,11 +255,11 @@ Same x k = IsSame k x
 passes : (a b : ℕ) (enough : Range) (w : Width) (size : ℕ) (t : Tree) (x : Known) → (enough.high ≤ℤ pos b → neg_ℤ (pos b) ≤ℤ enough.low → a ≤ b)
     → known enough (balanced b) w size t ≡ Some x → Reaches Same x (bounded a b w t)
 passes a b enough w size t x h q =
-    let s = known-says enough (balanced b) w size t x q in
-    let m : nat_le a b ≡ true = le-leb _ _ (h s.covers.1 s.covers.0) in
-    let l : b ≤ limit w = omega (arith, ints, s.within.1) in
+    let s = known_some enough (balanced b) w size t x q in
+    let m : nat_le a b ≡ true = le-leb _ _ (h s.0.1 s.0.0) in
+    let l : b ≤ limit w = omega (arith, ints, s.1.1) in
     let n : nat_le b (limit w) ≡ true = le-leb _ _ l in
-    rw (both _ _ m n, ← s.is) (record { range = refl; width = refl; tree = refl })
+    rw (both _ _ m n, ← s.3) (record { range = refl; width = refl; tree = refl })
 
 at-high : (m b : ℕ) → pos m ≤ℤ pos b → m ≤ b
 at-high m b h = omega (arith, ints, h)
@@ -295,11 +283,8 @@ again-passes : (x : Known) (k : Bounded) (b : ℕ) (y : Known) → Same x k
     → known x.range (balanced b) (wider x.width (least (magnitude (balanced b)))) x.size x.tree ≡ Some y
     → Reaches Same y (bounded k.bound b (wider k.width (least b)) k.tree)
 again-passes x k b y s q =
-    let e = least-balanced b in
     rw (← s.tree) (passes k.bound b (balanced k.bound) (wider k.width (least b)) x.size x.tree y (λ h l. at-high k.bound b h)
-    (subst (λ (z : Range). known z (balanced b) (wider k.width (least b)) x.size x.tree ≡ Some y) s.range
-    (subst (λ (w : Width). known x.range (balanced b) (wider w (least b)) x.size x.tree ≡ Some y) s.width
-    (subst (λ (w : Width). known x.range (balanced b) (wider x.width w) x.size x.tree ≡ Some y) e q))))
+    (rw (s.range, s.width, least-balanced b) at q))
 
 max-right : (a b c : ℤ) → int_max a b ≤ℤ c → b ≤ℤ c
 max-right a b c h = omega (arith, ints, h, int_max_is a b)
@@ -319,10 +304,8 @@ two-passes : (t : Two) (w : Width) (b : ℕ) (x y : Known) (k m : Bounded) (z : 
 two-passes t w b x y k m z s u q =
     let r = if_some _ _ _ q in
     let h : (no_wider k.width w && no_wider m.width w) ≡ true = rw (← s.width, ← u.width) r.0 in
-    let a = subst (λ (c : Range). known (range_of t c (balanced m.bound)) (balanced b) w (bound_of t x.size y.size) (two_of t x.tree y.tree) ≡ Some z) s.range
-    (subst (λ (c : Range). known (range_of t x.range c) (balanced b) w (bound_of t x.size y.size) (two_of t x.tree y.tree) ≡ Some z) u.range r.1) in
     let p = passes (bound_of t k.bound m.bound) b (range_of t (balanced k.bound) (balanced m.bound)) w (bound_of t x.size y.size)
-    (two_of t x.tree y.tree) z (λ i l. high-bound t k.bound m.bound b i) a in
+    (two_of t x.tree y.tree) z (λ i l. high-bound t k.bound m.bound b i) (rw (s.range, u.range) at r.1) in
     rw (h, ← s.tree, ← u.tree) p
 
 minus-passes : (w : Width) (b : ℕ) (x : Known) (k : Bounded) (z : Known) → Same x k →
@@ -331,11 +314,11 @@ minus-passes : (w : Width) (b : ℕ) (x : Known) (k : Bounded) (z : Known) → S
 minus-passes w b x k z s q =
     let r = if_some _ _ _ q in
     let h : no_wider k.width w ≡ true = rw (← s.width) r.0 in
-    let a = subst (λ (y : Range). known (opposite y) (balanced b) w x.size (tree.Neg x.tree) ≡ Some z) s.range r.1 in
-    let p = passes k.bound b (opposite (balanced k.bound)) w x.size (tree.Neg x.tree) z (λ i l. omega (arith, ints, i, l)) a in
-    rw (h, ← s.tree) p
+    rw (h, ← s.tree) (passes k.bound b (opposite (balanced k.bound)) w x.size (tree.Neg x.tree) z (λ i l. omega (arith, ints, i, l))
+    (rw s.range at r.1))
 
-bounds-follow : (vars : List VarInfo) → Follows (behind_bounds balanced (block_rules version_1 vars)) (bound_rules vars) (λ (b : ℕ). b) Same (HaveReached Same)
+bounds-follow : (vars : List VarInfo)
+    → Follows (behind_bounds balanced (block_rules version_1 vars)) (bound_rules vars) (λ (b : ℕ). b) Same (LocalsStand (Reaches Same))
 bounds-follow vars = record {
   push = push-passes;
   input = input-passes vars;
@@ -344,7 +327,7 @@ bounds-follow vars = record {
   minus = λ w b x k z s q. minus-passes w b x k z s q;
   cut = λ n b x k z s q. cc;
   got = λ l m j x h q. h j x q;
-  put = put-reached Same;
+  put = λ l m j x k h f. local_stands (Reaches Same) l m j x (Some k) h f;
   room = λ n q. q;
 }
 
@@ -429,11 +412,7 @@ two-taken t w b k m x y z s u q =
     let h : (no_wider x.width w && no_wider y.width w) ≡ true = rw (s.width, u.width) r.0 in
     let p = taken (bound_of t k.bound m.bound) b (bound_of t x.size y.size) (range_of t (balanced k.bound) (balanced m.bound)) w
     (two_of t k.tree m.tree) z (two-covers t k.bound m.bound b) (sizes-mono t x.size y.size k.bound m.bound s.size u.size) r.1 in
-    let a = subst (λ (e : Range). Reaches Within z (known (range_of t e (balanced m.bound)) (balanced b) w (bound_of t x.size y.size) (two_of t k.tree m.tree)))
-    (sym s.range) p in
-    let c =
-    subst (λ (e : Range). Reaches Within z (known (range_of t x.range e) (balanced b) w (bound_of t x.size y.size) (two_of t k.tree m.tree))) (sym u.range) a in
-    rw (h, s.tree, u.tree) c
+    rw (h, s.range, u.range, s.tree, u.tree) p
 
 minus-taken : (w : Width) (b : ℕ) (k : Bounded) (x : Known) (z : Bounded) → Within k x →
     (if no_wider k.width w then bounded k.bound b w (tree.Neg k.tree) else None) ≡ Some z →
@@ -442,11 +421,10 @@ minus-taken w b k x z s q =
     let r = if_some _ _ _ q in
     let h : no_wider x.width w ≡ true = rw s.width r.0 in
     let p = taken k.bound b x.size (opposite (balanced k.bound)) w (tree.Neg k.tree) z (λ l. (omega (arith, ints, l), omega (arith, ints, l))) s.size r.1 in
-    let a = subst (λ (e : Range). Reaches Within z (known (opposite e) (balanced b) w x.size (tree.Neg k.tree))) (sym s.range) p in
-    rw (h, s.tree) a
+    rw (h, s.range, s.tree) p
 
 ranges-follow : (vars : List VarInfo)
-    → Follows (bound_rules vars) (behind_bounds balanced (block_rules version_1 vars)) (λ (b : ℕ). b) Within (HaveReached Within)
+    → Follows (bound_rules vars) (behind_bounds balanced (block_rules version_1 vars)) (λ (b : ℕ). b) Within (LocalsStand (Reaches Within))
 ranges-follow vars = record {
   push = push-taken;
   input = input-taken vars;
@@ -455,7 +433,7 @@ ranges-follow vars = record {
   minus = λ w b k x z s q. minus-taken w b k x z s q;
   cut = λ n b k x z s q. cc;
   got = λ l m j k h q. h j k q;
-  put = put-reached Within;
+  put = λ l m j x k h f. local_stands (Reaches Within) l m j x (Some k) h f;
   room = λ n q. q;
 }
 
@@ -465,8 +443,8 @@ on-ranges-is [] = refl
 on-ranges-is (x ∷ xs) = ap (λ z. record { op = x.op; bound = balanced x.bound } ∷ z) (on-ranges-is xs)
 
 -- on ranges from -b to b the rules of version 1 know a value exactly where those on bounds do, and the same one
-pub is-on-bounds : (vars : List VarInfo) (lines : List (Line ℕ)) → IsOnBounds vars lines
-is-on-bounds vars lines = record { there = there; back = back }
+pub is_on_bounds : (vars : List VarInfo) (lines : List (Line ℕ)) → IsOnBounds vars lines
+is_on_bounds vars lines = record { there = there; back = back }
   where
     behind : answer (behind_bounds balanced (block_rules version_1 vars)) no_locals lines ≡ answer (block_rules version_1 vars) no_locals (on_ranges lines)
     behind = answer-behind balanced (block_rules version_1 vars) no_locals lines ∙ ap (answer (block_rules version_1 vars) no_locals) (on-ranges-is lines)
@@ -474,7 +452,7 @@ is-on-bounds vars lines = record { there = there; back = back }
     there : (k : Bounded) → answer (bound_rules vars) no_locals lines ≡ Some k
         → (x : Known) × (answer (block_rules version_1 vars) no_locals (on_ranges lines) ≡ Some x) × IsSame k x
     there k q =
-        let a = answer_follows (bound_rules vars) (behind_bounds balanced (block_rules version_1 vars)) (λ (b : ℕ). b) Within (HaveReached Within)
+        let a = answer_follows (bound_rules vars) (behind_bounds balanced (block_rules version_1 vars)) (λ (b : ℕ). b) Within (LocalsStand (Reaches Within))
         (ranges-follow vars) no_locals no_locals lines k (λ j y r. cc) q in
         let r = reached_some Within k _ (rw same_lines at a) in
         (r.0, sym behind ∙ r.1, record { range = r.2.range; width = r.2.width; tree = r.2.tree })
@@ -482,7 +460,7 @@ is-on-bounds vars lines = record { there = there; back = back }
     back : (x : Known) → answer (block_rules version_1 vars) no_locals (on_ranges lines) ≡ Some x
         → (k : Bounded) × (answer (bound_rules vars) no_locals lines ≡ Some k) × IsSame k x
     back x q =
-        let a = answer_follows (behind_bounds balanced (block_rules version_1 vars)) (bound_rules vars) (λ (b : ℕ). b) Same (HaveReached Same)
+        let a = answer_follows (behind_bounds balanced (block_rules version_1 vars)) (bound_rules vars) (λ (b : ℕ). b) Same (LocalsStand (Reaches Same))
         (bounds-follow vars) no_locals no_locals lines x (λ j y r. cc) (behind ∙ q) in
         let r = reached_some Same x _ (rw same_lines at a) in
         (r.0, r.1, r.2)

@@ -2,26 +2,25 @@
 use Rattle.std.proofs.Common.{◌≡◌, ℕ, zero, suc, Bool, true, false, List, [], ◌∷◌, ◌++◌, length, map, refl, sym, ◌∙◌, ap, subst, append-nil, append_assoc}
 use Rattle.std.proofs.Common.{arith, length-append, ◌⊎◌, inl, inr, unsigned_abs}
 use Rattle.std.specs.Prelude.{IfSome, Option, Some, None, slice_get}
+use Rattle.std.proofs.lemmas.Slice.Zip.{AllZip-long}
 use Rattle.ln_algebra.specs.Tree.{Tree}
-use Rattle.ln_tree.specs.Exps.{Pairs, IsRising}
+use Rattle.ln_tree.specs.Exps.{IsRising}
 use Rattle.ln_order.specs.Orders.{behind, firsts, orders_of}
 use Rattle.ln_code.specs.declared.op.Op.{Op}
 use Rattle.ln_code.specs.declared.op.Triple.{Triple}
 use Rattle.ln_code.specs.Engine.{Engine, Line, State, next, run, step, answer}
-use Rattle.ln_code.specs.FilterRules.{FilterKnown}
 use Rattle.ln_code.specs.Kept.{stores, AreOfSites}
 use Rattle.ln_code.specs.Pushes.{Pushed, after, newest, pushes}
 use Rattle.ln_base.proofs.Forms.Judging.{go_append}
 use Rattle.ln_interval.specs.Range.{Range}
-use Rattle.ln_code.specs.Rules.{Known}
 use Rattle.ln_due.specs.Small.{AreSmall}
 use Rattle.ln_verify.specs.BlockRules.{block_rules, triple_rules, version_2, Version, balanced}
 use Rattle.ln_verify.specs.Good.{AllLead, AreGood, AreGoodParts, AreNext, IsGoodFilter, IsGoodPart, all_lines, block_lines, triple_parts, order_lines}
 use Rattle.ln_verify.specs.Good.{part_lines, range_line, triple_line}
 use Rattle.ln_verify.specs.Judge.{Go, judge_of}
 use Rattle.ln_verify.specs.Law.{GoodPartsAreValid, ValidPartsStand}
-use Rattle.ln_verify.specs.Line.{Between, InBlock, InFilter, IsNextList, Named, Ordering, Outside, Piece, Place, PushedSmall, Subject, Within, Written, exps_of}
-use Rattle.ln_verify.specs.Line.{filter_tree_of, fresh, tree_of, LineRule, OrderLine, PartRule, Rule, Spot}
+use Rattle.ln_verify.specs.Line.{Between, InBlock, InFilter, IsNextList, Leads, Named, Ordering, Outside, Piece, Place, PushedSmall, Subject, Within, Written}
+use Rattle.ln_verify.specs.Line.{exps_of, filter_tree_of, fresh, tree_of, LineRule, OrderLine, PartRule, Rule, Spot}
 use Rattle.ln_cert.specs.declared.part.Part.{Part}
 use Rattle.ln_cert.specs.declared.part.Part.TheVariants.{Decide, End, Done, Predicate, NoFilter, Filter, FilterOp, Block, BlockOp, RangeOp, Order}
 use Rattle.ln_code.specs.Numbers.{no_locals}
@@ -48,20 +47,21 @@ small-leads {K = K} tree n e (x ∷ xs) s t h k = go (step e x.op x.bound s.loca
     go (Some u) i q r f = let p = pushed-small tree n x.op (stores x.op) u.stack (pushes e xs u) r in (u, (i, p.0), f u q p.1)
 
 module _ (ps : List Subject) (p : Subject) (parts : List Written) (there : slice_get ps (length parts) ≡ Some p) where
-  -- ---- a filter
-  triples-go : (done lines : List (Line Triple)) (s t : State FilterKnown (ℕ → Option FilterKnown)) →
-      AllLead filter_tree_of (length p.vars) (triple_rules version_2 p.vars) lines s t →
-      Go version_2 ps (Within parts (InFilter done s)) (map triple_line lines) (Within parts (InFilter (done ++ lines) t))
-  triples-go done [] s t h = let e = append-nil done in λ i. Within parts (InFilter (e i) (h i))
-  triples-go done (x ∷ xs) s t h =
-      let r = triples-go (done ++ x ∷ []) xs h.0 t h.2 in
-      let e = append_assoc done (x ∷ []) xs in (
-        Within parts (InFilter (done ++ x ∷ []) h.0),
-        (p, there, (InFilter (done ++ x ∷ []) h.0, (h.0, h.1, refl), refl)),
-        subst (λ (z : List (Line Triple)). Go version_2 ps (Within parts (InFilter (done ++ x ∷ []) h.0)) (map triple_line xs) (Within parts (InFilter z t)))
-            e r,
-      )
+  -- lines that lead from state to state lead from spot to spot, where each does
+  lines-go : {B K : Type 0} (tree : K → Tree) (e : Engine B K (ℕ → Option K)) (at : List (Line B) → State K (ℕ → Option K) → Spot) (part : Line B → Part)
+      → ((done : List (Line B)) (x : Line B) (s t : State K (ℕ → Option K)) → Leads tree (length p.vars) e x.op x.bound s t
+      → PartRule version_2 p parts (at done s) (part x) (Within parts (at (done ++ x ∷ []) t)))
+      → (done lines : List (Line B)) (s t : State K (ℕ → Option K)) → AllLead tree (length p.vars) e lines s t
+      → Go version_2 ps (Within parts (at done s)) (map part lines) (Within parts (at (done ++ lines) t))
+  lines-go tree e at part rule done [] s t h = let q = append-nil done in λ i. Within parts (at (q i) (h i))
+  lines-go tree e at part rule done (x ∷ xs) s t h = (
+    Within parts (at (done ++ x ∷ []) h.0),
+    (p, there, rule done x s h.0 h.1),
+    subst (λ z. Go version_2 ps (Within parts (at (done ++ x ∷ []) h.0)) (map part xs) (Within parts (at z t)))
+        (append_assoc done (x ∷ []) xs) (lines-go tree e at part rule (done ++ x ∷ []) xs h.0 t h.2),
+  )
 
+  -- ---- a filter
   filter-go : (f : Option (List (Line Triple))) → IfSome f (IsGoodFilter version_2 p)
       → Go version_2 ps (Within parts Named) (triple_parts f) (Within parts (Between f []))
   filter-go None h = (Within parts (Between None []), (p, there, (Between None [], refl, refl)), refl)
@@ -70,7 +70,8 @@ module _ (ps : List Subject) (p : Subject) (parts : List Written) (there : slice
     (p, there, (InFilter [] fresh, refl, refl)),
     go_append (judge_of version_2 ps) (Within parts (InFilter [] fresh)) (Within parts (InFilter lines h.end))
         (Within parts (Between (Some lines) [])) (map triple_line lines) (Decide ∷ [])
-        (triples-go [] lines fresh h.end h.leads) (
+        (lines-go filter_tree_of (triple_rules version_2 p.vars) InFilter triple_line (λ done x s t l. (InFilter (done ++ x ∷ []) t, (t, l, refl), refl))
+        [] lines fresh h.end h.leads) (
           Within parts (Between (Some lines) []),
           (p, there, (Between (Some lines) [], record { left = h.left; one = h.one; whole = h.whole; narrow = h.narrow; to = refl }, refl)),
           refl,
@@ -78,19 +79,6 @@ module _ (ps : List Subject) (p : Subject) (parts : List Written) (there : slice
   )
 
   -- ---- a block
-  ranges-go : (f : Option (List (Line Triple))) (bs : List Piece) (a : Pairs) (done lines : List (Line Range))
-      (s t : State Known (ℕ → Option Known)) → AllLead tree_of (length p.vars) (block_rules version_2 p.vars) lines s t →
-      Go version_2 ps (Within parts (InBlock f bs a done s)) (map range_line lines) (Within parts (InBlock f bs a (done ++ lines) t))
-  ranges-go f bs a done [] s t h = let e = append-nil done in λ i. Within parts (InBlock f bs a (e i) (h i))
-  ranges-go f bs a done (x ∷ xs) s t h =
-      let r = ranges-go f bs a (done ++ x ∷ []) xs h.0 t h.2 in
-      let e = append_assoc done (x ∷ []) xs in (
-        Within parts (InBlock f bs a (done ++ x ∷ []) h.0),
-        (p, there, (InBlock f bs a (done ++ x ∷ []) h.0, (refl, (h.0, h.1, refl)), refl)),
-        subst (λ (z : List (Line Range)). Go version_2 ps (Within parts (InBlock f bs a (done ++ x ∷ []) h.0)) (map range_line xs)
-            (Within parts (InBlock f bs a z t))) e r,
-      )
-
   blocks-go : (f : Option (List (Line Triple))) (done bs : List Piece) (k : ℕ) → k ≡ length done → AreGood version_2 p bs
       → Go version_2 ps (Within parts (Between f done)) (block_lines k bs) (Within parts (Between f (done ++ bs)))
   blocks-go f done [] k e g = let q = append-nil done in λ i. Within parts (Between f (q i))
@@ -101,7 +89,8 @@ module _ (ps : List Subject) (p : Subject) (parts : List Written) (there : slice
         (p, there, (InBlock f done b.exps [] fresh, record { number = e; rising = g.rising; of_sites = g.of_sites; to = refl }, refl)),
         go_append (judge_of version_2 ps) (Within parts (InBlock f done b.exps [] fresh)) (Within parts (InBlock f done b.exps b.lines g.end))
             (Within parts (Between f (done ++ b ∷ bs))) (map range_line b.lines) (End ∷ block_lines (suc k) bs)
-            (ranges-go f done b.exps [] b.lines fresh g.end g.leads) (
+            (lines-go tree_of (block_rules version_2 p.vars) (InBlock f done b.exps) range_line
+            (λ before x s t l. (InBlock f done b.exps (before ++ x ∷ []) t, (refl, (t, l, refl)), refl)) [] b.lines fresh g.end g.leads) (
               Within parts (Between f (done ++ b ∷ [])),
               (p, there, (Between f (done ++ b ∷ []), record { left = g.left; one = g.one; derivative = g.derivative; to = refl }, refl)),
               subst (λ (z : List Piece). Go version_2 ps (Within parts (Between f (done ++ b ∷ []))) (block_lines (suc k) bs) (Within parts (Between f z))) q r,
@@ -194,15 +183,9 @@ parts-go before (p ∷ ps) parts (w ∷ ws) e (h, hs) =
     (all_lines ps ws) (part-go (before ++ p ∷ ps) p parts there w h (some-orders p.sites)) b
 parts-go before ps parts ws e h = absurd h
 
--- there are as many good parts as predicates
-pub same-size : (ps : List Subject) (ws : List Written) → AreGoodParts version_2 ps ws → length ws ≡ length ps
-same-size [] [] h = refl
-same-size (p ∷ ps) (w ∷ ws) h = ap suc (same-size ps ws h.1)
-same-size ps ws h = absurd h
-
 -- good parts, written as lines, are a valid listing
-pub good-valid : GoodPartsAreValid
-good-valid ps ws h = record { parts = ws; good = parts-go [] ps [] ws refl h; all = same-size ps ws h }
+pub good_valid : GoodPartsAreValid
+good_valid ps ws h = record { parts = ws; good = parts-go [] ps [] ws refl h; all = AllZip-long (IsGoodPart version_2) ps ws h }
 
 -- what goes on from a state to another goes on to a further one
 further : {S T : Type 0} (o : Option S) (f : S → Option T) (g : S → Option T) {a b : T} → ((u : S) → f u ≡ Some a → g u ≡ Some b)

@@ -1,12 +1,13 @@
 -- Listings of a table: its subjects, and the two results.
 use Rattle.std.proofs.Common.{◌≡◌, ◌↔◌, ℕ, ◌<◌, ◌≤◌, ◌+◌, Bool, List, [], ◌∷◌, ◌++◌, length, map, take, get_or, refl, sym, ◌∙◌, ap, arith, subst, if◌then◌else◌}
-use Rattle.std.proofs.Common.{◌==◌, ◌&&◌, true, nat_lt}
-use Rattle.std.specs.Prelude.{All, None, Option, Some, Err, IfErr, Ok, Result, nat_le, count_by, bytes_eq}
+use Rattle.std.proofs.Common.{◌&&◌, ◌⊎◌, inl, inr, true}
+use Rattle.std.specs.Prelude.{All, None, Option, Some, Err, IfErr, Ok, Result}
 use Rattle.std.proofs.lemmas.Bool.{ne_eqb, and_parts}
 use Rattle.std.proofs.lemmas.List.{length-map, take_all, take_more}
+use Rattle.std.proofs.lemmas.Option.{none-some, same_Some}
 use Rattle.std.proofs.lemmas.List.Elements.{All-nil, All-push}
-use Rattle.ln_base.specs.Limits.{most_file, most_tokens}
-use Rattle.ln_base.proofs.Forms.Walk.{few_lines}
+use Rattle.ln_base.specs.Limits.{most_file}
+use Rattle.ln_base.proofs.Forms.Walk.{few_lines, goes_none}
 use Rattle.ln_tree.specs.declared.pred.Pred.{Pred}
 use Rattle.ln_tree.specs.declared.shape.Shape.{Shape}
 use Rattle.ln_tree.specs.Names.{name_bytes}
@@ -15,9 +16,13 @@ use Rattle.ln_poly.specs.Expansion.{IsNormal}
 use Rattle.ln_poly.specs.OfPred.{root_of}
 use Rattle.ln_cert.specs.declared.part.Entry.{Entry}
 use Rattle.ln_cert.specs.Listing.{Kept, Listed, parts_of, AreNumbered, IsFormFault, ListText}
-use Rattle.ln_cert.specs.Reading.{list_rules}
+use Rattle.ln_cert.specs.declared.part.Part.TheVariants.{Predicate}
+use Rattle.ln_cert.specs.Reading.{goes, list_rules}
+use Rattle.ln_cert.specs.declared.part.State.{State}
+use Rattle.ln_cert.specs.declared.part.State.TheVariants.{Top}
+use Rattle.ln_cert.proofs.Reading.Walk.{whole}
 use Rattle.ln_verify.specs.BlockRules.{Version, version_1, version_2}
-use Rattle.ln_verify.specs.Here.{IsAnswer, IsCase, subject_of, subjects_of}
+use Rattle.ln_verify.specs.Here.{HaveForm, IsAnswer, IsCase, subject_of, subjects_of}
 use Rattle.ln_verify.specs.Judge.{IsFirstFault, IsValid}
 use Rattle.ln_verify.specs.Line.{Subject}
 use Rattle.ln_verify.specs.Verified.{AreSubjectsOf, IsFaultFor, IsSubjectOf, IsValidFor, judged_of, rules_of, IsTextFaultFor, IsValidTextFor, form, rule}
@@ -35,8 +40,7 @@ use Rattle.ln_cert.specs.Unread.{AreLeft, HaveEntries, IsOpened, Unread}
 use Rattle.ln_cert.proofs.Reading.Whole.{no_text, one_fault, one_text}
 use Rattle.std.specs.List.{list_all}
 use Rattle.std.proofs.lemmas.Slice.Eq.{bytes_eq-Decides}
-use Rattle.ln_tree.specs.Whole.{differ, is_range, site_whole, is_one_of, is_site_said, is_param_said, arg_name, vars_behind, same_vars, nesting, pred_whole}
-use Rattle.ln_tree.specs.Whole.{item_names, text_tokens}
+use Rattle.ln_tree.specs.Whole.{pred_whole}
 
 -- ---- a predicate has one subject
 subject-one : (p : PredOf) (s t : Subject) → IsSubjectOf p s → IsSubjectOf p t → s ≡ t
@@ -152,6 +156,34 @@ entries-few l k = omega (
   length-map l.entries (λ (e : Entry). e.part),
 )
 
+-- ---- the form
+-- the rules of a version have its number
+number-is : (v : Version) (n : ℕ) → v ≡ rules_of n → (n ≡ 1) ⊎ (n ≡ 2) → v.number ≡ n
+number-is v n e (inl k) = ap (λ (r : Version). r.number) e ∙ subst (λ m. (rules_of m).number ≡ m) (sym k) refl
+number-is v n e (inr k) = ap (λ (r : Version). r.number) e ∙ subst (λ m. (rules_of m).number ≡ m) (sym k) refl
+
+-- the lines of a listing are of the form of its rules
+pub form-entries : (v : Version) (l : Listed) (es : List Entry) → v ≡ rules_of l.version → Kept l → es ≡ l.entries → HaveForm v (parts_of es)
+form-entries v l es e k s =
+    let n : v.number ≡ l.version = number-is v l.version e k.text.listing.known in
+    subst (λ (ys : List Entry). HaveForm v (parts_of ys)) (sym s)
+    (subst (λ m. goes m (Some Top) (parts_of l.entries) ≡ Some Top) (sym n) (whole l.version k.text.listing.form))
+
+-- what leads to the end of a listing, and does so from the top, is read from the top
+from-top : (n : ℕ) (s : State) (xs : List Part) → goes n (Some Top) xs ≡ Some Top → goes n (Some s) xs ≡ Some Top → s ≡ Top
+from-top n s [] h e = same_Some s Top e
+from-top n Top (x ∷ xs) h e = refl
+from-top n s (Predicate name ∷ xs) h e = absurd (none-some Top (sym (goes_none (list_rules n) xs) ∙ e))
+from-top n s (x ∷ xs) h e = absurd (none-some Top (sym (goes_none (list_rules n) xs) ∙ h))
+
+-- and so are those that are left of its text
+pub form-left : (bs : List ℕ) (v : Version) (u : Unread) (es : List Entry) → v ≡ rules_of u.version → IsOpened bs u → HaveEntries u es
+    → HaveForm v (parts_of es)
+form-left bs v u es e w h =
+    let n : v.number ≡ u.version = number-is v u.version e w.listing.listing.known in
+    let top : u.state ≡ Top = from-top u.version u.state w.parts (whole u.version w.listing.listing.form) w.left.ends in
+    subst (λ m. goes m (Some Top) (parts_of es) ≡ Some Top) (sym n) (subst (λ s. goes u.version (Some s) (parts_of es) ≡ Some Top) top h.0.ends)
+
 -- the result is right about bytes for these predicates
 abbrev pub IsRightText : List PredOf → List ℕ → Judged → Type 0
 IsRightText ps bs j = ((j ≡ Valid) ↔ IsValidTextFor ps bs) × ((n : ℕ) → (j ≡ Invalid n) ↔ IsTextFaultFor ps bs n)
@@ -226,28 +258,19 @@ verified-lines ps bs u v cs xs o j w e those a q h =
     text-right ps bs l (subst (ListText bs u.version) b w.listing) j (verified ps l v cs xs es o j e those a refl q
     (h es (subst (AreLeft u) b w.left, subst (λ (n : ℕ). AreNumbered n es) (sym w.second) (are-numbered 2 w.parts))))
 
+-- the first of two tests that hold
+first : (a b : Bool) → (a && b) ≡ true → a ≡ true
+first a b h = (and_parts a b h).0
+
+-- and the second
+second : (a b : Bool) → (a && b) ≡ true → b ≡ true
+second a b h = (and_parts a b h).1
+
 -- the shape of a predicate of a table has its name
 shape-named : (S : List SiteOf) (P : List CoordOf) (p : PredOf) → pred_whole S P p ≡ true → p.shape_name ≡ p.name
 shape-named S P p h =
-    let t1 = bytes_eq p.shape_name p.name in
-    let t2 = nat_lt 0 (length p.args) in
-    let t3 = list_all (is_one_of (length S) (length P)) p.args in
-    let t4 = nat_le (count_by is_site_said p.args) 5 in
-    let t5 = nat_le (count_by is_param_said p.args) 8 in
-    let t6 = p.sites == count_by is_site_said p.args in
-    let t7 = same_vars p.vars (vars_behind S P 0 0 p.args) in
-    let t8 = differ (map (arg_name P) p.args ++ p.let_names) in
-    let t9 = list_all (λ e. nat_le (nesting 0 e) 64) p.lets in
-    let j = and_parts (t1 && t2 && t3 && t4 && t5 && t6 && t7 && t8 && t9) (nat_le (nesting 0 p.root) 64) h in
-    let i = and_parts (t1 && t2 && t3 && t4 && t5 && t6 && t7 && t8) t9 j.0 in
-    let g = and_parts (t1 && t2 && t3 && t4 && t5 && t6 && t7) t8 i.0 in
-    let f = and_parts (t1 && t2 && t3 && t4 && t5 && t6) t7 g.0 in
-    let e = and_parts (t1 && t2 && t3 && t4 && t5) t6 f.0 in
-    let d = and_parts (t1 && t2 && t3 && t4) t5 e.0 in
-    let c = and_parts (t1 && t2 && t3) t4 d.0 in
-    let b = and_parts (t1 && t2) t3 c.0 in
-    let a = and_parts t1 t2 b.0 in
-    (bytes_eq-Decides p.shape_name p.name).0 a.0
+    let few = first _ _ (first _ _ (first _ _ (first _ _ (first _ _ h)))) in
+    (bytes_eq-Decides p.shape_name p.name).0 (first _ _ (first _ _ (first _ _ (first _ _ few))))
 
 each-named : (S : List SiteOf) (P : List CoordOf) (ps : List PredOf) (ss : List Subject) → list_all (pred_whole S P) ps ≡ true → AreSubjectsOf ps ss
     → map (λ (s : Subject). s.name) ss ≡ map (λ (p : PredOf). p.name) ps
@@ -260,12 +283,5 @@ each-named S P (p ∷ ps) (s ∷ ss) h a =
 each-named S P ps ss h a = absurd a
 
 -- in a table the name by which a part is judged is that of its predicate
-pub parts-named : PartsAreNamed
-parts-named t ss h a =
-    let t1 = list_all site_whole t.sites in
-    let t2 = list_all is_range t.params in
-    let t3 = list_all (pred_whole t.sites t.params) t.preds in
-    let d = and_parts (t1 && t2 && t3 && differ (item_names t)) (nat_le (text_tokens t) most_tokens) h in
-    let c = and_parts (t1 && t2 && t3) (differ (item_names t)) d.0 in
-    let b = and_parts (t1 && t2) t3 c.0 in
-    each-named t.sites t.params t.preds ss b.1 a
+pub parts_named : PartsAreNamed
+parts_named t ss h a = each-named t.sites t.params t.preds ss (second _ _ (first _ _ (first _ _ h))) a

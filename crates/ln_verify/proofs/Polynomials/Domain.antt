@@ -5,6 +5,7 @@ use Rattle.std.proofs.Math.IntN.{ℤ, pos, negsuc, ◌*ℤ◌}
 use Rattle.std.proofs.Math.Nat.{mul-le-mul}
 use Rattle.std.proofs.lemmas.Bool.{cases_eq, cases_order}
 use Rattle.std.proofs.lemmas.Int.{ints, unsigned_abs-mul}
+use Rattle.ln_base.proofs.Texts.Lists.{head, rest}
 use Rattle.ln_algebra.specs.Coefficient.{normal_coefficient}
 use Rattle.ln_algebra.specs.Stage.{IsMonomial}
 use Rattle.ln_algebra.specs.Tree.{Mul, Tree}
@@ -60,15 +61,9 @@ splits-one (n ∷ a) (x ∷ t) (y ∷ u) h l r p z =
     let q = heads x y t u a n p in
     parts-one n (λ i j. sum_splits a (λ b c. h (i ∷ b) (j ∷ c))) x y q.0
     (λ i j e ne. splits-zero a (λ b c. h (i ∷ b) (j ∷ c))
-    (λ b c f g s. z (i ∷ b) (j ∷ c) (ap suc f) (ap suc g) (cons i j n b c a e s) (λ w. ne (first i x b t w))))
+    (λ b c f g s. z (i ∷ b) (j ∷ c) (ap suc f) (ap suc g) (cons i j n b c a e s) (λ w. ne (head w))))
     ∙ splits-one a t u (λ b c. h (x ∷ b) (y ∷ c)) (omega (arith, l)) (omega (arith, r)) q.1
-    (λ b c f g s ne. z (x ∷ b) (y ∷ c) (ap suc f) (ap suc g) (cons x y n b c a q.0 s) (λ w. ne (rest x x b t w)))
-  where
-    first : (i x : ℕ) (b t : List ℕ) → i ∷ b ≡ x ∷ t → i ≡ x
-    first i x b t w = cc
-
-    rest : (i x : ℕ) (b t : List ℕ) → i ∷ b ≡ x ∷ t → b ≡ t
-    rest i x b t w = cc
+    (λ b c f g s ne. z (x ∷ b) (y ∷ c) (ap suc f) (ap suc g) (cons x y n b c a q.0 s) (λ w. ne (rest w)))
 
 -- ---- the order of vectors by their first exponents
 abbrev NotAbove : List ℕ → List ℕ → Type 0
@@ -222,12 +217,9 @@ products-reach n v e f ms ks b c all all' hb hc = (
         sym (get_or-plus x y v (l ∙ sym r)) ∙ ap (λ a. get_or a v 0) p ∙ get_or-plus t.here u.here v same in
         let k : plus (key v x) (key v y) ≡ plus (key v t.here) (key v u.here) =
         cons (get_or x v 0) (get_or y v 0) (get_or t.here v 0 + get_or u.here v 0) x y (plus t.here u.here) g p in
-        absurd (ne (tail (get_or x v 0) (get_or t.here v 0) x t.here
+        absurd (ne (rest
         (tight (key v x) (key v y) (key v t.here) (key v u.here) (ap suc (l ∙ size ∙ sym t.monomial.size))
         (ap suc (r ∙ size ∙ sym t.monomial.size)) (ap suc (sym same)) (t.highest x i (all x i)) (u.highest y j (all' y j)) k)))
-      where
-        tail : (p q : ℕ) (xs ys : List ℕ) → p ∷ xs ≡ q ∷ ys → xs ≡ ys
-        tail p q xs ys h = cc
 
     value : normal_coefficient (Mul e f) (plus t.here u.here) ≡ normal_coefficient e t.here *ℤ normal_coefficient f u.here
     value =

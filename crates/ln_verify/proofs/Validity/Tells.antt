@@ -52,7 +52,7 @@ use Rattle.ln_code.proofs.Verdicts.Machine.{rows-have}
 use Rattle.ln_due.proofs.Verdicts.Composition.{signs-perturbed}
 use Rattle.ln_verify.specs.Stands.{FilterStands, ListStands, PartStands, PieceStands}
 use Rattle.ln_verify.proofs.Judging.Put.{valid-stands}
-use Rattle.ln_verify.proofs.Engines.Versions.{version-1-follows}
+use Rattle.ln_verify.proofs.Engines.Versions.{version_1_follows}
 use Rattle.ln_verify.proofs.Judging.Wholes.{list-stands, segments-all}
 
 -- ---- what the rules of programs know, in either version
@@ -65,8 +65,8 @@ pub record Followed (v : Version) : Type 0 where
 
 followed : (f : InCode) → Followed (version_of f)
 followed One = record {
-  block = λ vars lines x q. let r = version-1-follows.block vars lines x q in (r.0, r.1, r.2.tree);
-  filter = λ vars lines x q. let r = version-1-follows.filter vars lines x q in (r.0, r.1, r.2.tree, r.2.triple);
+  block = λ vars lines x q. let r = version_1_follows.block vars lines x q in (r.0, r.1, r.2.tree);
+  filter = λ vars lines x q. let r = version_1_follows.filter vars lines x q in (r.0, r.1, r.2.tree, r.2.triple);
 }
 followed Two = record { block = λ vars lines x q. (x, q, refl); filter = λ vars lines x q. (x, q, refl, refl) }
 

@@ -1,7 +1,7 @@
 -- Proves what a rule on a range means where it holds, and when it holds.
 use Rattle.std.proofs.Common.{◌≡◌, ℕ, ℤ, ◌≤◌, Bool, true, false, refl, arith, ◌&&◌, ap, ◌+◌, ◌*◌, sym, subst, ◌⊎◌, inl, inr, ◌<◌, ◌^◌, ◌-◌, [], ◌∷◌}
 use Rattle.std.proofs.Common.{unsigned_abs, ◌≢◌, ◌∙◌}
-use Rattle.std.specs.Prelude.{Some, nat_le, int_le, ◌≤ℤ◌, Option, None, if◌then◌else◌, ◌==◌, OnSome, min, pos}
+use Rattle.std.specs.Prelude.{Some, nat_le, Option, None, if◌then◌else◌, ◌==◌, OnSome, min, pos}
 use Rattle.std.proofs.lemmas.Bool.{and_parts, leb-true, le-leb}
 use Rattle.std.proofs.lemmas.Int.{ints}
 use Rattle.ln_algebra.specs.Tree.{Tree}
@@ -11,13 +11,12 @@ use Rattle.ln_bound.specs.Sound.{IsIn, covers, is_in}
 use Rattle.ln_bound.specs.Widths.{least, limit}
 use Rattle.ln_bound.proofs.Soundness.SoundLaws.{covers_say, is_in_says}
 use Rattle.ln_verify.specs.BlockRules.{balanced}
-use Rattle.ln_code.specs.Rules.{Known, known}
-use Rattle.ln_code.proofs.Engines.Follow.{when_some}
+use Rattle.ln_code.specs.Rules.{known}
+use Rattle.ln_code.proofs.Following.Known.{both, le_test, limit_wide}
 use Rattle.ln_interval.specs.declared.pair.Pair.{Pair}
 use Rattle.ln_interval.specs.View.{range}
 use Rattle.ln_bound.specs.declared.fitted.Two.{Two}
 use Rattle.ln_bound.specs.declared.fitted.Two.TheVariants.{Minus, Plus, Times}
-use Rattle.ln_bound.specs.declared.fitted.Width.TheVariants.{W64, W128}
 use Rattle.ln_bound.specs.Typed.{bound_of, two_of}
 use Rattle.ln_code.specs.declared.op.Triple.{Triple}
 use Rattle.ln_code.specs.Engine.{when}
@@ -32,38 +31,6 @@ use Rattle.ln_poly.proofs.TermLists.Coefficients.{size-cons, size-nil}
 use Rattle.ln_due.specs.Small.{IsSmall}
 use Rattle.ln_verify.specs.Values.{IsFor, IsMade}
 use Rattle.ln_verify.specs.declared.value.Value.{Value}
-
--- a conjunction is true where both tests are
-pub both : (p q : Bool) → p ≡ true → q ≡ true → (p && q) ≡ true
-both p q h k = rw (h, k) refl
-
--- the test of two integers is true where the first is at most the second
-pub le-test : (a b : ℤ) → a ≤ℤ b → int_le a b ≡ true
-le-test a b h = grind (arith, ints, h)
-
--- what a rule that held means
-pub record KnownSays (enough p : Range) (w : Width) (s : ℕ) (t : Tree) (k : Known) : Type 0 where
-  pub covers : Covers p enough
-  pub within : IsIn p w
-  pub small : s ≤ most
-  pub is : record { range = p; width = w; tree = t; size = s } ≡ k
-
--- where `known` has a result, its rule held
-pub known-says : (enough p : Range) (w : Width) (s : ℕ) (t : Tree) (k : Known) → known enough p w s t ≡ Some k → KnownSays enough p w s t k
-known-says enough p w s t k q =
-    let r = when_some _ _ _ q in
-    let x = and_parts (covers p enough && is_in p w) _ r.0 in
-    let y = and_parts (covers p enough) _ x.0 in
-    record { covers = covers_say p enough y.0; within = is_in_says p w y.1; small = leb-true _ _ x.1; is = r.1 }
-
--- a rule that holds
-pub known-is : (enough p : Range) (w : Width) (s : ℕ) (t : Tree) → Covers p enough → IsIn p w → s ≤ most
-    → known enough p w s t ≡ Some (record { range = p; width = w; tree = t; size = s })
-known-is enough p w s t h i l =
-    let c : covers p enough ≡ true = both _ _ (le-test _ _ h.0) (le-test _ _ h.1) in
-    let n : is_in p w ≡ true = both _ _ (le-test _ _ i.0) (le-leb _ _ i.1) in
-    let m : nat_le s most ≡ true = le-leb s most l in
-    rw (both (covers p enough && is_in p w) (nat_le s most) (both (covers p enough) (is_in p w) c n) m) refl
 
 -- ---- the range of a bound
 -- the magnitude of a bound's range is the bound
@@ -100,17 +67,19 @@ not-ruled p r w s t h = go (covers r p && is_in r w) refl
 pub is-ruled : (p r : Range) (w : Width) (s : ℕ) (t : Tree) → Allows p r w
     → known p r w s t ≡ when (nat_le s most) (record { range = r; width = w; tree = t; size = s })
 is-ruled p r w s t h =
-    let c : covers r p ≡ true = both _ _ (le-test _ _ h.0.0) (le-test _ _ h.0.1) in
-    let n : is_in r w ≡ true = both _ _ (le-test _ _ h.1.0) (le-leb _ _ h.1.1) in
+    let c : covers r p ≡ true = both _ _ (le_test _ _ h.0.0) (le_test _ _ h.0.1) in
+    let n : is_in r w ≡ true = both _ _ (le_test _ _ h.1.0) (le-leb _ _ h.1.1) in
     known-by true r p w s t (both (covers r p) (is_in r w) c n)
 
-width-most : (w : Width) → limit w ≤ limit W128
-width-most W64 = omega arith
-width-most W128 = omega arith
+-- a rule that holds
+pub known-is : (enough p : Range) (w : Width) (s : ℕ) (t : Tree) → Covers p enough → IsIn p w → s ≤ most
+    → known enough p w s t ≡ Some (record { range = p; width = w; tree = t; size = s })
+known-is enough p w s t h i l =
+    is-ruled enough p w s t (h, i) ∙ ap (λ (b : Bool). when b (record { range = p; width = w; tree = t; size = s })) (le-leb s most l)
 
 -- ends that are those of no pair that fits
 pub not-fit : (p r : Range) (w : Width) (s : ℕ) (t : Tree) → FitsNot r → known p r w s t ≡ None
-not-fit p r w s t h = not-ruled p r w s t (λ a. let l = width-most w in let m = a.1.1 in h (a.1.0, omega (arith, l, m)))
+not-fit p r w s t h = not-ruled p r w s t (λ a. let l = limit_wide w in let m = a.1.1 in h (a.1.0, omega (arith, l, m)))
 
 -- the ends on a line, which are those of no pair
 pub no-ends : (o : Option Pair) (p : Range) → o ≡ None → AreEnds o p → FitsNot p

@@ -1,6 +1,6 @@
 use Rattle.std.proofs.Common.{◌∙◌, ap, length}
 use Rattle.ln_stage.specs.Staged.{block_vector, count_numbers, vectors_of}
-use Rattle.ln_compile.proofs.Making.BuildingLemmas.{counted-numbers}
+use Rattle.ln_stage.proofs.Results.KeptLemmas.{count-map}
 use Rattle.ln_compile.proofs.programs.kept.Goals as goal
 
 pub returns : goal.returns
@@ -14,6 +14,6 @@ returns c =
         lists = vectors_of (length a.pred.shape.vars) a.stages;
         are_lists = k.stages.lists;
         count = (c.count-count.ensures ∙ ap (λ st. count_numbers st.lists) c.stages.ensures.value)
-            ∙ counted-numbers (block_vector (length a.pred.shape.vars) a.stages.exps) a.stages.lists;
+            ∙ count-map (block_vector (length a.pred.shape.vars) a.stages.exps) a.stages.lists;
       };
     })

@@ -10,16 +10,16 @@ pub returns-in_err-fs-clause-err : goal.returns-in_err-fs-clause-err
 returns-in_err-fs-clause-err c =
     let p = err_from_is_err_and c.from_residual.result c.from_residual.ensures.1 in
     rw (p.1, p.2) (λ e. read_none c.args.depths.outer c.args.depths.inner c.args.braces
-    (tokens_of c.args.tokens.now) c.requires.outer c.requires.inner c.requires.braces (c.in_err-fs.ensures.err e))
+    (tokens_of c.args.tokens) c.requires.outer c.requires.inner c.requires.braces (c.in_err-fs.ensures.err e))
 
 pub returns-then-kept-clause-ok : goal.returns-then-kept-clause-ok
 returns-then-kept-clause-ok c =
     let v : c.in_ok-kept.kept ≡ rest_keep (map fun_tree c.in_ok-fs.fs.items) = search rules in
-    read_ok c.args.depths.outer c.args.depths.inner c.args.braces (tokens_of c.args.tokens.now) (map fun_tree c.in_ok-fs.fs.items)
+    read_ok c.args.depths.outer c.args.depths.inner c.args.braces (tokens_of c.args.tokens) (map fun_tree c.in_ok-fs.fs.items)
     c.in_ok-kept.kept c.requires.outer c.requires.inner c.requires.braces c.in_ok-fs.ensures.ok v c.if-kept.true
 
 pub returns-else-kept-clause-err : goal.returns-else-kept-clause-err
 returns-else-kept-clause-err c =
     let v : c.in_ok-kept.kept ≡ rest_keep (map fun_tree c.in_ok-fs.fs.items) = search rules in
-    λ e. read_no c.args.depths.outer c.args.depths.inner c.args.braces (tokens_of c.args.tokens.now) (map fun_tree c.in_ok-fs.fs.items)
+    λ e. read_no c.args.depths.outer c.args.depths.inner c.args.braces (tokens_of c.args.tokens) (map fun_tree c.in_ok-fs.fs.items)
     c.in_ok-kept.kept c.requires.outer c.requires.inner c.requires.braces c.in_ok-fs.ensures.ok v c.if-kept.false

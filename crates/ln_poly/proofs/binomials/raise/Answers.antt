@@ -1,14 +1,21 @@
-use Rattle.std.proofs.Common.{◌≡◌, ◌≤◌, ◌+◌, ◌^◌, ◌-◌, arith, add-one, ℕ}
-use Rattle.ln_algebra.specs.Terms.{binomial}
-use Rattle.ln_poly.proofs.Derivations.Lowering.{binomial-pair}
-use Rattle.ln_poly.proofs.Loads.Weighing.{pow-le}
+use Rattle.std.proofs.Common.{arith}
+use Rattle.ln_poly.proofs.Derivations.Lowering.{raised-done, raised-left, raised-none, raised-small, raised-sum}
 use Rattle.ln_poly.proofs.binomials.raise.Goals as goal
+
+pub column-init : goal.column-init
+column-init c = record { sum = raised-none c.args.k; done = λ j h. absurd (omega (arith, h)); left = λ j l h. c.requires.column j h }
 
 pub overflow_add-sum : goal.overflow_add-sum
 overflow_add-sum c =
-    let i : ℕ = c.column.x-index in
-    let x : binomial i c.args.k + binomial i (c.args.k + 1) ≤ 2 ^ i = rw add-one (binomial-pair i c.args.k) in
-    let y : 2 ^ i ≤ 2 ^ (i + (127 - i)) = pow-le 2 i (127 - i) (omega arith) in
-    let z : i + (127 - i) ≡ 127 = omega arith in
-    let w : 2 ^ i ≤ 2 ^ 127 = rw z at y in
-    omega (arith, x, w, c.column.invariant.sum, c.column.invariant.left i (omega arith) (omega arith))
+    let j = c.column.invariant in
+    omega (arith, raised-small c.args.k c.column.i c.args.n _ _ c.column-test.true c.requires.few j.sum (j.left c.column.i (omega arith) c.column-test.true))
+
+pub column-preserved : goal.column-preserved
+column-preserved c =
+    let j = c.column.invariant in
+    let s = raised-sum c.args.k c.column.i _ _ j.sum (j.left c.column.i (omega arith) c.column-test.true) in
+    record {
+      sum = s;
+      done = raised-done c.column.c c.args.k c.column.i _ (omega (arith, c.column-test.true, c.requires.few, c.requires.len)) s j.done;
+      left = raised-left c.column.c c.args.k c.column.i c.args.n _ j.left;
+    }

@@ -4,7 +4,7 @@ use Rattle.ln_poly.proofs.binomials.raise.Given as goal
 
 abbrev pub invariant-column : goal.invariant-column
 invariant-column l = record {
-  sum : l.sum ≡ binomial l.x-index (l.k + 1);
-  done : (j : ℕ) → j < l.x-index → get_or l.c j 0 ≡ binomial j (l.k + 1);
-  left : (j : ℕ) → l.x-index ≤ j → j < 128 → get_or l.c j 0 ≡ binomial j l.k;
+  sum : l.sum ≡ binomial (l.k + l.i) (l.k + 1);
+  done : (j : ℕ) → j < l.i → get_or l.c j 0 ≡ binomial (l.k + 1 + j) (l.k + 1);
+  left : (j : ℕ) → l.i ≤ j → j < l.n → get_or l.c j 0 ≡ binomial (l.k + j) l.k;
 }

@@ -1,6 +1,7 @@
 use Rattle.std.proofs.Common.{◌∙◌, arith, length}
 use Rattle.ln_bound.specs.Value.{sizes}
 use Rattle.ln_poly.proofs.Derivations.Deriving.{AreDerived, deriving-end, deriving-init, deriving-room, deriving-step}
+use Rattle.ln_poly.proofs.Derivations.Lowering.{in-reach}
 use Rattle.ln_poly.proofs.derivatives.derive.Goals as goal
 
 pub terms-init : goal.terms-init
@@ -37,7 +38,8 @@ pub terms-smaller : goal.terms-smaller
 terms-smaller c = omega (arith, c.terms-test.true)
 
 pub put_derived-requires-clause-column : goal.put_derived-requires-clause-column
-put_derived-requires-clause-column c = c.column-column.ensures
+put_derived-requires-clause-column c = in-reach c.terms-f.result.now c.column-column.result c.args.v c.args.n c.reach.result c.terms.t-index
+    c.t-item.result c.column-column.ensures c.reach.ensures.each (omega arith) c.t-item.is
 
 pub nonzero-h-requires-clause-rising : goal.nonzero-h-requires-clause-rising
 nonzero-h-requires-clause-rising c = c.terms.invariant.rising

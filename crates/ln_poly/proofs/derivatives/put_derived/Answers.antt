@@ -1,4 +1,4 @@
-use Rattle.std.proofs.Common.{◌≡◌, ◌<◌, ◌∙◌, FitsSigned, ap, arith, get_or, refl, rules}
+use Rattle.std.proofs.Common.{◌≡◌, ◌-◌, ◌∙◌, FitsSigned, ap, arith, get_or, refl, rules}
 use Rattle.std.proofs.lemmas.Int.{to_z-of_z}
 use Rattle.std.proofs.lemmas.Result.{on_ok_weaker}
 use mir.Syntax.{w128}
@@ -9,17 +9,18 @@ use Rattle.ln_poly.proofs.derivatives.put_derived.Goals as goal
 
 pub push_times-requires-clause-times : goal.push_times-requires-clause-times
 push_times-requires-clause-times c =
-    let small : c.exponent_of-e.result < 128 = c.exponent_of-e.ensures.small in
-    let b : get_or c.args.column.now c.exponent_of-e.result 0 ≡ binomial c.exponent_of-e.result c.args.n = c.requires.column c.exponent_of-e.result small in
-    rw c.from.ensures (omega (arith, b, binomial-small c.exponent_of-e.result c.args.n small))
+    let e : c.exponent_of-e.result ≡ exponent c.args.v c.args.t.now.0 = c.exponent_of-e.ensures.value ∙ ap (exponent c.args.v) c.pairs.ensures.value in
+    let b : get_or c.args.column.now (exponent c.args.v c.args.t.now.0 - c.args.n) 0 ≡ binomial (exponent c.args.v c.args.t.now.0) c.args.n =
+    c.requires.column (omega (arith, c.if-e-n.false, e)) in
+    rw (c.from.ensures, e) (omega (arith, b, binomial-small (exponent c.args.v c.args.t.now.0) c.args.n (omega (arith, c.exponent_of-e.ensures.small, e))))
 
 pub push_times-requires-clause-room : goal.push_times-requires-clause-room
 push_times-requires-clause-room c =
     let e : c.exponent_of-e.result ≡ exponent c.args.v c.args.t.now.0 = c.exponent_of-e.ensures.value ∙ ap (exponent c.args.v) c.pairs.ensures.value in
-    let b : get_or c.args.column.now c.exponent_of-e.result 0 ≡ binomial c.exponent_of-e.result c.args.n =
-    c.requires.column c.exponent_of-e.result c.exponent_of-e.ensures.small in
+    let b : get_or c.args.column.now (exponent c.args.v c.args.t.now.0 - c.args.n) 0 ≡ binomial (exponent c.args.v c.args.t.now.0) c.args.n =
+    c.requires.column (omega (arith, c.if-e-n.false, e)) in
     let f : FitsSigned w128 c.args.t.now.1 = search rules in
-    rw (to_z-of_z w128 c.args.t.now.1 f, c.from.ensures, b, e) (c.requires.room (omega (arith, c.if-e-n.false, e)))
+    rw (to_z-of_z w128 c.args.t.now.1 f, c.from.ensures, e, b) (c.requires.room (omega (arith, c.if-e-n.false, e)))
 
 pub lowered-requires : goal.lowered-requires
 lowered-requires c =
@@ -34,10 +35,10 @@ returns-then-e-n c =
 pub returns : goal.returns
 returns c =
     let e : c.exponent_of-e.result ≡ exponent c.args.v c.args.t.now.0 = c.exponent_of-e.ensures.value ∙ ap (exponent c.args.v) c.pairs.ensures.value in
-    let b : get_or c.args.column.now c.exponent_of-e.result 0 ≡ binomial c.exponent_of-e.result c.args.n =
-    c.requires.column c.exponent_of-e.result c.exponent_of-e.ensures.small in
+    let b : get_or c.args.column.now (exponent c.args.v c.args.t.now.0 - c.args.n) 0 ≡ binomial (exponent c.args.v c.args.t.now.0) c.args.n =
+    c.requires.column (omega (arith, c.if-e-n.false, e)) in
     let f : FitsSigned w128 c.args.t.now.1 = search rules in
-    let put = rw (to_z-of_z w128 c.args.t.now.1 f, c.from.ensures, b, e) at c.push_times.ensures in
+    let put = rw (to_z-of_z w128 c.args.t.now.1 f, c.from.ensures, e, b) at c.push_times.ensures in
     record {
       none = on_ok_weaker c.push_times.result (λ _ h. absurd (omega (arith, h, e, c.if-e-n.false))) put;
       some = on_ok_weaker c.push_times.result (λ p h. record { exps = c.in_ok-exps.exps; put = p; lowered = c.in_ok-exps.ensures }) put;

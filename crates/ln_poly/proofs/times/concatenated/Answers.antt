@@ -1,6 +1,7 @@
 use Rattle.std.proofs.Common.{arith}
 use Rattle.ln_tree.proofs.Powers.{small-at}
-use Rattle.ln_poly.proofs.Sorting.Concatenated.{concatenated-above, positive-at}
+use Rattle.ln_poly.proofs.Sorting.Concatenated.{concatenated-above}
+use Rattle.ln_poly.proofs.Sorting.Merging.{positive-at}
 use Rattle.ln_poly.proofs.times.concatenated.Goals as goal
 
 pub push-requires-clause-above : goal.push-requires-clause-above

@@ -1,4 +1,4 @@
-use Rattle.std.proofs.Common.{◌≡◌, true, false, arith, rules, subst}
+use Rattle.std.proofs.Common.{◌≡◌, true, false, arith, rules}
 use Rattle.ln_stage.proofs.Testing.Terms.{factor-small, partners_end, partners_missing, partners_more}
 use Rattle.ln_stage.proofs.symmetry.all_have_partners.Goals as goal
 

@@ -1,5 +1,8 @@
-use Rattle.std.proofs.Common.{◌≡◌, ◌≢◌, arith, rules}
-use Rattle.ln_stage.proofs.Testing.Terms.{partners_all, partners_next, partners_not}
+use Rattle.std.proofs.Common.{◌≡◌, ◌≢◌, ◌∙◌, arith, rules, sym}
+use Rattle.ln_tree.specs.Exps.{exponent}
+use Rattle.ln_order.specs.Exchanged.{partner_at}
+use Rattle.ln_stage.proofs.Testing.Variables.{below_next}
+use Rattle.ln_stage.proofs.Testing.Terms.{partners_all, partners_not}
 use Rattle.ln_stage.proofs.symmetry.are_partners.Goals as goal
 
 pub partner_exponent-requires-clause-within : goal.partner_exponent-requires-clause-within
@@ -16,8 +19,8 @@ returns-then-exponent_of-partner_exponent c =
 pub variables-preserved : goal.variables-preserved
 variables-preserved c =
     let q : c.exponent_of.result ≡ c.partner_exponent.result = search rules in
-    partners_next c.args.vars.now c.args.j c.args.d c.variables.v c.exponent_of.result c.partner_exponent.result c.args.t.now c.args.u.now
-    c.exponent_of.ensures.value c.partner_exponent.ensures q c.variables.invariant
+    below_next (λ v. exponent v c.args.u.now ≡ exponent (partner_at c.args.vars.now c.args.j c.args.d v) c.args.t.now) c.variables.v
+    (sym c.exponent_of.ensures.value ∙ q ∙ c.partner_exponent.ensures) c.variables.invariant
 
 pub returns : goal.returns
 returns c =

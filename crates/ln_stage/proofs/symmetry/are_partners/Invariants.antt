@@ -1,4 +1,4 @@
-use Rattle.std.proofs.Common.{◌≡◌, ◌<◌, ◌≤◌, ℕ, length}
+use Rattle.std.proofs.Common.{◌≡◌, ◌<◌, ℕ}
 use Rattle.ln_tree.specs.Exps.{exponent}
 use Rattle.ln_order.specs.Exchanged.{partner_at}
 use Rattle.ln_stage.proofs.symmetry.are_partners.Given as goal

@@ -1,4 +1,4 @@
-use Rattle.std.proofs.Common.{◌≡◌, ◌-◌, true, false, arith, ap, length, rules}
+use Rattle.std.proofs.Common.{◌≡◌, ◌-◌, false, arith, ap, length, rules}
 use Rattle.std.specs.Prelude.{IsTrue}
 use Rattle.ln_tree.proofs.KeptLemmas.{laid_out}
 use Rattle.ln_stage.proofs.Testing.Pairs.{never_all, turns_all, turns_more, turns_none}

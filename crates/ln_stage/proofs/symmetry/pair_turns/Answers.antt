@@ -1,4 +1,4 @@
-use Rattle.std.proofs.Common.{◌≡◌, true, false, arith, rules, subst, sym}
+use Rattle.std.proofs.Common.{◌≡◌, true, false, rules}
 use Rattle.ln_order.proofs.Exchanging.Shifts.{shifts-alike}
 use Rattle.ln_stage.proofs.Testing.Pairs.{pair_no, pair_unlike, pair_yes}
 use Rattle.ln_stage.proofs.symmetry.pair_turns.Goals as goal

@@ -1,4 +1,4 @@
-use Rattle.std.proofs.Common.{◌≡◌, true, false, rules}
+use Rattle.std.proofs.Common.{◌≡◌, false, rules}
 use Rattle.ln_stage.proofs.Testing.Pairs.{neither}
 use Rattle.ln_stage.proofs.symmetry.symmetry_of.Goals as goal
 

@@ -1,7 +1,7 @@
 use Rattle.std.proofs.Common.{◌∙◌, length, sym}
 use Rattle.std.specs.Prelude.{◌&&◌, nat_lt}
+use Rattle.std.proofs.lemmas.Bool.{or_parts}
 use Rattle.ln_order.specs.Fronts.{front_places}
-use Rattle.ln_stage.proofs.Degrees.DegreeLemmas.{or_parts}
 use Rattle.ln_stage.proofs.Degrees.GradedLists.{left-out}
 use Rattle.ln_stage.proofs.Walks.TurnLemmas.{ends-same}
 use Rattle.ln_stage.proofs.visits.visit_by.Goals as goal

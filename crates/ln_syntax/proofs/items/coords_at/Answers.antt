@@ -12,11 +12,11 @@ overflow_add-place c =
     omega (arith, c.requires.small)
 
 pub range_at-range-requires-clause-there : goal.range_at-range-requires-clause-there
-range_at-range-requires-clause-there c = coord_range c.coords.invariant.rest (c.is.ensures.0 c.coords-test.true)
+range_at-range-requires-clause-there c = coord_range c.coords.invariant.rest.derives c.coords.invariant.rest.stops (c.is.ensures.0 c.coords-test.true)
 
 pub overflow_add-place-in-coords : goal.overflow_add-place-in-coords
 overflow_add-place-in-coords c =
-    let s = coord_semi c.coords.invariant.rest (c.is.ensures.0 c.coords-test.true) c.range_at-range.ensures in
+    let s = coord_semi c.coords.invariant.rest.derives c.coords.invariant.rest.stops (c.is.ensures.0 c.coords-test.true) c.range_at-range.ensures in
     let w = is_within c.args.ts.now c.range_at-range.result.to Semi s in
     omega (arith, c.requires.small)
 
@@ -27,5 +27,7 @@ coords-smaller c =
     omega arith
 
 pub coords-preserved : goal.coords-preserved
-coords-preserved c = rw c.in_ok-push.ensures.items
-    (coord_more c.coords.invariant (c.is.ensures.0 c.coords-test.true) c.span_of-name.ensures c.range_at-range.ensures)
+coords-preserved c =
+    let h = c.coords.invariant in
+    rw c.in_ok-push.ensures.items (coord_more h.done h.rest.derives h.rest.stops (c.is.ensures.0 c.coords-test.true)
+    c.span_of-name.ensures c.range_at-range.ensures)

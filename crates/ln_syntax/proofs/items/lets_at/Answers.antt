@@ -29,11 +29,13 @@ lets-smaller c =
     omega arith
 
 pub lets-preserved : goal.lets-preserved
-lets-preserved c = rw c.in_ok-push.ensures.items (let_more c.lets.invariant
+lets-preserved c =
+    let h = c.lets.invariant in
+    rw c.in_ok-push.ensures.items (let_more h.done h.rest.derives h.rest.stops
     (c.is.ensures.0 c.lets-test.true) c.span_of-name.ensures c.expression_end-to.ensures.expression c.expression_end-to.ensures.stops)
 
 pub expression_end-to-requires-clause-there : goal.expression_end-to-requires-clause-there
-expression_end-to-requires-clause-there c = let_expr c.lets.invariant.rest (c.is.ensures.0 c.lets-test.true)
+expression_end-to-requires-clause-there c = let_expr c.lets.invariant.rest.derives c.lets.invariant.rest.stops (c.is.ensures.0 c.lets-test.true)
 
 pub returns-clause-stops : goal.returns-clause-stops
-returns-clause-stops c = lets_stop c.lets.invariant.rest (λ q. true≢false (sym (c.is.ensures.1 q) ∙ c.lets-test.false))
+returns-clause-stops c = lets_stop c.lets.invariant.rest.derives c.lets.invariant.rest.stops (λ q. true≢false (sym (c.is.ensures.1 q) ∙ c.lets-test.false))

@@ -4,7 +4,7 @@ use Rattle.ln_syntax.proofs.Spellings.Parts.{is_within, pred_args, pred_lets, pr
 use Rattle.ln_syntax.proofs.items.pred_at.Goals as goal
 
 pub args_at-requires-clause-there : goal.args_at-requires-clause-there
-args_at-requires-clause-there c = pred_args c.requires.there c.requires.no_site c.requires.no_param
+args_at-requires-clause-there c = pred_args c.requires.there.derives c.requires.no_site c.requires.no_param
 
 pub overflow_add-args : goal.overflow_add-args
 overflow_add-args c =
@@ -12,7 +12,7 @@ overflow_add-args c =
     omega (arith, c.requires.small)
 
 pub lets_at-requires-clause-there : goal.lets_at-requires-clause-there
-lets_at-requires-clause-there c = pred_lets c.requires.there c.requires.no_site c.requires.no_param c.in_ok-args.ensures.ok c.in_ok-args.ensures.stops
+lets_at-requires-clause-there c = pred_lets c.requires.there.derives c.requires.no_site c.requires.no_param c.in_ok-args.ensures.ok c.in_ok-args.ensures.stops
 
 pub overflow_add-from : goal.overflow_add-from
 overflow_add-from c =
@@ -21,7 +21,7 @@ overflow_add-from c =
 
 pub expression_end-to-requires-clause-there : goal.expression_end-to-requires-clause-there
 expression_end-to-requires-clause-there c =
-    pred_expr c.requires.there c.requires.no_site c.requires.no_param c.in_ok-args.ensures.ok c.in_ok-args.ensures.stops
+    pred_expr c.requires.there.derives c.requires.no_site c.requires.no_param c.in_ok-args.ensures.ok c.in_ok-args.ensures.stops
     c.in_ok-lets.ensures.ok c.in_ok-lets.ensures.stops
 
 pub overflow_add-result : goal.overflow_add-result
@@ -31,6 +31,6 @@ overflow_add-result c =
 
 pub returns : goal.returns
 returns c =
-    pred_read c.requires.there c.requires.no_site c.requires.no_param c.span_of-name.ensures c.in_ok-args.ensures.ok
+    pred_read c.requires.there.derives c.requires.no_site c.requires.no_param c.span_of-name.ensures c.in_ok-args.ensures.ok
     c.in_ok-args.ensures.stops c.in_ok-lets.ensures.ok c.in_ok-lets.ensures.stops
     c.expression_end-to.ensures.expression c.expression_end-to.ensures.stops

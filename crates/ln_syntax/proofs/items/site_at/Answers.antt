@@ -4,7 +4,7 @@ use Rattle.ln_syntax.proofs.Spellings.Parts.{is_within, near_fits, site_coords, 
 use Rattle.ln_syntax.proofs.items.site_at.Goals as goal
 
 pub coords_at-requires-clause-there : goal.coords_at-requires-clause-there
-coords_at-requires-clause-there c = site_coords c.requires.there c.requires.kind
+coords_at-requires-clause-there c = site_coords c.requires.there.derives c.requires.kind
 
 pub overflow_add-result : goal.overflow_add-result
 overflow_add-result c =
@@ -12,7 +12,7 @@ overflow_add-result c =
     omega (arith, c.requires.small)
 
 pub returns : goal.returns
-returns c = site_read c.requires.there c.requires.kind c.span_of-name.ensures c.in_ok-coords.ensures.ok c.in_ok-coords.ensures.stops
+returns c = site_read c.requires.there.derives c.requires.kind c.span_of-name.ensures c.in_ok-coords.ensures.ok c.in_ok-coords.ensures.stops
 
 pub overflow_add-at : goal.overflow_add-at
 overflow_add-at c = near_fits c.args.ts.now c.args.at 1 Site c.requires.kind c.requires.small (omega arith)

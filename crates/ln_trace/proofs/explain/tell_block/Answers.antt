@@ -5,11 +5,12 @@ use Rattle.ln_tree.specs.Exps.{IsRising}
 use Rattle.ln_code.specs.RowOf.{row_of}
 use Rattle.ln_code.specs.Verdict.{sign_of}
 use Rattle.ln_trace.specs.Explain.{BlockTells}
-use Rattle.ln_trace.proofs.BlockLaw.{block-tells, its-block, other-told, zero-on}
+use Rattle.ln_code.proofs.Verdicts.Calls.{its_block}
+use Rattle.ln_trace.proofs.BlockLaw.{block-tells, other-told, zero-on}
 use Rattle.ln_trace.proofs.explain.tell_block.Goals as goal
 
 pub block_value-z-requires-clause-block : goal.block_value-z-requires-clause-block
-block_value-z-requires-clause-block c = its-block c.args.p.now.blocks c.args.number c.index-blocks-number.result c.requires.number
+block_value-z-requires-clause-block c = its_block c.args.p.now.blocks c.args.number c.index-blocks-number.result c.requires.number
     (rw c.blocks-2.ensures.value at c.index-blocks-number.is)
 
 pub returns-in_ok-put_sign-in-Some-clause-all : goal.returns-in_ok-put_sign-in-Some-clause-all

@@ -5,7 +5,7 @@ use Rattle.ln_tree.proofs.KeptLemmas.{laid_out}
 use Rattle.ln_order.specs.Places.{order_places}
 use Rattle.ln_code.specs.Lists.{list_of}
 use Rattle.ln_code.specs.RowOf.{row_of}
-use Rattle.ln_trace.proofs.BlockLaw.{list-end, list-on, list-told, nothing-on}
+use Rattle.ln_trace.proofs.BlockLaw.{list-end, list-on, list_told, nothing-on}
 use Rattle.ln_trace.proofs.explain.tell_list.Goals as goal
 
 pub overflow_add-j-end : goal.overflow_add-j-end
@@ -28,7 +28,7 @@ returns-then-branch-clause-told c =
     let o = order_places c.args.order.now in
     let e : c.shape.result.now.sites ≡ p.shape.sites = ap (λ (s : Shape). s.sites) c.shape.ensures in
     let h : c.prefixes.j ≤ length o = omega (arith, e, c.requires.order, c.prefixes-test.true) in
-    list-told p (row_of p.shape.sites p.shape.vars c.args.r.now).values o c.segment.result.now (list_of p o) c.args.out.now.items c.prefixes.out.items
+    list_told p (row_of p.shape.sites p.shape.vars c.args.r.now).values o c.segment.result.now (list_of p o) c.args.out.now.items c.prefixes.out.items
     c.tell_segment.new.out.items c.prefixes.j h c.segment.ensures.value c.prefixes.invariant.on (c.in_ok-tell_segment.ensures.all c.if-branch.true)
 
 pub prefixes-preserved : goal.prefixes-preserved

@@ -10,5 +10,5 @@ returns-then-not-branch c v = end-not v (subject_of c.args.case.now) c.args.stat
     ∙ (c.in_ok-ends.ensures es a s (c.as_slice.ensures ∙ e) (subst (AreAbove (length c.args.case.now.shape.vars)) (sym c.as_slice.ensures) m) i).1 q))
 
 pub returns : goal.returns
-returns c v = ended v (subject_of c.args.case.now) c.args.state.now (c.is_at.ensures.0 c.if-not-is_at.false) (λ es a s e m i. (c.in_ok-ends.ensures es a s
+returns c v = ended v (subject_of c.args.case.now) c.args.state.now (λ es a s e m i. (c.in_ok-ends.ensures es a s
     (c.as_slice.ensures ∙ e) (subst (AreAbove (length c.args.case.now.shape.vars)) (sym c.as_slice.ensures) m) i).0 c.if-not-branch.false)

@@ -9,4 +9,4 @@ use Rattle.ln_verify.proofs.kinds.filter_op.Goals as goal
 pub returns : goal.returns
 returns c = IfOk-weaker c.operate.result _ _ (λ ok h.
     filter_stack-led (version_of c.args.version) (subject_of c.args.case.now) c.args.state.now c.operate.new.on c.args.op c.args.a
-    ok (c.is_at.ensures.0 c.if-not-is_at.false) (h c.args.a refl)) c.operate.ensures
+    ok (h c.args.a refl)) c.operate.ensures

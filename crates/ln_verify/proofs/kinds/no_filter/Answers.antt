@@ -3,4 +3,4 @@ use Rattle.ln_verify.proofs.Engines.AtSpots.{named-gap}
 use Rattle.ln_verify.proofs.kinds.no_filter.Goals as goal
 
 pub returns : goal.returns
-returns c v p = named-gap v p c.args.state.now c.new.result (c.is_at.ensures.0 c.if-not-is_at.false) c.new.ensures
+returns c v p = named-gap v p c.args.state.now c.new.result c.new.ensures

@@ -1,12 +1,17 @@
 -- Answers to the goals of `verify` in src/listings.rt.
-use Rattle.std.proofs.Common.{List, map, subst, ap, ◌∙◌}
+use Rattle.std.proofs.Common.{List, map, subst, ap, sym, ◌∙◌}
 use Rattle.ln_tree.specs.declared.pred.Pred.{Pred}
 use Rattle.ln_tree.specs.Table.{pred_of}
 use Rattle.ln_verify.specs.Here.{subjects_of}
 use Rattle.ln_verify.specs.Verified.{AreSubjectsOf, rules_of}
 use Rattle.ln_verify.specs.Versions.{version_of}
-use Rattle.ln_verify.proofs.Judging.Subjects.{verified}
+use Rattle.ln_verify.proofs.Judging.Subjects.{form-entries, verified}
 use Rattle.ln_verify.proofs.listings.verify.Goals as goal
+
+pub judge-requires-clause-form : goal.judge-requires-clause-form
+judge-requires-clause-form c es h = form-entries (version_of c.of_number-version.result) c.args.l.now es
+    (c.of_number-version.ensures ∙ ap rules_of c.version.ensures.value) c.lines_of.ensures.kept
+    (sym h ∙ c.of-lines.ensures.lines ∙ c.lines_of.ensures.value)
 
 pub returns : goal.returns
 returns c =

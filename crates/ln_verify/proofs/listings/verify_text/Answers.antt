@@ -6,7 +6,7 @@ use Rattle.ln_cert.specs.Listing.{IsFormFault}
 use Rattle.ln_verify.specs.Here.{subjects_of}
 use Rattle.ln_verify.specs.Verified.{AreSubjectsOf, rules_of}
 use Rattle.ln_verify.specs.Versions.{version_of}
-use Rattle.ln_verify.proofs.Judging.Subjects.{form-of, form-right, verified-lines}
+use Rattle.ln_verify.proofs.Judging.Subjects.{form-left, form-of, form-right, verified-lines}
 use Rattle.ln_verify.proofs.listings.verify_text.Goals as goal
 
 pub returns-in-Err-Form : goal.returns-in-Err-Form
@@ -15,6 +15,10 @@ returns-in-Err-Form c =
     (form-of c.args.bytes.now _ _ _ c.in-Err-Form.is c.in-Err-Form.field-0-is c.listing_lines.ensures.err) in
     let r = form-right (map pred_of c.args.t.now.preds) c.args.bytes.now _ f in
     record { valid = r.0; invalid = r.1 }
+
+pub judge-requires-clause-form : goal.judge-requires-clause-form
+judge-requires-clause-form c es h = form-left c.args.bytes.now (version_of c.of_number-version.result) c.in-Ok.lines es
+    (c.of_number-version.ensures ∙ ap rules_of c.version.ensures) c.in-Ok.ensures.ok h
 
 pub returns : goal.returns
 returns c =

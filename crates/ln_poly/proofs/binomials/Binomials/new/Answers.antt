@@ -11,7 +11,7 @@ columns-init c = record {
 }
 
 pub raise-requires-clause-column : goal.raise-requires-clause-column
-raise-requires-clause-column c = c.columns.invariant.column
+raise-requires-clause-column c = λ j h. c.columns.invariant.column j (omega (arith, h))
 
 pub columns-smaller : goal.columns-smaller
 columns-smaller c = omega (arith, c.columns-test.true)
@@ -20,7 +20,7 @@ pub columns-preserved : goal.columns-preserved
 columns-preserved c =
     let i = c.columns.invariant in
     record {
-      column = c.raise.ensures;
+      column = λ j h. c.raise.ensures j (omega (arith, h));
       size = omega (arith, ap length c.in_ok-push.ensures.items, length_push c.columns.columns.items c.columns.c, i.size);
       each = column-pushed _ _ c.columns.c _ c.in_ok-push.ensures.items i.size i.column i.each;
     }

@@ -1,12 +1,16 @@
 use Rattle.std.proofs.Common.{refl}
 use Rattle.ln_top.proofs.JudgesLemmas.AuditLaws.{has_trace}
-use Rattle.ln_top.proofs.FrameLemmas.ReadyLaws.{one_name}
+use Rattle.ln_top.proofs.FrameLemmas.ReadyLaws.{one_name, second_short}
 use Rattle.ln_top.proofs.judges.audit.work.Goals as goal
 use Rattle.ln_verify.proofs.Validity.Tells.{sound-of}
 
 pub audit_records-ended-requires-clause-accepted : goal.audit_records-ended-requires-clause-accepted
 audit_records-ended-requires-clause-accepted g c =
     sound-of c.args.ready.now.compiled.table.preds _ _ c.requires.stands.sound c.named.ensures
+
+pub audit_records-ended-requires-clause-short : goal.audit_records-ended-requires-clause-short
+audit_records-ended-requires-clause-short g c =
+    let ready = c.requires.stands in second_short _ _ _ (c.two_texts.ensures ready.given ready.stands) ready.short
 
 pub returns : goal.returns
 returns g c = λ given s.

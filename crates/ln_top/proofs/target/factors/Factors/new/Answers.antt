@@ -24,3 +24,8 @@ pub returns-clause-programs : goal.returns-clause-programs
 returns-clause-programs c = λ ps n.
     let m = c.in_ok-which.ensures in
     programs_at (map pred_of c.args.c.now.table.preds) m.numbers _ _ c.args.numbers.now ps m.made m.stand n
+
+pub returns-clause-factors : goal.returns-clause-factors
+returns-clause-factors c =
+    factors_fit c.args.c.now.table c.args.numbers.now _ _ _ _ c.in_ok-which.ensures c.requires.shape c.requires.some c.requires.few
+    c.pred.ensures
