@@ -13,9 +13,9 @@ most_file = 67108864
 abbrev pub most_tokens : ℕ
 most_tokens = 65536
 
--- the largest number, without its sign: 2^127 - 1
-abbrev pub most_number : ℕ
-most_number = 170141183460469231731687303715884105727
+-- the largest number of a source, without its sign: 2^127 - 1
+abbrev pub most_literal : ℕ
+most_literal = 170141183460469231731687303715884105727
 
 -- the stages in the lists of all orders of a predicate's sites, and so the blocks of its program
 abbrev pub most_stages : ℕ

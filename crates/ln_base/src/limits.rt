@@ -10,7 +10,7 @@ pub const MOST_FILE: usize = 67_108_864;
 pub const MOST_TOKENS: usize = 65_536;
 
 /// The largest number, without its sign: `2^127 - 1`.
-pub const MOST_NUMBER: u128 = 170141183460469231731687303715884105727;
+pub const MOST_LITERAL: u128 = 170141183460469231731687303715884105727;
 
 /// The most stages that the lists of all orders of a predicate's sites have together.
 pub const MOST_STAGES: u64 = 65_536;

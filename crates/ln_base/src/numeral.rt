@@ -6,7 +6,7 @@ ghost use Rattle.std.specs.Str.Parse.{AllDigits, digits_value_after};
 ghost use Rattle.ln_base.specs.Lines.{span_to, words_from};
 ghost use Rattle.ln_base.specs.Exponents.{IsExponent, exponent_word};
 
-use crate::limits::MOST_NUMBER;
+use crate::limits::MOST_LITERAL;
 use crate::scan::{after, between, find, next_word};
 
 fn more(n: u128, digit: u8, most: u128) -> Option<u128>
@@ -56,12 +56,12 @@ pub fn integer(word: &[u8]) -> Option<i128>
     ensures none { IfNone result ((z : ℤ) → unsigned_abs z < 2 ^ 127 → word.now ≡ signed_decimal z → ⊥) }
 {
     if word.len() > 0 && word[0] == b'-' {
-        let Some(n) = number(after(word, 1), MOST_NUMBER) else {
+        let Some(n) = number(after(word, 1), MOST_LITERAL) else {
             return None;
         };
         if n == 0 { None } else { Some(-(n as i128)) }
     } else {
-        let Some(n) = number(word, MOST_NUMBER) else {
+        let Some(n) = number(word, MOST_LITERAL) else {
             return None;
         };
         Some(n as i128)

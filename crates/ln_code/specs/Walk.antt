@@ -75,8 +75,8 @@ pub record Done {A B : Type 0} (told : A → B) (y : Style B) (is_number : ℕ �
   pub none_kept : (shares → ⊥) → more ≡ []
 
 -- after a tree is computed its value may be kept, and a is its bound
-abbrev pub Keeps : {A B : Type 0} → (A → B) → Style B → (ℕ → Typed → Type 0) → Type 0 → Draft A → Draft A → Typed → A → Type 0
-Keeps {A = A} told y is_number shares mid after t a =
+abbrev pub PutsKept : {A B : Type 0} → (A → B) → Style B → (ℕ → Typed → Type 0) → Type 0 → Draft A → Draft A → Typed → A → Type 0
+PutsKept {A = A} told y is_number shares mid after t a =
     (before : Draft A) → Done told y is_number shares before mid t → Puts told y is_number shares before after t a
 
 -- number k, whose bound is b, is kept from here on, or nothing is written

@@ -7,7 +7,7 @@ ghost use Rattle.ln_bound.specs.declared.fitted.Two.{Two as Kind};
 ghost use Rattle.ln_bound.specs.declared.fitted.Width.{Width as Wide};
 ghost use Rattle.ln_code.specs.Engine.{op_of};
 ghost use Rattle.ln_code.specs.StackCode.{Style, after_left, after_right, division, line, power_of, raised_to, with_division};
-ghost use Rattle.ln_code.specs.Walk.{Gives, Keeps, KeptIn, MayKeep, Puts, Wrote, after_division, left_by, after_excess};
+ghost use Rattle.ln_code.specs.Walk.{Gives, PutsKept, KeptIn, MayKeep, Puts, Wrote, after_division, left_by, after_excess};
 ghost use Rattle.ln_code.specs.declared.op.Op.TheVariants.{Get as GetOp, Mul as MulOp, Neg as NegOp};
 
 use crate::draft::Draft;
@@ -235,7 +235,7 @@ fn put_kept<M: Marks>(
 ) -> Result<M::Bound, NoMemory>
     requires numbered { M.is_number m.now k (typed t.now) }
     requires bound { M.told b ≡ (M.style m.now).mark (typed t.now) }
-    ensures { IfOk result (Keeps M.told (M.style m.now) (M.is_number m.now) (M.shares m.now) draft.old draft.new (typed t.now)) }
+    ensures { IfOk result (PutsKept M.told (M.style m.now) (M.is_number m.now) (M.shares m.now) draft.old draft.new (typed t.now)) }
 {
     keep(draft, m, k, b)?;
     Ok(b)

@@ -18,7 +18,8 @@ use Rattle.ln_syntax.specs.Raw.{Item, SiteItem, ParamItem, PredItem, is_site, is
 use Rattle.ln_names.specs.declared.faults.Fault.{Fault}
 use Rattle.ln_names.specs.declared.roles.Role.{Role}
 use Rattle.ln_names.specs.declared.roles.Role.TheVariants.{Value, AfterCaret, Bare, Input, AfterDot, Operator, Caret}
-use Rattle.ln_names.specs.Numbers.{number, end_value, most_literal, most_end}
+use Rattle.ln_base.specs.Limits.{most_literal}
+use Rattle.ln_names.specs.Numbers.{number, end_value, most_end}
 use Rattle.ln_names.proofs.Trees.{Judged, judge, judged}
 use Rattle.ln_names.proofs.Machine.{tokens_of}
 use Rattle.ln_syntax.specs.Expression.{Tree, TNum, TName, TInput, TNeg, TAdd, TSub, TMul, TPow}

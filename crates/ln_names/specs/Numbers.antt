@@ -1,7 +1,6 @@
 -- The value of a NUMBER, and of an end of a range.
 use Rattle.std.specs.Prelude.{ℕ, ℤ, pos, neg_ℤ, List, Bool, true, false}
 use Rattle.ln_base.specs.Decimal.{decimal_value}
-use Rattle.ln_base.specs.Limits.{most_number}
 use Rattle.ln_base.specs.declared.span.Span.{Span}
 use Rattle.ln_syntax.specs.declared.raw.RawEnd.{RawEnd}
 use Rattle.ln_syntax.specs.Raw.{text}
@@ -18,10 +17,6 @@ signed true n = neg_ℤ (pos n)
 -- the integer that an end of a range is
 abbrev pub end_value : List ℕ → RawEnd → ℤ
 end_value bytes e = signed e.negative (number bytes e.at)
-
--- the largest literal, 2^127 - 1
-abbrev pub most_literal : ℕ
-most_literal = most_number
 
 -- the largest end of a range, 2^63 - 1
 abbrev pub most_end : ℕ

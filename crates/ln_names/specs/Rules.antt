@@ -13,7 +13,8 @@ use Rattle.ln_names.specs.declared.faults.Fault.TheVariants.{Limit, Named}
 use Rattle.ln_names.specs.declared.faults.LimitWhat.TheVariants.{NameLength, Literal, RangeEnd, Exponent, Sites, Params}
 use Rattle.ln_names.specs.declared.faults.LimitWhat.TheVariants.{Predicates, Coords, Lets, SiteArgs, ParamArgs, Nodes}
 use Rattle.ln_names.specs.declared.faults.NameWhat.TheVariants.{Twice, Unknown}
-use Rattle.ln_names.specs.Numbers.{number, end_value, most_literal, most_end}
+use Rattle.ln_base.specs.Limits.{most_literal}
+use Rattle.ln_names.specs.Numbers.{number, end_value, most_end}
 
 -- what an expression can speak of: the items before its predicate, the arguments, the lets before
 pub record Scope : Type 0 where

@@ -2,7 +2,8 @@
 ghost use Rattle.std.specs.Prelude.{◌≡◌, ◌==◌, ◌^◌, ◌<◌, ◌&&◌, Some, None, pos, OnOk, IfOk, IfErr, [], ◌∷◌, length, count_by, nat_lt, int_lt, IfNone};
 ghost use Rattle.std.specs.List.{list_any};
 ghost use Rattle.ln_syntax.specs.Raw.{text, same, item, items, item_name};
-ghost use Rattle.ln_names.specs.Numbers.{number, end_value, signed, most_literal, most_end};
+ghost use Rattle.ln_base.specs.Limits.{most_literal};
+ghost use Rattle.ln_names.specs.Numbers.{number, end_value, signed, most_end};
 ghost use Rattle.ln_names.specs.Rules.{fault_at, first_row, SiteName, ParamName, PredName, CoordName, LowEnd, HighEnd, ArgName, ArgSite};
 ghost use Rattle.ln_names.specs.Rules.{ArgParam, LetName, NumberNode, NameNode, InputNode, InputCoord, OperatorNode, ExponentOf, has_let};
 ghost use Rattle.ln_names.specs.Nodes.{named, input_of};

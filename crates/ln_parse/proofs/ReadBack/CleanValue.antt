@@ -12,7 +12,7 @@ use Rattle.ln_syntax.specs.declared.raw.RawCoord.{RawCoord}
 use Rattle.ln_syntax.specs.Raw.{Is, text}
 use Rattle.ln_syntax.specs.Expression.{Tree, TNum, TName, TInput, TNeg, TAdd, TSub, TMul, TPow, Derives, Sum}
 use Rattle.ln_names.specs.Numbers as numbers
-use Rattle.ln_names.specs.Numbers.{most_literal}
+use Rattle.ln_base.specs.Limits.{most_literal}
 use Rattle.ln_names.specs.Nodes.{Begins}
 use Rattle.ln_names.specs.Rules.{Scope, Use, InputNode, OperatorNode, is_site_arg, is_param_arg, coords_of, fault_at}
 use Rattle.ln_names.specs.Visits.{Visit, visit, nodes, expr_visits}

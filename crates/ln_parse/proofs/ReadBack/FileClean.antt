@@ -14,7 +14,8 @@ use Rattle.ln_syntax.specs.declared.raw.RawRange.{RawRange}
 use Rattle.ln_syntax.specs.declared.raw.RawCoord.{RawCoord}
 use Rattle.ln_syntax.specs.Raw.{Item, item_name, is_site, is_param, is_pred, text, same}
 use Rattle.ln_syntax.specs.File as file
-use Rattle.ln_names.specs.Numbers.{number, signed, end_value, most_literal, most_end}
+use Rattle.ln_base.specs.Limits.{most_literal}
+use Rattle.ln_names.specs.Numbers.{number, signed, end_value, most_end}
 use Rattle.ln_names.specs.Rules.{SiteName, ParamName, PredName, fault_at}
 use Rattle.ln_names.specs.Visits.{visits_by, range_visits, coord_visits, item_visits}
 use Rattle.ln_names.specs.First.{Clean}
