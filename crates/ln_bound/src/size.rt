@@ -136,8 +136,8 @@ fn pair_of_power(p: Pair, n: u8) -> Pair
     p.power(n).unwrap()
 }
 
-// The power of a tree, whose range has to be within the limit.
-fn raised(alloc: Global, x: Fitted, n: u8) -> Result<Fitted, NoMemory>
+/// The power of a tree, whose range has to be within the limit. Its width is the least that fits its range and is no narrower than the tree's.
+pub fn raised(alloc: Global, x: Fitted, n: u8) -> Result<Fitted, NoMemory>
     requires { magnitude (power (pair (typed x)) n) ≤ most }
     ensures { IfOk result (λ t. typed t ≡ TPow (typed x) n (power (pair (typed x)) n)
         (wider (width (typed x)) (least (magnitude (power (pair (typed x)) n))))) }

@@ -1,7 +1,8 @@
 -- A list of terms as a nested tree.
 use Rattle.std.specs.Prelude.{ℕ, zero, suc, ◌-◌, ◌/◌, ◌%◌, min, nat_eq, nat_le, Bool, true, false, ◌&&◌, ℤ, pos, ◌+ℤ◌, List, [], ◌∷◌, map, if◌then◌else◌}
-use Rattle.ln_algebra.specs.Terms.{Term}
 use Rattle.std.specs.Prelude.{negsuc}
+use Rattle.std.specs.List.{list_any}
+use Rattle.ln_algebra.specs.Terms.{Term}
 pub use Rattle.ln_poly.specs.Lean.{exponent_of}
 use Rattle.std.specs.Ordering.{int_eq}
 use Rattle.ln_algebra.specs.Tree.{Tree, Num, Input, Name, Neg, Add, Sub, Mul, Pow}
@@ -86,18 +87,15 @@ nested d (suc k) v f = horner (nested d k (suc v)) v d f
 -- ---- one term by squares
 -- half of each exponent
 abbrev pub halved : List ℕ → List ℕ
-halved [] = []
-halved (n ∷ m) = (n / 2) ∷ halved m
+halved m = map (λ n. n / 2) m
 
 -- 1 for each odd exponent, else 0
 abbrev pub odd_part : List ℕ → List ℕ
-odd_part [] = []
-odd_part (n ∷ m) = (n % 2) ∷ odd_part m
+odd_part m = map (λ n. n % 2) m
 
 -- is an exponent b or more?
 abbrev pub has_power : ℕ → List ℕ → Bool
-has_power b [] = false
-has_power b (n ∷ m) = if nat_le b n then true else has_power b m
+has_power b m = list_any (nat_le b) m
 
 -- is there one term, with an exponent of b or more?
 abbrev pub is_power : ℕ → List Term → Bool

@@ -20,9 +20,8 @@ ghost use Rattle.ln_nest.specs.View.{Has, IsScaled, product_of, scale, square_of
 
 use crate::work::{Work, constant, halves, is_power, parted, power_at_once, rests, work_of};
 use ln_base::NoMemory;
-use ln_bound::size::{input, negated, number, two};
-use ln_bound::{FitOp, Fitted, Two, Width};
-use ln_interval::Pair;
+use ln_bound::size::{input, negated, number, raised, two};
+use ln_bound::{FitOp, Fitted, Two};
 use ln_poly::Poly;
 use ln_tree::{Shape, VarInfo};
 use std::alloc::Global;
@@ -51,36 +50,6 @@ fn times(alloc: Global, x: Fitted, y: Fitted) -> Result<Fitted, NoMemory>
     two(alloc, Two::Times, x, y)
 }
 
-// The least width that fits a pair.
-fn least_for(p: Pair) -> Width
-    ensures { result ≡ least (magnitude (range p)) }
-{
-    Width::least(p.magnitude())
-}
-
-// The pair of a power, where it is within the limit.
-fn pair_of_power(p: Pair, n: u8) -> Pair
-    requires { magnitude (power (range p) n) ≤ most }
-    ensures { range result ≡ power (range p) n }
-{
-    p.power(n).unwrap()
-}
-
-// The square of a tree.
-fn squared(alloc: Global, x: Fitted) -> Result<Fitted, NoMemory>
-    requires { magnitude (power (pair (typed x)) 2) ≤ most }
-    ensures { IfOk result (λ t. typed t ≡ square_of (typed x)) }
-{
-    let pair = pair_of_power(x.pair, 2);
-    let width = x.width.wider(least_for(pair));
-    let x = Box::new(alloc, x)?;
-    Ok(Fitted {
-        op: FitOp::Pow(x, 2),
-        pair,
-        width,
-    })
-}
-
 // Is a power the square of its half, and not a product with the variable?
 fn is_square(e: u8) -> bool
     ensures { result ≡ is_square e }
@@ -103,7 +72,7 @@ fn powered(alloc: Global, vars: &[VarInfo], v: usize, k: u8, e: u8) -> Result<Fi
     }
     if is_square(e) {
         let half = powered(alloc, vars, v, k - 1, e / 2)?;
-        return squared(alloc, half);
+        return raised(alloc, half, 2);
     }
     let lower = powered(alloc, vars, v, k - 1, e - 1)?;
     two(alloc, Two::Times, lower, input(vars, v))
@@ -215,7 +184,7 @@ fn by_squares(
     let half = halves(alloc, terms.as_slice())?;
     let rest = rests(alloc, terms.as_slice())?;
     let root = by_squares(alloc, vars, k - 1, 4, half)?;
-    let square = squared(alloc, root)?;
+    let square = raised(alloc, root, 2)?;
     let t = nest_from(alloc, vars, 126, 0, rest)?;
     times(alloc, square, t)
 }

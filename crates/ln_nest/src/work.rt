@@ -130,15 +130,7 @@ pub fn parted(
 fn has_power(m: &[u8], b: u8) -> bool
     ensures { result ≡ has_power b m.now }
 {
-    match m {
-        [] => false,
-        [n, rest @ ..] => {
-            if b <= *n {
-                return true;
-            }
-            has_power(rest, b)
-        }
-    }
+    m.iter().any(|n| b <= *n)
 }
 
 /// Is there one term, with an exponent of b or more?

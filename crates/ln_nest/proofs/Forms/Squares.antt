@@ -1,8 +1,9 @@
 -- One term by squares: the square of its half times the rest.
 use Rattle.std.proofs.Common.{◌≡◌, ℕ, ℤ, ◌+◌, ◌*◌, ◌/◌, ◌%◌, ◌^◌, ◌≤◌, max, nat_le, Bool, true, false, List, [], ◌∷◌, length, refl, zero, suc, ap, arith}
-use Rattle.std.proofs.Common.{pos, ◌+ℤ◌, ◌∙◌, sym, if◌then◌else◌}
+use Rattle.std.proofs.Common.{pos, ◌+ℤ◌, ◌||◌, ◌∙◌, sym, if◌then◌else◌}
 use Rattle.std.specs.Prelude.{◌≢◌}
 use Rattle.std.proofs.lemmas.Int.{ints}
+use Rattle.std.proofs.lemmas.List.{length-map}
 use Rattle.std.proofs.lemmas.Bool.Decides.{nat_tests}
 use Rattle.std.proofs.lemmas.Nat.{mul-le}
 use Rattle.std.proofs.Math.Nat.{mul-le-mul_left}
@@ -36,15 +37,6 @@ pub plus_halved : (m : List ℕ) → plus (plus (halved m) (halved m)) (odd_part
 plus_halved [] = refl
 plus_halved (n ∷ m) = rw (twice_half n, plus_halved m) refl
 
--- halves have the same length
-pub length-halved : (m : List ℕ) → length (halved m) ≡ length m
-length-halved [] = refl
-length-halved (n ∷ m) = ap suc (length-halved m)
-
-length-odd_part : (m : List ℕ) → length (odd_part m) ≡ length m
-length-odd_part [] = refl
-length-odd_part (n ∷ m) = ap suc (length-odd_part m)
-
 -- a sum of vectors has as many exponents
 length-twice : (m : List ℕ) → length (plus m m) ≡ length m
 length-twice [] = refl
@@ -66,7 +58,7 @@ halved-some : (b : ℕ) (m : List ℕ) → 4 ≤ b → has_power b m ≡ true �
 halved-some b [] l q = cc
 halved-some b (n ∷ m) l q = by_case (nat_le b n) refl q (halved-some b m l)
   where
-    by_case : (a : Bool) → nat_le b n ≡ a → (if a then true else has_power b m) ≡ true → (has_power b m ≡ true → 2 ≤ degree (halved m))
+    by_case : (a : Bool) → nat_le b n ≡ a → (a || has_power b m) ≡ true → (has_power b m ≡ true → 2 ≤ degree (halved m))
         → 2 ≤ n / 2 + degree (halved m)
     by_case true p r ih = let g : b ≤ n = grind (arith, nat_tests) in omega (arith, g, l)
     by_case false p r ih = omega (arith, ih r)
@@ -110,14 +102,14 @@ pub record IsTerm (n d : ℕ) (t : Term) : Type 0 where
 -- so are its half and the rest
 half_is : (n d : ℕ) (t : Term) → IsTerm n d t → IsTerm n d (half_term t)
 half_is n d t i = record {
-  long = length-halved t.exponents ∙ i.long;
+  long = length-map t.exponents (λ n. n / 2) ∙ i.long;
   low = omega (arith, degree-halved t.exponents, i.low);
   some = λ q. cc;
 }
 
 rest_is : (n d : ℕ) (t : Term) → IsTerm n d t → IsTerm n d (rest_term t)
 rest_is n d t i = record {
-  long = length-odd_part t.exponents ∙ i.long;
+  long = length-map t.exponents (λ n. n % 2) ∙ i.long;
   low = omega (arith, degree-halved t.exponents, i.low);
   some = i.some;
 }
@@ -177,7 +169,7 @@ step_exact : (n d : ℕ) (t : Term) (x : Tree) → IsTerm n d t → expanded n x
     → expanded n (scaled (Pow x 2) (nested d n 0 (rest_term t ∷ []))) ≡ t ∷ []
 step_exact n d t x i p =
     let m = halved t.exponents in
-    let l : length m ≡ n = length-halved t.exponents ∙ i.long in
+    let l : length m ≡ n = length-map t.exponents (λ n. n / 2) ∙ i.long in
     expanded_scaled n (Pow x 2) (nested d n 0 (rest_term t ∷ [])) (plus m m) (length-twice m ∙ l) (square_exact n x m l p)
     ∙ rw (one_exact n d (rest_term t) (rest_is n d t i), plus_halved t.exponents, one_mul t.factor) refl
 
@@ -239,7 +231,7 @@ step_formed n d count big o t x r =
           let rest = g.nodes (rest_is n d t a.0, tt) ((λ w. omega (arith, u.0 w, exponent-halved w t.exponents)), tt) o in
           let square : AreLean n count big (Pow x 2) = (
             own,
-            square_lean n count big x m (length-halved t.exponents ∙ a.0.long) o r.inputs (r.exact refl (half_is n d t a.0, tt))
+            square_lean n count big x m (length-map t.exponents (λ n. n / 2) ∙ a.0.long) o r.inputs (r.exact refl (half_is n d t a.0, tt))
                 (λ w. omega (arith, u.0 w, exponent-halved w t.exponents)),
           ) in
           scaled_cases (Pow x 2) h (λ e. expanded n e ≡ t ∷ [] → AreLean n count big e)

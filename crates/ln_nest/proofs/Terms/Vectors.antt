@@ -1,11 +1,11 @@
 -- Vectors and lists of terms as the code has them.
 use Rattle.std.proofs.Common.{◌≡◌, ℕ, ◌+◌, ◌-◌, ◌≤◌, ◌<◌, true, false, List, [], ◌∷◌, ◌++◌, length, refl, zero, suc, ap, arith, ◌∙◌}
-use Rattle.std.proofs.Common.{◌/◌, ◌%◌, append-nil, sym, nat_lt, slice_set, slice_index_or, take}
+use Rattle.std.proofs.Common.{append-nil, sym, nat_lt, slice_set, slice_index_or}
 use Rattle.std.proofs.lemmas.Bool.Decides.{nat_tests}
 use Rattle.std.proofs.lemmas.List.{map-append}
 use Rattle.ln_algebra.specs.Terms.{Term}
 use Rattle.ln_nest.specs.declared.work.Work.{Work}
-use Rattle.ln_nest.specs.Nested.{exponent_of, is_positive, lessened, divided, free_of, halved, odd_part}
+use Rattle.ln_nest.specs.Nested.{exponent_of, is_positive, lessened, divided, free_of}
 use Rattle.ln_tree.specs.Exps.{Pairs, exponent, exponents_from, vector}
 use Rattle.ln_nest.specs.View.{term_in, terms_in}
 use Rattle.ln_nest.proofs.Terms.Parts.{by_parts, less_term}
@@ -81,31 +81,6 @@ without_step v items news seen term e i h =
 pub without_same : (v : ℕ) (items seen : List Work) (term : Work) → terms_in items ≡ free_of v (terms_in seen)
     → is_positive (exponent_of v term.exponents.items) ≡ true → terms_in items ≡ free_of v (terms_in (seen ++ (term ∷ [])))
 without_same v items seen term i h = i ∙ sym (free_one v seen term [] (rw h refl) ∙ append-nil _)
-
--- ---- halves
--- the half of one exponent more
-halved_take : (m : List ℕ) (i : ℕ) → i < length m → halved (take (i + 1) m) ≡ halved (take i m) ++ (slice_index_or m i 0 / 2 ∷ [])
-halved_take [] i h = absurd (omega (arith, h))
-halved_take (n ∷ m) zero h = refl
-halved_take (n ∷ m) (suc i) h =
-    let ih = halved_take m i (omega (arith, h)) in let g : suc i + 1 ≡ suc (i + 1) = omega arith in rw g (ap (λ z. (n / 2) ∷ z) ih)
-
--- as the code appends it
-pub halved_step : (m : List ℕ) (i : ℕ) (items news : List ℕ) → i < length m → items ≡ halved (take i m)
-    → news ≡ items ++ (slice_index_or m i 0 / 2 ∷ []) → news ≡ halved (take (i + 1) m)
-halved_step m i items news h p q = q ∙ rw p (sym (halved_take m i h))
-
--- the rest of one exponent more
-odd_take : (m : List ℕ) (i : ℕ) → i < length m → odd_part (take (i + 1) m) ≡ odd_part (take i m) ++ (slice_index_or m i 0 % 2 ∷ [])
-odd_take [] i h = absurd (omega (arith, h))
-odd_take (n ∷ m) zero h = refl
-odd_take (n ∷ m) (suc i) h =
-    let ih = odd_take m i (omega (arith, h)) in let g : suc i + 1 ≡ suc (i + 1) = omega arith in rw g (ap (λ z. (n % 2) ∷ z) ih)
-
--- as the code appends it
-pub odd_step : (m : List ℕ) (i : ℕ) (items news : List ℕ) → i < length m → items ≡ odd_part (take i m)
-    → news ≡ items ++ (slice_index_or m i 0 % 2 ∷ []) → news ≡ odd_part (take (i + 1) m)
-odd_step m i items news h p q = q ∙ rw p (sym (odd_take m i h))
 
 -- ---- a polynomial's terms
 -- one more variable

@@ -18,8 +18,8 @@ by_squares-requires t c =
     let p = parts_fit c.args.vars.now _ _ _ _ _ k c.requires.some c.requires.weight in
     (omega (arith, c.decreases, k.some), (c.requires.few, (c.requires.ordered, p.0)))
 
-pub squared-requires : goal.squared-requires
-squared-requires t c =
+pub raised-requires : goal.raised-requires
+raised-requires t c =
     let k = taken_of c.args.k c.args.b c.args.terms.items _ _ _ c.in_ok-half.half.items c.in_ok-rest.rest.items c.as_slice.ensures.value
     c.as_slice-2.ensures.value c.as_slice-3.ensures.value (c.has_square.ensures.yes c.if-not-has_square.false) c.in_ok-half.ensures c.in_ok-rest.ensures in
     square_fits c.args.vars.now _ _ _ _ _ k (typed c.in_ok-root.root) _ c.requires.some c.requires.weight c.in_ok-root.ensures

@@ -57,16 +57,16 @@ powered-requires-2 t c =
       ),
     )
 
-pub squared-requires : goal.squared-requires
-squared-requires t c =
+pub raised-requires : goal.raised-requires
+raised-requires t c =
     let q : is_square c.args.e ≡ true = sym c.is_square.ensures ∙ c.if-is_square.true in
     half_fits c.args.vars.now c.args.v c.args.e (typed c.in_ok-half.half) _ q c.in_ok-half.ensures c.requires.small
 
 pub returns-then-is_square : goal.returns-then-is_square
 returns-then-is_square t c =
     let q : is_square c.args.e ≡ true = sym c.is_square.ensures ∙ c.if-is_square.true in
-    IfOk-weaker c.squared.result _ _ (λ x p. square_has c.args.vars.now c.args.v c.args.k c.args.e (typed c.in_ok-half.half) (typed x)
-    (omega (arith, c.if-e-lt2.false, c.requires.steps)) c.if-e-lt2.false q c.in_ok-half.ensures p) c.squared.ensures
+    IfOk-weaker c.raised.result _ _ (λ x p. square_has c.args.vars.now c.args.v c.args.k c.args.e (typed c.in_ok-half.half) (typed x)
+    (omega (arith, c.if-e-lt2.false, c.requires.steps)) c.if-e-lt2.false q c.in_ok-half.ensures p) c.raised.ensures
 
 pub two-requires : goal.two-requires
 two-requires t c = again_fits c.args.vars.now c.args.v c.args.e (typed c.in_ok-lower.lower) (typed c.input-2.result) _ c.if-e-lt2.false
