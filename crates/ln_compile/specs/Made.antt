@@ -1,13 +1,11 @@
--- Blocks as they are made, and what is kept of a predicate.
+-- Blocks as they are made.
 use Rattle.std.specs.Prelude.{◌≤◌, List, length}
 use Rattle.ln_tree.specs.Exps.{Pairs}
 use Rattle.ln_tree.specs.Table.{PredOf}
 use Rattle.ln_poly.specs.Sparse.{Sparse}
 use Rattle.ln_code.specs.Part.{Code}
 use Rattle.ln_due.specs.Blocks.{AreBlocksOf}
-use Rattle.ln_stage.specs.Accepted.{IsExpanded}
-use Rattle.ln_compile.specs.declared.counted.Counted.{Counted}
-use Rattle.ln_compile.specs.Compiled.{IsFromExact, IsOwn, IsStageCount}
+use Rattle.ln_compile.specs.Compiled.{IsFromExact, IsOwn}
 
 -- blocks for these exponents, of which the first is the predicate's own
 pub record AreOwnBlocks (p : PredOf) (f : Sparse) (exps : List Pairs) (blocks : List Code) : Type 0 where
@@ -15,8 +13,3 @@ pub record AreOwnBlocks (p : PredOf) (f : Sparse) (exps : List Pairs) (blocks : 
   pub own : IsOwn p first
   pub small : length first.ops ≤ 524352
   pub made : AreBlocksOf (IsFromExact p.vars f) p.vars f first exps blocks
-
--- what is kept of an accepted predicate: its normal polynomial and its stage count
-pub record IsCounted (p : PredOf) (c : Counted) : Type 0 where
-  pub expanded : IsExpanded p c.poly
-  pub count : IsStageCount p c.count

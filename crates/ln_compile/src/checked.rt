@@ -5,20 +5,19 @@ ghost use Rattle.ln_base.specs.Limits.{most_source, most_stages};
 ghost use Rattle.ln_tree.specs.Table.{pred_of, table_of};
 ghost use Rattle.ln_compile.specs.Accepted.{Accepted};
 ghost use Rattle.ln_compile.specs.Compiled.{AreProgramsOf, IsBeginningAt, IsProgramAt, IsStageCountAt, pred_number};
-ghost use Rattle.ln_compile.specs.Made.{IsCounted};
+ghost use Rattle.ln_stage.specs.Accepted.{IsAcceptedPred, IsBasis};
 ghost use Rattle.ln_compile.specs.Polynomial.{IsPolynomialAt};
 ghost use Rattle.ln_compile.specs.Refused.{IsRefusal, IsTheOne, IsUnaccepted};
 ghost use Rattle.ln_compile.specs.Symmetry.{IsSymmetryAt};
 
-use crate::counted::Counted;
-use crate::program::beginning;
-use crate::programs::{accepted, all_counted, at, program_of, programs};
+use crate::program::{beginning, program};
+use crate::programs::{bases, programs};
 use crate::refusal::{Refusal, refusal_of};
 use ln_base::{NoMemory, Seq};
 use ln_code::{Block, FilterBlock, Program, Programs};
 use ln_parse::parse;
 use ln_poly::Poly;
-use ln_stage::{Symmetry, symmetry_of};
+use ln_stage::{Basis, Symmetry, symmetry_of};
 use ln_tree::{Pred, Table};
 use std::alloc::Global;
 use std::marker::Model;
@@ -34,12 +33,12 @@ pub(crate) fn found(t: &Table, name: &str) -> Option<usize>
         .position(|p| p.name.bytes() == name)
 }
 
-/// The table of a source, each predicate of which is accepted, with the stage count and the normal polynomial of each, in order.
-/// Stages and programs take more memory than it does, so they are made where they are asked for.
+/// The table of a source, each predicate of which is accepted, with the normal polynomial and the stages of each, in order.
+/// Programs take more memory than it does, so they are made where they are asked for.
 #[derive(Drop)]
 pub struct Checked {
     table: Table,
-    counted: Seq<Counted>,
+    bases: Seq<Basis>,
 }
 
 impl Model for Checked {
@@ -49,7 +48,7 @@ impl Model for Checked {
     ghost use Rattle.ln_tree.specs.Table.{pred_of};
     ghost use Rattle.std.specs.List.{AllZip};
     ghost use Rattle.ln_compile.specs.Compiled.{CheckedOf};
-    ghost use Rattle.ln_compile.specs.Made.{IsCounted};
+    ghost use Rattle.ln_stage.specs.Accepted.{IsBasis};
 
     ghost Value = { CheckedOf };
 
@@ -57,7 +56,7 @@ impl Model for Checked {
 
     ghost view = { λ c. record { table = c.table } };
 
-    ghost invariant = { λ c. AllZip IsCounted (map pred_of c.table.preds) c.counted };
+    ghost invariant = { λ c. AllZip IsBasis (map pred_of c.table.preds) c.bases };
 }
 
 impl Checked {
@@ -80,16 +79,16 @@ impl Checked {
         requires { i < length self.now.table.preds }
         ensures { slice_get self.now.table.preds i ≡ Some result.now }
     {
-        self.at(i).0
+        self.accepted(i).pred()
     }
 
-    // The predicate of a number, and what is kept of it.
-    fn at(&self, i: usize) -> (&Pred, &Counted)
+    /// A predicate, by its number, with its normal polynomial and the stages of that, which are lent. It allocates nothing.
+    pub fn accepted(&self, i: usize) -> ln_stage::Accepted<'_>
         requires { i < length self.now.table.preds }
-        ensures pred { slice_get self.now.table.preds i ≡ Some result.0.now }
-        ensures counted { IsCounted (pred_of result.0.now) result.1.now }
+        ensures pred { slice_get self.now.table.preds i ≡ Some result.pred }
+        ensures kept { IsAcceptedPred result }
     {
-        at(self.table.preds.as_slice(), self.counted.as_slice(), i)
+        ln_stage::Accepted::among(self.table.preds.as_slice(), self.bases.as_slice(), i)
     }
 
     /// The stage count of a predicate, by its number. It allocates nothing.
@@ -97,16 +96,16 @@ impl Checked {
         requires { i < length self.now.table.preds }
         ensures { IsStageCountAt (map pred_of self.now.table.preds) i result }
     {
-        self.at(i).1.count
+        self.accepted(i).stages().count()
     }
 
-    // The table, and what is kept of its predicates.
-    pub(crate) fn into_parts(self) -> (Table, Seq<Counted>)
+    // The table, and what its predicates go by.
+    pub(crate) fn into_parts(self) -> (Table, Seq<Basis>)
         ensures table { result.0 ≡ self.table }
-        ensures counted { AllZip IsCounted (map pred_of self.table.preds) result.1 }
+        ensures bases { AllZip IsBasis (map pred_of self.table.preds) result.1 }
     {
-        let Checked { table, counted } = self;
-        (table, counted)
+        let Checked { table, bases } = self;
+        (table, bases)
     }
 
     /// The program of a predicate, by its number. By `laws::programs_of_a_table` those of all predicates are what `Programs` may hold.
@@ -115,8 +114,7 @@ impl Checked {
         ensures program { IfOk result (IsProgramAt (map pred_of self.now.table.preds) i) }
         ensures small { IfOk result (λ c. length c.blocks ≤ most_stages) }
     {
-        let (p, kept) = self.at(i);
-        program_of(alloc, p, &kept.poly)
+        program(alloc, &self.accepted(i))
     }
 
     /// The filter of a predicate, if it has one, and its block 0, by its number: what its program and that by total degree have in common.
@@ -128,7 +126,7 @@ impl Checked {
         requires { i < length self.now.table.preds }
         ensures { IfOk result (IsBeginningAt (map pred_of self.now.table.preds) i) }
     {
-        beginning(alloc, self.at(i).0)
+        beginning(alloc, self.accepted(i).pred())
     }
 
     /// The normal polynomial of a predicate, by its number: that of its sign expression with the lets in place of their names. It is
@@ -137,38 +135,28 @@ impl Checked {
         requires { i < length self.now.table.preds }
         ensures { IfOk result (IsPolynomialAt (map pred_of self.now.table.preds) i) }
     {
-        self.at(i).1.poly.copy(alloc)
-    }
-
-    /// A predicate, by its number, with its normal polynomial and the stages of that. The polynomial is copied, and not expanded once more;
-    /// the stages are listed once more.
-    pub fn accepted(&self, alloc: Global, i: usize) -> Result<ln_stage::Accepted<'_>, NoMemory>
-        requires { i < length self.now.table.preds }
-        ensures { IfOk result (λ a. slice_get self.now.table.preds i ≡ Some a.pred) }
-    {
-        let (p, kept) = self.at(i);
-        accepted(alloc, p, &kept.poly)
+        self.accepted(i).poly().copy(alloc)
     }
 
     /// The symmetry of a predicate, by its number: whether its sites are of one type and each exchange of two of them turns its sign, or keeps
     /// it; none exactly where neither holds.
-    pub fn symmetry(&self, alloc: Global, i: usize) -> Result<Option<Symmetry>, NoMemory>
+    pub fn symmetry(&self, i: usize) -> Option<Symmetry>
         requires { i < length self.now.table.preds }
-        ensures { IfOk result (IsSymmetryAt (map pred_of self.now.table.preds) i) }
+        ensures { IsSymmetryAt (map pred_of self.now.table.preds) i result }
     {
-        let f = self.polynomial(alloc, i)?;
-        Ok(symmetry_of(&self.pred(i).shape, &f))
+        let a = self.accepted(i);
+        symmetry_of(&a.pred().shape, a.poly())
     }
 
     /// The programs of all predicates, in order.
     pub fn programs(&self, alloc: Global) -> Result<Programs, NoMemory>
         ensures { IfOk result (AreProgramsOf (map pred_of self.now.table.preds)) }
     {
-        programs(alloc, self.table.preds.as_slice(), self.counted.as_slice())
+        programs(alloc, self.table.preds.as_slice(), self.bases.as_slice())
     }
 }
 
-/// The table of a source, each predicate of which is accepted, with its stage counts and polynomials; or why the source is refused: the first fault
+/// The table of a source, each predicate of which is accepted, with their polynomials and stages; or why the source is refused: the first fault
 /// of its text, else the fault of the first predicate that has one. Unless memory runs out, it is the one or the other. No program is made.
 pub fn check(alloc: Global, bytes: &[u8]) -> Result<Checked, Refusal>
     requires { length bytes.now ≤ most_source }
@@ -181,6 +169,6 @@ pub fn check(alloc: Global, bytes: &[u8]) -> Result<Checked, Refusal>
         Ok(table) => table,
         Err(e) => return Err(refusal_of(e)),
     };
-    let counted = all_counted(alloc, table.preds.as_slice())?;
-    Ok(Checked { table, counted })
+    let bases = bases(alloc, table.preds.as_slice())?;
+    Ok(Checked { table, bases })
 }

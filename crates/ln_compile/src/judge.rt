@@ -8,6 +8,7 @@ ghost use Rattle.ln_bound.specs.Light.{AreLight, most};
 ghost use Rattle.ln_bound.specs.Value.{weights};
 ghost use Rattle.ln_poly.specs.Expansion.{HaveFewTerms, IsNormal};
 ghost use Rattle.ln_poly.specs.Sparse.{terms_of};
+ghost use Rattle.ln_stage.specs.Accepted.{IsBasis};
 ghost use Rattle.ln_stage.specs.Staged.{AreStagesOf};
 ghost use Rattle.ln_compile.specs.Accepted.{IsHeavyFault, IsSound, expanded_of, loaded_of, root_of};
 ghost use Rattle.ln_compile.specs.Refused.{StopsPred};
@@ -17,7 +18,7 @@ use ln_base::limits::{MOST_STAGES, MOST_WEIGHT};
 use ln_bound::BoundStop;
 use ln_bound::weigh::weigh;
 use ln_poly::{Poly, PolyStop, heft, normal};
-use ln_stage::{Accepted, StageStop, Stages, stages};
+use ln_stage::{Basis, StageStop, Stages, stages};
 use ln_tree::Pred;
 use std::alloc::Global;
 
@@ -84,14 +85,14 @@ fn staged(alloc: Global, k: u8, p: &Pred, f: &Poly) -> Result<Stages, Refusal>
     }
 }
 
-/// Predicate number k, where it has no fault; else its fault.
-pub(crate) fn judged(alloc: Global, k: u8, p: &Pred) -> Result<Accepted<'_>, Refusal>
-    ensures pred { IfOk result (λ a. a.pred ≡ p.now) }
+/// What predicate number k goes by, where it has no fault; else its fault.
+pub(crate) fn judged(alloc: Global, k: u8, p: &Pred) -> Result<Basis, Refusal>
+    ensures basis { IfOk result (IsBasis (pred_of p.now)) }
     ensures err { IfErr result (λ r. StopsPred k (pred_of p.now) r) }
 {
     measured(alloc, k, p)?;
-    let f = expanded(alloc, k, p)?;
-    weighed(k, p, &f)?;
-    let st = staged(alloc, k, p, &f)?;
-    Ok(Accepted::seal(p, f, st))
+    let poly = expanded(alloc, k, p)?;
+    weighed(k, p, &poly)?;
+    let stages = staged(alloc, k, p, &poly)?;
+    Ok(Basis { poly, stages })
 }

@@ -14,7 +14,6 @@
 
 pub mod blocks;
 pub mod checked;
-pub(crate) mod counted;
 pub mod due;
 pub(crate) mod judge;
 pub mod laws;

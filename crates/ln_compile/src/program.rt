@@ -67,16 +67,13 @@ fn blocks_of(alloc: Global, a: &Accepted<'_>) -> Result<Seq<Block>, NoMemory>
 }
 
 /// The program of an accepted predicate.
-pub(crate) fn program(alloc: Global, a: Accepted<'_>) -> Result<Program, NoMemory>
-    ensures program { IfOk result (λ c. IsProgramOf (pred_of a.entry.pred) c) }
+pub(crate) fn program(alloc: Global, a: &Accepted<'_>) -> Result<Program, NoMemory>
+    ensures program { IfOk result (λ c. IsProgramOf (pred_of a.now.pred) c) }
     ensures small { IfOk result (λ c. length c.blocks ≤ most_stages) }
 {
     let p = a.pred();
-    let made = blocks_of(alloc, &a);
-    let (poly, stages) = a.into_parts();
-    drop(poly);
-    let segments = stages.into_segments();
-    let blocks = made?;
+    let blocks = blocks_of(alloc, a)?;
+    let segments = a.stages().copy_segments(alloc)?;
     let shape = p.shape.copy(alloc)?;
     let filter = filter(alloc, p)?;
     Ok(Program::join(shape, filter, blocks, segments))

@@ -7,11 +7,10 @@ ghost use Rattle.ln_compile.specs.Compiled.{AreProgramsOf, IsStageCountAt, pred_
 ghost use Rattle.ln_compile.specs.Refused.{IsRefusal, IsTheOne, IsUnaccepted};
 
 use crate::checked::{check, found};
-use crate::counted::Counted;
-use crate::programs::at;
 use crate::refusal::Refusal;
 use ln_base::Seq;
 use ln_code::Programs;
+use ln_stage::Basis;
 use ln_tree::Table;
 use std::alloc::Global;
 use std::marker::Model;
@@ -24,7 +23,7 @@ pub struct Compiled {
     pub table: Table,
     /// The programs of its predicates, in order.
     pub programs: Programs,
-    counted: Seq<Counted>,
+    bases: Seq<Basis>,
 }
 
 impl Model for Compiled {
@@ -34,7 +33,7 @@ impl Model for Compiled {
     ghost use Rattle.ln_tree.specs.Table.{pred_of};
     ghost use Rattle.std.specs.List.{AllZip};
     ghost use Rattle.ln_compile.specs.Compiled.{AreProgramsOf, CompiledOf};
-    ghost use Rattle.ln_compile.specs.Made.{IsCounted};
+    ghost use Rattle.ln_stage.specs.Accepted.{IsBasis};
 
     ghost Value = { CompiledOf };
 
@@ -44,7 +43,7 @@ impl Model for Compiled {
 
     ghost invariant = { λ c. record {
       made : AreProgramsOf (map pred_of c.table.preds) c.programs;
-      counted : AllZip IsCounted (map pred_of c.table.preds) c.counted;
+      bases : AllZip IsBasis (map pred_of c.table.preds) c.bases;
     } };
 }
 
@@ -76,9 +75,9 @@ impl Compiled {
         requires { i < length self.now.table.preds }
         ensures { IsStageCountAt (map pred_of self.now.table.preds) i result }
     {
-        at(self.table.preds.as_slice(), self.counted.as_slice(), i)
-            .1
-            .count
+        ln_stage::Accepted::among(self.table.preds.as_slice(), self.bases.as_slice(), i)
+            .stages()
+            .count()
     }
 }
 
@@ -93,10 +92,10 @@ pub fn compile(alloc: Global, bytes: &[u8]) -> Result<Compiled, Refusal>
 {
     let checked = check(alloc, bytes)?;
     let programs = checked.programs(alloc)?;
-    let (table, counted) = checked.into_parts();
+    let (table, bases) = checked.into_parts();
     Ok(Compiled {
         table,
         programs,
-        counted,
+        bases,
     })
 }

@@ -5,3 +5,4 @@ pub mod Sights
 pub mod Degrees
 pub mod Testing
 pub mod Accepting
+pub mod Zipped

@@ -8,6 +8,7 @@ use Rattle.ln_poly.specs.Expansion.{IsNormal}
 use Rattle.ln_poly.specs.OfPred.{root_of}
 use Rattle.ln_poly.specs.Sparse.{Sparse}
 use Rattle.ln_stage.specs.Sound.{IsSound}
+use Rattle.ln_stage.specs.declared.accepted.Basis.{Basis}
 use Rattle.ln_stage.specs.Staged.{AreStagesOf, Staged}
 
 -- f is the normal polynomial of a predicate without a fault; it has at most 1,024 terms, each of a total degree of at most 126
@@ -17,13 +18,17 @@ pub record IsExpanded (p : PredOf) (f : Sparse) : Type 0 where
   pub terms : length f ≤ 1024
   pub degrees : All (λ t. total_degree (vector (length p.vars) t.0) ≤ 126) f
 
+-- the polynomial of a basis is that of the predicate, which has no fault, and its stages are those of the polynomial
+pub record IsBasis (p : PredOf) (b : Basis) : Type 0 where
+  pub expanded : IsExpanded p b.poly
+  pub stages : AreStagesOf p.sites p.vars b.poly b.stages
+
 -- a predicate, a polynomial and stages
 pub record AcceptedOf : Type 0 where
   pub pred : Pred
   pub poly : Sparse
   pub stages : Staged
 
--- the predicate has no fault; the polynomial is its own, and the stages are those of the polynomial
-pub record IsAcceptedPred (a : AcceptedOf) : Type 0 where
-  pub expanded : IsExpanded (pred_of a.pred) a.poly
-  pub stages : AreStagesOf a.pred.shape.sites a.pred.shape.vars a.poly a.stages
+-- the polynomial and the stages are a basis of the predicate
+abbrev pub IsAcceptedPred : AcceptedOf → Type 0
+IsAcceptedPred a = IsBasis (pred_of a.pred) (record { poly = a.poly; stages = a.stages })

@@ -1,30 +1,37 @@
 //! Accepted predicates: those without a fault, with what their programs are made of and what listings and traces are judged by.
-ghost use Rattle.std.specs.Prelude.{◌≡◌, ◌≢◌, [], ℕ, List, IfOk, length};
+ghost use Rattle.std.specs.Prelude.{◌≡◌, ◌≢◌, ◌<◌, [], ℕ, List, IfOk, Some, length, map, slice_get};
+ghost use Rattle.std.specs.List.{AllZip};
 ghost use Rattle.ln_base.specs.Limits.{most_stages, most_weight};
 ghost use Rattle.ln_tree.specs.Table.{pred_of};
 ghost use Rattle.ln_poly.specs.Sparse.{AreBelow};
-ghost use Rattle.ln_stage.specs.Accepted.{IsAcceptedPred, IsExpanded};
+ghost use Rattle.ln_stage.specs.Accepted.{IsAcceptedPred, IsBasis, IsExpanded};
 ghost use Rattle.ln_stage.specs.Lists.{AreStageLists, Passes};
-ghost use Rattle.ln_stage.specs.Sound.{IsSound};
+ghost use Rattle.ln_stage.specs.Sound.{AreSound, IsSound};
 ghost use Rattle.ln_stage.specs.Staged.{AreStagesOf};
 
 use crate::lists::stages;
 use crate::stop::StageStop;
 use crate::table::Stages;
-use ln_base::NoMemory;
 use ln_base::limits::{MOST_STAGES, MOST_WEIGHT};
+use ln_base::{NoMemory, Seq};
 use ln_poly::{Poly, PolyStop, normal};
 use ln_tree::{Pred, Shape};
 use std::alloc::Global;
 use std::marker::Model;
 
-/// An accepted predicate with its normal polynomial and the stages of that. It has no fault: no range and no size of a node exceeds `2^127 - 1`,
-/// no node has too many terms, its polynomial isn't too large and isn't 0, and it hasn't too many stages.
+/// What programs, listings and traces of a predicate go by: its normal polynomial, and the stages of that.
+#[derive(Drop)]
+pub struct Basis {
+    pub poly: Poly,
+    pub stages: Stages,
+}
+
+/// An accepted predicate with its normal polynomial and the stages of that, which are lent. It has no fault: no range and no size of a node exceeds
+/// `2^127 - 1`, no node has too many terms, its polynomial isn't too large and isn't 0, and it hasn't too many stages.
 #[derive(Drop)]
 pub struct Accepted<'a> {
     pred: &'a Pred,
-    poly: Poly,
-    stages: Stages,
+    basis: &'a Basis,
 }
 
 impl<'a> Model for Accepted<'a> {
@@ -36,9 +43,9 @@ impl<'a> Model for Accepted<'a> {
 
     ghost coded = { Prim.hlevel (codes, node.the_row.coded) };
 
-    ghost view = { λ a. record { pred = a.pred.now; poly = a.poly; stages = a.stages } };
+    ghost view = { λ a. record { pred = a.pred.now; poly = a.basis.now.poly; stages = a.basis.now.stages } };
 
-    ghost invariant = { λ a. IsAcceptedPred (record { pred = a.pred.now; poly = a.poly; stages = a.stages }) };
+    ghost invariant = { λ a. IsAcceptedPred (record { pred = a.pred.now; poly = a.basis.now.poly; stages = a.basis.now.stages }) };
 }
 
 // The normal polynomial of a predicate without a fault.
@@ -71,32 +78,46 @@ fn listed(alloc: Global, f: &Poly, s: &Shape) -> Result<Stages, NoMemory>
     }
 }
 
+// What a predicate without a fault goes by.
+fn basis_of(alloc: Global, p: &Pred) -> Result<Basis, NoMemory>
+    requires { IsSound (pred_of p.now) }
+    ensures { IfOk result (IsBasis (pred_of p.now)) }
+{
+    let poly = expanded(alloc, p)?;
+    let stages = listed(alloc, &poly, &p.shape)?;
+    Ok(Basis { poly, stages })
+}
+
+/// What predicates without a fault go by, each from itself alone.
+pub fn bases_of(alloc: Global, preds: &[Pred]) -> Result<Seq<Basis>, NoMemory>
+    requires { AreSound (map pred_of preds.now) }
+    ensures { IfOk result (λ bs. AllZip IsBasis (map pred_of preds.now) bs) }
+{
+    let mut bases = Seq::new(alloc);
+    'each: for i in 0..preds.len() {
+        let basis = basis_of(alloc, &preds[i])?;
+        bases.push(basis)?;
+    }
+    Ok(bases)
+}
+
 impl<'a> Accepted<'a> {
-    /// The predicate with this polynomial and these stages. It allocates nothing.
-    pub fn seal(pred: &'a Pred, poly: Poly, stages: Stages) -> Accepted<'a>
-        requires expanded { IsExpanded (pred_of pred.now) poly }
-        requires stages { AreStagesOf pred.now.shape.sites pred.now.shape.vars poly stages }
-        ensures { result ≡ record { pred = pred.now; poly = poly; stages = stages } }
+    /// The predicate of a number, from 0, among several with what they go by. It allocates nothing.
+    pub fn among(preds: &'a [Pred], bases: &'a [Basis], i: usize) -> Accepted<'a>
+        requires bases { AllZip IsBasis (map pred_of preds.now) bases.now }
+        requires within { i < length preds.now }
+        ensures pred { slice_get preds.now i ≡ Some result.pred }
+        ensures kept { IsAcceptedPred result }
     {
-        Accepted { pred, poly, stages }
+        Accepted::seal(&preds[i], &bases[i])
     }
 
-    /// A predicate without a fault. Its polynomial is expanded, and its stages are listed.
-    pub fn of(alloc: Global, pred: &'a Pred) -> Result<Accepted<'a>, NoMemory>
-        requires { IsSound (pred_of pred.now) }
-        ensures { IfOk result (λ a. a.pred ≡ pred.now) }
+    /// The predicate with what it goes by. It allocates nothing.
+    pub(crate) fn seal(pred: &'a Pred, basis: &'a Basis) -> Accepted<'a>
+        requires { IsBasis (pred_of pred.now) basis.now }
+        ensures { result ≡ record { pred = pred.now; poly = basis.now.poly; stages = basis.now.stages } }
     {
-        let poly = expanded(alloc, pred)?;
-        Accepted::listed(alloc, pred, poly)
-    }
-
-    /// A predicate without a fault, with its polynomial. Its stages are listed.
-    pub fn listed(alloc: Global, pred: &'a Pred, poly: Poly) -> Result<Accepted<'a>, NoMemory>
-        requires { IsExpanded (pred_of pred.now) poly }
-        ensures { IfOk result (λ a. a.pred ≡ pred.now) }
-    {
-        let stages = listed(alloc, &poly, &pred.shape)?;
-        Ok(Accepted::seal(pred, poly, stages))
+        Accepted { pred, basis }
     }
 
     /// The predicate.
@@ -108,28 +129,16 @@ impl<'a> Accepted<'a> {
     }
 
     /// Its normal polynomial.
-    pub fn poly(&self) -> &Poly
-        ensures value { result.now ≡ self.now.poly }
-        ensures kept { IsAcceptedPred self.now }
+    pub fn poly(&self) -> &'a Poly
+        ensures { result.now ≡ self.now.poly }
     {
-        &self.poly
+        &self.basis.poly
     }
 
     /// The stages of the polynomial.
-    pub fn stages(&self) -> &Stages
-        ensures value { result.now ≡ self.now.stages }
-        ensures kept { IsAcceptedPred self.now }
+    pub fn stages(&self) -> &'a Stages
+        ensures { result.now ≡ self.now.stages }
     {
-        &self.stages
-    }
-
-    /// The polynomial and its stages, handed over.
-    pub fn into_parts(self) -> (Poly, Stages)
-        ensures poly { result.0 ≡ self.entry.poly }
-        ensures stages { result.1 ≡ self.entry.stages }
-        ensures kept { IsAcceptedPred self.entry }
-    {
-        let Accepted { poly, stages, .. } = self;
-        (poly, stages)
+        &self.basis.stages
     }
 }

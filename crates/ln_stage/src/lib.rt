@@ -20,7 +20,7 @@ pub(crate) mod tally;
 pub(crate) mod visits;
 pub(crate) mod walk;
 
-pub use accepted::Accepted;
+pub use accepted::{Accepted, Basis, bases_of};
 pub use laws::{
     cut_loses_nothing, derivatives_are_coefficients, first_seen_are_sighted, list_is_unique,
     lists_are_those_of_trees, product_rule, there_is_a_first,

@@ -1,12 +1,13 @@
 //! The stages of a polynomial.
-ghost use Rattle.std.specs.Prelude.{◌≡◌, ◌<◌, ◌≤◌, slice_index_or, [], length, take};
+ghost use Rattle.std.specs.Prelude.{◌≡◌, ◌<◌, ◌≤◌, slice_index_or, [], length, take, IfOk};
 ghost use Rattle.ln_order.specs.Places.{order_places};
 ghost use Rattle.ln_order.specs.Prefixes.{prefixes_of};
 ghost use Rattle.ln_stage.specs.Staged.{count_numbers, lists_in, segment_of};
 
-use ln_base::Seq;
+use ln_base::{NoMemory, Seq};
 use ln_order::{Order, at_prefix};
 use ln_tree::Exps;
+use std::alloc::Global;
 use std::marker::Model;
 
 /// The stages of a polynomial: for each prefix of orders of the sites, in the order of `all_prefixes`, the blocks of its
@@ -97,6 +98,18 @@ impl Stages {
         ensures { result.now ≡ self.now.segments }
     {
         self.segments.as_slice()
+    }
+
+    /// A copy of the segments of all prefixes, in the order of `all_prefixes`.
+    pub fn copy_segments(&self, alloc: Global) -> Result<Seq<Seq<u32>>, NoMemory>
+        ensures { IfOk result (λ s. s ≡ self.now.segments) }
+    {
+        let mut segments = Vec::with_capacity(alloc, self.segments.len())?;
+        'each: for segment in self.segments.as_slice() {
+            let numbers = segment.as_slice().to_vec(alloc)?;
+            segments.push(Seq::from_vec(numbers))?;
+        }
+        Ok(Seq::from_vec(segments))
     }
 
     /// The segments of all prefixes, in the order of `all_prefixes`, handed over. It allocates nothing.

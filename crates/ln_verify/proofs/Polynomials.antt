@@ -1,5 +1,4 @@
 -- Polynomials in code, compared with those of the rules.
-pub mod CaseLemmas
 pub mod Closes
 pub mod Domain
 pub mod Fitting

@@ -30,16 +30,16 @@ use Rattle.ln_cert.specs.Text.{part_kind}
 
 -- the predicate of a case, as the judge sees it
 abbrev pub subject_of : Case → Subject
-subject_of c = record { name = name_bytes c.shape.name; sites = c.shape.sites; vars = c.shape.vars; poly = c.poly }
+subject_of c = record { name = name_bytes c.shape.now.name; sites = c.shape.now.sites; vars = c.shape.now.vars; poly = c.poly.now }
 
 -- its polynomial is one over its variables, no derivative of which is too large; its stages are those of the polynomial, and its
 -- orders are all orders of its sites
 pub record IsCase (c : Case) : Type 0 where
-  pub form : IsPoly c.poly
-  pub below : AreBelow (length c.shape.vars) c.poly
-  pub light : weighted_sum (weights c.shape.vars) (terms_of (length c.shape.vars) c.poly) ≤ most
-  pub staged : AreStagesOf c.shape.sites c.shape.vars c.poly c.stages
-  pub ordered : map order_places c.orders ≡ orders_of c.shape.sites
+  pub form : IsPoly c.poly.now
+  pub below : AreBelow (length c.shape.now.vars) c.poly.now
+  pub light : weighted_sum (weights c.shape.now.vars) (terms_of (length c.shape.now.vars) c.poly.now) ≤ most
+  pub staged : AreStagesOf c.shape.now.sites c.shape.now.vars c.poly.now c.stages.now
+  pub ordered : map order_places c.orders ≡ orders_of c.shape.now.sites
 
 -- the predicates of cases, in order
 abbrev pub subjects_of : List Case → List Subject

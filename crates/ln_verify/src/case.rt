@@ -5,11 +5,11 @@ use ln_poly::Poly;
 use ln_stage::Stages;
 use ln_tree::Shape;
 
-/// A predicate of the source: its shape, its normal polynomial, the stages of that, and all orders of its sites.
+/// A predicate of the source: its shape, its normal polynomial and the stages of that, which are lent, and all orders of its sites.
 #[derive(Drop)]
-pub struct Case {
-    pub shape: Shape,
-    pub poly: Poly,
-    pub stages: Stages,
+pub struct Case<'a> {
+    pub shape: &'a Shape,
+    pub poly: &'a Poly,
+    pub stages: &'a Stages,
     pub orders: Seq<Order>,
 }

@@ -15,24 +15,24 @@ use ln_tree::Exps;
 use std::alloc::Global;
 
 /// Is the polynomial the scaled derivative of the predicate's by these exponents?
-pub fn is_derivative(alloc: Global, case: &Case, a: &Exps, g: &Poly) -> Result<bool, NoMemory>
+pub fn is_derivative(alloc: Global, case: &Case<'_>, a: &Exps, g: &Poly) -> Result<bool, NoMemory>
     requires { IsCase case.now }
-    ensures { IfOk result (λ ok. IsAbove a.now (length case.now.shape.vars) → (t : Tree) → IsNormal (length case.now.shape.vars) t g.now →
-        IsTrue ok ↔ IsNormalOf (length case.now.shape.vars) t
-        (derived (vector (length case.now.shape.vars) a.now) (terms_of (length case.now.shape.vars) case.now.poly))) }
+    ensures { IfOk result (λ ok. IsAbove a.now (length case.now.shape.now.vars) → (t : Tree) → IsNormal (length case.now.shape.now.vars) t g.now →
+        IsTrue ok ↔ IsNormalOf (length case.now.shape.now.vars) t
+        (derived (vector (length case.now.shape.now.vars) a.now) (terms_of (length case.now.shape.now.vars) case.now.poly.now))) }
 {
     if !are_below(a.pairs(), case.shape.vars.len()) {
         return Ok(false);
     }
-    let h = derive_by(alloc, &case.poly, &case.shape, a)?;
+    let h = derive_by(alloc, case.poly, case.shape, a)?;
     Ok(g.same(&h))
 }
 
 /// Is the polynomial the predicate's?
-pub fn is_whole(case: &Case, g: &Poly) -> bool
+pub fn is_whole(case: &Case<'_>, g: &Poly) -> bool
     requires { IsCase case.now }
-    ensures { (t : Tree) → IsNormal (length case.now.shape.vars) t g.now →
-        IsTrue result ↔ IsNormalOf (length case.now.shape.vars) t (terms_of (length case.now.shape.vars) case.now.poly) }
+    ensures { (t : Tree) → IsNormal (length case.now.shape.now.vars) t g.now →
+        IsTrue result ↔ IsNormalOf (length case.now.shape.now.vars) t (terms_of (length case.now.shape.now.vars) case.now.poly.now) }
 {
-    g.same(&case.poly)
+    g.same(case.poly)
 }

@@ -22,7 +22,7 @@ use std::alloc::Global;
 // A line within the part of a predicate, but for the last.
 fn within(
     alloc: Global,
-    case: &Case,
+    case: &Case<'_>,
     version: Version,
     state: &mut Progress,
     line: &Part,
@@ -53,13 +53,13 @@ fn within(
     }
 }
 
-fn is_name(case: &Case, name: &[u8]) -> bool
-    ensures { IsTrue result ↔ (name_bytes case.now.shape.name ≡ name.now) }
+fn is_name(case: &Case<'_>, name: &[u8]) -> bool
+    ensures { IsTrue result ↔ (name_bytes case.now.shape.now.name ≡ name.now) }
 {
     case.shape.name.bytes() == name
 }
 
-fn case_at(cases: &[Case], at: usize) -> Option<&Case>
+fn case_at<'a, 'b>(cases: &'a [Case<'b>], at: usize) -> Option<&'a Case<'b>>
     ensures value { option_copied result ≡ slice_get cases.now at }
     ensures within { OnSome result (at < length cases.now) }
 {
@@ -67,7 +67,7 @@ fn case_at(cases: &[Case], at: usize) -> Option<&Case>
 }
 
 // `done`.
-fn done(case: &Case, state: &mut Progress) -> bool
+fn done(case: &Case<'_>, state: &mut Progress) -> bool
     requires room { state.old.parts < 18446744073709551615 }
     requires case { IsCase case.now }
     ensures { Finished (subject_of case.now) state.old result state.new }
@@ -82,7 +82,7 @@ fn done(case: &Case, state: &mut Progress) -> bool
 // A line at its place.
 fn line(
     alloc: Global,
-    cases: &[Case],
+    cases: &[Case<'_>],
     version: Version,
     state: &mut Progress,
     line: &Part,
@@ -116,7 +116,7 @@ fn fresh_progress(alloc: Global) -> Result<Progress, NoMemory>
 }
 
 // Does each predicate have its part?
-fn is_over(cases: &[Case], state: &Progress) -> bool
+fn is_over(cases: &[Case<'_>], state: &Progress) -> bool
     ensures { IsTrue result ↔ (state.now.parts ≡ length cases.now) }
 {
     state.parts == cases.len()
@@ -125,7 +125,7 @@ fn is_over(cases: &[Case], state: &Progress) -> bool
 // The first of the lines that are left that fails, or none fails, where the reader is before the first part.
 fn over<S: Source<Entry>>(
     alloc: Global,
-    cases: &[Case],
+    cases: &[Case<'_>],
     version: Version,
     source: &mut S,
     state: &mut Progress,
@@ -154,7 +154,7 @@ fn over<S: Source<Entry>>(
 /// They are of the form of listings, which says where each may stand; so the judge tests what a line says alone.
 pub fn judge<S: Source<Entry>>(
     alloc: Global,
-    cases: &[Case],
+    cases: &[Case<'_>],
     version: Version,
     source: &mut S,
 ) -> Result<Option<u32>, NoMemory>

@@ -45,7 +45,7 @@ pub fn filter(alloc: Global, state: &mut Progress) -> Result<bool, NoMemory>
 /// A line of a filter.
 pub fn filter_op(
     alloc: Global,
-    case: &Case,
+    case: &Case<'_>,
     version: Version,
     state: &mut Progress,
     op: Op,
@@ -59,7 +59,7 @@ pub fn filter_op(
 /// A line of a block, in version 1.
 pub fn block_op(
     alloc: Global,
-    case: &Case,
+    case: &Case<'_>,
     version: Version,
     state: &mut Progress,
     op: Op,
@@ -74,7 +74,7 @@ pub fn block_op(
 /// A line of a block, in version 2.
 pub fn range_op(
     alloc: Global,
-    case: &Case,
+    case: &Case<'_>,
     version: Version,
     state: &mut Progress,
     op: Op,
@@ -89,7 +89,7 @@ pub fn range_op(
 /// `order`.
 pub fn order(
     alloc: Global,
-    case: &Case,
+    case: &Case<'_>,
     state: &mut Progress,
     places: &[u8],
     list: &[u32],
@@ -115,9 +115,9 @@ pub fn order(
 }
 
 // Is there one value, whose polynomial is the predicate's, with an E that fits 64 bits?
-fn decides(alloc: Global, case: &Case, filter_stack: &FilterStack) -> Result<bool, NoMemory>
+fn decides(alloc: Global, case: &Case<'_>, filter_stack: &FilterStack) -> Result<bool, NoMemory>
     requires { IsCase case.now }
-    ensures { IfOk result (λ ok. (s : State FilterKnown (ℕ → Option FilterKnown)) → IsFilterStack (length case.now.shape.vars) filter_stack.now s →
+    ensures { IfOk result (λ ok. (s : State FilterKnown (ℕ → Option FilterKnown)) → IsFilterStack (length case.now.shape.now.vars) filter_stack.now s →
         IsTrue ok ↔ FilterDecides (subject_of case.now) s) }
 {
     if filter_stack.values.len() != 1 {
@@ -132,7 +132,7 @@ fn decides(alloc: Global, case: &Case, filter_stack: &FilterStack) -> Result<boo
 }
 
 /// `decide`.
-pub fn decide(alloc: Global, case: &Case, state: &mut Progress) -> Result<bool, NoMemory>
+pub fn decide(alloc: Global, case: &Case<'_>, state: &mut Progress) -> Result<bool, NoMemory>
     requires { IsCase case.now }
     ensures { IfOk result (λ ok. (v : AnyVersion) → Leads v (subject_of case.now) state.old Decide ok state.new) }
 {
@@ -147,14 +147,14 @@ pub fn decide(alloc: Global, case: &Case, state: &mut Progress) -> Result<bool, 
 // Is there one value, whose polynomial is the scaled derivative by the last of the exponents?
 fn ends(
     alloc: Global,
-    case: &Case,
+    case: &Case<'_>,
     exps: &[Exps],
     block_stack: &BlockStack,
 ) -> Result<bool, NoMemory>
     requires { IsCase case.now }
     ensures { IfOk result (λ ok. (es : List Pairs) (a : Pairs) (s : State Known (ℕ → Option Known)) → exps.now ≡ es ++ a ∷ [] →
-        AreAbove (length case.now.shape.vars) exps.now →
-        IsBlockStack (length case.now.shape.vars) block_stack.now s → IsTrue ok ↔ BlockEnds (subject_of case.now) a s) }
+        AreAbove (length case.now.shape.now.vars) exps.now →
+        IsBlockStack (length case.now.shape.now.vars) block_stack.now s → IsTrue ok ↔ BlockEnds (subject_of case.now) a s) }
 {
     if exps.is_empty() {
         return Ok(false);
@@ -167,7 +167,7 @@ fn ends(
 }
 
 /// `end`.
-pub fn end(alloc: Global, case: &Case, state: &mut Progress) -> Result<bool, NoMemory>
+pub fn end(alloc: Global, case: &Case<'_>, state: &mut Progress) -> Result<bool, NoMemory>
     requires { IsCase case.now }
     ensures { IfOk result (λ ok. (v : AnyVersion) → Leads v (subject_of case.now) state.old End ok state.new) }
 {
@@ -180,7 +180,7 @@ pub fn end(alloc: Global, case: &Case, state: &mut Progress) -> Result<bool, NoM
 /// `block`.
 pub fn block(
     alloc: Global,
-    case: &Case,
+    case: &Case<'_>,
     state: &mut Progress,
     k: u32,
     a: &[(u8, u8)],

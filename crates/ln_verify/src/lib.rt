@@ -26,4 +26,4 @@ pub mod triple;
 pub mod value;
 pub mod version;
 
-pub use listings::{Judged, VerifyStop, verify, verify_text};
+pub use listings::{Judged, VerifyStop, verify, verify_lines, verify_text};

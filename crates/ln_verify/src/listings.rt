@@ -3,6 +3,8 @@ ghost use Rattle.std.specs.Prelude.{◌≡◌, ◌↔◌, ◌<◌, ◌≤◌, �
 ghost use Rattle.ln_base.specs.Limits.{most_file};
 ghost use Rattle.ln_cert.specs.Listing.{Kept};
 ghost use Rattle.ln_tree.specs.Table.{pred_of};
+ghost use Rattle.std.specs.List.{AllZip};
+ghost use Rattle.ln_stage.specs.Accepted.{IsBasis};
 ghost use Rattle.ln_stage.specs.Sound.{AreSound};
 ghost use Rattle.ln_verify.specs.Here.{IsCase, subjects_of};
 ghost use Rattle.ln_verify.specs.Verified.{AreSubjectsOf, IsFaultFor, IsTextFaultFor, IsValidFor, IsValidTextFor, judged_of, rules_of};
@@ -16,6 +18,7 @@ use crate::version::Version;
 use ln_base::NoMemory;
 use ln_base::lines::Held;
 use ln_cert::{Entry, ListStop, Listing, listing_lines};
+use ln_stage::{Accepted, Basis, bases_of};
 use ln_tree::{Pred, Table};
 use std::alloc::Global;
 
@@ -46,14 +49,14 @@ impl From<NoMemory> for VerifyStop {
 }
 
 // Each predicate with what its part is judged by.
-fn cases_of(alloc: Global, preds: &[Pred]) -> Result<Vec<Case>, NoMemory>
-    requires { AreSound (map pred_of preds.now) }
+fn cases_of<'a>(alloc: Global, preds: &'a [Pred], bases: &'a [Basis]) -> Result<Vec<Case<'a>>, NoMemory>
+    requires { AllZip IsBasis (map pred_of preds.now) bases.now }
     ensures cases { IfOk result (λ cs. All IsCase cs.items) }
     ensures subjects { IfOk result (λ cs. AreSubjectsOf (map pred_of preds.now) (subjects_of cs.items)) }
 {
     let mut cases = Vec::new(alloc);
-    'each: for (i, p) in preds.iter().enumerate() {
-        let case = case_of(alloc, p)?;
+    'each: for i in 0..preds.len() {
+        let case = case_of(alloc, &Accepted::among(preds, bases, i))?;
         cases.push(case)?;
     }
     Ok(cases)
@@ -98,31 +101,50 @@ pub fn verify(alloc: Global, t: &Table, l: &Listing) -> Result<Judged, VerifySto
     ensures valid { IfOk result (λ j. (j ≡ Valid) ↔ IsValidFor (map pred_of t.now.preds) l.now) }
     ensures invalid { IfOk result (λ j. (line : ℕ) → (j ≡ Invalid line) ↔ IsFaultFor (map pred_of t.now.preds) l.now line) }
 {
-    let cases = cases_of(alloc, t.preds.as_slice())?;
+    let preds = t.preds.as_slice();
+    let bases = bases_of(alloc, preds)?;
+    let cases = cases_of(alloc, preds, bases.as_slice())?;
     let version = of_number(l.version());
     let mut lines = Held::of(lines_of(l));
     let first = judge(alloc, cases.as_slice(), version, &mut lines)?;
     Ok(judged_of(first))
 }
 
-/// Are the bytes a listing that is valid for the table, and if not, at which line do they fail first? A line at which they stop being a
-/// listing comes before any line whose rule fails. The table's predicates are such as compile.
+/// Are the bytes a listing that is valid for the accepted predicates of a table, and if not, at which line do they fail first? A line at
+/// which they stop being a listing comes before any line whose rule fails. Each predicate has what it goes by, which isn't made anew.
 ///
 /// The form of the whole text is checked first; then each line is read once more, judged and dropped. So it takes the memory of one line
-/// beside that of `verify`, and the time of `verify` and of two readings.
-pub fn verify_text(alloc: Global, t: &Table, bytes: &[u8]) -> Result<Judged, NoMemory>
-    requires accepted { AreSound (map pred_of t.now.preds) }
+/// beside that of the judge, and the time of the judge and of two readings.
+pub fn verify_lines(
+    alloc: Global,
+    preds: &[Pred],
+    bases: &[Basis],
+    bytes: &[u8],
+) -> Result<Judged, NoMemory>
+    requires bases { AllZip IsBasis (map pred_of preds.now) bases.now }
     requires short { length bytes.now ≤ most_file }
-    ensures valid { IfOk result (λ j. (j ≡ Valid) ↔ IsValidTextFor (map pred_of t.now.preds) bytes.now) }
-    ensures invalid { IfOk result (λ j. (line : ℕ) → (j ≡ Invalid line) ↔ IsTextFaultFor (map pred_of t.now.preds) bytes.now line) }
+    ensures valid { IfOk result (λ j. (j ≡ Valid) ↔ IsValidTextFor (map pred_of preds.now) bytes.now) }
+    ensures invalid { IfOk result (λ j. (line : ℕ) → (j ≡ Invalid line) ↔ IsTextFaultFor (map pred_of preds.now) bytes.now line) }
 {
     let mut lines = match listing_lines(alloc, bytes) {
         Ok(lines) => lines,
         Err(ListStop::Form(line)) => return Ok(Judged::Invalid(line)),
         Err(ListStop::NoMemory(e)) => return Err(e),
     };
-    let cases = cases_of(alloc, t.preds.as_slice())?;
+    let cases = cases_of(alloc, preds, bases)?;
     let version = of_number(lines.version());
     let first = judge(alloc, cases.as_slice(), version, &mut lines)?;
     Ok(judged_of(first))
+}
+
+/// The same for a table whose predicates are such as compile, each of which is expanded and staged anew.
+pub fn verify_text(alloc: Global, t: &Table, bytes: &[u8]) -> Result<Judged, NoMemory>
+    requires accepted { AreSound (map pred_of t.now.preds) }
+    requires short { length bytes.now ≤ most_file }
+    ensures valid { IfOk result (λ j. (j ≡ Valid) ↔ IsValidTextFor (map pred_of t.now.preds) bytes.now) }
+    ensures invalid { IfOk result (λ j. (line : ℕ) → (j ≡ Invalid line) ↔ IsTextFaultFor (map pred_of t.now.preds) bytes.now line) }
+{
+    let preds = t.preds.as_slice();
+    let bases = bases_of(alloc, preds)?;
+    verify_lines(alloc, preds, bases.as_slice(), bytes)
 }

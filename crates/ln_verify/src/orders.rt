@@ -66,14 +66,14 @@ fn is_order(o: &Order, places: &[u8]) -> bool
 /// the named blocks the stage list of that order?
 pub fn is_next(
     alloc: Global,
-    case: &Case,
+    case: &Case<'_>,
     exps: &[Exps],
     before: usize,
     places: &[u8],
     list: &[u32],
 ) -> Result<bool, NoMemory>
     requires { IsCase case.now }
-    ensures { IfOk result (λ ok. AreAbove (length case.now.shape.vars) exps.now →
+    ensures { IfOk result (λ ok. AreAbove (length case.now.shape.now.vars) exps.now →
         IsTrue ok ↔ IsNextList (subject_of case.now) exps.now before places.now list.now) }
 {
     let Some(o) = case.orders.as_slice().get(before) else {
@@ -82,6 +82,6 @@ pub fn is_next(
     if !is_order(o, places) {
         return Ok(false);
     }
-    let numbers = stage_list(alloc, &case.stages, o)?;
-    Ok(same_stages(exps, list, &case.stages, numbers.as_slice()))
+    let numbers = stage_list(alloc, case.stages, o)?;
+    Ok(same_stages(exps, list, case.stages, numbers.as_slice()))
 }

@@ -37,14 +37,14 @@ fn push_number<L: Limits>(
 // A variable onto the stack.
 fn push_input<L: Limits>(
     alloc: Global,
-    case: &Case,
+    case: &Case<'_>,
     version: Version,
     on: &mut Stack<Value<L>>,
     k: u8,
     s: L::Said,
 ) -> Result<bool, NoMemory>
     ensures { IfOk result (λ ok. (b : L.Bound) → L.tells s b →
-        StackStep L.known L.tree L.rules (version_of version) case.now.shape.vars on.old (Input k) b ok on.new) }
+        StackStep L.known L.tree L.rules (version_of version) case.now.shape.now.vars on.old (Input k) b ok on.new) }
 {
     let v = input(alloc, version, case.shape.vars.as_slice(), k, s)?;
     push(&mut on.values, v)
@@ -136,14 +136,14 @@ fn get<L: Limits>(on: &mut Stack<Value<L>>, j: u8, s: L::Said) -> Result<bool, N
 /// One operation over the variables of a predicate, with what its line says.
 pub fn operate<L: Limits>(
     alloc: Global,
-    case: &Case,
+    case: &Case<'_>,
     version: Version,
     on: &mut Stack<Value<L>>,
     op: Op,
     s: L::Said,
 ) -> Result<bool, NoMemory>
     ensures { IfOk result (λ ok. (b : L.Bound) → L.tells s b →
-        StackStep L.known L.tree L.rules (version_of version) case.now.shape.vars on.old op b ok on.new) }
+        StackStep L.known L.tree L.rules (version_of version) case.now.shape.now.vars on.old op b ok on.new) }
 {
     match op {
         Op::Push(c) => push_number(alloc, on, c, s),

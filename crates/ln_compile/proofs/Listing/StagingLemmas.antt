@@ -3,17 +3,21 @@ use Rattle.std.proofs.Common.{◌≡◌, inl, inr, ℕ, ◌≤◌, true, List, [
 use Rattle.std.specs.Prelude.{◌≢◌}
 use Rattle.ln_algebra.specs.Orders.{BySmallest}
 use Rattle.ln_base.specs.Limits.{most_stages, most_weight}
-use Rattle.ln_tree.specs.Table.{PredOf}
+use Rattle.ln_tree.specs.Table.{PredOf, pred_of}
 use Rattle.ln_tree.specs.Variables.{is_laid_out}
 use Rattle.ln_bound.specs.Light.{AreLight}
 use Rattle.ln_poly.specs.Expansion.{HaveFewTerms, IsNormal}
 use Rattle.ln_poly.specs.Sparse.{Sparse}
 use Rattle.ln_poly.proofs.TermLists.Counting.{zero-no-terms}
 use Rattle.ln_stage.specs.Lists.{AreStageLists, Passes, stage_count, stage_weight}
+use Rattle.ln_stage.specs.Accepted.{AcceptedOf, IsAcceptedPred}
+use Rattle.ln_stage.specs.Staged.{block_vector, count_numbers, vectors_of}
+use Rattle.ln_stage.proofs.Results.KeptLemmas.{count-map}
 use Rattle.ln_stage.proofs.Results.SamePoly.{one-normal}
 use Rattle.ln_stage.proofs.Sights.Members.{lists-one}
 use Rattle.ln_compile.specs.declared.refusal.Refusal.TheVariants.{Stages}
 use Rattle.ln_compile.specs.Accepted.{IsHeavyFault, IsSound, IsStagesFault, expanded_of, loaded_of, root_of}
+use Rattle.ln_compile.specs.Compiled.{IsStageCount}
 use Rattle.ln_compile.specs.Refused.{StopsPred, stages}
 
 -- where its lists are within the limits it has not too many stages
@@ -40,3 +44,13 @@ pub stages_stops : (k : ℕ) (p : PredOf) (f : Sparse) → AreLight (loaded_of p
     → ((ls : List (List (List ℕ))) × AreStageLists p.sites p.vars f ls × Passes (length p.vars) f most_stages most_weight ls) → StopsPred k p (Stages k p.at)
 stages_stops k p f l t w n d s =
     inl (stages l t w (λ z. d (zero-no-terms (length p.vars) (root_of p) f n z)) (record { poly = f; normal = n; lists = s.0; are_lists = s.1; passes = s.2 }))
+
+-- the stage count of an accepted predicate is that of its stages
+pub counted : (a : AcceptedOf) → IsAcceptedPred a → IsStageCount (pred_of a.pred) (count_numbers a.stages.lists)
+counted a k = record {
+  poly = a.poly;
+  normal = k.expanded.normal;
+  lists = vectors_of (length a.pred.shape.vars) a.stages;
+  are_lists = k.stages.lists;
+  count = count-map (block_vector (length a.pred.shape.vars) a.stages.exps) a.stages.lists;
+}

@@ -20,16 +20,12 @@ use Rattle.ln_parse.proofs.Wholes.WholeParts.{PredParts, differing, table_parts}
 use Rattle.ln_parse.proofs.ReadBack.NamePlaces.{Differ, NoneIs, same_bytes}
 use Rattle.ln_code.specs.Kept.{ArePrograms}
 use Rattle.ln_code.specs.Part.{Part}
-use Rattle.ln_compile.specs.declared.counted.Counted.{Counted}
 use Rattle.ln_compile.specs.Accepted.{AreSound}
 use Rattle.ln_compile.specs.Compiled.{AreProgramsOf, IsProgramAt}
-use Rattle.ln_compile.specs.Made.{IsCounted}
+use Rattle.ln_stage.specs.Accepted.{IsBasis}
+use Rattle.ln_stage.specs.declared.accepted.Basis.{Basis}
 
 -- ---- one more
-front-more : (preds : List Pred) (i : ℕ) (p : Pred) → i < length preds → p ≡ get_or preds i p
-    → map pred_of (take (i + 1) preds) ≡ map pred_of (take i preds) ++ pred_of p ∷ []
-front-more preds i p h e = ap (map pred_of) (take_more preds i p h ∙ ap (λ q. take i preds ++ q ∷ []) (sym e)) ∙ map-append pred_of (take i preds) (p ∷ [])
-
 -- the predicates, with one of them apart
 pub parted : (preds : List Pred) (i : ℕ) (p : Pred) → i < length preds → p ≡ get_or preds i p
     → map pred_of preds ≡ map pred_of (take i preds) ++ pred_of p ∷ map pred_of (drop (i + 1) preds)
@@ -38,26 +34,11 @@ parted preds i p h e =
     sym (ap (map pred_of) (take-append-drop i preds)) ∙ map-append pred_of (take i preds) (drop i preds)
     ∙ ap (λ qs. map pred_of (take i preds) ++ map pred_of qs) here
 
--- the step of a loop over the predicates: one thing more, of the next predicate
-pub zipped-more : {X : Type 0} (R : PredOf → X → Type 0) (preds : List Pred) (i : ℕ) (p : Pred) (xs ys : List X) (x : X) → i < length preds
-    → p ≡ get_or preds i p → ys ≡ xs ++ x ∷ [] → R (pred_of p) x → AllZip R (map pred_of (take i preds)) xs → AllZip R (map pred_of (take (i + 1) preds)) ys
-zipped-more R preds i p xs ys x h e q r a =
-    let f : map pred_of (take i preds) ++ pred_of p ∷ [] ≡ map pred_of (take (i + 1) preds) = sym (front-more preds i p h e) in
-    subst (λ (ps : List PredOf). AllZip R ps ys) f (rw q (all_zipped_more R (map pred_of (take i preds)) xs (pred_of p) x a r))
-
--- what is said of the predicates, of one by its number
-pub zipped-at : {X : Type 0} (R : PredOf → X → Type 0) (preds : List Pred) (xs : List X) (i : ℕ) (p : Pred) (x : X) → AllZip R (map pred_of preds) xs
-    → i < length preds → p ≡ get_or preds i p → x ≡ get_or xs i x → R (pred_of p) x
-zipped-at R [] xs i p x a h e f = absurd (omega (arith, h))
-zipped-at R (q ∷ ps) [] i p x a h e f = absurd a
-zipped-at R (q ∷ ps) (y ∷ ys) zero p x a h e f = subst (λ (r : Pred). R (pred_of r) x) (sym e) (subst (R (pred_of q)) (sym f) a.0)
-zipped-at R (q ∷ ps) (y ∷ ys) (suc i) p x a h e f = zipped-at R ps ys i p x a.1 (omega (arith, h)) e f
-
--- predicates with stage counts have no fault
-pub counted-sound : (ps : List PredOf) (cs : List Counted) → AllZip IsCounted ps cs → AreSound ps
-counted-sound [] cs a = tt
-counted-sound (p ∷ ps) [] a = absurd a
-counted-sound (p ∷ ps) (c ∷ cs) a = (a.0.expanded.sound, counted-sound ps cs a.1)
+-- predicates that have what they go by have no fault
+pub based-sound : (ps : List PredOf) (bs : List Basis) → AllZip IsBasis ps bs → AreSound ps
+based-sound [] bs a = tt
+based-sound (p ∷ ps) [] a = absurd a
+based-sound (p ∷ ps) (b ∷ bs) a = (a.0.expanded.sound, based-sound ps bs a.1)
 
 -- ---- names
 -- a name differs from each of these

@@ -81,7 +81,7 @@ left-goes v ps p q (x ∷ xs) ys g e =
 -- ---- a line
 -- a line with a name leads into the part of the next predicate where it is that predicate's
 pub named-part : (v : Version) (cs : List Case) (d : Progress) (c : Case) (name : List ℕ) (ok : Bool) (here : Place) → slice_get cs d.parts ≡ Some c
-    → (IsTrue ok ↔ (name_bytes c.shape.name ≡ name)) → MayStand v (state_of here) (Predicate name) → IsHere (subjects_of cs) d here
+    → (IsTrue ok ↔ (name_bytes c.shape.now.name ≡ name)) → MayStand v (state_of here) (Predicate name) → IsHere (subjects_of cs) d here
     → PlaceStep v (subjects_of cs) here (Predicate name) ok d
 named-part v cs d c name true (Outside parts) g n m i =
     let there : slice_get (subjects_of cs) (length parts) ≡ Some (subject_of c) =
@@ -95,7 +95,7 @@ named-part v cs d c name ok (Within parts (Between f (b ∷ bs))) g n m i = cc
 named-part v cs d c name ok (Within parts s) g n m i = cc
 
 -- a case has as many orders as there are orders of its sites
-pub case-orders : (c : Case) → IsCase c → length c.orders ≡ length (orders_of c.shape.sites)
+pub case-orders : (c : Case) → IsCase c → length c.orders ≡ length (orders_of c.shape.now.sites)
 case-orders c k = sym (length-map c.orders order_places) ∙ ap length k.ordered
 
 -- ---- within a part

@@ -61,7 +61,7 @@ subjects-one ps ss ts h k = absurd h
 
 -- ---- the loop over the predicates
 -- a case with the shape of a predicate and its normal polynomial has its subject
-pub case-subject : (p : Pred) (c : Case) → c.shape ≡ p.shape → IsNormal (length p.shape.vars) (root_of (pred_of p)) c.poly
+pub case-subject : (p : Pred) (c : Case) → c.shape.now ≡ p.shape → IsNormal (length p.shape.vars) (root_of (pred_of p)) c.poly.now
     → IsSubjectOf (pred_of p) (subject_of c)
 case-subject p c e n =
     record { name = ap (λ (s : Shape). name_bytes s.name) e; sites = ap (λ (s : Shape). s.sites) e; vars = ap (λ (s : Shape). s.vars) e; normal = n }

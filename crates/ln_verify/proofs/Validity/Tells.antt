@@ -16,6 +16,7 @@ use Rattle.ln_poly.proofs.Loads.Sizing.{pred-expands}
 use Rattle.ln_stage.specs.Sound.{AreSound, IsSound}
 use Rattle.ln_cert.specs.declared.part.Part.{Part}
 use Rattle.ln_cert.specs.Listing.{parts_of}
+use Rattle.ln_stage.proofs.Zipped.{sound-of}
 use Rattle.ln_verify.specs.AsPart.{GivesSign, IsSubject, ValidPartsGiveSigns, code_of, filter_code, filter_of, part_of, segment_at}
 use Rattle.ln_verify.specs.BlockRules.{Version, version_1, version_2, block_rules, deepest, triple_rules}
 use Rattle.ln_verify.specs.Judge.{Go, IsValid}
@@ -214,12 +215,6 @@ inputs-below : (p : Pred) → IsSound (pred_of p) → InputsBelow (length p.shap
 inputs-below p a =
     (root-light (length p.shape.vars) two (closed_lets p.shape.vars (map formula p.lets)) (tree p.shape.vars (formula p.root))
     (pred-expands p.args p.shape.vars p.lets (length p.let_names) p.root p.kept a.light).1).inputs
-
--- each predicate of an accepted source has no fault
-pub sound-of : (ps : List Pred) (k : ℕ) (p : Pred) → AreSound (map pred_of ps) → slice_get ps k ≡ Some p → IsSound (pred_of p)
-sound-of [] k p h e = cc
-sound-of (q ∷ ps) zero p h e = let z : q ≡ p = cc in subst (λ (x : Pred). IsSound (pred_of x)) z h.0
-sound-of (q ∷ ps) (suc k) p h e = sound-of ps k p h.1 e
 
 -- the subject of a predicate, and that it has its part
 subject-there : (ps : List Pred) (ss : List Subject) (k : ℕ) (p : Pred) → AreSubjectsOf (map pred_of ps) ss → slice_get ps k ≡ Some p

@@ -1,6 +1,6 @@
 use Rattle.ln_compile.proofs.judge.judged.Goals as goal
 
-pub seal-requires-clause-expanded : goal.seal-requires-clause-expanded
-seal-requires-clause-expanded c =
-    let f = c.in_ok-f.ensures in
-    record { sound = c.in_ok-st.ensures.sound; normal = f.normal; terms = f.terms; degrees = f.degrees }
+pub returns-clause-basis : goal.returns-clause-basis
+returns-clause-basis c =
+    let f = c.in_ok-poly.ensures in let e = c.in_ok-stages.ensures in
+    record { expanded = record { sound = e.sound; normal = f.normal; terms = f.terms; degrees = f.degrees }; stages = e.stages }

@@ -20,5 +20,5 @@ derive_by-requires-clause-exps c =
 pub returns : goal.returns
 returns c above t h =
     let d = c.in_ok-h.ensures.derivative in
-    let s = end-same (length c.args.case.now.shape.vars) t c.args.g.now c.in_ok-h.h c.args.case.now.poly c.args.a.now h d.form d.below d.coefficients in
+    let s = end-same (length c.args.case.now.shape.now.vars) t c.args.g.now c.in_ok-h.h c.args.case.now.poly.now c.args.a.now h d.form d.below d.coefficients in
     (λ e. s.0 (c.same.ensures.0 e), λ n. c.same.ensures.1 (s.1 n))

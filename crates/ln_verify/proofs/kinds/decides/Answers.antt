@@ -9,7 +9,7 @@ use Rattle.ln_verify.proofs.kinds.decides.Goals as goal
 pub returns-then-len-ne1 : goal.returns-then-len-ne1
 returns-then-len-ne1 c s i = (
   λ t. not-true _ t,
-  λ q. absurd (not-one in_triple (length c.args.case.now.shape.vars) c.args.filter_stack.now.values.items s.stack i.stack
+  λ q. absurd (not-one in_triple (length c.args.case.now.shape.now.vars) c.args.filter_stack.now.values.items s.stack i.stack
       (λ l. c.if-len-ne1.true (omega (arith, c.len.ensures, l))) q.left q.one),
 )
 

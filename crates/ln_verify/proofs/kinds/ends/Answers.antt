@@ -19,13 +19,13 @@ returns-then-is_empty c es a s e m i = absurd (not-empty c.args.exps.now es a c.
 pub returns-then-len-ne1 : goal.returns-then-len-ne1
 returns-then-len-ne1 c es a s e m i = (
   λ t. not-true _ t,
-  λ q. absurd (not-one in_range (length c.args.case.now.shape.vars) c.args.block_stack.now.values.items s.stack i.stack
+  λ q. absurd (not-one in_range (length c.args.case.now.shape.now.vars) c.args.block_stack.now.values.items s.stack i.stack
       (λ l. c.if-len-ne1.true (omega (arith, c.len.ensures, l))) q.left q.one),
 )
 
 pub returns : goal.returns
 returns c = IfOk-weaker c.is_derivative.result _ _ (λ ok h es a s e m i.
-    let n = length c.args.case.now.shape.vars in
+    let n = length c.args.case.now.shape.now.vars in
     let p = subject_of c.args.case.now in
     let f : c.index-exps-exps.result ≡ a = c.index-exps-exps.is ∙ last-is c.args.exps.now es a c.index-exps-exps.result e in
     let above : IsAbove c.index-exps-exps.result n = subst (λ (x : Pairs). IsAbove x n) (sym f) (last-above n c.args.exps.now es a e m) in

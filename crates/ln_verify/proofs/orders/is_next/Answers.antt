@@ -29,9 +29,9 @@ one-order o p e = cc
 
 pub returns-in_default : goal.returns-in_default
 returns-in_default c a =
-    let e = subst (λ (xs : List Order). map order_places xs ≡ orders_of c.args.case.now.shape.sites) (sym c.as_slice.ensures) c.requires.ordered in (
+    let e = subst (λ (xs : List Order). map order_places xs ≡ orders_of c.args.case.now.shape.now.sites) (sym c.as_slice.ensures) c.requires.ordered in (
       λ h. not-true _ h,
-      λ h. absurd (order-none c.as_slice.result.now c.args.case.now.shape.sites c.args.before c.args.places.now e
+      λ h. absurd (order-none c.as_slice.result.now c.args.case.now.shape.now.sites c.args.before c.args.places.now e
           (past _ _ c.in_default.ensures.lookup.0) h.order),
     )
 
@@ -40,8 +40,8 @@ returns-then-not-is_order c a =
     let case = c.args.case.now in
     let o = c.in-Some.o.now in
     let l = c.in-Some.ensures.lookup in
-    let e = subst (λ (xs : List Order). map order_places xs ≡ orders_of c.args.case.now.shape.sites) (sym c.as_slice.ensures) c.requires.ordered in
-    let at = order-at c.as_slice.result.now case.shape.sites c.args.before o e (below _ _ l.0) (l.3.1 o) in (
+    let e = subst (λ (xs : List Order). map order_places xs ≡ orders_of c.args.case.now.shape.now.sites) (sym c.as_slice.ensures) c.requires.ordered in
+    let at = order-at c.as_slice.result.now case.shape.now.sites c.args.before o e (below _ _ l.0) (l.3.1 o) in (
       λ h. not-true _ h,
       λ h. absurd (not-true _ (sym c.if-not-is_order.true ∙ c.is_order.ensures.1 (one-order (order_places o) c.args.places.now (sym at ∙ h.order)))),
     )
@@ -51,32 +51,32 @@ stage_list-requires c =
     let case = c.args.case.now in
     let o = c.in-Some.o.now in
     let l = c.in-Some.ensures.lookup in
-    let e = subst (λ (xs : List Order). map order_places xs ≡ orders_of c.args.case.now.shape.sites) (sym c.as_slice.ensures) c.requires.ordered in
-    let at = order-at c.as_slice.result.now case.shape.sites c.args.before o e (below _ _ l.0) (l.3.1 o) in
-    order-size case.shape.sites c.args.before (order_places o) at ∙ sym c.requires.staged.sites
+    let e = subst (λ (xs : List Order). map order_places xs ≡ orders_of c.args.case.now.shape.now.sites) (sym c.as_slice.ensures) c.requires.ordered in
+    let at = order-at c.as_slice.result.now case.shape.now.sites c.args.before o e (below _ _ l.0) (l.3.1 o) in
+    order-size case.shape.now.sites c.args.before (order_places o) at ∙ sym c.requires.staged.sites
 
 pub same_stages-requires : goal.same_stages-requires
 same_stages-requires c =
     let case = c.args.case.now in
     let o = c.in-Some.o.now in
     let l = c.in-Some.ensures.lookup in
-    let e = subst (λ (xs : List Order). map order_places xs ≡ orders_of c.args.case.now.shape.sites) (sym c.as_slice.ensures) c.requires.ordered in
-    let at = order-at c.as_slice.result.now case.shape.sites c.args.before o e (below _ _ l.0) (l.3.1 o) in
+    let e = subst (λ (xs : List Order). map order_places xs ≡ orders_of c.args.case.now.shape.now.sites) (sym c.as_slice.ensures) c.requires.ordered in
+    let at = order-at c.as_slice.result.now case.shape.now.sites c.args.before o e (below _ _ l.0) (l.3.1 o) in
     let v = c.as_slice-2.ensures.value ∙ c.in_ok-numbers.ensures in
-    subst (λ (xs : List ℕ). All (λ i. i < length c.args.case.now.stages.exps) xs) (sym v)
-    (numbers-are (subject_of case) case.stages case.shape.kept c.requires.staged c.args.before (order_places o) at)
+    subst (λ (xs : List ℕ). All (λ i. i < length c.args.case.now.stages.now.exps) xs) (sym v)
+    (numbers-are (subject_of case) case.stages.now case.shape.now.kept c.requires.staged c.args.before (order_places o) at)
 
 pub returns : goal.returns
 returns c above =
     let case = c.args.case.now in
     let o = c.in-Some.o.now in
     let l = c.in-Some.ensures.lookup in
-    let e = subst (λ (xs : List Order). map order_places xs ≡ orders_of c.args.case.now.shape.sites) (sym c.as_slice.ensures) c.requires.ordered in
-    let at = order-at c.as_slice.result.now case.shape.sites c.args.before o e (below _ _ l.0) (l.3.1 o) in
+    let e = subst (λ (xs : List Order). map order_places xs ≡ orders_of c.args.case.now.shape.now.sites) (sym c.as_slice.ensures) c.requires.ordered in
+    let at = order-at c.as_slice.result.now case.shape.now.sites c.args.before o e (below _ _ l.0) (l.3.1 o) in
     let v = c.as_slice-2.ensures.value ∙ c.in_ok-numbers.ensures in
     let t = subst
-    (λ (xs : List ℕ). (n : ℕ) → All (λ (x : Pairs). IsAbove x n) c.args.exps.now → All (λ (x : Pairs). IsAbove x n) c.args.case.now.stages.exps
-    → (c.same_stages.result ≡ true) ↔ SameStages n c.args.exps.now c.args.case.now.stages.exps c.args.list.now xs)
+    (λ (xs : List ℕ). (n : ℕ) → All (λ (x : Pairs). IsAbove x n) c.args.exps.now → All (λ (x : Pairs). IsAbove x n) c.args.case.now.stages.now.exps
+    → (c.same_stages.result ≡ true) ↔ SameStages n c.args.exps.now c.args.case.now.stages.now.exps c.args.list.now xs)
     v c.same_stages.ensures in
-    tested (subject_of case) case.stages case.shape.kept c.requires.staged c.args.before (order_places o) at c.args.exps.now c.args.list.now
+    tested (subject_of case) case.stages.now case.shape.now.kept c.requires.staged c.args.before (order_places o) at c.args.exps.now c.args.list.now
     c.args.places.now c.same_stages.result (c.is_order.ensures.0 c.if-not-is_order.false) above t

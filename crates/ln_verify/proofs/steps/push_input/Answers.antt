@@ -11,7 +11,7 @@ use Rattle.ln_verify.proofs.steps.push_input.Goals as goal
 pub returns : goal.returns
 returns g c = IfOk-weaker c.push.result _ _ (λ ok p b h s i.
     let v = version_of c.args.version in
-    let vars = c.args.case.now.shape.vars in
+    let vars = c.args.case.now.shape.now.vars in
     let n = length vars in
     let e = g.L.Limits.rules v vars in
     let m = subst (λ (vs : List VarInfo). IsMade (IsFor g.L.Limits.known (length vs)) g.L.Limits.tree (length vs) c.in_ok-v.v

@@ -4,5 +4,5 @@ use Rattle.ln_compile.proofs.Numbers.{holds_at}
 use Rattle.ln_compile.proofs.checked.Checked.program.Goals as goal
 
 pub returns-clause-program : goal.returns-clause-program
-returns-clause-program c = IfOk-weaker c.program_of.result _ _ (λ program h.
-    holds_at (λ p. IsProgramOf p program) c.args.self.now.table.preds c.args.i c.at.result.0.now c.at.ensures.pred h) c.program_of.ensures.program
+returns-clause-program c = IfOk-weaker c.program.result _ _ (λ program h.
+    holds_at (λ p. IsProgramOf p program) c.args.self.now.table.preds c.args.i c.accepted.result.pred c.accepted.ensures.pred h) c.program.ensures.program

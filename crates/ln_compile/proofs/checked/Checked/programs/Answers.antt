@@ -2,8 +2,8 @@ use Rattle.ln_tree.specs.Table.{table_of}
 use Rattle.ln_compile.proofs.Making.BuildingLemmas.{names-differ}
 use Rattle.ln_compile.proofs.checked.Checked.programs.Goals as goal
 
-pub programs-requires-clause-counted : goal.programs-requires-clause-counted
-programs-requires-clause-counted c = rw (c.as_slice.ensures, c.as_slice-2.ensures) c.self.invariant
+pub programs-requires-clause-bases : goal.programs-requires-clause-bases
+programs-requires-clause-bases c = rw (c.as_slice.ensures, c.as_slice-2.ensures) c.self.invariant
 
 pub programs-requires-clause-names : goal.programs-requires-clause-names
 programs-requires-clause-names c =
