@@ -91,6 +91,13 @@ impl Checked {
         ln_stage::Accepted::among(self.table.preds.as_slice(), self.bases.as_slice(), i)
     }
 
+    /// The polynomials and the stages of the predicates, in order.
+    pub fn bases(&self) -> &[Basis]
+        ensures { AllZip IsBasis (map pred_of self.now.table.preds) result.now }
+    {
+        self.bases.as_slice()
+    }
+
     /// The stage count of a predicate, by its number. It allocates nothing.
     pub fn stage_count(&self, i: usize) -> u64
         requires { i < length self.now.table.preds }

@@ -81,15 +81,14 @@ fn entry_for(symmetry: Option<Symmetry>) -> Entry
 }
 
 // The entry of predicate number i: which rows its function is for.
-fn entry_of(alloc: Global, source: &Checked, i: usize) -> Result<Entry, NoMemory>
+fn entry_of(source: &Checked, i: usize) -> Entry
     requires { i < length source.now.table.preds }
-    ensures { IfOk result (HasEntryAt (map pred_of source.now.table.preds) i) }
+    ensures { HasEntryAt (map pred_of source.now.table.preds) i result }
 {
     if source.pred(i).shape.sites < 2 {
-        return Ok(Entry::EveryRow);
+        return Entry::EveryRow;
     }
-    let symmetry = source.symmetry(alloc, i)?;
-    Ok(entry_for(symmetry))
+    entry_for(source.symmetry(i))
 }
 
 // The program of predicate number i without its filter, and of one order of its sites where its function is for rows whose indices rise.
@@ -117,7 +116,7 @@ fn put_turning(
     ensures { IfOk result (λ x. BeginsTurning (map pred_of source.now.table.preds) i text.old.items
         → BeginsTurning (map pred_of source.now.table.preds) (i + 1) text.new.items) }
 {
-    let entry = entry_of(alloc, source, i)?;
+    let entry = entry_of(source, i);
     let program = reduced(alloc, source, i, entry)?;
     let done = put_program_as(alloc, text, &program, entry);
     drop(program);

@@ -18,39 +18,39 @@ ghost use Rattle.ln_trace.specs.ToldLaw.{IsLeft};
 ghost use Rattle.ln_trace.specs.Left.{IsSpot, left_at};
 ghost use Rattle.ln_trace.specs.Next.{IsLastOf};
 
-use crate::case::Case;
+use crate::grounds::Grounds;
 use crate::next::may_be_next;
 use crate::progress::Progress;
 use ln_poly::value_at;
 use ln_tree::Exps;
 
 /// May a with the value z stand next in the row with these values, by the rule of an `at` line? Allocates nothing.
-pub fn is_next_at(case: &Case, state: &Progress, a: &Exps, z: i128, row: &[i64]) -> bool
-    requires sites { length (order_places state.now.order) ≡ case.now.pred.now.shape.sites }
-    requires order { length (order_places state.now.order) ≡ case.now.stages.now.sites }
-    requires spot { IsSpot case.now.stages.now (order_places state.now.order) state.now.spot }
-    requires numbers { (q : List ℕ) → All (λ i. i < length case.now.stages.now.exps) (segment_of case.now.stages.now q) }
-    requires above { IsAbove a.now (length case.now.pred.now.shape.vars) }
-    requires below { AreBelow (length case.now.pred.now.shape.vars) case.now.poly.now }
-    requires light { weighted_sum (weights case.now.pred.now.shape.vars) (terms_of (length case.now.pred.now.shape.vars) case.now.poly.now) ≤ most }
-    requires row { AreWithin case.now.pred.now.shape.vars row.now }
-    ensures { (e : Tree) (stood : Stood) (r : Row) → r.values ≡ row.now → InRange case.now.pred.now.shape.sites case.now.pred.now.shape.vars r →
-        IsOrder r.index (order_places state.now.order) → IndicesDiffer (sites_of case.now.pred.now.shape.vars (order_places state.now.order)) →
-        InputsBelow (length case.now.pred.now.shape.vars) e →
-        IsNormalOf (length case.now.pred.now.shape.vars) e (terms_of (length case.now.pred.now.shape.vars) case.now.poly.now) →
-        IsOver (length case.now.pred.now.shape.vars) (row_sites case.now.pred.now.shape.vars r.index)
-        (vector (length case.now.pred.now.shape.vars) a.now) →
-        IsLastOf (length case.now.pred.now.shape.vars) state.now.last.exps state.now.last.zero stood →
-        IsLeft (length case.now.pred.now.shape.vars) (sites_of case.now.pred.now.shape.vars (order_places state.now.order)) e stood
-        (map (vector (length case.now.pred.now.shape.vars)) (left_at case.now.stages.now (order_places state.now.order) state.now.spot)) →
-        IsTrue result ↔ IsNext (length case.now.pred.now.shape.vars) (row_sites case.now.pred.now.shape.vars r.index) (values row.now) e stood
-        (vector (length case.now.pred.now.shape.vars) a.now) z }
+pub fn is_next_at(grounds: &Grounds, state: &Progress, a: &Exps, z: i128, row: &[i64]) -> bool
+    requires sites { length (order_places state.now.order) ≡ grounds.now.pred.now.shape.sites }
+    requires order { length (order_places state.now.order) ≡ grounds.now.stages.now.sites }
+    requires spot { IsSpot grounds.now.stages.now (order_places state.now.order) state.now.spot }
+    requires numbers { (q : List ℕ) → All (λ i. i < length grounds.now.stages.now.exps) (segment_of grounds.now.stages.now q) }
+    requires above { IsAbove a.now (length grounds.now.pred.now.shape.vars) }
+    requires below { AreBelow (length grounds.now.pred.now.shape.vars) grounds.now.poly.now }
+    requires light { weighted_sum (weights grounds.now.pred.now.shape.vars) (terms_of (length grounds.now.pred.now.shape.vars) grounds.now.poly.now) ≤ most }
+    requires row { AreWithin grounds.now.pred.now.shape.vars row.now }
+    ensures { (e : Tree) (stood : Stood) (r : Row) → r.values ≡ row.now → InRange grounds.now.pred.now.shape.sites grounds.now.pred.now.shape.vars r →
+        IsOrder r.index (order_places state.now.order) → IndicesDiffer (sites_of grounds.now.pred.now.shape.vars (order_places state.now.order)) →
+        InputsBelow (length grounds.now.pred.now.shape.vars) e →
+        IsNormalOf (length grounds.now.pred.now.shape.vars) e (terms_of (length grounds.now.pred.now.shape.vars) grounds.now.poly.now) →
+        IsOver (length grounds.now.pred.now.shape.vars) (row_sites grounds.now.pred.now.shape.vars r.index)
+        (vector (length grounds.now.pred.now.shape.vars) a.now) →
+        IsLastOf (length grounds.now.pred.now.shape.vars) state.now.last.exps state.now.last.zero stood →
+        IsLeft (length grounds.now.pred.now.shape.vars) (sites_of grounds.now.pred.now.shape.vars (order_places state.now.order)) e stood
+        (map (vector (length grounds.now.pred.now.shape.vars)) (left_at grounds.now.stages.now (order_places state.now.order) state.now.spot)) →
+        IsTrue result ↔ IsNext (length grounds.now.pred.now.shape.vars) (row_sites grounds.now.pred.now.shape.vars r.index) (values row.now) e stood
+        (vector (length grounds.now.pred.now.shape.vars) a.now) z }
 {
-    let s = &case.pred.shape;
-    if !may_be_next(case.stages, &state.order, s, &state.last, state.spot, a) {
+    let s = &grounds.pred.shape;
+    if !may_be_next(grounds.stages, &state.order, s, &state.last, state.spot, a) {
         return false;
     }
-    let value = value_at(case.binomials, case.poly, s, a.pairs(), row);
+    let value = value_at(grounds.binomials, grounds.poly, s, a.pairs(), row);
     if value != z {
         return false;
     }

@@ -10,7 +10,7 @@ ghost use Rattle.ln_trace.specs.Judged.{IsJudged, fault_of};
 ghost use Rattle.ln_trace.specs.Signs.{AreRight, signs_in};
 ghost use Rattle.ln_trace.specs.Unread.{AreLeft};
 
-use crate::case::Case;
+use crate::grounds::Grounds;
 use crate::judged::Judged;
 use crate::line::TraceLine;
 use crate::lines::TraceLines;
@@ -28,21 +28,21 @@ use std::alloc::Global;
 // A line at its place.
 fn line(
     alloc: Global,
-    case: &Case,
+    grounds: &Grounds,
     rows: &mut Rows<'_>,
     state: &mut Progress,
     line: &TraceLine,
 ) -> Result<bool, NoMemory>
-    requires case { IsCase case.now.pred.now.shape case.now.poly.now case.now.stages.now }
-    requires holds { Holds case.now.pred.now.shape case.now.stages.now state.old }
-    ensures { IfOk result (λ ok. Step case.now.pred.now.shape case.now.poly.now case.now.stages.now rows.old state.old line.now ok rows.new
+    requires case { IsCase grounds.now.pred.now.shape grounds.now.poly.now grounds.now.stages.now }
+    requires holds { Holds grounds.now.pred.now.shape grounds.now.stages.now state.old }
+    ensures { IfOk result (λ ok. Step grounds.now.pred.now.shape grounds.now.poly.now grounds.now.stages.now rows.old state.old line.now ok rows.new
         state.new) }
 {
     match line {
-        TraceLine::Refused(n) => refused(case.pred, rows, state, *n),
-        TraceLine::Row(n) => row(case.pred, rows, state, *n),
-        TraceLine::At(a, z) => at(alloc, case, state, a.as_slice(), *z),
-        TraceLine::Sign(t) => Ok(sign(case, state, *t)),
+        TraceLine::Refused(n) => refused(grounds.pred, rows, state, *n),
+        TraceLine::Row(n) => row(grounds.pred, rows, state, *n),
+        TraceLine::At(a, z) => at(alloc, grounds, state, a.as_slice(), *z),
+        TraceLine::Sign(t) => Ok(sign(grounds, state, *t)),
     }
 }
 
@@ -61,26 +61,26 @@ fn is_over(p: &Pred, rows: &mut Rows<'_>, state: &mut Progress) -> Result<bool, 
 // Returns what the lines that are left are judged, where none has stood.
 fn over<S: Source<TraceLine>>(
     alloc: Global,
-    case: &Case,
+    grounds: &Grounds,
     rows: &mut Rows<'_>,
     source: &mut S,
     state: &mut Progress,
 ) -> Result<Judged, NoMemory>
-    requires case { IsCase case.now.pred.now.shape case.now.poly.now case.now.stages.now }
+    requires case { IsCase grounds.now.pred.now.shape grounds.now.poly.now grounds.now.stages.now }
     requires second { S.next source.old ≡ 2 }
     requires inside { state.old.inside ≡ false }
     requires none { state.old.seen ≡ 0 }
-    ensures { IfOk result (λ j. (e : Tree) (ls : List AnyLine) → HasPoly case.now.pred.now.shape e case.now.poly.now → S.left source.old ls →
-        IsJudged (subject_of case.now.pred.now.shape e) rows.old ls j) }
+    ensures { IfOk result (λ j. (e : Tree) (ls : List AnyLine) → HasPoly grounds.now.pred.now.shape e grounds.now.poly.now → S.left source.old ls →
+        IsJudged (subject_of grounds.now.pred.now.shape e) rows.old ls j) }
 {
     'lines: while let Some(taken) = source.take(alloc)? {
-        let good = line(alloc, case, rows, state, S::lent(&taken));
+        let good = line(alloc, grounds, rows, state, S::lent(&taken));
         drop(taken);
         if !good? {
             return Ok(Judged::Wrong(source.number() - 1));
         }
     }
-    if !is_over(case.pred, rows, state)? {
+    if !is_over(grounds.pred, rows, state)? {
         return Ok(Judged::Wrong(source.number()));
     }
     Ok(Judged::Agreed(state.seen))
@@ -101,14 +101,14 @@ fn judged<S: Source<TraceLine>>(
         IsJudged (subject_of p.now.shape e) rows.old ls j) }
 {
     let b = Binomials::new(alloc)?;
-    let case = Case {
+    let grounds = Grounds {
         pred: p,
         poly: f,
         stages: st,
         binomials: &b,
     };
     let mut state = fresh_progress();
-    over(alloc, &case, rows, source, &mut state)
+    over(alloc, &grounds, rows, source, &mut state)
 }
 
 /// Judges the remaining lines of a trace by the polynomial of a predicate and the stages of that, over the remaining records: returns that they are

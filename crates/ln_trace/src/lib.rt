@@ -5,7 +5,7 @@
 #![tactic(auto)]
 
 pub mod at_line;
-pub mod case;
+pub mod grounds;
 pub mod explain;
 pub mod exps;
 pub mod form_laws;

@@ -17,7 +17,7 @@ ghost use Rattle.ln_trace.specs.Here.{Holds, IsAtRow, IsCase, Step};
 ghost use Rattle.ln_trace.specs.Left.{IsSpot, left_at};
 
 use crate::at_line::is_next_at;
-use crate::case::Case;
+use crate::grounds::Grounds;
 use crate::exps::exps_of;
 use crate::next::{Last, passed};
 use crate::pointer::{Spot, first_left};
@@ -139,21 +139,21 @@ fn stood(state: &mut Progress, spot: Spot, a: Exps, z: i128)
 }
 
 // Lets a with the value z stand, or refuses it.
-fn stands(case: &Case, state: &mut Progress, a: Exps, z: i128) -> bool
-    requires case { IsCase case.now.pred.now.shape case.now.poly.now case.now.stages.now }
-    requires at { IsAtRow case.now.pred.now.shape case.now.stages.now state.old }
+fn stands(grounds: &Grounds, state: &mut Progress, a: Exps, z: i128) -> bool
+    requires case { IsCase grounds.now.pred.now.shape grounds.now.poly.now grounds.now.stages.now }
+    requires at { IsAtRow grounds.now.pred.now.shape grounds.now.stages.now state.old }
     requires inside { state.old.inside ≡ true }
     requires rising { IsRising a }
-    requires of_sites { AreOfSites case.now.pred.now.shape.vars a }
+    requires of_sites { AreOfSites grounds.now.pred.now.shape.vars a }
     ensures { (rows : Records) →
-        Step case.now.pred.now.shape case.now.poly.now case.now.stages.now rows state.old (line.At a z) result rows state.new }
+        Step grounds.now.pred.now.shape grounds.now.poly.now grounds.now.stages.now rows state.old (line.At a z) result rows state.new }
 {
-    let s = &case.pred.shape;
+    let s = &grounds.pred.shape;
     let row = values_of(s, &state.row);
-    if !is_next_at(case, state, &a, z, row) {
+    if !is_next_at(grounds, state, &a, z, row) {
         return false;
     }
-    let spot = passed(case.stages, &state.order, s, state.spot, &a);
+    let spot = passed(grounds.stages, &state.order, s, state.spot, &a);
     stood(state, spot, a, z);
     true
 }
@@ -161,23 +161,23 @@ fn stands(case: &Case, state: &mut Progress, a: Exps, z: i128) -> bool
 /// `at`.
 pub fn at(
     alloc: Global,
-    case: &Case,
+    grounds: &Grounds,
     state: &mut Progress,
     a: &[(u8, u8)],
     z: i128,
 ) -> Result<bool, NoMemory>
-    requires case { IsCase case.now.pred.now.shape case.now.poly.now case.now.stages.now }
-    requires holds { Holds case.now.pred.now.shape case.now.stages.now state.old }
+    requires case { IsCase grounds.now.pred.now.shape grounds.now.poly.now grounds.now.stages.now }
+    requires holds { Holds grounds.now.pred.now.shape grounds.now.stages.now state.old }
     ensures { IfOk result (λ ok. (rows : Records) →
-        Step case.now.pred.now.shape case.now.poly.now case.now.stages.now rows state.old (line.At a.now z) ok rows state.new) }
+        Step grounds.now.pred.now.shape grounds.now.poly.now grounds.now.stages.now rows state.old (line.At a.now z) ok rows state.new) }
 {
     if !state.inside {
         return Ok(false);
     }
-    let Some(e) = exps_of(alloc, case.pred.shape.vars.as_slice(), a)? else {
+    let Some(e) = exps_of(alloc, grounds.pred.shape.vars.as_slice(), a)? else {
         return Ok(false);
     };
-    let ok = stands(case, state, e, z);
+    let ok = stands(grounds, state, e, z);
     Ok(ok)
 }
 
@@ -215,11 +215,11 @@ fn is_whole(st: &Stages, state: &Progress) -> bool
 }
 
 /// `sign`.
-pub fn sign(case: &Case, state: &mut Progress, t: Sign) -> bool
-    requires case { IsCase case.now.pred.now.shape case.now.poly.now case.now.stages.now }
-    requires holds { Holds case.now.pred.now.shape case.now.stages.now state.old }
+pub fn sign(grounds: &Grounds, state: &mut Progress, t: Sign) -> bool
+    requires case { IsCase grounds.now.pred.now.shape grounds.now.poly.now grounds.now.stages.now }
+    requires holds { Holds grounds.now.pred.now.shape grounds.now.stages.now state.old }
     ensures { (rows : Records) →
-        Step case.now.pred.now.shape case.now.poly.now case.now.stages.now rows state.old (line.Sign t) result rows state.new }
+        Step grounds.now.pred.now.shape grounds.now.poly.now grounds.now.stages.now rows state.old (line.Sign t) result rows state.new }
 {
     if !state.inside {
         return false;
@@ -227,7 +227,7 @@ pub fn sign(case: &Case, state: &mut Progress, t: Sign) -> bool
     if !is_said(state, t) {
         return false;
     }
-    if !is_whole(case.stages, state) {
+    if !is_whole(grounds.stages, state) {
         return false;
     }
     state.inside = false;

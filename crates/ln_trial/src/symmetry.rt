@@ -34,11 +34,10 @@ fn exchange(alloc: Global, source: &str) -> Option<&'static str> {
     if c.table().preds.len() != 1 {
         return None;
     }
-    match c.symmetry(alloc, 0) {
-        Ok(Some(Symmetry::Alternating)) => Some("turns"),
-        Ok(Some(Symmetry::Symmetric)) => Some("keeps"),
-        Ok(None) => Some("neither"),
-        Err(_) => None,
+    match c.symmetry(0) {
+        Some(Symmetry::Alternating) => Some("turns"),
+        Some(Symmetry::Symmetric) => Some("keeps"),
+        None => Some("neither"),
     }
 }
 

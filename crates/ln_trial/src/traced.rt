@@ -1,17 +1,11 @@
 //! What the library's `judge` says of traces that are read whole first. The program's command judges line by line, with the same rules.
-ghost use Rattle.std.specs.Prelude.{map};
-ghost use Rattle.ln_tree.specs.Table.{pred_of};
-ghost use Rattle.ln_stage.specs.Sound.{AreSound, IsSound};
-
-use crate::verified::accepted;
 use ln_base::NoMemory;
 use ln_base::limits::{MOST_FILE, MOST_SOURCE};
-use ln_compile::{Refusal, check};
+use ln_compile::{Checked, Refusal, check};
 use ln_rows::Rows;
+use ln_stage::Accepted;
 use ln_trace::{Trace, TraceStop, judge, read_trace};
-use ln_tree::Pred;
 use ln_trial_programs::sample::{ONE_POINT, ONE_POINT_TRACE, ORIENT};
-use ln_verify::cases::case_of;
 use std::alloc::Global;
 use std::test::Fail;
 
@@ -36,28 +30,21 @@ const WANTED: &[(&str, &str, &str, u32)] = &[
 ];
 
 // The first line that fails by a predicate, 0 where none does.
-fn fault_by(alloc: Global, p: &Pred, trace: &Trace) -> Result<u32, NoMemory>
-    requires { IsSound (pred_of p.now) }
-{
-    let case = case_of(alloc, p)?;
+fn fault_by(alloc: Global, a: &Accepted<'_>, trace: &Trace) -> Result<u32, NoMemory> {
     let mut rows = Rows::new(alloc, ONE_POINT.as_bytes())?;
-    match judge(alloc, p, &case.poly, &case.stages, &mut rows, trace)? {
+    match judge(alloc, a.pred(), a.poly(), a.stages(), &mut rows, trace)? {
         Some(line) => Ok(line),
         None => Ok(0),
     }
 }
 
 // The same by the one predicate of a source; none where there is another number of them.
-fn fault_in(alloc: Global, preds: &[Pred], trace: &Trace) -> Result<Option<u32>, NoMemory>
-    requires { AreSound (map pred_of preds.now) }
-{
-    match preds {
-        [p] => {
-            let line = fault_by(alloc, p, trace)?;
-            Ok(Some(line))
-        }
-        _ => Ok(None),
+fn fault_in(alloc: Global, c: &Checked, trace: &Trace) -> Result<Option<u32>, NoMemory> {
+    if c.table().preds.len() != 1 {
+        return Ok(None);
     }
+    let line = fault_by(alloc, &c.accepted(0), trace)?;
+    Ok(Some(line))
 }
 
 // The first line of a trace of the orientation that fails; none where the source is refused.
@@ -67,7 +54,7 @@ fn first_failing(alloc: Global, trace: &Trace) -> Result<Option<u32>, NoMemory> 
         return Ok(None);
     }
     match check(alloc, source) {
-        Ok(c) => fault_in(alloc, accepted(&c).preds.as_slice(), trace),
+        Ok(c) => fault_in(alloc, &c, trace),
         Err(Refusal::NoMemory(e)) => Err(e),
         Err(_) => Ok(None),
     }

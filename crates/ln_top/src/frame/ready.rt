@@ -1,16 +1,13 @@
 //! The input of the work.
-ghost use Rattle.std.specs.Prelude.{◌≡◌, ◌≤◌, [], ◌∷◌, map, length};
+ghost use Rattle.std.specs.Prelude.{◌≡◌, ◌≤◌, [], ◌∷◌, length};
 ghost use Rattle.std.specs.Prelude.{slice_get, slice_index_or, Some};
 ghost use Rattle.ln_base.specs.Limits.{most_file};
-ghost use Rattle.ln_tree.specs.Table.{pred_of};
-ghost use Rattle.ln_top.specs.Frame.Source.{view};
 ghost use Rattle.ln_top.specs.Frame.Given.{Given};
-ghost use Rattle.ln_stage.specs.Sound.{AreSound};
 ghost use Rattle.ln_top.specs.Frame.Ready.{HasStanding, StandsFor};
 
 use ln_code::Program;
 use ln_compile::Checked;
-use ln_tree::{Pred, Table};
+use ln_stage::Accepted;
 
 /// The input of the work.
 #[derive(Drop)]
@@ -52,20 +49,11 @@ pub fn short_text(ready: &Ready) -> &[u8]
     one_text(ready)
 }
 
-/// The source's table, no predicate of which has a fault.
-pub fn sound_table(ready: &Ready) -> &Table
-    requires { HasStanding ready.now }
-    ensures is { (g : Given) → StandsFor ready.now g → g.table ≡ view result.now }
-    ensures sound { AreSound (map pred_of result.now.preds) }
-{
-    ready.compiled.table()
-}
-
-/// Returns the one named predicate.
-pub fn named(ready: &Ready) -> &Pred
+/// Returns the one named predicate, which is accepted.
+pub fn named(ready: &Ready) -> Accepted<'_>
     requires stands { HasStanding ready.now }
     requires one { length ready.now.numbers.items ≡ 1 }
-    ensures { slice_get ready.now.compiled.table.preds (slice_index_or ready.now.numbers.items 0 0) ≡ Some result.now }
+    ensures { slice_get ready.now.compiled.table.preds (slice_index_or ready.now.numbers.items 0 0) ≡ Some result.pred }
 {
-    ready.compiled.pred(ready.numbers.as_slice()[0])
+    ready.compiled.accepted(ready.numbers.as_slice()[0])
 }

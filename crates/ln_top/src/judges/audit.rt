@@ -2,7 +2,6 @@
 ghost use Rattle.std.specs.Prelude.{◌≡◌, ◌≤◌, ◌∷◌, ◌++◌, ℕ, List, IfOk, length, codes, decimal};
 ghost use Rattle.ln_base.specs.Limits.{most_file};
 ghost use Rattle.ln_tree.specs.Table.{pred_of};
-ghost use Rattle.ln_stage.specs.Sound.{IsSound};
 ghost use Rattle.ln_top.specs.Judges.Audit.{AreJudged, AuditSaid, HasTrace, IsAuditOf, PutsOrStops, audit_signature};
 ghost use Rattle.ln_top.specs.Frame.Carried.{CarriesOut, NoPart};
 ghost use Rattle.ln_top.specs.Frame.Ready.{IsReadyFor, StandsFor};
@@ -18,34 +17,34 @@ use ln_base::{Console, NoMemory};
 use ln_rows::Rows;
 use ln_stage::Accepted;
 use ln_trace::{Judged, TraceLines, TraceStop, judge_lines, trace_lines};
-use ln_tree::{Pred, Table};
+use ln_tree::Table;
 use std::alloc::Global;
 
 // Returns what is judged of the lines of a trace.
 fn judged(
     alloc: Global,
-    p: &Pred,
+    a: &Accepted<'_>,
     rows: &mut Rows<'_>,
     lines: &mut TraceLines<'_>,
 ) -> Result<Judged, NoMemory>
-    requires accepted { IsSound (pred_of p.now) }
-    requires second { lines.old.line ≡ 2 }
-    ensures { IfOk result (λ j. AreJudged (pred_of p.now) rows.old lines.old j) }
+    requires { lines.old.line ≡ 2 }
+    ensures { IfOk result (λ j. AreJudged (pred_of a.now.pred) rows.old lines.old j) }
 {
-    let a = Accepted::of(alloc, p)?;
-    let judged = judge_lines(alloc, p, a.poly(), a.stages(), rows, lines);
-    drop(a);
-    judged
+    judge_lines(alloc, a.pred(), a.poly(), a.stages(), rows, lines)
 }
 
 // Returns what is judged of a trace: a form fault comes first.
-fn audited(alloc: Global, p: &Pred, rows: &mut Rows<'_>, trace: &[u8]) -> Result<Judged, NoMemory>
-    requires accepted { IsSound (pred_of p.now) }
-    requires short { length trace.now ≤ most_file }
-    ensures { IfOk result (λ j. IsAuditOf (pred_of p.now) rows.old trace.now j) }
+fn audited(
+    alloc: Global,
+    a: &Accepted<'_>,
+    rows: &mut Rows<'_>,
+    trace: &[u8],
+) -> Result<Judged, NoMemory>
+    requires { length trace.now ≤ most_file }
+    ensures { IfOk result (λ j. IsAuditOf (pred_of a.now.pred) rows.old trace.now j) }
 {
     match trace_lines(alloc, trace) {
-        Ok(mut lines) => judged(alloc, p, rows, &mut lines),
+        Ok(mut lines) => judged(alloc, a, rows, &mut lines),
         Err(TraceStop::Form(at)) => Ok(Judged::Wrong(at)),
         Err(TraceStop::NoMemory(e)) => Err(e),
     }
@@ -70,17 +69,16 @@ fn put_judged<C: Console>(
 fn audit_rows<C: Console>(
     alloc: Global,
     con: &mut C,
-    p: &Pred,
+    a: &Accepted<'_>,
     rows: &mut Rows<'_>,
     trace: &[u8],
 ) -> Result<End, Early>
-    requires accepted { IsSound (pred_of p.now) }
-    requires short { length trace.now ≤ most_file }
-    ensures { (g : Given) (names : List (List ℕ)) → HasTrace g (pred_of p.now) names (names ∷ rows.old) trace.now
+    requires { length trace.now ≤ most_file }
+    ensures { (g : Given) (names : List (List ℕ)) → HasTrace g (pred_of a.now.pred) names (names ∷ rows.old) trace.now
         → CarriesOut (AuditSaid g) NoPart ⊥ ⊥
         (count (C.faults con.old) (C.faults con.new)) result (C.shown con.old) (C.shown con.new) }
 {
-    match audited(alloc, p, rows, trace) {
+    match audited(alloc, a, rows, trace) {
         Ok(Judged::Agreed(n)) => put_judged(alloc, con, b"agreed ", n, End::Done),
         Ok(Judged::Wrong(at)) => put_judged(alloc, con, b"wrong ", at, End::Invalid),
         Err(e) => Err(Early::Memory(e)),
@@ -92,18 +90,17 @@ fn audit_records<C: Console>(
     alloc: Global,
     con: &mut C,
     t: &Table,
-    p: &Pred,
+    a: &Accepted<'_>,
     rows: &mut Rows<'_>,
     trace: &[u8],
 ) -> Result<End, Early>
-    requires accepted { IsSound (pred_of p.now) }
-    requires short { length trace.now ≤ most_file }
-    ensures { (g : Given) → HasTrace g (pred_of p.now) (names_of t.now p.now) rows.old trace.now
+    requires { length trace.now ≤ most_file }
+    ensures { (g : Given) → HasTrace g (pred_of a.now.pred) (names_of t.now a.now.pred) rows.old trace.now
         → CarriesOut (AuditSaid g) NoPart ⊥ ⊥
         (count (C.faults con.old) (C.faults con.new)) result (C.shown con.old) (C.shown con.new) }
 {
-    match rows.header(t, p) {
-        Ok(true) => audit_rows(alloc, con, p, rows, trace),
+    match rows.header(t, a.pred()) {
+        Ok(true) => audit_rows(alloc, con, a, rows, trace),
         Ok(false) => say(alloc, con, Stop::Tell(Why::Header)),
         Err(e) => Err(Early::Memory(e)),
     }
@@ -115,10 +112,10 @@ pub fn work<C: Console>(alloc: Global, con: &mut C, ready: &Ready) -> Result<End
     ensures { (g : Given) → StandsFor ready.now g → CarriesOut (AuditSaid g) NoPart ⊥ ⊥
         (count (C.faults con.old) (C.faults con.new)) result (C.shown con.old) (C.shown con.new) }
 {
-    let (table, trace) = two_texts(ready);
-    let mut rows = Rows::new(alloc, table)?;
-    let t = ready.compiled.table();
-    let ended = audit_records(alloc, con, t, named(ready), &mut rows, trace);
+    let (records, trace) = two_texts(ready);
+    let mut rows = Rows::new(alloc, records)?;
+    let table = ready.compiled.table();
+    let ended = audit_records(alloc, con, table, &named(ready), &mut rows, trace);
     drop(rows);
     ended
 }

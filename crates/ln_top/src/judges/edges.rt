@@ -46,7 +46,7 @@ fn point_type(ready: &Ready) -> &Site
     ensures few { length result.now.coords ≤ 32 }
     ensures is { (g : Given) → StandsFor ready.now g → IsTypeOf g (site_of result.now) }
 {
-    let kind = type_number(named(ready));
+    let kind = type_number(named(ready).pred());
     type_at(ready.compiled.table(), kind)
 }
 

@@ -7,11 +7,11 @@ ghost use Rattle.ln_top.specs.Frame.Given.{Given};
 ghost use Rattle.ln_top.specs.Judges.Verify.{HasFault, HasValid, VerifySaid, verify_signature};
 
 use crate::frame::put::numbered;
-use crate::frame::ready::{Ready, short_text, sound_table};
+use crate::frame::ready::{Ready, short_text};
 use crate::frame::status::{Early, End};
 use crate::frame::stop::put_text;
 use ln_base::{Console, NoMemory};
-use ln_verify::{Judged, verify_text};
+use ln_verify::{Judged, verify_lines};
 use std::alloc::Global;
 
 // The first fault of the listing, of its form or of its rules; none where it is valid.
@@ -19,7 +19,12 @@ fn first_fault(alloc: Global, ready: &Ready) -> Result<Option<u32>, NoMemory>
     requires { IsReadyFor verify_signature ready.now }
     ensures { IfOk result (λ o. (g : Given) → StandsFor ready.now g → MatchOption o (HasValid g) (λ at. HasFault g at)) }
 {
-    match verify_text(alloc, sound_table(ready), short_text(ready))? {
+    match verify_lines(
+        alloc,
+        ready.compiled.table().preds.as_slice(),
+        ready.compiled.bases(),
+        short_text(ready),
+    )? {
         Judged::Valid => Ok(None),
         Judged::Invalid(at) => Ok(Some(at)),
     }

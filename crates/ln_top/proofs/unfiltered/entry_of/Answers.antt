@@ -11,5 +11,5 @@ returns-then-pred-lt2 c = few_at c.args.source.now.table.preds c.args.i c.pred.r
 pub returns : goal.returns
 returns c =
     subst (HasEntryAt (map pred_of c.args.source.now.table.preds) c.args.i) (sym c.entry_for.ensures)
-    (entry_at c.args.source.now.table.preds c.args.i c.pred.result.now c.in_ok-symmetry.symmetry c.pred.ensures (omega (arith, c.if-pred-lt2.false))
-    c.in_ok-symmetry.ensures)
+    (entry_at c.args.source.now.table.preds c.args.i c.pred.result.now c.symmetry.result c.pred.ensures (omega (arith, c.if-pred-lt2.false))
+    c.symmetry.ensures)

@@ -10,10 +10,10 @@ use Rattle.ln_trace.proofs.judging.over.Given as goal
 
 abbrev pub invariant-lines : goal.invariant-lines
 invariant-lines g l = record {
-  holds : Holds l.case.pred.now.shape l.case.stages.now l.state;
-  midway : (e : Tree) (ls : List TraceLine) → HasPoly l.case.pred.now.shape e l.case.poly.now → g.S.Source.left l.initial.source ls
-      → Midway (judge_of (subject_of l.case.pred.now.shape e)) (Between 0 l.initial.rows) (λ (xs : List TraceLine). xs)
-      (IsHere l.case.pred.now.shape e l.case.stages.now l.rows l.state) (g.S.Source.left l.source) ls (g.S.Source.next l.source);
+  holds : Holds l.grounds.pred.now.shape l.grounds.stages.now l.state;
+  midway : (e : Tree) (ls : List TraceLine) → HasPoly l.grounds.pred.now.shape e l.grounds.poly.now → g.S.Source.left l.initial.source ls
+      → Midway (judge_of (subject_of l.grounds.pred.now.shape e)) (Between 0 l.initial.rows) (λ (xs : List TraceLine). xs)
+      (IsHere l.grounds.pred.now.shape e l.grounds.stages.now l.rows l.state) (g.S.Source.left l.source) ls (g.S.Source.next l.source);
 }
 
 abbrev pub decreases-lines : goal.decreases-lines

@@ -22,15 +22,15 @@ stands-ok-requires-clause-at c = c.requires.holds c.if-not-state.false
 
 pub stands-ok-requires-clause-rising : goal.stands-ok-requires-clause-rising
 stands-ok-requires-clause-rising c =
-    (was-read c.as_slice.result.now c.args.case.now.pred.now.shape.vars c.args.a.now c.in-Some.e _ c.as_slice.ensures c.in-Some.is c.in_ok-e.ensures).rising
+    (was-read c.as_slice.result.now c.args.grounds.now.pred.now.shape.vars c.args.a.now c.in-Some.e _ c.as_slice.ensures c.in-Some.is c.in_ok-e.ensures).rising
 
 pub stands-ok-requires-clause-of_sites : goal.stands-ok-requires-clause-of_sites
 stands-ok-requires-clause-of_sites c =
-    (was-read c.as_slice.result.now c.args.case.now.pred.now.shape.vars c.args.a.now c.in-Some.e _ c.as_slice.ensures c.in-Some.is c.in_ok-e.ensures).sites
+    (was-read c.as_slice.result.now c.args.grounds.now.pred.now.shape.vars c.args.a.now c.in-Some.e _ c.as_slice.ensures c.in-Some.is c.in_ok-e.ensures).sites
 
 pub returns : goal.returns
 returns c =
     let fits : FitsSigned w128 c.args.z = search rules in
     λ rows. at-of _ _ _ rows c.args.state.now c.args.a.now c.in-Some.e _ c.args.z c.stands-ok.result c.stands-ok.new.state
-    (was-read c.as_slice.result.now c.args.case.now.pred.now.shape.vars c.args.a.now c.in-Some.e _ c.as_slice.ensures c.in-Some.is c.in_ok-e.ensures).same
+    (was-read c.as_slice.result.now c.args.grounds.now.pred.now.shape.vars c.args.a.now c.in-Some.e _ c.as_slice.ensures c.in-Some.is c.in_ok-e.ensures).same
     (to_z-of_z w128 c.args.z fits) (c.stands-ok.ensures rows)

@@ -32,13 +32,13 @@ pub is_next_at-requires-clause-light : goal.is_next_at-requires-clause-light
 is_next_at-requires-clause-light c = c.requires.case.light
 
 pub is_next_at-requires-clause-row : goal.is_next_at-requires-clause-row
-is_next_at-requires-clause-row c = subst (AreWithin c.args.case.now.pred.now.shape.vars) (sym c.values_of-row.ensures) c.requires.at.range.values
+is_next_at-requires-clause-row c = subst (AreWithin c.args.grounds.now.pred.now.shape.vars) (sym c.values_of-row.ensures) c.requires.at.range.values
 
 pub returns-then-not-is_next_at : goal.returns-then-not-is_next_at
 returns-then-not-is_next_at c =
     let fits : FitsSigned w128 c.args.z = search rules in
     λ rows. at-refused _ _ _ rows c.args.state.now c.args.a c.args.z rows _ c.requires.at c.requires.of_sites
-    (tests-of c.args.case.now.pred.now.shape _ c.args.case.now.stages.now rows c.args.state.now c.is_next_at.result false c.args.a _
+    (tests-of c.args.grounds.now.pred.now.shape _ c.args.grounds.now.stages.now rows c.args.state.now c.is_next_at.result false c.args.a _
     c.args.z c.values_of-row.result.now _ c.if-not-is_next_at.true (to_z-of_z w128 c.args.z fits) c.values_of-row.ensures
     c.is_next_at.ensures)
 
@@ -65,7 +65,7 @@ returns c =
     let fits : FitsSigned w128 c.args.z = search rules in
     λ rows. at-goes _ _ _ rows c.args.state.now c.args.a c.args.z c.passed-spot.result
     c.stood.new.state.last.zero c.stood.new.state.sign c.stood.new.state c.requires.at c.requires.rising c.requires.of_sites
-    (tests-of c.args.case.now.pred.now.shape _ c.args.case.now.stages.now rows c.args.state.now c.is_next_at.result true c.args.a _
+    (tests-of c.args.grounds.now.pred.now.shape _ c.args.grounds.now.stages.now rows c.args.state.now c.is_next_at.result true c.args.a _
     c.args.z c.values_of-row.result.now _ c.if-not-is_next_at.false (to_z-of_z w128 c.args.z fits) c.values_of-row.ensures
     c.is_next_at.ensures)
     c.passed-spot.ensures.spot c.passed-spot.ensures.left c.stood.ensures.zero

@@ -5,7 +5,7 @@ use ln_tree::Pred;
 
 /// What traces are judged by: a predicate, its polynomial, the stages of that, and the binomials that evaluate derivatives.
 #[derive(Clone, Copy)]
-pub struct Case<'a> {
+pub struct Grounds<'a> {
     pub pred: &'a Pred,
     pub poly: &'a Poly,
     pub stages: &'a Stages,
