@@ -5,10 +5,10 @@
 #![tactic(auto)]
 
 pub mod at_line;
-pub mod grounds;
 pub mod explain;
 pub mod exps;
 pub mod form_laws;
+pub mod grounds;
 pub mod judged;
 pub mod judging;
 pub mod kinds;

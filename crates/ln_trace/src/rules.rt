@@ -17,8 +17,8 @@ ghost use Rattle.ln_trace.specs.Here.{Holds, IsAtRow, IsCase, Step};
 ghost use Rattle.ln_trace.specs.Left.{IsSpot, left_at};
 
 use crate::at_line::is_next_at;
-use crate::grounds::Grounds;
 use crate::exps::exps_of;
+use crate::grounds::Grounds;
 use crate::next::{Last, passed};
 use crate::pointer::{Spot, first_left};
 use crate::progress::{Next, Progress, is, is_next, taken};

@@ -49,7 +49,11 @@ impl From<NoMemory> for VerifyStop {
 }
 
 // Each predicate with what its part is judged by.
-fn cases_of<'a>(alloc: Global, preds: &'a [Pred], bases: &'a [Basis]) -> Result<Vec<Case<'a>>, NoMemory>
+fn cases_of<'a>(
+    alloc: Global,
+    preds: &'a [Pred],
+    bases: &'a [Basis],
+) -> Result<Vec<Case<'a>>, NoMemory>
     requires { AllZip IsBasis (map pred_of preds.now) bases.now }
     ensures cases { IfOk result (λ cs. All IsCase cs.items) }
     ensures subjects { IfOk result (λ cs. AreSubjectsOf (map pred_of preds.now) (subjects_of cs.items)) }

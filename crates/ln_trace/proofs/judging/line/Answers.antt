@@ -9,10 +9,13 @@ use Rattle.ln_trace.specs.declared.line.TraceLine.TheVariants as line
 use Rattle.ln_trace.proofs.judging.line.Goals as goal
 
 pub returns-in-Refused : goal.returns-in-Refused
-returns-in-Refused c = IfOk-weaker c.refused.result _ _ (λ ok h. rw c.in-Refused.is (h c.args.grounds.now.poly.now c.args.grounds.now.stages.now)) c.refused.ensures
+returns-in-Refused c =
+    IfOk-weaker c.refused.result _ _ (λ ok h. rw c.in-Refused.is (h c.args.grounds.now.poly.now c.args.grounds.now.stages.now)) c.refused.ensures
 
 pub returns-in-Row : goal.returns-in-Row
-returns-in-Row c = IfOk-weaker c.row.result _ _ (λ ok h. rw c.in-Row.is (h c.args.grounds.now.poly.now c.args.grounds.now.stages.now c.requires.case)) c.row.ensures
+returns-in-Row c =
+    let g = c.args.grounds.now in
+    IfOk-weaker c.row.result _ _ (λ ok h. rw c.in-Row.is (h g.poly.now g.stages.now c.requires.case)) c.row.ensures
 
 pub returns-in-At : goal.returns-in-At
 returns-in-At c =

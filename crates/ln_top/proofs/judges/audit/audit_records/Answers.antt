@@ -14,4 +14,5 @@ returns-in-Ok-true g c = λ given h.
 
 pub returns-in-Ok-false : goal.returns-in-Ok-false
 returns-in-Ok-false g c = λ given h.
-    let wrong = rw (c.in-Ok-false.field-0-test, c.pred.ensures.value) at c.in-Ok-false.ensures.header in header_carried given _ _ _ _ _ _ _ _ h wrong c.say.ensures
+    let wrong = rw (c.in-Ok-false.field-0-test, c.pred.ensures.value) at c.in-Ok-false.ensures.header in
+    header_carried given _ _ _ _ _ _ _ _ h wrong c.say.ensures
