@@ -14,8 +14,6 @@ ghost use Rattle.ln_top.specs.Guarantee.{EmitWritesC, ListWritesListing, RunWrit
 ghost use Rattle.ln_top.specs.Listed.{ListingGivesSigns};
 ghost use Rattle.ln_top.specs.Plan.{HasForm, with_bytes};
 ghost use Rattle.ln_top.specs.Products.{ProductsArePerturbed};
-ghost use Rattle.ln_top.specs.Ready.{KeepsFor};
-ghost use Rattle.ln_tree.specs.Table.{pred_of};
 ghost use Rattle.ln_top.specs.Frame.Ready.{IsReadyFor, StandsFor};
 ghost use Rattle.ln_top.specs.Frame.Said.{count};
 ghost use Rattle.ln_top.specs.Signature.{signature_of};
@@ -44,8 +42,7 @@ fn work<C: Console>(
     ready: &Ready,
     watchers: Vec<Box<dyn Watch>>,
 ) -> Result<End, Early>
-    requires ready { IsReadyFor (signature_of command) ready.now }
-    requires kept { KeepsFor command (map pred_of ready.now.compiled.table.preds) ready.now.numbers.items ready.now.kept }
+    requires { IsReadyFor (signature_of command) ready.now }
     ensures { (g : Given) → StandsFor ready.now g
         → CarriesOut (WorkOwes command (states_of kind_of tally_of watchers.items) g)
         (WorkPart command (states_of kind_of tally_of watchers.items) g) ⊥ ⊥

@@ -45,7 +45,7 @@ use Rattle.ln_top.proofs.FrameLemmas.Carry.{text_carried, told_carried}
 use Rattle.ln_rows.proofs.HeaderLaws.{columns_like}
 use Rattle.ln_compile.proofs.Numbers.{one_numbered}
 use Rattle.ln_top.proofs.FrameLemmas.Laws.{IsLawful, one_by_said, shape_objects}
-use Rattle.ln_top.specs.Frame.Signature.{asks_nothing}
+use Rattle.ln_top.specs.declared.frame.asked.Asked.TheVariants.{Nothing}
 
 -- ---- two ways to see what is given are one
 -- equal lists have equal first items
@@ -139,7 +139,7 @@ kind g e (audit.agreed p names rs t h x) = kind_of.done
 kind g e (audit.wrong p names rs t m h x) = kind_of.invalid
 
 -- the laws of a work hold for `audit`
-pub lawful : IsLawful asks_nothing audit_work
+pub lawful : IsLawful Nothing audit_work
 lawful = record {
   tells = tells;
   single = λ g. one_by_said (said_at g) (one_said g);

@@ -28,7 +28,8 @@ use Rattle.std.proofs.Common.{◌+◌, ◌<◌, length}
 use Rattle.ln_top.proofs.FrameLemmas.HeadCarry.{IsHeaded, after_head}
 use Rattle.ln_top.proofs.FrameLemmas.Laws.{IsLawful, IsNoUsage}
 use Rattle.ln_top.proofs.FrameLemmas.Grounded.{IsGrounded, in_memory}
-use Rattle.ln_top.specs.Frame.Signature.{Asked}
+use Rattle.ln_top.specs.declared.frame.asked.Asked.{Asked}
+use Rattle.ln_top.specs.Frame.Signature.{AreAsked}
 use Rattle.ln_top.proofs.SignsLemmas.RunLaws as run_laws
 
 -- a record was taken
@@ -192,7 +193,7 @@ module _ (first : List ℕ) (line : LineOf) (boxes : List State) (g : Given) whe
 
 -- the laws of a work hold for a command that writes lines of records, where a record has one line
 pub lawful_rows : (suits : Asked) (first : List ℕ) (line : List PredOf → LineOf) (seers : List State → List State) → IsNoUsage suits
-    → ((g : Given) → IsGrounded g → suits.asks g.preds → HaveOneLine (line g.preds) g) → IsLawful suits (rows_work first line seers)
+    → ((g : Given) → IsGrounded g → AreAsked suits g.preds → HaveOneLine (line g.preds) g) → IsLawful suits (rows_work first line seers)
 lawful_rows suits first line seers n o = record {
   tells = λ boxes g. tells first (line g.preds) (seers boxes) g;
   single = run_laws.one;

@@ -23,7 +23,8 @@ use Rattle.ln_top.specs.Frame.Given.{Given}
 use Rattle.ln_top.specs.Frame.Stop.{said_of}
 use Rattle.ln_top.specs.Frame.Carried.{NoPart, PutsText}
 use Rattle.ln_top.specs.Frame.Work.{Work}
-use Rattle.ln_top.specs.Frame.Signature.{Signature, asks_nothing}
+use Rattle.ln_top.specs.Frame.Signature.{Signature}
+use Rattle.ln_top.specs.declared.frame.asked.Asked.TheVariants.{Nothing}
 
 -- the predicate, the names of its columns, the records of the rows file, and the bytes of the trace
 pub record HasTrace (g : Given) (p : PredOf) (names : List (List ℕ)) (records : Records) (trace : List ℕ) : Type 0 where
@@ -89,7 +90,7 @@ pub data PutsOrStops (text : List ℕ) (end : End) (puts : Count) (result : Resu
 
 -- the signature of `audit`
 abbrev pub audit_signature : Signature
-audit_signature = record { word = codes "audit"; form = record { least = 1; most = 1; files = 2 }; suits = asks_nothing }
+audit_signature = record { word = codes "audit"; form = record { least = 1; most = 1; files = 2 }; suits = Nothing }
 
 -- the work of `audit`
 abbrev pub audit_work : Work
