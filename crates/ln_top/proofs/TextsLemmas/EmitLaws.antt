@@ -22,7 +22,7 @@ use Rattle.ln_csyn.specs.Tree.{Fun}
 use Rattle.ln_cemit.specs.Whole.{part_name}
 use Rattle.ln_cemit.specs.Emitted.{AllSay, AreKept, BeginsFile, CallSays, IsEmitted, sign_as_number}
 use Rattle.ln_cemit.proofs.Writing.Whole.{begun_kept}
-use Rattle.ln_top.specs.declared.frame.asked.Asked.TheVariants.{Nothing}
+use Rattle.ln_top.specs.Frame.Signature.{asks_nothing}
 use Rattle.ln_top.specs.Texts.Emit.{BeginsCOfFirst, CallIsDue, IsCOf, emit_work}
 use Rattle.ln_top.specs.Target.Target.{OnRows}
 use Rattle.ln_top.proofs.FrameLemmas.Laws.{IsLawful}
@@ -136,5 +136,5 @@ all t i text h ends f =
     (ends f.programs (programs-of-table t f.programs a f.small) f.begins)
 
 -- the laws of a work hold for `emit`
-pub lawful : IsLawful Nothing emit_work
+pub lawful : IsLawful asks_nothing emit_work
 lawful = text_lawful IsCOf ⊥ (λ v. absurd v)

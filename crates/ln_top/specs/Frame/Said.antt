@@ -78,6 +78,11 @@ pub record Count : Type 0 where
 abbrev pub count : ℕ → ℕ → Count
 count before after = record { before = before; after = after }
 
+-- what a call made of the console is in this relation: its count of faults, the call's result, and what came to both streams
+abbrev pub OnConsole : {A R : Type 0} → (A → ℕ) → (A → Option Shown) → A → R → A
+    → (Count → R → Option Shown → Option Shown → Type 0) → Type 0
+OnConsole faults shown was result now did = did (count (faults was) (faults now)) result (shown was) (shown now)
+
 -- one fault was counted
 abbrev pub Rises : Count → Type 0
 Rises c = c.after ≡ counted c.before

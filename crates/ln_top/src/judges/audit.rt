@@ -7,7 +7,7 @@ ghost use Rattle.ln_top.specs.Judges.Audit.{AreJudged, AuditSaid, HasTrace, IsAu
 ghost use Rattle.ln_top.specs.Frame.Carried.{CarriesOut, NoPart};
 ghost use Rattle.ln_top.specs.Frame.Ready.{IsReadyFor, StandsFor};
 ghost use Rattle.ln_rows.specs.Header.{names_of};
-ghost use Rattle.ln_top.specs.Frame.Said.{count};
+ghost use Rattle.ln_top.specs.Frame.Said.{OnConsole};
 ghost use Rattle.ln_top.specs.Frame.Given.{Given};
 
 use crate::frame::put::numbered;
@@ -59,8 +59,7 @@ fn put_judged<C: Console>(
     n: u32,
     end: End,
 ) -> Result<End, Early>
-    ensures { PutsOrStops ((word.now ++ decimal n) ++ codes "\n") end
-        (count (C.faults con.old) (C.faults con.new)) result (C.shown con.old) (C.shown con.new) }
+    ensures { OnConsole C.faults C.shown con.old result con.new (PutsOrStops ((word.now ++ decimal n) ++ codes "\n") end) }
 {
     let text = numbered(alloc, word, n)?;
     put_text(con, &text, end)
@@ -77,8 +76,7 @@ fn audit_rows<C: Console>(
     requires accepted { IsSound (pred_of p.now) }
     requires short { length trace.now ≤ most_file }
     ensures { (g : Given) (names : List (List ℕ)) → HasTrace g (pred_of p.now) names (names ∷ rows.old) trace.now
-        → CarriesOut (AuditSaid g) NoPart ⊥ ⊥
-        (count (C.faults con.old) (C.faults con.new)) result (C.shown con.old) (C.shown con.new) }
+        → OnConsole C.faults C.shown con.old result con.new (CarriesOut (AuditSaid g) NoPart ⊥ ⊥) }
 {
     match audited(alloc, p, rows, trace) {
         Ok(Judged::Agreed(n)) => put_judged(alloc, con, b"agreed ", n, End::Done),
@@ -99,8 +97,7 @@ fn audit_records<C: Console>(
     requires accepted { IsSound (pred_of p.now) }
     requires short { length trace.now ≤ most_file }
     ensures { (g : Given) → HasTrace g (pred_of p.now) (names_of t.now p.now) rows.old trace.now
-        → CarriesOut (AuditSaid g) NoPart ⊥ ⊥
-        (count (C.faults con.old) (C.faults con.new)) result (C.shown con.old) (C.shown con.new) }
+        → OnConsole C.faults C.shown con.old result con.new (CarriesOut (AuditSaid g) NoPart ⊥ ⊥) }
 {
     match rows.header(t, p) {
         Ok(true) => audit_rows(alloc, con, p, rows, trace),
@@ -112,8 +109,7 @@ fn audit_records<C: Console>(
 /// Writes `agreed N` or `wrong LINE`, or refuses the header.
 pub fn work<C: Console>(alloc: Global, con: &mut C, ready: &Ready) -> Result<End, Early>
     requires { IsReadyFor audit_signature ready.now }
-    ensures { (g : Given) → StandsFor ready.now g → CarriesOut (AuditSaid g) NoPart ⊥ ⊥
-        (count (C.faults con.old) (C.faults con.new)) result (C.shown con.old) (C.shown con.new) }
+    ensures { (g : Given) → StandsFor ready.now g → OnConsole C.faults C.shown con.old result con.new (CarriesOut (AuditSaid g) NoPart ⊥ ⊥) }
 {
     let (table, trace) = two_texts(ready);
     let mut rows = Rows::new(alloc, table)?;

@@ -11,7 +11,7 @@ ghost use Rattle.ln_top.specs.declared.frame.asked.Asked.TheVariants.{FewStages}
 ghost use Rattle.ln_top.specs.Frame.Ready.{IsReadyFor, StandsFor};
 ghost use Rattle.ln_top.specs.Frame.Signature.{Refuses};
 ghost use Rattle.ln_top.specs.Signs.Run.{graded_signature};
-ghost use Rattle.ln_top.specs.Frame.Said.{count};
+ghost use Rattle.ln_top.specs.Frame.Said.{OnConsole};
 ghost use Rattle.ln_top.specs.Frame.Given.{Given};
 ghost use Rattle.ln_top.specs.Signs.Signs.{GradedSaid, RunPart};
 
@@ -84,8 +84,7 @@ pub fn graded_first(
 pub fn work<C: Console>(alloc: Global, con: &mut C, ready: &Ready) -> Result<End, Early>
     requires { IsReadyFor graded_signature ready.now }
     ensures { (g : Given) → StandsFor ready.now g
-        → CarriesOut (GradedSaid g) (RunPart ByDegree [] g) ⊥ ⊥
-        (count (C.faults con.old) (C.faults con.new)) result (C.shown con.old) (C.shown con.new) }
+        → OnConsole C.faults C.shown con.old result con.new (CarriesOut (GradedSaid g) (RunPart ByDegree [] g) ⊥ ⊥) }
 {
     let target = one_target(alloc, ready)?;
     put_lines(alloc, con, &target, short_text(ready), no_watchers(alloc))

@@ -11,7 +11,7 @@ ghost use Rattle.ln_top.specs.Frame.Lines.{Closes, Gathers, Takes};
 ghost use Rattle.ln_top.specs.Signs.Rows.{RowStep, RowsPart, RowsSaid};
 ghost use Rattle.ln_top.specs.Signs.Run.{HasRecords, end_of, piece_room, piece};
 ghost use Rattle.ln_rows.specs.Header.{names_of};
-ghost use Rattle.ln_top.specs.Frame.Said.{count};
+ghost use Rattle.ln_top.specs.Frame.Said.{OnConsole, count};
 ghost use Rattle.ln_top.specs.Frame.Given.{Given};
 ghost use Rattle.ln_top.specs.Signs.Watching.{watching};
 ghost use Rattle.ln_watch.specs.Panel.{last_lines, states_of};
@@ -189,8 +189,8 @@ fn put_records<C: Console, W: RecordWriter>(
 
 // Writes the lines of the watchers that remain after the records.
 fn close_after<C: Console>(con: &mut C, panel: Panel, good: bool) -> Result<End, Early>
-    ensures { Closes (last_lines (states_of kind_of tally_of panel.watchers.items)) (end_of good)
-        (count (C.faults con.old) (C.faults con.new)) result (C.shown con.old) (C.shown con.new) }
+    ensures { OnConsole C.faults C.shown con.old result con.new
+        (Closes (last_lines (states_of kind_of tally_of panel.watchers.items)) (end_of good)) }
 {
     match panel.close(con, Port::Err) {
         Ok(()) => Ok(end_of(good)),
@@ -209,9 +209,9 @@ fn put_rows<C: Console, W: RecordWriter>(
     requires few { length rows.old < 2 ^ 32 }
     ensures { (g : Given) → W.knows writer.now g.preds
         → HasRecords g (pred_of (W.over writer.now)) (W.columns writer.now) (W.columns writer.now ∷ rows.old)
-        → CarriesOut (RowsSaid (W.begins writer.now) (W.line writer.now g.preds) (states_of kind_of tally_of watchers.items) g)
-        (RowsPart (W.begins writer.now) (W.line writer.now g.preds) (states_of kind_of tally_of watchers.items) g) ⊥ ⊥
-        (count (C.faults con.old) (C.faults con.new)) result (C.shown con.old) (C.shown con.new) }
+        → OnConsole C.faults C.shown con.old result con.new
+        (CarriesOut (RowsSaid (W.begins writer.now) (W.line writer.now g.preds) (states_of kind_of tally_of watchers.items) g)
+        (RowsPart (W.begins writer.now) (W.line writer.now g.preds) (states_of kind_of tally_of watchers.items) g) ⊥ ⊥) }
 {
     let mut room = writer.make_room(alloc)?;
     let mut text = Vec::with_capacity(alloc, PIECE + ROOM)?;
@@ -237,9 +237,9 @@ fn put_from_header<C: Console, W: RecordWriter>(
 ) -> Result<End, Early>
     requires few { length rows.old < 2 ^ 32 }
     ensures { (g : Given) → W.knows writer.now g.preds → HasRecords g (pred_of (W.over writer.now)) (W.columns writer.now) rows.old
-        → CarriesOut (RowsSaid (W.begins writer.now) (W.line writer.now g.preds) (states_of kind_of tally_of watchers.items) g)
-        (RowsPart (W.begins writer.now) (W.line writer.now g.preds) (states_of kind_of tally_of watchers.items) g) ⊥ ⊥
-        (count (C.faults con.old) (C.faults con.new)) result (C.shown con.old) (C.shown con.new) }
+        → OnConsole C.faults C.shown con.old result con.new
+        (CarriesOut (RowsSaid (W.begins writer.now) (W.line writer.now g.preds) (states_of kind_of tally_of watchers.items) g)
+        (RowsPart (W.begins writer.now) (W.line writer.now g.preds) (states_of kind_of tally_of watchers.items) g) ⊥ ⊥) }
 {
     match rows.header(writer.table(), writer.pred()) {
         Ok(true) => put_rows(alloc, con, writer, rows, watchers),
@@ -259,9 +259,9 @@ pub(crate) fn put_lines<C: Console, W: RecordWriter>(
     requires short { length text.now ≤ most_file }
     ensures { (g : Given) → W.knows writer.now g.preds
         → HasRecords g (pred_of (W.over writer.now)) (W.columns writer.now) (records_in text.now)
-        → CarriesOut (RowsSaid (W.begins writer.now) (W.line writer.now g.preds) (states_of kind_of tally_of watchers.items) g)
-        (RowsPart (W.begins writer.now) (W.line writer.now g.preds) (states_of kind_of tally_of watchers.items) g) ⊥ ⊥
-        (count (C.faults con.old) (C.faults con.new)) result (C.shown con.old) (C.shown con.new) }
+        → OnConsole C.faults C.shown con.old result con.new
+        (CarriesOut (RowsSaid (W.begins writer.now) (W.line writer.now g.preds) (states_of kind_of tally_of watchers.items) g)
+        (RowsPart (W.begins writer.now) (W.line writer.now g.preds) (states_of kind_of tally_of watchers.items) g) ⊥ ⊥) }
 {
     let mut rows = Rows::new(alloc, text)?;
     put_from_header(alloc, con, writer, &mut rows, watchers)
