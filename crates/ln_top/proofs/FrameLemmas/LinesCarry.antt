@@ -5,11 +5,11 @@ use Rattle.std.specs.Prelude.{Result}
 use Rattle.ln_top.specs.declared.frame.status.End.{End}
 use Rattle.ln_top.specs.declared.frame.status.Early.{Early}
 use Rattle.ln_top.specs.declared.frame.status.Early.TheVariants.{Write}
-use Rattle.ln_top.specs.Frame.Said.{Said, put_both}
+use Rattle.ln_top.specs.Frame.Said.{Said, broke, put_both, stayed, wrote}
 use Rattle.ln_top.specs.Frame.Carried as c
 use Rattle.ln_top.specs.Frame.Carried.{CarriesOut, ended, of_owed, of_part}
 use Rattle.ln_top.specs.Frame.Lines as l
-use Rattle.ln_top.specs.Frame.Lines.{Lines, Ran, WroteBoth, all_good, Closes, closed, unclosed}
+use Rattle.ln_top.specs.Frame.Lines.{Lines, Ran, WroteBoth, all_good, Closes}
 use Rattle.ln_top.proofs.FrameLemmas.Loops.{Work, Streams, faults_in}
 use Rattle.ln_top.proofs.FrameLemmas.LinesLaws.{rises_from, lines_have, lines_join, HasLines, fronts_behind, fronts_wider, wrote_all, broke_off}
 use Rattle.ln_top.proofs.FrameLemmas.LinesLaws.{both_twice, ok_err, ok_same}
@@ -114,5 +114,6 @@ closes_carried {t = t} {right = right} {result = result} {z = z} {was = was} {mi
     on_err w = rw k.silent w
 
     by_result : Closes (t.last_err z) (t.ends right) (faults_in mid now) result mid.shown now.shown → IsCarriedOut t result was now
-    by_result (closed e w) = rw e (end_carried b r (on_err w))
-    by_result (unclosed e w) = rw e (close_carried b r (on_err w))
+    by_result (wrote q x e) = rw x (end_carried b r (on_err (wrote q refl e)))
+    by_result (broke x p f) = rw x (close_carried b r (on_err (broke refl p f)))
+    by_result (stayed q x e) = absurd x

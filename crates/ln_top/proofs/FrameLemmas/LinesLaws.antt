@@ -1,19 +1,19 @@
 -- Work on records, one after the other: once for all commands that write lines as they come.
-use Rattle.std.proofs.Common.{◌≡◌, ℕ, ◌≤◌, length, take, Bool, true, false, ◌&&◌, List, [], ◌∷◌}
+use Rattle.std.proofs.Common.{◌≡◌, ℕ, Bool, true, false, ◌&&◌, List, [], ◌∷◌}
 use Rattle.std.proofs.Common.{◌++◌, refl, ap, sym, ◌∙◌, subst, Option, Some, None, Ok, Err, append_assoc}
 use Rattle.std.specs.Prelude.{IfSome, Result}
 use Rattle.std.proofs.lemmas.List.{append-nil}
 use Rattle.std.proofs.Math.Bool.{and-true, and_assoc}
-use Rattle.ln_base.specs.Outside.{Shown, appended, refused}
+use Rattle.ln_base.specs.Outside.{Shown, refused}
 use Rattle.ln_base.specs.declared.outside.Port.TheVariants.{Out}
 use Rattle.ln_top.specs.declared.frame.status.Early.{Early}
 use Rattle.ln_top.specs.declared.frame.status.Early.TheVariants.{Write, Memory}
 use Rattle.ln_top.specs.declared.frame.status.Early.TheVariants as early
 use Rattle.ln_base.specs.Prefixes.{IsPrefix}
-use Rattle.ln_top.specs.Frame.Said.{Count, count, Rises, IsCalm, put_both}
-use Rattle.ln_top.proofs.FrameLemmas.Carry.{both_nothing, front_of, out_alone}
+use Rattle.ln_top.specs.Frame.Said.{Count, PutsFronts, broke, count, Rises, IsCalm, put_both, stayed, wrote}
+use Rattle.ln_top.proofs.FrameLemmas.Carry.{both_nothing}
 use Rattle.ln_top.specs.Frame.Lines as l
-use Rattle.ln_top.specs.Frame.Lines.{Step, Lines, none, more, all_good, PutsFronts, every, WroteBoth, wrote, broke, took, tore, left_off}
+use Rattle.ln_top.specs.Frame.Lines.{Step, Lines, none, more, all_good, every, WroteBoth, took, tore, left_off}
 use Rattle.ln_top.specs.Frame.Lines.{worked, torn, given_up, held_on, emptied, stuck, broken, failed, all, cut, short}
 use Rattle.ln_top.proofs.FrameLemmas.Loops.{Written, StepTo, LinesTo, and_then}
 use Rattle.ln_top.proofs.FrameLemmas.Loops.{Work, each_good, Streams, faults_in, Stand, Point, Loop, begun, with_held, TakesTo, EmptiesTo}
@@ -276,30 +276,19 @@ one_lines step one s (r ∷ rest) a b (more {out = o2} {err = e2} _ o1 e1 m t l)
       lefts = next.lefts;
     }
 
--- a write failed
-pub out_broke : (text : List ℕ) (puts : Count) (was now : Option Shown)
-    → ((n : ℕ) × (n ≤ length text) × (now ≡ appended Out (take n text) was)) → Rises puts
-    → WroteBoth text [] puts false was now
-out_broke text puts was now h p =
-    broke refl p (record {
-      o = take h.0 text;
-      e = [];
-      of_out = front_of h.0 text;
-      of_err = front_all [];
-      shown = h.2 ∙ out_alone (take h.0 text) was;
-    })
-
 -- what a write that was reported whole, or cut off, wrote
 pub wrote_all : (out err : List ℕ) (puts : Count) (was now : Option Shown) → WroteBoth out err puts true was now
     → IsCalm puts × (now ≡ put_both out err was)
 wrote_all out err puts was now (wrote q d e) = (q, e)
 wrote_all out err puts was now (broke d p f) = cc
+wrote_all out err puts was now (stayed q d e) = absurd d
 
 -- for a write that was reported cut off a fault was counted, and prefixes were written
 pub broke_off : (out err : List ℕ) (puts : Count) (was now : Option Shown) → WroteBoth out err puts false was now
     → Rises puts × PutsFronts out err was now
 broke_off out err puts was now (wrote q d e) = cc
 broke_off out err puts was now (broke d p f) = (p, f)
+broke_off out err puts was now (stayed q d e) = absurd d
 
 -- nothing comes last on a stream
 abbrev pub no_last : {S : Type 0} → S → List ℕ

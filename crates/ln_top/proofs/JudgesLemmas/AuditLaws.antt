@@ -28,7 +28,7 @@ use Rattle.ln_top.specs.declared.frame.stop.Stop.TheVariants as stop
 use Rattle.ln_top.specs.declared.frame.stop.Why.TheVariants.{Header}
 use Rattle.ln_top.specs.Judges.Audit as audit
 use Rattle.ln_top.specs.Judges.Audit.{AreJudged, AuditEnds, AuditSaid, HasTrace, IsAuditOf, IsRightTrace, IsWrongAt, PutsOrStops, audit_work}
-use Rattle.ln_top.specs.Judges.Audit.{agreed_text, form, puts_it, rule, stops_before, wrong_text}
+use Rattle.ln_top.specs.Judges.Audit.{agreed_text, form, rule, wrong_text}
 use Rattle.ln_top.specs.Frame.Carried as carried
 use Rattle.ln_top.specs.Frame.Carried.{CarriesOut, NoPart, PutsText}
 use Rattle.ln_rows.specs.Header.{columns_of, names_of}
@@ -41,7 +41,7 @@ use Rattle.ln_top.specs.Frame.Work as kind_of
 use Rattle.ln_top.specs.Frame.Work.{IsWorkEnd}
 use Rattle.ln_top.proofs.FrameLemmas.Loops.{Streams, faults_in}
 use Rattle.ln_rows.proofs.HeaderLaws.{tail_same}
-use Rattle.ln_top.proofs.FrameLemmas.Carry.{text_carried, told_carried}
+use Rattle.ln_top.proofs.FrameLemmas.Carry.{as_result, told_carried, writes_carried}
 use Rattle.ln_rows.proofs.HeaderLaws.{columns_like}
 use Rattle.ln_compile.proofs.Numbers.{one_numbered}
 use Rattle.ln_top.proofs.FrameLemmas.Laws.{IsLawful, one_by_said, shape_objects}
@@ -159,8 +159,7 @@ header_carried g p names records trace puts result was now h w s =
 -- the text that is required was written, or memory ran out before
 put_carried : (g : Given) (end : End) (text : List ℕ) (puts : Count) (result : Result End Early) (was now : Option Shown)
     → AuditSaid g (whole end text) → PutsOrStops text end puts result was now → CarriesOut (AuditSaid g) NoPart ⊥ ⊥ puts result was now
-put_carried g end text puts result was now o (puts_it s) = text_carried (AuditSaid g) NoPart ⊥ ⊥ puts end text result was now o s
-put_carried g end text puts result was now o (stops_before q e n) = carried.short q (carried.nothing n) e
+put_carried g end text puts result was now o s = writes_carried (whole end text) o (λ r. r) (λ r. r) (λ r. r) s
 
 -- where the trace is agreed, writing the line `agreed N` carries out what is required
 pub agreed_carried : {g : Given} {p : PredOf} {names : List (List ℕ)} {records : Records} {trace : List ℕ} {n : ℕ} {result : Result End Early}
@@ -225,4 +224,4 @@ has_trace r g p rows trace records s one e t q =
 pub puts_text : (text wanted : List ℕ) (end : End) (puts : Count) (result : Result End Early) (was now : Option Shown) → text ≡ wanted
     → PutsText text end puts result was now → PutsOrStops wanted end puts result was now
 puts_text text wanted end puts result was now e s =
-    puts_it (rw e at s)
+    as_result (λ r. r) (λ r. r) (λ r. absurd r) (rw e at s)

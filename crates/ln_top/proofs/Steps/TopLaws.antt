@@ -19,7 +19,7 @@ use Rattle.ln_top.specs.declared.frame.stop.Why.{Why}
 use Rattle.ln_top.specs.declared.frame.stop.Why.TheVariants.{Usage, TooLong, Refused, NoPredicate}
 use Rattle.ln_top.specs.declared.words.Command.{Command}
 use Rattle.ln_top.specs.declared.words.Command.TheVariants as command
-use Rattle.ln_top.specs.Frame.Said.{Said, Count, Rises, IsCalm, put_both, end_status, status_of}
+use Rattle.ln_top.specs.Frame.Said.{Said, Count, Rises, IsCalm, put_both, end_status, status_of, broke, stayed, wrote}
 use Rattle.ln_top.specs.Frame.Stop.{said_of, why_end}
 use Rattle.ln_top.specs.Plan.{Plan, plan_of}
 use Rattle.ln_top.specs.Steps as step
@@ -510,9 +510,9 @@ settled_done result h = record { read = λ e. cc; write = λ e. cc; memory = λ 
 -- a fault of reading ends as one, or as one of writing
 pub says_read : (s : Stop) (puts : Count) (result : Result End Early) (was now : Option Shown) → s ≡ stop.Read
     → result ≢ Err early.Read → result ≢ Err early.Write → Says s puts result was now → ⊥
-says_read s puts result was now e n m (c.all q r i) = n (r ∙ ap c.stop_result e)
-says_read s puts result was now e n m (c.cut front p k f i r) = m r
-says_read s puts result was now e n m (c.short q k r i) = k e
+says_read s puts result was now e n m (wrote q r i) = n (r ∙ ap c.stop_result e)
+says_read s puts result was now e n m (broke r p k) = m r.1
+says_read s puts result was now e n m (stayed q r i) = r.0 e
 
 -- equal results that are Err have equal errors
 pub err_same : {T E : Type 0} {a b : E} → (let q : Result T E = Err a in q ≡ Err b) → a ≡ b

@@ -8,8 +8,7 @@ use Rattle.ln_base.specs.declared.outside.Port.TheVariants.{Out, Err as ErrPort}
 use Rattle.ln_top.specs.declared.frame.status.End.{End}
 use Rattle.ln_top.specs.declared.frame.status.Early.{Early}
 use Rattle.ln_top.specs.declared.frame.status.Early.TheVariants.{Write, Memory}
-use Rattle.ln_base.specs.Prefixes.{IsPrefix}
-use Rattle.ln_top.specs.Frame.Said.{Count, Rises, IsCalm, put_both}
+use Rattle.ln_top.specs.Frame.Said.{Count, PutsFronts, Rises, IsCalm, Writes, put_both}
 
 -- a step: from the state before a record, such as its watchers, to what it writes to Out and to Err and to the state after it
 abbrev pub Step : Type 0 → Type 0 → Type 1
@@ -26,18 +25,9 @@ abbrev pub all_good : {R : Type 0} → (R → Bool) → List R → Bool
 all_good good [] = true
 all_good good (r ∷ rest) = good r && all_good good rest
 
--- prefixes of these came to both streams
-pub record PutsFronts (out err : List ℕ) (was now : Option Shown) : Type 0 where
-  pub o : List ℕ
-  pub e : List ℕ
-  pub of_out : IsPrefix out o
-  pub of_err : IsPrefix err e
-  pub shown : now ≡ put_both o e was
-
 -- these were written to both streams, or cut off by a fault of writing
-pub data WroteBoth (out err : List ℕ) (puts : Count) (done : Bool) (was now : Option Shown) : Type 0 where
-  wrote : IsCalm puts → done ≡ true → now ≡ put_both out err was → WroteBoth out err puts done was now
-  broke : done ≡ false → Rises puts → PutsFronts out err was now → WroteBoth out err puts done was now
+abbrev pub WroteBoth : List ℕ → List ℕ → Count → Bool → Option Shown → Option Shown → Type 0
+WroteBoth out err = Writes out err (λ done. done ≡ true) (λ done. done ≡ false) (λ done. ⊥)
 
 -- a text was written to one stream, or cut off
 abbrev pub WroteOn : Port → List ℕ → Count → Bool → Option Shown → Option Shown → Type 0
@@ -45,9 +35,8 @@ WroteOn Out text = WroteBoth text []
 WroteOn ErrPort text = WroteBoth [] text
 
 -- the last lines for Err were written, or cut off
-pub data Closes (err : List ℕ) (end : End) (puts : Count) (result : Result End Early) (was now : Option Shown) : Type 0 where
-  closed : result ≡ Ok end → WroteBoth [] err puts true was now → Closes err end puts result was now
-  unclosed : result ≡ Err Write → WroteBoth [] err puts false was now → Closes err end puts result was now
+abbrev pub Closes : List ℕ → End → Count → Result End Early → Option Shown → Option Shown → Type 0
+Closes err end = Writes [] err (λ result. result ≡ Ok end) (λ result. result ≡ Err Write) (λ result. ⊥)
 
 -- one record: its bytes for Out were gathered and those for Err were written; or a write was cut off; or it was given up
 pub data Takes {S R : Type 0} (step : Step S R) (good : R → Bool) (s : S) (r : R)
