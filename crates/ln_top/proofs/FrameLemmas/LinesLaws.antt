@@ -14,7 +14,7 @@ use Rattle.ln_top.specs.Frame.Said.{Count, PutsFronts, broke, count, Rises, IsCa
 use Rattle.ln_top.proofs.FrameLemmas.Carry.{both_nothing}
 use Rattle.ln_top.specs.Frame.Lines as l
 use Rattle.ln_top.specs.Frame.Lines.{Step, Lines, none, more, all_good, every, WroteBoth, took, tore, left_off}
-use Rattle.ln_top.specs.Frame.Lines.{worked, torn, given_up, held_on, emptied, stuck, broken, failed, all, cut, short}
+use Rattle.ln_top.specs.Frame.Lines.{worked, torn, given_up, all, cut, short}
 use Rattle.ln_top.proofs.FrameLemmas.Loops.{Written, StepTo, LinesTo, and_then}
 use Rattle.ln_top.proofs.FrameLemmas.Loops.{Work, each_good, Streams, faults_in, Stand, Point, Loop, begun, with_held, TakesTo, EmptiesTo}
 use Rattle.ln_top.proofs.FrameLemmas.Loops.{GathersTo, SendsTo, RanTo, PutsTo, PutsAllTo}
@@ -167,8 +167,8 @@ running_stops {w = w} {from = from} {now = now} k l (left_off q x g f) =
 -- what was held is held on, or it was written
 pub running_empties : {S R : Type 0} {w : Work S R} {from : Stand S R} {now : Loop S R} {kept : List ℕ} {later : Streams}
     → Running w from now → EmptiesTo now.at true kept later → Running w from (with_held now kept later)
-running_empties k (stuck x p f) = cc
-running_empties k (held_on q x e n) = record {
+running_empties k (broke x p f) = cc
+running_empties k (stayed q (x, e) n) = record {
   done = k.done;
   parts = k.parts;
   sent = k.sent;
@@ -178,7 +178,7 @@ running_empties k (held_on q x e n) = record {
   goods = k.goods;
   calm = q ∙ k.calm;
 }
-running_empties {from = from} {now = now} {later = later} k (emptied q x e n) =
+running_empties {from = from} {now = now} {later = later} k (wrote q (x, e) n) =
     record {
       done = k.done;
       parts = k.parts;
@@ -193,9 +193,9 @@ running_empties {from = from} {now = now} {later = later} k (emptied q x e n) =
 -- a piece was cut off
 pub running_breaks : {S R : Type 0} {w : Work S R} {from : Stand S R} {now : Loop S R} {kept : List ℕ} {end : Point S}
     → Running w from now → EmptiesTo now.at false kept end.streams → GathersTo w from (Err Write) end
-running_breaks k (held_on q x e n) = cc
-running_breaks k (emptied q x e n) = cc
-running_breaks {from = from} {now = now} {end = end} k (stuck x p f) =
+running_breaks k (stayed q (x, e) n) = cc
+running_breaks k (wrote q (x, e) n) = cc
+running_breaks {from = from} {now = now} {end = end} k (broke x p f) =
     torn k.done now.left (k.sent ++ now.at.held) k.err now.at.state k.parts k.lines
     (rises_from from.streams.faults now.at.streams.faults end.streams.faults k.calm p)
     (broke_behind k.sent k.err now.at.held from.streams.shown now.at.streams.shown end.streams.shown k.shown f) refl
@@ -219,24 +219,24 @@ running_all {w = w} {from = from} {now = now} k e =
 -- what was held was written after the records, and so all of it is written
 pub sends_ran : {S R : Type 0} {w : Work S R} {from : Stand S R} {ran result : Result Bool Early} {end : Point S} {now : Streams}
     → GathersTo w from ran end → SendsTo end ran result now → RanTo w from result end.state now
-sends_ran {from = from} {end = end} {now = now} (worked sent err q t x f) (l.sent n p y g) =
+sends_ran {from = from} {end = end} {now = now} (worked sent err q t x f) (wrote p (n, y) g) =
     all (sent ++ end.held) err (p ∙ q) t (y ∙ x) (behind sent err end.held from.streams.shown end.streams.shown now.shown f g)
-sends_ran {from = from} {end = end} {now = now} (worked sent err q t x f) (broken n p y g) =
+sends_ran {from = from} {end = end} {now = now} (worked sent err q t x f) (broke (n, y) p g) =
     cut from.left [] (sent ++ end.held) err end.state (sym (append-nil from.left)) t
     (rises_from from.streams.faults end.streams.faults now.faults q p)
     (broke_behind sent err end.held from.streams.shown end.streams.shown now.shown f g) y
-sends_ran (worked sent err q t x f) (failed n p y g) = ok_err (sym x ∙ n)
-sends_ran (torn done left out err m e t p f x) (l.sent n q y g) = absurd (n x)
-sends_ran (torn done left out err m e t p f x) (broken n q y g) = absurd (n x)
-sends_ran {from = from} (torn done left out err m e t p f x) (failed n q y g) =
+sends_ran (worked sent err q t x f) (stayed p (n, y) g) = ok_err (sym x ∙ n)
+sends_ran (torn done left out err m e t p f x) (wrote q (n, y) g) = absurd (n x)
+sends_ran (torn done left out err m e t p f x) (broke (n, y) q g) = absurd (n x)
+sends_ran {from = from} (torn done left out err m e t p f x) (stayed q (n, y) g) =
     cut done left out err m e t (q ∙ p) (subst (λ o. PutsFronts out err from.streams.shown o) (sym g) f) (y ∙ x)
-sends_ran {from = from} {end = end} {now = now} (given_up done left sent err m q e t f x) (l.sent n p y g) =
+sends_ran {from = from} {end = end} {now = now} (given_up done left sent err m q e t f x) (wrote p (n, y) g) =
     short done left (sent ++ end.held) err m (p ∙ q) e t
     (behind sent err end.held from.streams.shown end.streams.shown now.shown f g) (y ∙ x)
-sends_ran {from = from} {end = end} {now = now} (given_up done left sent err m q e t f x) (broken n p y g) =
+sends_ran {from = from} {end = end} {now = now} (given_up done left sent err m q e t f x) (broke (n, y) p g) =
     cut done left (sent ++ end.held) err m e t (rises_from from.streams.faults end.streams.faults now.faults q p)
     (broke_behind sent err end.held from.streams.shown end.streams.shown now.shown f g) y
-sends_ran (given_up done left sent err m q e t f x) (failed n p y g) = memory_write (sym x ∙ n)
+sends_ran (given_up done left sent err m q e t f x) (stayed p (n, y) g) = memory_write (sym x ∙ n)
 
 -- where each record has its lines, a list of them has
 pub record HasLines {S R : Type 0} (step : Step S R) (s : S) (records : List R) : Type 0 where

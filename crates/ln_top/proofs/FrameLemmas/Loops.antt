@@ -92,7 +92,7 @@ GathersTo w from result p =
 
 -- what is held at a point was written at the end
 abbrev pub SendsTo : {S : Type 0} → Point S → Result Bool Early → Result Bool Early → Streams → Type 0
-SendsTo p ran result now = Sends p.held ran result (faults_in p.streams now) p.streams.shown now.shown
+SendsTo p ran result now = Sends p.held ran (faults_in p.streams now) result p.streams.shown now.shown
 
 -- the bytes of the remaining records were written, or the loop ended early
 abbrev pub RanTo : {S R : Type 0} → Work S R → Stand S R → Result Bool Early → S → Streams → Type 0

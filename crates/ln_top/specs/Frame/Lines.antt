@@ -60,16 +60,13 @@ pub data Gathers {S R : Type 0} (step : Step S R) (good : R → Bool) (s : S) (r
       → Gathers step good s records puts result held was now z
 
 -- what is held stays, or it was written, or cut off by a fault of writing
-pub data Empties (held left : List ℕ) (puts : Count) (done : Bool) (was now : Option Shown) : Type 0 where
-  held_on : IsCalm puts → done ≡ true → left ≡ held → now ≡ was → Empties held left puts done was now
-  emptied : IsCalm puts → done ≡ true → left ≡ [] → now ≡ put_both held [] was → Empties held left puts done was now
-  stuck : done ≡ false → Rises puts → PutsFronts held [] was now → Empties held left puts done was now
+abbrev pub Empties : List ℕ → List ℕ → Count → Bool → Option Shown → Option Shown → Type 0
+Empties held left = Writes held [] (λ done. (done ≡ true) × (left ≡ [])) (λ done. done ≡ false) (λ done. (done ≡ true) × (left ≡ held))
 
 -- what was held was written at the end, whatever the end is but a failed write, after which nothing is written; a fault of this write decides
-pub data Sends (held : List ℕ) (ran result : Result Bool Early) (puts : Count) (was now : Option Shown) : Type 0 where
-  sent : ran ≢ Err Write → IsCalm puts → result ≡ ran → now ≡ put_both held [] was → Sends held ran result puts was now
-  broken : ran ≢ Err Write → Rises puts → result ≡ Err Write → PutsFronts held [] was now → Sends held ran result puts was now
-  failed : ran ≡ Err Write → IsCalm puts → result ≡ ran → now ≡ was → Sends held ran result puts was now
+abbrev pub Sends : List ℕ → Result Bool Early → Count → Result Bool Early → Option Shown → Option Shown → Type 0
+Sends held ran = Writes held [] (λ result. (ran ≢ Err Write) × (result ≡ ran)) (λ result. (ran ≢ Err Write) × (result ≡ Err Write))
+    (λ result. (ran ≡ Err Write) × (result ≡ ran))
 
 -- records: all written, or cut off within one, or given up between two
 pub data Ran {S R : Type 0} (step : Step S R) (good : R → Bool) (s : S) (records : List R)
