@@ -14,7 +14,7 @@ use Rattle.ln_top.specs.Frame.Said.{Count, PutsFronts, broke, count, Rises, IsCa
 use Rattle.ln_top.proofs.FrameLemmas.Carry.{both_nothing}
 use Rattle.ln_top.specs.Frame.Lines as l
 use Rattle.ln_top.specs.Frame.Lines.{Step, Lines, none, more, all_good, every, WroteBoth, took, tore, left_off}
-use Rattle.ln_top.specs.Frame.Lines.{worked, torn, given_up, all, cut, short}
+use Rattle.ln_top.specs.Frame.Lines.{worked, torn, given_up}
 use Rattle.ln_top.proofs.FrameLemmas.Loops.{Written, StepTo, LinesTo, and_then}
 use Rattle.ln_top.proofs.FrameLemmas.Loops.{Work, each_good, Streams, faults_in, Stand, Point, Loop, begun, with_held, TakesTo, EmptiesTo}
 use Rattle.ln_top.proofs.FrameLemmas.Loops.{GathersTo, SendsTo, RanTo, PutsTo, PutsAllTo}
@@ -220,21 +220,22 @@ running_all {w = w} {from = from} {now = now} k e =
 pub sends_ran : {S R : Type 0} {w : Work S R} {from : Stand S R} {ran result : Result Bool Early} {end : Point S} {now : Streams}
     → GathersTo w from ran end → SendsTo end ran result now → RanTo w from result end.state now
 sends_ran {from = from} {end = end} {now = now} (worked sent err q t x f) (wrote p (n, y) g) =
-    all (sent ++ end.held) err (p ∙ q) t (y ∙ x) (behind sent err end.held from.streams.shown end.streams.shown now.shown f g)
+    worked (sent ++ end.held) err (p ∙ q) (rw (append-nil (sent ++ end.held)) t) (y ∙ x)
+    (behind sent err end.held from.streams.shown end.streams.shown now.shown f g)
 sends_ran {from = from} {end = end} {now = now} (worked sent err q t x f) (broke (n, y) p g) =
-    cut from.left [] (sent ++ end.held) err end.state (sym (append-nil from.left)) t
+    torn from.left [] (sent ++ end.held) err end.state (sym (append-nil from.left)) t
     (rises_from from.streams.faults end.streams.faults now.faults q p)
     (broke_behind sent err end.held from.streams.shown end.streams.shown now.shown f g) y
 sends_ran (worked sent err q t x f) (stayed p (n, y) g) = ok_err (sym x ∙ n)
 sends_ran (torn done left out err m e t p f x) (wrote q (n, y) g) = absurd (n x)
 sends_ran (torn done left out err m e t p f x) (broke (n, y) q g) = absurd (n x)
 sends_ran {from = from} (torn done left out err m e t p f x) (stayed q (n, y) g) =
-    cut done left out err m e t (q ∙ p) (subst (λ o. PutsFronts out err from.streams.shown o) (sym g) f) (y ∙ x)
+    torn done left out err m e t (q ∙ p) (subst (λ o. PutsFronts out err from.streams.shown o) (sym g) f) (y ∙ x)
 sends_ran {from = from} {end = end} {now = now} (given_up done left sent err m q e t f x) (wrote p (n, y) g) =
-    short done left (sent ++ end.held) err m (p ∙ q) e t
+    given_up done left (sent ++ end.held) err m (p ∙ q) e (rw (append-nil (sent ++ end.held)) t)
     (behind sent err end.held from.streams.shown end.streams.shown now.shown f g) (y ∙ x)
 sends_ran {from = from} {end = end} {now = now} (given_up done left sent err m q e t f x) (broke (n, y) p g) =
-    cut done left (sent ++ end.held) err m e t (rises_from from.streams.faults end.streams.faults now.faults q p)
+    torn done left (sent ++ end.held) err m e t (rises_from from.streams.faults end.streams.faults now.faults q p)
     (broke_behind sent err end.held from.streams.shown end.streams.shown now.shown f g) y
 sends_ran (given_up done left sent err m q e t f x) (stayed p (n, y) g) = memory_write (sym x ∙ n)
 
@@ -326,7 +327,7 @@ pub running_tears : {S R : Type 0} {step : Step S R} {from now : Stand S R} {r :
 running_tears {step = step} {from = from} {now = now} {r = r} {rest = rest} {later = later} k l p =
     let mid = now.streams.shown in
     let w = broke_off p.out p.err (faults_in now.streams later) mid later.shown p.wrote in
-    cut (k.done ++ r ∷ []) rest (k.sent ++ p.out) (k.err ++ p.err) p.left (k.parts ∙ rw (l, append_assoc) refl)
+    torn (k.done ++ r ∷ []) rest (k.sent ++ p.out) (k.err ++ p.err) p.left (k.parts ∙ rw (l, append_assoc) refl)
     (rw (append-nil k.sent) at (lines_more k.lines p.stepped))
     (rises_from from.streams.faults now.streams.faults later.faults k.calm w.0)
     (fronts_behind k.sent k.err p.out p.err from.streams.shown mid later.shown k.shown w.1) refl
@@ -334,6 +335,4 @@ running_tears {step = step} {from = from} {now = now} {r = r} {rest = rest} {lat
 -- all of them were written
 pub running_done : {S R : Type 0} {step : Step S R} {from now : Stand S R} → Writing step from now → now.left ≡ []
     → PutsAllTo step true from now.state now.streams
-running_done {step = step} {from = from} {now = now} k e =
-    let whole = whole_done k e in
-    all k.sent k.err k.calm (rw (← whole) (rw (append-nil k.sent) at k.lines)) (ap Ok (sym (all_every from.left))) k.shown
+running_done k e = running_all k e

@@ -68,15 +68,9 @@ abbrev pub Sends : List ℕ → Result Bool Early → Count → Result Bool Earl
 Sends held ran = Writes held [] (λ result. (ran ≢ Err Write) × (result ≡ ran)) (λ result. (ran ≢ Err Write) × (result ≡ Err Write))
     (λ result. (ran ≡ Err Write) × (result ≡ ran))
 
--- records: all written, or cut off within one, or given up between two
-pub data Ran {S R : Type 0} (step : Step S R) (good : R → Bool) (s : S) (records : List R)
-    (puts : Count) (result : Result Bool Early) (was now : Option Shown) (z : S) : Type 0 where
-  all : (out err : List ℕ) → IsCalm puts → Lines step s records out err z → result ≡ Ok (all_good good records)
-      → now ≡ put_both out err was → Ran step good s records puts result was now z
-  cut : (done left : List R) (out err : List ℕ) (m : S) → records ≡ done ++ left → Lines step s done out err m → Rises puts
-      → PutsFronts out err was now → result ≡ Err Write → Ran step good s records puts result was now z
-  short : (done left : List R) (out err : List ℕ) (m : S) → IsCalm puts → records ≡ done ++ left → Lines step s done out err m
-      → now ≡ put_both out err was → result ≡ Err (Memory refused) → Ran step good s records puts result was now z
+-- records of which nothing is held at the end: all written, or cut off within one, or given up between two
+abbrev pub Ran : {S R : Type 0} → Step S R → (R → Bool) → S → List R → Count → Result Bool Early → Option Shown → Option Shown → S → Type 0
+Ran step good s records puts result = Gathers step good s records puts result []
 
 -- one record whose bytes are written at once: all of them, or they were cut off
 pub record PutsOne {S R : Type 0} (step : Step S R) (s : S) (r : R)
