@@ -45,7 +45,7 @@ pub record IsByLines {S R : Type 0} (t : Task S R) : Type 0 where
 
 -- the records of a task were worked on, or that ended early
 abbrev pub HasRun : {S R : Type 0} → Task S R → Result Bool Early → S → Streams → Streams → Type 0
-HasRun t result z was now = Ran t.work.step t.work.good t.state t.records (faults_in was now) result was.shown now.shown z
+HasRun t result z was now = Ran t.work.step t.work.good t.state t.records z (faults_in was now) result was.shown now.shown
 
 -- the last lines of a task were written, or cut off
 abbrev pub EndsWith : {S R : Type 0} → Task S R → Bool → S → Streams → Streams → Type 0

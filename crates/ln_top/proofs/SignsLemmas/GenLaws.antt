@@ -74,7 +74,7 @@ pub record IsDrawn (p : Pred) (d : Draw) (r : code.Row) (v : Verdict) : Type 0 w
 pub row_put : {p : Pred} {d : Draw} {r : code.Row} {v : Verdict} {boxes z : List State} {all : Bool} {was now : Streams}
     → IsDrawn p d r v → WroteBoth (lines_at d.number v boxes) [] (faults_in was now) all was.shown now.shown
     → (all ≡ true → z ≡ left_after d.number v boxes)
-    → PutsOne (GenStep (pred_of p)) boxes d (faults_in was now) all was.shown now.shown z
+    → PutsOne (GenStep (pred_of p)) boxes d z (faults_in was now) all was.shown now.shown
 row_put {p = p} {d = d} {v = v} {boxes = boxes} i w s = record {
   out = lines_at d.number v boxes;
   err = [];

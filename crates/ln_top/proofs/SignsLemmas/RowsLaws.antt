@@ -36,7 +36,7 @@ use Rattle.ln_top.proofs.SignsLemmas.RunLaws as run_laws
 pub takes_all : (line : LineOf) (p : PredOf) (names : List (List ℕ)) {fields : List (List ℕ)} {shown : Option Verdict} {out held grown : List ℕ}
     {before after : Watching} {n m : ℕ} {was now : Option Shown} {right : Bool} → line p names (before.seen + 1) fields shown out
     → grown ≡ held ++ out → WroteBoth [] (next_lines shown before) (count n m) true was now → after ≡ next shown before → right ≡ is_row p fields
-    → Takes (RowStep (line p names)) (is_row p) before fields (count n m) (Ok right) held grown was now after
+    → Takes (RowStep (line p names)) (is_row p) before fields held grown after (count n m) (Ok right) was now
 takes_all line p names {shown = shown} {out = out} {before = before} {n = n} {m = m} {was = was} {now = now} l g w a r =
     let e = wrote_all [] (next_lines shown before) (count n m) was now w in
     took out (next_lines shown before) e.0 (record { shown = shown; is = l; told = refl; left = a }) (ap Ok r) g e.1
@@ -45,7 +45,7 @@ takes_all line p names {shown = shown} {out = out} {before = before} {n = n} {m 
 pub takes_cut : (line : LineOf) (p : PredOf) (names : List (List ℕ)) {fields : List (List ℕ)} {shown : Option Verdict} {out held grown : List ℕ}
     {before after : Watching} {n m : ℕ} {was now : Option Shown} → line p names (before.seen + 1) fields shown out
     → grown ≡ held ++ out → WroteBoth [] (next_lines shown before) (count n m) false was now
-    → Takes (RowStep (line p names)) (is_row p) before fields (count n m) (Err Write) held grown was now after
+    → Takes (RowStep (line p names)) (is_row p) before fields held grown after (count n m) (Err Write) was now
 takes_cut line p names {shown = shown} {out = out} {before = before} {n = n} {m = m} {was = was} {now = now} l g w =
     let e = broke_off [] (next_lines shown before) (count n m) was now w in
     tore out (next_lines shown before) (next shown before) (record { shown = shown; is = l; told = refl; left = refl }) e.0 refl e.1

@@ -40,24 +40,24 @@ Closes err end = Writes [] err (λ result. result ≡ Ok end) (λ result. result
 
 -- one record: its bytes for Out were gathered and those for Err were written; or a write was cut off; or it was given up
 pub data Takes {S R : Type 0} (step : Step S R) (good : R → Bool) (s : S) (r : R)
-    (puts : Count) (result : Result Bool Early) (held grown : List ℕ) (was now : Option Shown) (z : S) : Type 0 where
+    (held grown : List ℕ) (z : S) (puts : Count) (result : Result Bool Early) (was now : Option Shown) : Type 0 where
   took : (o e : List ℕ) → IsCalm puts → step s r o e z → result ≡ Ok (good r) → grown ≡ held ++ o
-      → now ≡ put_both [] e was → Takes step good s r puts result held grown was now z
+      → now ≡ put_both [] e was → Takes step good s r held grown z puts result was now
   tore : (o e : List ℕ) (m : S) → step s r o e m → Rises puts → result ≡ Err Write → PutsFronts [] e was now
-      → Takes step good s r puts result held grown was now z
+      → Takes step good s r held grown z puts result was now
   left_off : IsCalm puts → result ≡ Err (Memory refused) → grown ≡ held → now ≡ was
-      → Takes step good s r puts result held grown was now z
+      → Takes step good s r held grown z puts result was now
 
 -- records of which some bytes for Out are still held: all are worked on, or a piece was cut off, or they were given up between two
 pub data Gathers {S R : Type 0} (step : Step S R) (good : R → Bool) (s : S) (records : List R)
-    (puts : Count) (result : Result Bool Early) (held : List ℕ) (was now : Option Shown) (z : S) : Type 0 where
+    (held : List ℕ) (z : S) (puts : Count) (result : Result Bool Early) (was now : Option Shown) : Type 0 where
   worked : (sent err : List ℕ) → IsCalm puts → Lines step s records (sent ++ held) err z → result ≡ Ok (all_good good records)
-      → now ≡ put_both sent err was → Gathers step good s records puts result held was now z
+      → now ≡ put_both sent err was → Gathers step good s records held z puts result was now
   torn : (done left : List R) (out err : List ℕ) (m : S) → records ≡ done ++ left → Lines step s done out err m → Rises puts
-      → PutsFronts out err was now → result ≡ Err Write → Gathers step good s records puts result held was now z
+      → PutsFronts out err was now → result ≡ Err Write → Gathers step good s records held z puts result was now
   given_up : (done left : List R) (sent err : List ℕ) (m : S) → IsCalm puts → records ≡ done ++ left
       → Lines step s done (sent ++ held) err m → now ≡ put_both sent err was → result ≡ Err (Memory refused)
-      → Gathers step good s records puts result held was now z
+      → Gathers step good s records held z puts result was now
 
 -- what is held stays, or it was written, or cut off by a fault of writing
 abbrev pub Empties : List ℕ → List ℕ → Count → Bool → Option Shown → Option Shown → Type 0
@@ -69,12 +69,12 @@ Sends held ran = Writes held [] (λ result. (ran ≢ Err Write) × (result ≡ r
     (λ result. (ran ≡ Err Write) × (result ≡ ran))
 
 -- records of which nothing is held at the end: all written, or cut off within one, or given up between two
-abbrev pub Ran : {S R : Type 0} → Step S R → (R → Bool) → S → List R → Count → Result Bool Early → Option Shown → Option Shown → S → Type 0
-Ran step good s records puts result = Gathers step good s records puts result []
+abbrev pub Ran : {S R : Type 0} → Step S R → (R → Bool) → S → List R → S → Count → Result Bool Early → Option Shown → Option Shown → Type 0
+Ran step good s records = Gathers step good s records []
 
 -- one record whose bytes are written at once: all of them, or they were cut off
 pub record PutsOne {S R : Type 0} (step : Step S R) (s : S) (r : R)
-    (puts : Count) (done : Bool) (was now : Option Shown) (z : S) : Type 0 where
+    (z : S) (puts : Count) (done : Bool) (was now : Option Shown) : Type 0 where
   pub out : List ℕ
   pub err : List ℕ
   pub left : S
@@ -92,5 +92,5 @@ ran_of true = Ok true
 ran_of false = Err Write
 
 -- records whose bytes are written as they come: all were written, or a write failed
-abbrev pub PutsAll : {S R : Type 0} → Step S R → S → List R → Count → Bool → Option Shown → Option Shown → S → Type 0
-PutsAll step s records puts done was now z = Ran step every s records puts (ran_of done) was now z
+abbrev pub PutsAll : {S R : Type 0} → Step S R → S → List R → S → Count → Bool → Option Shown → Option Shown → Type 0
+PutsAll step s records z puts done = Ran step every s records z puts (ran_of done)

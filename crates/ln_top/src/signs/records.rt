@@ -11,7 +11,7 @@ ghost use Rattle.ln_top.specs.Frame.Lines.{Closes, Gathers, Takes};
 ghost use Rattle.ln_top.specs.Signs.Rows.{RowStep, RowsPart, RowsSaid};
 ghost use Rattle.ln_top.specs.Signs.Run.{HasRecords, end_of, piece_room, piece};
 ghost use Rattle.ln_rows.specs.Header.{names_of};
-ghost use Rattle.ln_top.specs.Frame.Said.{OnConsole, count};
+ghost use Rattle.ln_top.specs.Frame.Said.{OnConsole};
 ghost use Rattle.ln_top.specs.Frame.Given.{Given};
 ghost use Rattle.ln_top.specs.Signs.Watching.{watching};
 ghost use Rattle.ln_watch.specs.Panel.{last_lines, states_of};
@@ -126,11 +126,10 @@ fn take_record<C: Console, W: RecordWriter>(
     requires few { viewers.old.seen + 1 < 2 ^ 32 }
     ensures takes { (fields : List (List ℕ)) → IsReadOf (W.over writer.now) fields found.entry.read found.entry.row.now
         → (ps : List PredOf) → W.knows writer.now ps
-        → Takes (RowStep (W.line writer.now ps (pred_of (W.over writer.now)) (W.columns writer.now))) (is_row (pred_of (W.over writer.now)))
+        → OnConsole C.faults C.shown con.old result con.new
+        (Takes (RowStep (W.line writer.now ps (pred_of (W.over writer.now)) (W.columns writer.now))) (is_row (pred_of (W.over writer.now)))
         (watching viewers.old.seen (states_of kind_of tally_of viewers.old.panel.watchers.items)) fields
-        (count (C.faults con.old) (C.faults con.new)) result text.old.items text.new.items
-        (C.shown con.old) (C.shown con.new)
-        (watching viewers.new.seen (states_of kind_of tally_of viewers.new.panel.watchers.items)) }
+        text.old.items text.new.items (watching viewers.new.seen (states_of kind_of tally_of viewers.new.panel.watchers.items))) }
     ensures seen { OnOk result (viewers.new.seen ≡ viewers.old.seen + 1) }
     ensures fits { W.fits writer.now room.new }
     ensures space { W.space writer.now (vec_capacity text.new) }
@@ -159,10 +158,10 @@ fn put_records<C: Console, W: RecordWriter>(
     requires few { viewers.old.seen + length rows.old < 2 ^ 32 }
     requires empty { text.old.items ≡ [] }
     ensures { (ps : List PredOf) → W.knows writer.now ps
-        → Gathers (RowStep (W.line writer.now ps (pred_of (W.over writer.now)) (W.columns writer.now))) (is_row (pred_of (W.over writer.now)))
+        → OnConsole C.faults C.shown con.old result con.new
+        (Gathers (RowStep (W.line writer.now ps (pred_of (W.over writer.now)) (W.columns writer.now))) (is_row (pred_of (W.over writer.now)))
         (watching viewers.old.seen (states_of kind_of tally_of viewers.old.panel.watchers.items)) rows.old
-        (count (C.faults con.old) (C.faults con.new)) result text.new.items (C.shown con.old) (C.shown con.new)
-        (watching viewers.new.seen (states_of kind_of tally_of viewers.new.panel.watchers.items)) }
+        text.new.items (watching viewers.new.seen (states_of kind_of tally_of viewers.new.panel.watchers.items))) }
 {
     let mut row = Row {
         index: [0; 5],
