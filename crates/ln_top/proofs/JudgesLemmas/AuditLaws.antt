@@ -156,19 +156,13 @@ pub header_carried : (g : Given) (p : PredOf) (names : List (List ℕ)) (records
 header_carried g p names records trace puts result was now h w s =
     told_carried (AuditSaid g) NoPart ⊥ ⊥ puts Header result was now (audit.header p names records trace h w) s
 
--- the text that is required was written, or memory ran out before
-put_carried : (g : Given) (end : End) (text : List ℕ) (puts : Count) (result : Result End Early) (was now : Option Shown)
-    → AuditSaid g (whole end text) → PutsOrStops text end puts result was now → CarriesOut (AuditSaid g) NoPart ⊥ ⊥ puts result was now
-put_carried g end text puts result was now o s = writes_carried (whole end text) o (λ r. r) (λ r. r) (λ r. r) s
-
 -- where the trace is agreed, writing the line `agreed N` carries out what is required
 pub agreed_carried : {g : Given} {p : PredOf} {names : List (List ℕ)} {records : Records} {trace : List ℕ} {n : ℕ} {result : Result End Early}
     {was now : Streams} → HasTrace g p names (names ∷ records) trace → IsAuditOf p records trace (Agreed n)
     → PutsOrStops (agreed_text n) Done (faults_in was now) result was.shown now.shown
     → CarriesOut (AuditSaid g) NoPart ⊥ ⊥ (faults_in was now) result was.shown now.shown
 agreed_carried {g = g} {p = p} {names = names} {records = records} {trace = trace} {n = n} {was = was} {now = now} h (r, e) s =
-    put_carried g Done (agreed_text n) (faults_in was now) _ was.shown now.shown
-    (rw e (audit.agreed p names records trace h r)) s
+    writes_carried (whole Done (agreed_text n)) (rw e (audit.agreed p names records trace h r)) (λ q. q) (λ q. q) (λ q. q) s
 
 -- where the trace is wrong, writing the line `wrong N` carries out what is required
 pub wrong_carried : {g : Given} {p : PredOf} {names : List (List ℕ)} {records : Records} {trace : List ℕ} {at : ℕ} {result : Result End Early}
@@ -176,7 +170,7 @@ pub wrong_carried : {g : Given} {p : PredOf} {names : List (List ℕ)} {records 
     → PutsOrStops (wrong_text at) Invalid (faults_in was now) result was.shown now.shown
     → CarriesOut (AuditSaid g) NoPart ⊥ ⊥ (faults_in was now) result was.shown now.shown
 wrong_carried {g = g} {p = p} {names = names} {records = records} {trace = trace} {at = at} {was = was} {now = now} h r s =
-    put_carried g Invalid (wrong_text at) (faults_in was now) _ was.shown now.shown (audit.wrong p names records trace at h r) s
+    writes_carried (whole Invalid (wrong_text at)) (audit.wrong p names records trace at h r) (λ q. q) (λ q. q) (λ q. q) s
 
 -- ---- what is judged
 -- the lines of a trace that was opened
