@@ -148,13 +148,6 @@ line_cut s text puts was now e m h p = broke (m, refl) p (record {
   shown = h.2 ∙ err_alone (take h.0 text) was;
 })
 
--- The line of a stop that is required was written.
-pub told_carried : (owes : Said → Type 0) (part : List ℕ → List ℕ → Type 0) (lacks reads : Type 0) (puts : Count)
-    (why : Why) (result : Result End Early) (was now : Option Shown) → owes (said_of why)
-    → Says (stop.Tell why) puts result was now → CarriesOut owes part lacks reads puts result was now
-told_carried owes part lacks reads puts why result was now o w =
-    writes_carried (said_of why) o (λ r. r) (λ r. r.1) (λ r. r.1) w
-
 -- a write, of which another result says the same
 pub as_result : {R Q : Type 0} {all torn stopped : R → Type 0} {whole cut left : Q → Type 0} {out err : List ℕ} {puts : Count} {r : R} {q : Q}
     {was now : Option Shown} → (all r → whole q) → (torn r → cut q) → (stopped r → left q) → Writes out err all torn stopped puts r was now

@@ -41,10 +41,11 @@ use Rattle.ln_top.specs.Frame.Work as kind_of
 use Rattle.ln_top.specs.Frame.Work.{IsWorkEnd}
 use Rattle.ln_top.proofs.FrameLemmas.Loops.{Streams, faults_in}
 use Rattle.ln_rows.proofs.HeaderLaws.{tail_same}
-use Rattle.ln_top.proofs.FrameLemmas.Carry.{as_result, told_carried, writes_carried}
+use Rattle.ln_top.proofs.FrameLemmas.Carry.{as_result, writes_carried}
 use Rattle.ln_rows.proofs.HeaderLaws.{columns_like}
 use Rattle.ln_compile.proofs.Numbers.{one_numbered}
 use Rattle.ln_top.proofs.FrameLemmas.Laws.{IsLawful, one_by_said, shape_objects}
+use Rattle.ln_top.specs.Frame.Stop.{said_of}
 use Rattle.ln_top.specs.declared.frame.asked.Asked.TheVariants.{Nothing}
 
 -- ---- two ways to see what is given are one
@@ -154,7 +155,7 @@ pub header_carried : (g : Given) (p : PredOf) (names : List (List ℕ)) (records
     (result : Result End Early) (was now : Option Shown) → HasTrace g p names records trace → IsWrongHeader names records
     → carried.Says (stop.Tell Header) puts result was now → CarriesOut (AuditSaid g) NoPart ⊥ ⊥ puts result was now
 header_carried g p names records trace puts result was now h w s =
-    told_carried (AuditSaid g) NoPart ⊥ ⊥ puts Header result was now (audit.header p names records trace h w) s
+    writes_carried (said_of Header) (audit.header p names records trace h w) (λ r. r) (λ r. r.1) (λ r. r.1) s
 
 -- where the trace is agreed, writing the line `agreed N` carries out what is required
 pub agreed_carried : {g : Given} {p : PredOf} {names : List (List ℕ)} {records : Records} {trace : List ℕ} {n : ℕ} {result : Result End Early}

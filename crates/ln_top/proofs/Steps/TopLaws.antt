@@ -33,7 +33,7 @@ use Rattle.ln_top.specs.Answer.{PlanOwes, stopped, worked, PlanPart, PlanLacks, 
 use Rattle.ln_top.specs.Call.{HasRisen, Keeps, call}
 use Rattle.ln_top.specs.Causes as cause
 use Rattle.ln_top.specs.Causes.{SaysLine, IsSettled, Answered, Ends, Yields, EndsExactly}
-use Rattle.ln_top.proofs.FrameLemmas.Carry.{Duty, IsCarriedOut, lift, says_carried, told_carried}
+use Rattle.ln_top.proofs.FrameLemmas.Carry.{Duty, IsCarriedOut, lift, says_carried, writes_carried}
 use Rattle.ln_top.proofs.Steps.Chain.{One, one_gives, one_prepares, one_then}
 use Rattle.ln_top.proofs.Steps.Grounded.{IsFine, fine}
 use Rattle.ln_top.proofs.FrameLemmas.Laws.{IsLawful}
@@ -103,8 +103,7 @@ pub usage_carried : (words : List (List ℕ)) (told : Option Shelf) (boxes : Lis
     (result : Result End Early) (was now : Option Shown) → plan_of words ≡ None → Says (stop.Tell Usage) puts result was now
     → Carried words told boxes reads puts result was now
 usage_carried words told boxes reads puts result was now f s =
-    told_carried (Answer words told boxes) (Part words told boxes) (IsMissing words told) reads puts Usage result was now
-    (usage f) s
+    writes_carried (said_of Usage) (usage f) (λ r. r) (λ r. r.1) (λ r. r.1) s
 
 -- the laws of each work: a line a command
 pub lawful : (k : Command) → IsLawful (signature_of k).suits (work_of k)
