@@ -14,7 +14,7 @@ use Rattle.ln_top.specs.Judges.Edges.{edges_signature}
 use Rattle.ln_top.specs.Signs.Explain.{explain_signature}
 use Rattle.ln_top.specs.Judges.Audit.{audit_signature}
 use Rattle.ln_top.specs.Signs.Gen.{gen_signature}
-use Rattle.ln_top.specs.Frame.Signature.{Form, Signature}
+use Rattle.ln_top.specs.Frame.Signature.{AreAsked, Form, Signature, objects}
 
 -- `check FILE`, `list FILE`, `emit FILE`, `verify FILE LISTING`, `run FILE NAME ROWS`, `graded FILE NAME ROWS`, `edges FILE NAME
 -- POINTS`, `explain FILE NAME ROWS`, `audit FILE NAME ROWS TRACE`, `gen FILE NAME SEED COUNT`, `product FILE NAME NAME.. ROWS`
@@ -43,8 +43,8 @@ form c = (signature_of c).form
 
 -- what it asks of its named predicates
 abbrev pub Asks : Command → List PredOf → Type 0
-Asks c = (signature_of c).suits.asks
+Asks c = AreAsked (signature_of c).suits
 
 -- how it stops where they don't suit it
 abbrev pub objection : Command → List ℕ → List PredOf → Why
-objection c = (signature_of c).suits.objection
+objection c = objects (signature_of c).suits

@@ -1,7 +1,7 @@
 //! The steps before the work: the source is read and compiled, the names are looked for, their predicates suit the command,
 //! the further files are read.
 ghost use Rattle.std.specs.Prelude.{◌≡◌, ◌≢◌, ◌≤◌, ◌<◌, All, Err, List, map, length, IfOk, IfErr, OnOk, string_bytes};
-ghost use Rattle.std.specs.Prelude.{true, false};
+ghost use Rattle.std.specs.Prelude.{None, true, false};
 ghost use Rattle.ln_base.specs.Limits.{most_file, most_source};
 ghost use Rattle.ln_base.specs.Outside.{Rose};
 ghost use Rattle.ln_tree.specs.Table.{PredOf, pred_of};
@@ -12,16 +12,17 @@ ghost use Rattle.ln_top.specs.Frame.Source.{view};
 ghost use Rattle.ln_top.specs.Frame.Given.{gives};
 ghost use Rattle.ln_top.specs.Frame.Carried.{Halts};
 ghost use Rattle.ln_compile.specs.Compiled.{AreNumbered};
-ghost use Rattle.ln_top.specs.Frame.Signature.{Refuses};
-ghost use Rattle.ln_top.specs.Ready.{HasNumbers, IsReady, KeepsFor};
+ghost use Rattle.ln_top.specs.Frame.Signature.{AreAsked, KeepsFor, Refuses};
+ghost use Rattle.ln_top.specs.Ready.{HasNumbers, IsReady};
 
+use crate::frame::asked::Asked;
 use crate::frame::ready::Ready;
 use crate::frame::stop::{Stop, Why};
 use crate::judges::three::one_of_three;
 use crate::signs::graded::graded_first;
 use crate::source::compiled;
 use crate::target::alike::alike;
-use crate::words::{Command, Plan};
+use crate::words::{Plan, asked};
 use ln_base::limits::{MOST_FILE, MOST_SOURCE};
 use ln_base::{Files, ReadStop, read_whole};
 use ln_code::Program;
@@ -85,6 +86,7 @@ fn texts<F: Files>(alloc: Global, files: &mut F, names: &[String]) -> Result<Vec
 // Goes on where the named predicates suit the command, or stops with `shape`; no program is kept.
 fn shaped(suits: bool) -> Result<Option<Program>, Stop>
     ensures ok { OnOk result (suits ≡ true) }
+    ensures kept { IfOk result (λ k. k ≡ None) }
     ensures err { IfErr result (λ s. (s ≡ Stop.Tell Why.Shape) × (suits ≡ false)) }
 {
     if suits {
@@ -94,10 +96,10 @@ fn shaped(suits: bool) -> Result<Option<Program>, Stop>
     }
 }
 
-// Takes the step at which a command looks at its named predicates together, and returns the program that is kept for its work.
+// Takes the step at which the named predicates are looked at together, and returns the program that is kept for the work.
 fn suited(
     alloc: Global,
-    command: Command,
+    asked: Asked,
     bytes: &[u8],
     c: &Checked,
     numbers: &[usize],
@@ -105,17 +107,17 @@ fn suited(
     requires within { All (λ i. i < length c.now.table.preds) numbers.now }
     requires short { length bytes.now ≤ most_source }
     ensures ok { OnOk result ((preds : List PredOf) → AreNumbered (map pred_of c.now.table.preds) numbers.now preds
-        → Asks command preds) }
-    ensures kept { IfOk result (KeepsFor command (map pred_of c.now.table.preds) numbers.now) }
+        → AreAsked asked preds) }
+    ensures kept { IfOk result (KeepsFor asked (map pred_of c.now.table.preds) numbers.now) }
     ensures err { IfErr result (λ s. (preds : List PredOf) → AreNumbered (map pred_of c.now.table.preds) numbers.now preds
-        → Refuses (signature_of command).suits bytes.now preds s) }
+        → Refuses asked bytes.now preds s) }
     ensures quiet { result ≢ Err Stop.Read }
 {
-    match command {
-        Command::Product => shaped(alike(c.table().preds.as_slice(), numbers)),
-        Command::Edges => shaped(one_of_three(c.table().preds.as_slice(), numbers)),
-        Command::Graded => graded_first(alloc, bytes, c, numbers),
-        _ => Ok(None),
+    match asked {
+        Asked::Nothing => Ok(None),
+        Asked::SameArgs => shaped(alike(c.table().preds.as_slice(), numbers)),
+        Asked::ThreeSites => shaped(one_of_three(c.table().preds.as_slice(), numbers)),
+        Asked::FewStages => graded_first(alloc, bytes, c, numbers),
     }
 }
 
@@ -133,7 +135,7 @@ fn later<F: Files>(
     ensures found { IfOk result (λ r. HasNumbers (map pred_of c.now.table.preds) (map string_bytes plan.entry.names.now) r.0.items) }
     ensures asked { IfOk result (λ r. (preds : List PredOf) → AreNumbered (map pred_of c.now.table.preds) r.0.items preds
         → Asks plan.entry.command preds) }
-    ensures kept { IfOk result (λ r. KeepsFor plan.entry.command (map pred_of c.now.table.preds) r.0.items r.1) }
+    ensures kept { IfOk result (λ r. KeepsFor (signature_of plan.entry.command).suits (map pred_of c.now.table.preds) r.0.items r.1) }
     ensures read { IfOk result (λ r. Each (Reads (F.told files.old) most_file) (map string_bytes plan.entry.files.now)
         (gives (map (λ t. t.items) r.2.items))) }
     ensures numbers { IfOk result (λ r. length r.0.items ≡ length plan.entry.names.now) }
@@ -146,7 +148,7 @@ fn later<F: Files>(
         Ok(numbers) => numbers,
         Err(stop) => return Err(stop),
     };
-    let kept = match suited(alloc, plan.command, bytes, c, &numbers) {
+    let kept = match suited(alloc, asked(plan.command), bytes, c, &numbers) {
         Ok(kept) => kept,
         Err(stop) => return Err(stop),
     };
@@ -164,7 +166,7 @@ pub fn prepare<F: Files>(alloc: Global, files: &mut F, plan: Plan<'_>) -> Result
     ensures ok { IfOk result (λ r. IsReady (with_bytes plan.entry) (F.told files.old) r) }
     ensures err { IfErr result (Halts (Prepares (with_bytes plan.entry) (F.told files.old))
         (Rose (F.faults files.old) (F.faults files.new))) }
-    ensures kept { IfOk result (λ r. KeepsFor plan.entry.command (map pred_of r.compiled.table.preds) r.numbers.items r.kept) }
+    ensures kept { IfOk result (λ r. KeepsFor (signature_of plan.entry.command).suits (map pred_of r.compiled.table.preds) r.numbers.items r.kept) }
     ensures numbers { IfOk result (λ r. length r.numbers.items ≡ length plan.entry.names.now) }
     ensures texts { IfOk result (λ r. length r.texts.items ≡ length plan.entry.files.now) }
     ensures quiet { result ≢ Err Stop.Read → F.faults files.new ≡ F.faults files.old }

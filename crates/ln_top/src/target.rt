@@ -67,6 +67,7 @@ impl<'a> Target<'a> {
         ensures pred { IfOk result (λ t. slice_get c.now.table.preds i ≡ Some t.pred) }
         ensures names { IfOk result (λ t. t.names ≡ names_of c.now.table t.pred) }
         ensures rank { IfOk result (λ t. t.rank ≡ BySmallest) }
+        ensures belongs { IfOk result (λ t. Belongs t.rank t.pred t.program) }
     {
         let program = c.program(alloc, i)?;
         // The contract of `blocks` states that the program follows the rules.

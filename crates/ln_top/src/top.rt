@@ -14,10 +14,8 @@ ghost use Rattle.ln_top.specs.Guarantee.{EmitWritesC, ListWritesListing, RunWrit
 ghost use Rattle.ln_top.specs.Listed.{ListingGivesSigns};
 ghost use Rattle.ln_top.specs.Plan.{HasForm, with_bytes};
 ghost use Rattle.ln_top.specs.Products.{ProductsArePerturbed};
-ghost use Rattle.ln_top.specs.Ready.{KeepsFor};
-ghost use Rattle.ln_tree.specs.Table.{pred_of};
 ghost use Rattle.ln_top.specs.Frame.Ready.{IsReadyFor, StandsFor};
-ghost use Rattle.ln_top.specs.Frame.Said.{count};
+ghost use Rattle.ln_top.specs.Frame.Said.{OnConsole, count};
 ghost use Rattle.ln_top.specs.Signature.{signature_of};
 ghost use Rattle.ln_top.specs.Frame.Given.{Given};
 ghost use Rattle.ln_top.specs.Trusted.{ValidTellsSigns};
@@ -44,12 +42,10 @@ fn work<C: Console>(
     ready: &Ready,
     watchers: Vec<Box<dyn Watch>>,
 ) -> Result<End, Early>
-    requires ready { IsReadyFor (signature_of command) ready.now }
-    requires kept { KeepsFor command (map pred_of ready.now.compiled.table.preds) ready.now.numbers.items ready.now.kept }
+    requires { IsReadyFor (signature_of command) ready.now }
     ensures { (g : Given) → StandsFor ready.now g
-        → CarriesOut (WorkOwes command (states_of kind_of tally_of watchers.items) g)
-        (WorkPart command (states_of kind_of tally_of watchers.items) g) ⊥ ⊥
-        (count (C.faults con.old) (C.faults con.new)) result (C.shown con.old) (C.shown con.new) }
+        → OnConsole C.faults C.shown con.old result con.new (CarriesOut (WorkOwes command (states_of kind_of tally_of watchers.items) g)
+        (WorkPart command (states_of kind_of tally_of watchers.items) g) ⊥ ⊥) }
 {
     match command {
         Command::Check => check::work(alloc, con, ready),
@@ -75,11 +71,10 @@ fn carry_plan<F: Files, C: Console>(
     watchers: Vec<Box<dyn Watch>>,
 ) -> Result<End, Early>
     requires { HasForm (with_bytes plan) }
-    ensures done { CarriesOut
+    ensures done { OnConsole C.faults C.shown con.old result con.new (CarriesOut
         (PlanOwes (with_bytes plan.entry) (F.told files.old) (states_of kind_of tally_of watchers.items))
         (PlanPart (with_bytes plan.entry) (F.told files.old) (states_of kind_of tally_of watchers.items))
-        (PlanLacks (with_bytes plan.entry) (F.told files.old)) (Rose (F.faults files.old) (F.faults files.new))
-        (count (C.faults con.old) (C.faults con.new)) result (C.shown con.old) (C.shown con.new) }
+        (PlanLacks (with_bytes plan.entry) (F.told files.old)) (Rose (F.faults files.old) (F.faults files.new))) }
     ensures quiet { result ≢ Err Early.Read → result ≢ Err Early.Write → F.faults files.new ≡ F.faults files.old }
 {
     match prepare(alloc, files, plan) {
@@ -100,11 +95,10 @@ fn carry_out<F: Files, C: Console>(
     con: &mut C,
     watchers: Vec<Box<dyn Watch>>,
 ) -> Result<End, Early>
-    ensures done { CarriesOut
+    ensures done { OnConsole C.faults C.shown con.old result con.new (CarriesOut
         (Answer (map string_bytes words.now) (F.told files.old) (states_of kind_of tally_of watchers.items))
         (Part (map string_bytes words.now) (F.told files.old) (states_of kind_of tally_of watchers.items))
-        (IsMissing (map string_bytes words.now) (F.told files.old)) (Rose (F.faults files.old) (F.faults files.new))
-        (count (C.faults con.old) (C.faults con.new)) result (C.shown con.old) (C.shown con.new) }
+        (IsMissing (map string_bytes words.now) (F.told files.old)) (Rose (F.faults files.old) (F.faults files.new))) }
     ensures quiet { result ≢ Err Early.Read → result ≢ Err Early.Write → F.faults files.new ≡ F.faults files.old }
 {
     match plan_of(words) {

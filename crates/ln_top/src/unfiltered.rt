@@ -10,7 +10,7 @@ ghost use Rattle.ln_top.specs.Causes.{EndsExactly};
 ghost use Rattle.ln_top.specs.Plan.{HasForm, plan_of, with_bytes};
 ghost use Rattle.ln_top.specs.Frame.Ready.{HasStanding, StandsFor};
 ghost use Rattle.ln_top.specs.Frame.Given.{Given};
-ghost use Rattle.ln_top.specs.Frame.Said.{count, status_of};
+ghost use Rattle.ln_top.specs.Frame.Said.{OnConsole, count, status_of};
 ghost use Rattle.ln_top.specs.Exact.{BeginsExact, BeginsTurning, CallsAreSigns, ExactSaid, IsBareAt, IsCIn, Owes, TurningCallsAreSigns};
 ghost use Rattle.ln_top.specs.Exact.{emit_words, style_named, style_of};
 ghost use Rattle.ln_top.specs.ExactSigns.{IsExactC};
@@ -149,8 +149,7 @@ fn text_of(alloc: Global, source: &Checked, style: Style) -> Result<Vec<u8>, NoM
 // Writes the C; all of it is made before the first byte is written.
 fn work<C: Console>(alloc: Global, con: &mut C, ready: Ready, style: Style) -> Result<End, Early>
     requires { HasStanding ready }
-    ensures { (g : Given) → StandsFor ready g → CarriesOut (ExactSaid style g) NoPart ⊥ ⊥
-        (count (C.faults con.old) (C.faults con.new)) result (C.shown con.old) (C.shown con.new) }
+    ensures { (g : Given) → StandsFor ready g → OnConsole C.faults C.shown con.old result con.new (CarriesOut (ExactSaid style g) NoPart ⊥ ⊥) }
 {
     let made = text_of(alloc, &ready.compiled, style);
     drop(ready);
@@ -225,9 +224,9 @@ fn carry_plan<F: Files, C: Console>(
 ) -> Result<End, Early>
     requires { HasForm (with_bytes plan) }
     ensures done { (words : List (List ℕ)) → plan_of (emit_words words) ≡ Some (with_bytes plan.entry) → style_of words ≡ style
-        → CarriesOut (Owes words (F.told files.old)) NoPart (IsMissing (emit_words words) (F.told files.old))
-        (Rose (F.faults files.old) (F.faults files.new))
-        (count (C.faults con.old) (C.faults con.new)) result (C.shown con.old) (C.shown con.new) }
+        → OnConsole C.faults C.shown con.old result con.new
+        (CarriesOut (Owes words (F.told files.old)) NoPart (IsMissing (emit_words words) (F.told files.old))
+        (Rose (F.faults files.old) (F.faults files.new))) }
     ensures quiet { result ≢ Err Early.Read → result ≢ Err Early.Write → F.faults files.new ≡ F.faults files.old }
 {
     match prepare(alloc, files, plan) {

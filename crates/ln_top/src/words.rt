@@ -4,6 +4,7 @@ ghost use Rattle.ln_top.specs.Plan.{HasForm, command_of, is_count, named_among, 
 ghost use Rattle.ln_top.specs.Plan.{gen_plan, gen_with, plan_behind, plan_for, plan_of};
 ghost use Rattle.ln_top.specs.Signature.{form, signature_of};
 
+use crate::frame::asked::Asked;
 use ln_base::decimal::{all_digits, unsigned};
 use std::slice::from_ref;
 
@@ -47,13 +48,14 @@ pub struct Plan<'a> {
     pub command: Command,
 }
 
-// The first word of a command, and how many names and further files come after the source file.
+// The first word of a command, how many names and further files come after the source file, and what it asks of the named predicates.
 #[derive(Clone, Copy)]
 struct Signature {
     word: &'static str,
     least: usize,
     most: usize,
     files: usize,
+    asks: Asked,
 }
 
 fn signature_of(command: Command) -> Signature
@@ -61,28 +63,37 @@ fn signature_of(command: Command) -> Signature
     ensures least { result.least ≡ (form command).least }
     ensures most { result.most ≡ (form command).most }
     ensures files { result.files ≡ (form command).files }
+    ensures asks { result.asks ≡ (signature_of command).suits }
     ensures small { result.most + result.files ≤ 16 }
     ensures ordered { result.least ≤ result.most }
 {
-    let (word, least, most, files) = match command {
-        Command::Check => ("check", 0, 0, 0),
-        Command::Run => ("run", 1, 1, 1),
-        Command::List => ("list", 0, 0, 0),
-        Command::Emit => ("emit", 0, 0, 0),
-        Command::Verify => ("verify", 0, 0, 1),
-        Command::Graded => ("graded", 1, 1, 1),
-        Command::Edges => ("edges", 1, 1, 1),
-        Command::Explain => ("explain", 1, 1, 1),
-        Command::Audit => ("audit", 1, 1, 2),
-        Command::Gen(..) => ("gen", 1, 1, 0),
-        Command::Product => ("product", 2, 8, 1),
+    let (word, least, most, files, asks) = match command {
+        Command::Check => ("check", 0, 0, 0, Asked::Nothing),
+        Command::Run => ("run", 1, 1, 1, Asked::Nothing),
+        Command::List => ("list", 0, 0, 0, Asked::Nothing),
+        Command::Emit => ("emit", 0, 0, 0, Asked::Nothing),
+        Command::Verify => ("verify", 0, 0, 1, Asked::Nothing),
+        Command::Graded => ("graded", 1, 1, 1, Asked::FewStages),
+        Command::Edges => ("edges", 1, 1, 1, Asked::ThreeSites),
+        Command::Explain => ("explain", 1, 1, 1, Asked::Nothing),
+        Command::Audit => ("audit", 1, 1, 2, Asked::Nothing),
+        Command::Gen(..) => ("gen", 1, 1, 0, Asked::Nothing),
+        Command::Product => ("product", 2, 8, 1, Asked::SameArgs),
     };
     Signature {
         word,
         least,
         most,
         files,
+        asks,
     }
+}
+
+/// What a command asks of its named predicates.
+pub fn asked(command: Command) -> Asked
+    ensures { result ≡ (signature_of command).suits }
+{
+    signature_of(command).asks
 }
 
 // The command among these that a word names.

@@ -29,7 +29,7 @@ use Rattle.ln_top.specs.Steps.{Prepares, WhereGiven}
 use Rattle.ln_top.specs.Frame.Stop.{said_of}
 use Rattle.ln_top.specs.Works.{WorkEnds}
 use Rattle.ln_top.proofs.FrameLemmas.LinesLaws.{ok_err, ok_same}
-use Rattle.ln_top.proofs.FrameLemmas.Carry.{Duty, lift, says_carried, text_carried, told_carried}
+use Rattle.ln_top.proofs.FrameLemmas.Carry.{Duty, lift, says_carried, text_carried, writes_carried}
 use Rattle.ln_top.proofs.Steps.Chain.{one_prepares}
 use Rattle.ln_top.proofs.Steps.TopLaws as top
 use Rattle.ln_top.proofs.Steps.TopLaws.{counted_rose, one_end, one_status, same_given, some_plan, stops_gives}
@@ -73,7 +73,7 @@ pub usage_carried : (words : List (List ℕ)) (told : Option Shelf) (reads : Typ
     (was now : Option Shown) → plan_of (emit_words words) ≡ None → Says (stop.Tell Usage) puts result was now
     → CarriesOut (Owes words told) NoPart (IsMissing (emit_words words) told) reads puts result was now
 usage_carried words told reads puts result was now f s =
-    told_carried (Owes words told) NoPart (IsMissing (emit_words words) told) reads puts Usage result was now (own.usage f) s
+    writes_carried (said_of Usage) (own.usage f) (λ r. r) (λ r. r.1) (λ r. r.1) s
 
 -- words are a plan of `emit` where they are one file
 too_many : (a b : Bool) (o : Option Plan) → b ≡ false → None ≡ cond (a && b) o None

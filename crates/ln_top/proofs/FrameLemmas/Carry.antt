@@ -1,19 +1,19 @@
 -- Proves that the next level has carried out what one level has: once for all commands.
 use Rattle.std.proofs.lemmas.List.{take-append-drop}
-use Rattle.std.proofs.Common.{◌≡◌, ◌≢◌, ◌≤◌, ℕ, List, [], take, drop, length, refl, ap, sym, ◌∙◌, subst}
-use Rattle.std.proofs.Common.{Option, Err, inl, inr, ◌⊎◌}
+use Rattle.std.proofs.Common.{◌≡◌, ◌≢◌, ◌≤◌, ℕ, List, [], ◌∷◌, take, drop, length, refl, ap, sym, ◌∙◌, subst}
+use Rattle.std.proofs.Common.{Option, Ok, Err, inl, inr, ◌⊎◌}
 use Rattle.std.specs.Prelude.{Result}
 use Rattle.ln_base.specs.Outside.{Shown, appended, refused}
 use Rattle.ln_base.specs.declared.outside.Port.TheVariants.{Out, Err as ErrPort}
 use Rattle.ln_base.proofs.Kept.{appended-nothing}
 use Rattle.ln_top.specs.declared.frame.status.End.{End}
 use Rattle.ln_top.specs.declared.frame.status.Early.{Early}
-use Rattle.ln_top.specs.declared.frame.status.Early.TheVariants.{Write}
+use Rattle.ln_top.specs.declared.frame.status.Early.TheVariants.{Memory, Write}
 use Rattle.ln_top.specs.declared.frame.stop.Stop.{Stop}
 use Rattle.ln_top.specs.declared.frame.stop.Stop.TheVariants as stop
 use Rattle.ln_top.specs.declared.frame.stop.Why.{Why}
 use Rattle.ln_base.specs.Prefixes.{IsPrefix}
-use Rattle.ln_top.specs.Frame.Said.{Said, Count, Rises, whole, put_both}
+use Rattle.ln_top.specs.Frame.Said.{Said, Count, Rises, Writes, broke, stayed, whole, wrote, put_both}
 use Rattle.ln_top.specs.Frame.Stop.{said_of}
 use Rattle.ln_top.specs.Frame.Given.{Outcome, stops, missing}
 use Rattle.ln_top.specs.Frame.Carried as c
@@ -77,27 +77,40 @@ carried_by {owes = owes} {part = part} {lacks = lacks} {reads = reads} {claim = 
     {b = record { owes = λ s. owes s × claim; part = part; lacks = lacks; reads = reads }}
     (record { owes = λ s o. (o, h); part = λ out err q. q; lacks = λ l. l; reads = λ r. r })
 
+-- What is required was written, or a part of it, or nothing, by the result; so it is carried out.
+pub writes_carried : {owes : Said → Type 0} {part : List ℕ → List ℕ → Type 0} {lacks reads : Type 0} {all torn stopped : Result End Early → Type 0}
+    {puts : Count} {result : Result End Early} {was now : Option Shown} (said : Said) → owes said → (all result → result ≡ Ok said.end)
+    → (torn result → result ≡ Err Write) → (stopped result → result ≡ Err (Memory refused))
+    → Writes said.out said.err all torn stopped puts result was now → CarriesOut owes part lacks reads puts result was now
+writes_carried said o f g h (wrote q r e) = c.ended said q o (f r) e
+writes_carried said o f g h (broke r p k) = c.cut p (c.of_owed said k.o k.e o k.of_out k.of_err k.shown) (g r)
+writes_carried said o f g h (stayed q r e) = c.short q (c.nothing e) (h r)
+
+-- a prefix of nothing is nothing
+no_front : {front : List ℕ} → IsPrefix [] front → front ≡ []
+no_front {front = []} i = refl
+no_front {front = b ∷ bs} i = let e = i.is in cc
+
 -- A stop that was written is carried out where its steps require it.
 pub says_carried : {A : Type 0} (step : Outcome A → Type 0) (s : Stop) (d : Duty) (puts : Count) (result : Result End Early)
     (was now : Option Shown)
     → ((why : Why) → step (stops why) → d.owes (said_of why)) → (step missing → d.lacks) → Halts step d.reads s
     → Says s puts result was now → IsCarriedOut d puts result was now
-says_carried step s d puts result was now f g (c.tells why h) (c.all q r e) = c.ended (said_of why) q (f why h) r e
-says_carried step s d puts result was now f g (c.tells why h) (c.cut front p n i e r) =
-    c.cut p (c.of_owed (said_of why) [] front (f why h) (record { rest = []; is = refl }) i e) r
-says_carried step s d puts result was now f g (c.unread u) (c.all q r e) = c.unread q (either g u) r e
-says_carried step s d puts result was now f g (c.unread u) (c.cut front p n i e r) = c.cut p (c.of_read front (either g u) i e) r
-says_carried step s d puts result was now f g c.short (c.all q r e) = c.short q (c.nothing (e ∙ both_nothing was)) r
-says_carried step s d puts result was now f g c.short (c.cut front p n i e r) = absurd (n refl)
-says_carried step s d puts result was now f g h (c.short q n r e) = c.short q (c.nothing e) r
+says_carried step s d puts result was now f g (c.tells why h) w =
+    writes_carried (said_of why) (f why h) (λ r. r) (λ r. r.1) (λ r. r.1) w
+says_carried step s d puts result was now f g (c.unread u) (wrote q r e) = c.unread q (either g u) r e
+says_carried step s d puts result was now f g (c.unread u) (broke r p k) =
+    c.cut p (c.of_read k.e (either g u) k.of_err (k.shown ∙ ap (λ o. put_both o k.e was) (no_front k.of_out))) r.1
+says_carried step s d puts result was now f g (c.unread u) (stayed q r e) = c.short q (c.nothing e) r.1
+says_carried step s d puts result was now f g c.short (wrote q r e) = c.short q (c.nothing (e ∙ both_nothing was)) r
+says_carried step s d puts result was now f g c.short (broke r p k) = absurd (r.0 refl)
+says_carried step s d puts result was now f g c.short (stayed q r e) = c.short q (c.nothing e) r.1
 
 -- A whole text that was written is carried out.
 pub text_carried : (owes : Said → Type 0) (part : List ℕ → List ℕ → Type 0) (lacks reads : Type 0) (puts : Count)
     (end : End) (text : List ℕ) (result : Result End Early) (was now : Option Shown)
     → owes (whole end text) → PutsText text end puts result was now → CarriesOut owes part lacks reads puts result was now
-text_carried owes part lacks reads puts end text result was now o (c.all q r e) = c.ended (whole end text) q o r e
-text_carried owes part lacks reads puts end text result was now o (c.cut front p i e r) =
-    c.cut p (c.of_owed (whole end text) front [] o i (record { rest = []; is = refl }) e) r
+text_carried owes part lacks reads puts end text result was now o w = writes_carried (whole end text) o (λ r. r) (λ r. r) (λ r. absurd r) w
 
 -- the first n bytes of a text are a prefix of it
 pub front_of : (n : ℕ) (text : List ℕ) → IsPrefix text (take n text)
@@ -111,25 +124,34 @@ out_alone text was = sym (appended-nothing ErrPort (appended Out text was))
 pub err_alone : (text : List ℕ) (was : Option Shown) → appended ErrPort text was ≡ put_both [] text was
 err_alone text was = ap (λ s. appended ErrPort text s) (sym (appended-nothing Out was))
 
--- the write of a text failed
-pub text_cut : (text : List ℕ) (end : End) (puts : Count) (was now : Option Shown)
+-- the write of a text to Out failed
+pub out_cut : {R : Type 0} {all torn stopped : R → Type 0} {result : R} (text : List ℕ) (puts : Count) (was now : Option Shown) → torn result
     → ((n : ℕ) × (n ≤ length text) × (now ≡ appended Out (take n text) was)) → Rises puts
-    → PutsText text end puts (Err Write) was now
-text_cut text end puts was now h p = c.cut (take h.0 text) p (front_of h.0 text) (h.2 ∙ out_alone (take h.0 text) was) refl
+    → Writes text [] all torn stopped puts result was now
+out_cut text puts was now t h p = broke t p (record {
+  o = take h.0 text;
+  e = [];
+  of_out = front_of h.0 text;
+  of_err = record { rest = []; is = refl };
+  shown = h.2 ∙ out_alone (take h.0 text) was;
+})
 
 -- the write of a stop's line failed
 pub line_cut : (s : Stop) (text : List ℕ) (puts : Count) (was now : Option Shown) → text ≡ stop_line s → s ≢ stop.Memory refused
     → ((n : ℕ) × (n ≤ length text) × (now ≡ appended ErrPort (take n text) was)) → Rises puts
     → Says s puts (Err Write) was now
-line_cut s text puts was now e m h p =
-    c.cut (take h.0 text) p m (subst (λ t. IsPrefix t (take h.0 text)) e (front_of h.0 text))
-    (h.2 ∙ err_alone (take h.0 text) was) refl
+line_cut s text puts was now e m h p = broke (m, refl) p (record {
+  o = [];
+  e = take h.0 text;
+  of_out = record { rest = []; is = refl };
+  of_err = subst (λ t. IsPrefix t (take h.0 text)) e (front_of h.0 text);
+  shown = h.2 ∙ err_alone (take h.0 text) was;
+})
 
--- The line of a stop that is required was written.
-pub told_carried : (owes : Said → Type 0) (part : List ℕ → List ℕ → Type 0) (lacks reads : Type 0) (puts : Count)
-    (why : Why) (result : Result End Early) (was now : Option Shown) → owes (said_of why)
-    → Says (stop.Tell why) puts result was now → CarriesOut owes part lacks reads puts result was now
-told_carried owes part lacks reads puts why result was now o (c.all q r e) = c.ended (said_of why) q o r e
-told_carried owes part lacks reads puts why result was now o (c.cut front p n i e r) =
-    c.cut p (c.of_owed (said_of why) [] front o (record { rest = []; is = refl }) i e) r
-told_carried owes part lacks reads puts why result was now o (c.short q n r e) = c.short q (c.nothing e) r
+-- a write, of which another result says the same
+pub as_result : {R Q : Type 0} {all torn stopped : R → Type 0} {whole cut left : Q → Type 0} {out err : List ℕ} {puts : Count} {r : R} {q : Q}
+    {was now : Option Shown} → (all r → whole q) → (torn r → cut q) → (stopped r → left q) → Writes out err all torn stopped puts r was now
+    → Writes out err whole cut left puts q was now
+as_result f g h (wrote c r e) = wrote c (f r) e
+as_result f g h (broke r p k) = broke (g r) p k
+as_result f g h (stayed c r e) = stayed c (h r) e

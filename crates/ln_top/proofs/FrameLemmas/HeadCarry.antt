@@ -4,10 +4,10 @@ use Rattle.ln_base.specs.Outside.{Shown}
 use Rattle.ln_top.specs.declared.frame.status.End.{End}
 use Rattle.ln_top.specs.declared.frame.status.Early.{Early}
 use Rattle.ln_top.specs.declared.frame.status.Early.TheVariants.{Write}
-use Rattle.ln_top.specs.Frame.Said.{Said, put_both}
+use Rattle.ln_top.specs.Frame.Said.{Said, broke, put_both, stayed, wrote}
 use Rattle.ln_top.specs.Frame.Carried as c
 use Rattle.ln_top.specs.Frame.Carried.{CarriesOut, LeavesFronts, LeavesPart, of_owed, of_part, of_read}
-use Rattle.ln_top.specs.Frame.Lines.{WroteBoth, broke, wrote}
+use Rattle.ln_top.specs.Frame.Lines.{WroteBoth}
 use Rattle.ln_top.proofs.FrameLemmas.Loops.{Streams, faults_in}
 use Rattle.ln_top.proofs.FrameLemmas.LinesLaws.{both_twice, broke_off, front_behind, fronts_wider, rises_from}
 
@@ -57,6 +57,7 @@ pub head_carried : {h : Headed} {result : Result End Early} {was mid now : Strea
     → CarriesOut h.rest h.more ⊥ ⊥ (faults_in mid now) result mid.shown now.shown
     → CarriesOut h.owes h.part ⊥ ⊥ (faults_in was now) result was.shown now.shown
 head_carried i (broke d p f) k = cc
+head_carried i (stayed q d e) k = absurd d
 head_carried {h = h} {was = was} i (wrote p d m) (c.ended said q o r e) =
     c.ended (after_head h.head said) (q ∙ p) (i.whole said o) r
     (e ∙ ap (put_both said.out said.err) m ∙ both_twice h.head [] said.out said.err was.shown)

@@ -6,14 +6,15 @@ use Rattle.ln_top.specs.declared.frame.status.End.{End}
 use Rattle.ln_top.specs.declared.frame.status.End.TheVariants as end
 use Rattle.ln_top.specs.Frame.Said.{Said}
 use Rattle.ln_top.specs.Frame.Stop.{why_end}
-use Rattle.ln_top.specs.Frame.Signature.{Asked}
+use Rattle.ln_top.specs.declared.frame.asked.Asked.{Asked}
+use Rattle.ln_top.specs.Frame.Signature.{AreAsked, objects}
 use Rattle.ln_top.specs.Frame.Given.{Given}
 use Rattle.ln_top.specs.Frame.Work.{IsWorkEnd, Work, work_by}
 use Rattle.ln_top.proofs.FrameLemmas.Grounded.{IsGrounded}
 
 -- it doesn't object with the usage
 abbrev pub IsNoUsage : Asked → Type 0
-IsNoUsage a = (bytes : List ℕ) (preds : List PredOf) → why_end (a.objection bytes preds) ≡ end.Usage → ⊥
+IsNoUsage a = (bytes : List ℕ) (preds : List PredOf) → why_end (objects a bytes preds) ≡ end.Usage → ⊥
 
 -- what is required of its work has its end; it ends in one way, and by an end of works; it doesn't object with the usage; and where its output is
 -- one, what it requires is
@@ -22,7 +23,7 @@ pub record IsLawful (suits : Asked) (w : Work) : Type 0 where
   pub single : (g : Given) (a b : End) → w.ends g a → w.ends g b → a ≡ b
   pub kind : (g : Given) (e : End) → w.ends g e → IsWorkEnd e
   pub objects : IsNoUsage suits
-  pub said : w.one → (boxes : List State) (g : Given) → IsGrounded g → suits.asks g.preds → (a b : Said) → w.owes boxes g a
+  pub said : w.one → (boxes : List State) (g : Given) → IsGrounded g → AreAsked suits g.preds → (a b : Said) → w.owes boxes g a
       → w.owes boxes g b → a ≡ b
 
 -- the laws hold of a work that is required to be done by something, where they hold of the work

@@ -1,20 +1,20 @@
 -- Work on records, one after the other: once for all commands that write lines as they come.
-use Rattle.std.proofs.Common.{◌≡◌, ℕ, ◌≤◌, length, take, Bool, true, false, ◌&&◌, List, [], ◌∷◌}
+use Rattle.std.proofs.Common.{◌≡◌, ℕ, Bool, true, false, ◌&&◌, List, [], ◌∷◌}
 use Rattle.std.proofs.Common.{◌++◌, refl, ap, sym, ◌∙◌, subst, Option, Some, None, Ok, Err, append_assoc}
 use Rattle.std.specs.Prelude.{IfSome, Result}
 use Rattle.std.proofs.lemmas.List.{append-nil}
 use Rattle.std.proofs.Math.Bool.{and-true, and_assoc}
-use Rattle.ln_base.specs.Outside.{Shown, appended, refused}
+use Rattle.ln_base.specs.Outside.{Shown, refused}
 use Rattle.ln_base.specs.declared.outside.Port.TheVariants.{Out}
 use Rattle.ln_top.specs.declared.frame.status.Early.{Early}
 use Rattle.ln_top.specs.declared.frame.status.Early.TheVariants.{Write, Memory}
 use Rattle.ln_top.specs.declared.frame.status.Early.TheVariants as early
 use Rattle.ln_base.specs.Prefixes.{IsPrefix}
-use Rattle.ln_top.specs.Frame.Said.{Count, count, Rises, IsCalm, put_both}
-use Rattle.ln_top.proofs.FrameLemmas.Carry.{both_nothing, front_of, out_alone}
+use Rattle.ln_top.specs.Frame.Said.{Count, PutsFronts, broke, count, Rises, IsCalm, put_both, stayed, wrote}
+use Rattle.ln_top.proofs.FrameLemmas.Carry.{both_nothing}
 use Rattle.ln_top.specs.Frame.Lines as l
-use Rattle.ln_top.specs.Frame.Lines.{Step, Lines, none, more, all_good, PutsFronts, every, WroteBoth, wrote, broke, took, tore, left_off}
-use Rattle.ln_top.specs.Frame.Lines.{worked, torn, given_up, held_on, emptied, stuck, broken, failed, all, cut, short}
+use Rattle.ln_top.specs.Frame.Lines.{Step, Lines, none, more, all_good, every, WroteBoth, took, tore, left_off}
+use Rattle.ln_top.specs.Frame.Lines.{worked, torn, given_up}
 use Rattle.ln_top.proofs.FrameLemmas.Loops.{Written, StepTo, LinesTo, and_then}
 use Rattle.ln_top.proofs.FrameLemmas.Loops.{Work, each_good, Streams, faults_in, Stand, Point, Loop, begun, with_held, TakesTo, EmptiesTo}
 use Rattle.ln_top.proofs.FrameLemmas.Loops.{GathersTo, SendsTo, RanTo, PutsTo, PutsAllTo}
@@ -167,8 +167,8 @@ running_stops {w = w} {from = from} {now = now} k l (left_off q x g f) =
 -- what was held is held on, or it was written
 pub running_empties : {S R : Type 0} {w : Work S R} {from : Stand S R} {now : Loop S R} {kept : List ℕ} {later : Streams}
     → Running w from now → EmptiesTo now.at true kept later → Running w from (with_held now kept later)
-running_empties k (stuck x p f) = cc
-running_empties k (held_on q x e n) = record {
+running_empties k (broke x p f) = cc
+running_empties k (stayed q (x, e) n) = record {
   done = k.done;
   parts = k.parts;
   sent = k.sent;
@@ -178,7 +178,7 @@ running_empties k (held_on q x e n) = record {
   goods = k.goods;
   calm = q ∙ k.calm;
 }
-running_empties {from = from} {now = now} {later = later} k (emptied q x e n) =
+running_empties {from = from} {now = now} {later = later} k (wrote q (x, e) n) =
     record {
       done = k.done;
       parts = k.parts;
@@ -193,9 +193,9 @@ running_empties {from = from} {now = now} {later = later} k (emptied q x e n) =
 -- a piece was cut off
 pub running_breaks : {S R : Type 0} {w : Work S R} {from : Stand S R} {now : Loop S R} {kept : List ℕ} {end : Point S}
     → Running w from now → EmptiesTo now.at false kept end.streams → GathersTo w from (Err Write) end
-running_breaks k (held_on q x e n) = cc
-running_breaks k (emptied q x e n) = cc
-running_breaks {from = from} {now = now} {end = end} k (stuck x p f) =
+running_breaks k (stayed q (x, e) n) = cc
+running_breaks k (wrote q (x, e) n) = cc
+running_breaks {from = from} {now = now} {end = end} k (broke x p f) =
     torn k.done now.left (k.sent ++ now.at.held) k.err now.at.state k.parts k.lines
     (rises_from from.streams.faults now.at.streams.faults end.streams.faults k.calm p)
     (broke_behind k.sent k.err now.at.held from.streams.shown now.at.streams.shown end.streams.shown k.shown f) refl
@@ -219,24 +219,25 @@ running_all {w = w} {from = from} {now = now} k e =
 -- what was held was written after the records, and so all of it is written
 pub sends_ran : {S R : Type 0} {w : Work S R} {from : Stand S R} {ran result : Result Bool Early} {end : Point S} {now : Streams}
     → GathersTo w from ran end → SendsTo end ran result now → RanTo w from result end.state now
-sends_ran {from = from} {end = end} {now = now} (worked sent err q t x f) (l.sent n p y g) =
-    all (sent ++ end.held) err (p ∙ q) t (y ∙ x) (behind sent err end.held from.streams.shown end.streams.shown now.shown f g)
-sends_ran {from = from} {end = end} {now = now} (worked sent err q t x f) (broken n p y g) =
-    cut from.left [] (sent ++ end.held) err end.state (sym (append-nil from.left)) t
+sends_ran {from = from} {end = end} {now = now} (worked sent err q t x f) (wrote p (n, y) g) =
+    worked (sent ++ end.held) err (p ∙ q) (rw (append-nil (sent ++ end.held)) t) (y ∙ x)
+    (behind sent err end.held from.streams.shown end.streams.shown now.shown f g)
+sends_ran {from = from} {end = end} {now = now} (worked sent err q t x f) (broke (n, y) p g) =
+    torn from.left [] (sent ++ end.held) err end.state (sym (append-nil from.left)) t
     (rises_from from.streams.faults end.streams.faults now.faults q p)
     (broke_behind sent err end.held from.streams.shown end.streams.shown now.shown f g) y
-sends_ran (worked sent err q t x f) (failed n p y g) = ok_err (sym x ∙ n)
-sends_ran (torn done left out err m e t p f x) (l.sent n q y g) = absurd (n x)
-sends_ran (torn done left out err m e t p f x) (broken n q y g) = absurd (n x)
-sends_ran {from = from} (torn done left out err m e t p f x) (failed n q y g) =
-    cut done left out err m e t (q ∙ p) (subst (λ o. PutsFronts out err from.streams.shown o) (sym g) f) (y ∙ x)
-sends_ran {from = from} {end = end} {now = now} (given_up done left sent err m q e t f x) (l.sent n p y g) =
-    short done left (sent ++ end.held) err m (p ∙ q) e t
+sends_ran (worked sent err q t x f) (stayed p (n, y) g) = ok_err (sym x ∙ n)
+sends_ran (torn done left out err m e t p f x) (wrote q (n, y) g) = absurd (n x)
+sends_ran (torn done left out err m e t p f x) (broke (n, y) q g) = absurd (n x)
+sends_ran {from = from} (torn done left out err m e t p f x) (stayed q (n, y) g) =
+    torn done left out err m e t (q ∙ p) (subst (λ o. PutsFronts out err from.streams.shown o) (sym g) f) (y ∙ x)
+sends_ran {from = from} {end = end} {now = now} (given_up done left sent err m q e t f x) (wrote p (n, y) g) =
+    given_up done left (sent ++ end.held) err m (p ∙ q) e (rw (append-nil (sent ++ end.held)) t)
     (behind sent err end.held from.streams.shown end.streams.shown now.shown f g) (y ∙ x)
-sends_ran {from = from} {end = end} {now = now} (given_up done left sent err m q e t f x) (broken n p y g) =
-    cut done left (sent ++ end.held) err m e t (rises_from from.streams.faults end.streams.faults now.faults q p)
+sends_ran {from = from} {end = end} {now = now} (given_up done left sent err m q e t f x) (broke (n, y) p g) =
+    torn done left (sent ++ end.held) err m e t (rises_from from.streams.faults end.streams.faults now.faults q p)
     (broke_behind sent err end.held from.streams.shown end.streams.shown now.shown f g) y
-sends_ran (given_up done left sent err m q e t f x) (failed n p y g) = memory_write (sym x ∙ n)
+sends_ran (given_up done left sent err m q e t f x) (stayed p (n, y) g) = memory_write (sym x ∙ n)
 
 -- where each record has its lines, a list of them has
 pub record HasLines {S R : Type 0} (step : Step S R) (s : S) (records : List R) : Type 0 where
@@ -276,30 +277,19 @@ one_lines step one s (r ∷ rest) a b (more {out = o2} {err = e2} _ o1 e1 m t l)
       lefts = next.lefts;
     }
 
--- a write failed
-pub out_broke : (text : List ℕ) (puts : Count) (was now : Option Shown)
-    → ((n : ℕ) × (n ≤ length text) × (now ≡ appended Out (take n text) was)) → Rises puts
-    → WroteBoth text [] puts false was now
-out_broke text puts was now h p =
-    broke refl p (record {
-      o = take h.0 text;
-      e = [];
-      of_out = front_of h.0 text;
-      of_err = front_all [];
-      shown = h.2 ∙ out_alone (take h.0 text) was;
-    })
-
 -- what a write that was reported whole, or cut off, wrote
 pub wrote_all : (out err : List ℕ) (puts : Count) (was now : Option Shown) → WroteBoth out err puts true was now
     → IsCalm puts × (now ≡ put_both out err was)
 wrote_all out err puts was now (wrote q d e) = (q, e)
 wrote_all out err puts was now (broke d p f) = cc
+wrote_all out err puts was now (stayed q d e) = absurd d
 
 -- for a write that was reported cut off a fault was counted, and prefixes were written
 pub broke_off : (out err : List ℕ) (puts : Count) (was now : Option Shown) → WroteBoth out err puts false was now
     → Rises puts × PutsFronts out err was now
 broke_off out err puts was now (wrote q d e) = cc
 broke_off out err puts was now (broke d p f) = (p, f)
+broke_off out err puts was now (stayed q d e) = absurd d
 
 -- nothing comes last on a stream
 abbrev pub no_last : {S : Type 0} → S → List ℕ
@@ -337,7 +327,7 @@ pub running_tears : {S R : Type 0} {step : Step S R} {from now : Stand S R} {r :
 running_tears {step = step} {from = from} {now = now} {r = r} {rest = rest} {later = later} k l p =
     let mid = now.streams.shown in
     let w = broke_off p.out p.err (faults_in now.streams later) mid later.shown p.wrote in
-    cut (k.done ++ r ∷ []) rest (k.sent ++ p.out) (k.err ++ p.err) p.left (k.parts ∙ rw (l, append_assoc) refl)
+    torn (k.done ++ r ∷ []) rest (k.sent ++ p.out) (k.err ++ p.err) p.left (k.parts ∙ rw (l, append_assoc) refl)
     (rw (append-nil k.sent) at (lines_more k.lines p.stepped))
     (rises_from from.streams.faults now.streams.faults later.faults k.calm w.0)
     (fronts_behind k.sent k.err p.out p.err from.streams.shown mid later.shown k.shown w.1) refl
@@ -345,6 +335,4 @@ running_tears {step = step} {from = from} {now = now} {r = r} {rest = rest} {lat
 -- all of them were written
 pub running_done : {S R : Type 0} {step : Step S R} {from now : Stand S R} → Writing step from now → now.left ≡ []
     → PutsAllTo step true from now.state now.streams
-running_done {step = step} {from = from} {now = now} k e =
-    let whole = whole_done k e in
-    all k.sent k.err k.calm (rw (← whole) (rw (append-nil k.sent) at k.lines)) (ap Ok (sym (all_every from.left))) k.shown
+running_done k e = running_all k e

@@ -79,7 +79,7 @@ with_held l held streams = record {
 -- a record was taken between two points, or a write was cut off, or it was given up
 abbrev pub TakesTo : {S R : Type 0} → Work S R → R → Result Bool Early → Point S → Point S → Type 0
 TakesTo w r result p q =
-    Takes w.step w.good p.state r (faults_in p.streams q.streams) result p.held q.held p.streams.shown q.streams.shown q.state
+    Takes w.step w.good p.state r p.held q.held q.state (faults_in p.streams q.streams) result p.streams.shown q.streams.shown
 
 -- what is held at a point stays, or it was written, or cut off; then these bytes are held, and the streams are these
 abbrev pub EmptiesTo : {S : Type 0} → Point S → Bool → List ℕ → Streams → Type 0
@@ -88,20 +88,20 @@ EmptiesTo p done kept now = Empties p.held kept (faults_in p.streams now) done p
 -- the bytes of the remaining records were gathered up to a point, or the loop ended early
 abbrev pub GathersTo : {S R : Type 0} → Work S R → Stand S R → Result Bool Early → Point S → Type 0
 GathersTo w from result p =
-    Gathers w.step w.good from.state from.left (faults_in from.streams p.streams) result p.held from.streams.shown p.streams.shown p.state
+    Gathers w.step w.good from.state from.left p.held p.state (faults_in from.streams p.streams) result from.streams.shown p.streams.shown
 
 -- what is held at a point was written at the end
 abbrev pub SendsTo : {S : Type 0} → Point S → Result Bool Early → Result Bool Early → Streams → Type 0
-SendsTo p ran result now = Sends p.held ran result (faults_in p.streams now) p.streams.shown now.shown
+SendsTo p ran result now = Sends p.held ran (faults_in p.streams now) result p.streams.shown now.shown
 
 -- the bytes of the remaining records were written, or the loop ended early
 abbrev pub RanTo : {S R : Type 0} → Work S R → Stand S R → Result Bool Early → S → Streams → Type 0
-RanTo w from result z now = Ran w.step w.good from.state from.left (faults_in from.streams now) result from.streams.shown now.shown z
+RanTo w from result z now = Ran w.step w.good from.state from.left z (faults_in from.streams now) result from.streams.shown now.shown
 
 -- the bytes of one record were written at once, or cut off
 abbrev pub PutsTo : {S R : Type 0} → Step S R → R → Bool → Stand S R → S → Streams → Type 0
-PutsTo step r done p z now = PutsOne step p.state r (faults_in p.streams now) done p.streams.shown now.shown z
+PutsTo step r done p z now = PutsOne step p.state r z (faults_in p.streams now) done p.streams.shown now.shown
 
 -- the bytes of each remaining record were written at once, or cut off
 abbrev pub PutsAllTo : {S R : Type 0} → Step S R → Bool → Stand S R → S → Streams → Type 0
-PutsAllTo step done from z now = PutsAll step from.state from.left (faults_in from.streams now) done from.streams.shown now.shown z
+PutsAllTo step done from z now = PutsAll step from.state from.left z (faults_in from.streams now) done from.streams.shown now.shown

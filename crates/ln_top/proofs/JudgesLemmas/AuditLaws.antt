@@ -28,7 +28,7 @@ use Rattle.ln_top.specs.declared.frame.stop.Stop.TheVariants as stop
 use Rattle.ln_top.specs.declared.frame.stop.Why.TheVariants.{Header}
 use Rattle.ln_top.specs.Judges.Audit as audit
 use Rattle.ln_top.specs.Judges.Audit.{AreJudged, AuditEnds, AuditSaid, HasTrace, IsAuditOf, IsRightTrace, IsWrongAt, PutsOrStops, audit_work}
-use Rattle.ln_top.specs.Judges.Audit.{agreed_text, form, puts_it, rule, stops_before, wrong_text}
+use Rattle.ln_top.specs.Judges.Audit.{agreed_text, form, rule, wrong_text}
 use Rattle.ln_top.specs.Frame.Carried as carried
 use Rattle.ln_top.specs.Frame.Carried.{CarriesOut, NoPart, PutsText}
 use Rattle.ln_rows.specs.Header.{columns_of, names_of}
@@ -41,11 +41,12 @@ use Rattle.ln_top.specs.Frame.Work as kind_of
 use Rattle.ln_top.specs.Frame.Work.{IsWorkEnd}
 use Rattle.ln_top.proofs.FrameLemmas.Loops.{Streams, faults_in}
 use Rattle.ln_rows.proofs.HeaderLaws.{tail_same}
-use Rattle.ln_top.proofs.FrameLemmas.Carry.{text_carried, told_carried}
+use Rattle.ln_top.proofs.FrameLemmas.Carry.{as_result, writes_carried}
 use Rattle.ln_rows.proofs.HeaderLaws.{columns_like}
 use Rattle.ln_compile.proofs.Numbers.{one_numbered}
 use Rattle.ln_top.proofs.FrameLemmas.Laws.{IsLawful, one_by_said, shape_objects}
-use Rattle.ln_top.specs.Frame.Signature.{asks_nothing}
+use Rattle.ln_top.specs.Frame.Stop.{said_of}
+use Rattle.ln_top.specs.declared.frame.asked.Asked.TheVariants.{Nothing}
 
 -- ---- two ways to see what is given are one
 -- equal lists have equal first items
@@ -139,7 +140,7 @@ kind g e (audit.agreed p names rs t h x) = kind_of.done
 kind g e (audit.wrong p names rs t m h x) = kind_of.invalid
 
 -- the laws of a work hold for `audit`
-pub lawful : IsLawful asks_nothing audit_work
+pub lawful : IsLawful Nothing audit_work
 lawful = record {
   tells = tells;
   single = λ g. one_by_said (said_at g) (one_said g);
@@ -154,13 +155,7 @@ pub header_carried : (g : Given) (p : PredOf) (names : List (List ℕ)) (records
     (result : Result End Early) (was now : Option Shown) → HasTrace g p names records trace → IsWrongHeader names records
     → carried.Says (stop.Tell Header) puts result was now → CarriesOut (AuditSaid g) NoPart ⊥ ⊥ puts result was now
 header_carried g p names records trace puts result was now h w s =
-    told_carried (AuditSaid g) NoPart ⊥ ⊥ puts Header result was now (audit.header p names records trace h w) s
-
--- the text that is required was written, or memory ran out before
-put_carried : (g : Given) (end : End) (text : List ℕ) (puts : Count) (result : Result End Early) (was now : Option Shown)
-    → AuditSaid g (whole end text) → PutsOrStops text end puts result was now → CarriesOut (AuditSaid g) NoPart ⊥ ⊥ puts result was now
-put_carried g end text puts result was now o (puts_it s) = text_carried (AuditSaid g) NoPart ⊥ ⊥ puts end text result was now o s
-put_carried g end text puts result was now o (stops_before q e n) = carried.short q (carried.nothing n) e
+    writes_carried (said_of Header) (audit.header p names records trace h w) (λ r. r) (λ r. r.1) (λ r. r.1) s
 
 -- where the trace is agreed, writing the line `agreed N` carries out what is required
 pub agreed_carried : {g : Given} {p : PredOf} {names : List (List ℕ)} {records : Records} {trace : List ℕ} {n : ℕ} {result : Result End Early}
@@ -168,8 +163,7 @@ pub agreed_carried : {g : Given} {p : PredOf} {names : List (List ℕ)} {records
     → PutsOrStops (agreed_text n) Done (faults_in was now) result was.shown now.shown
     → CarriesOut (AuditSaid g) NoPart ⊥ ⊥ (faults_in was now) result was.shown now.shown
 agreed_carried {g = g} {p = p} {names = names} {records = records} {trace = trace} {n = n} {was = was} {now = now} h (r, e) s =
-    put_carried g Done (agreed_text n) (faults_in was now) _ was.shown now.shown
-    (rw e (audit.agreed p names records trace h r)) s
+    writes_carried (whole Done (agreed_text n)) (rw e (audit.agreed p names records trace h r)) (λ q. q) (λ q. q) (λ q. q) s
 
 -- where the trace is wrong, writing the line `wrong N` carries out what is required
 pub wrong_carried : {g : Given} {p : PredOf} {names : List (List ℕ)} {records : Records} {trace : List ℕ} {at : ℕ} {result : Result End Early}
@@ -177,7 +171,7 @@ pub wrong_carried : {g : Given} {p : PredOf} {names : List (List ℕ)} {records 
     → PutsOrStops (wrong_text at) Invalid (faults_in was now) result was.shown now.shown
     → CarriesOut (AuditSaid g) NoPart ⊥ ⊥ (faults_in was now) result was.shown now.shown
 wrong_carried {g = g} {p = p} {names = names} {records = records} {trace = trace} {at = at} {was = was} {now = now} h r s =
-    put_carried g Invalid (wrong_text at) (faults_in was now) _ was.shown now.shown (audit.wrong p names records trace at h r) s
+    writes_carried (whole Invalid (wrong_text at)) (audit.wrong p names records trace at h r) (λ q. q) (λ q. q) (λ q. q) s
 
 -- ---- what is judged
 -- the lines of a trace that was opened
@@ -225,4 +219,4 @@ has_trace r g p rows trace records s one e t q =
 pub puts_text : (text wanted : List ℕ) (end : End) (puts : Count) (result : Result End Early) (was now : Option Shown) → text ≡ wanted
     → PutsText text end puts result was now → PutsOrStops wanted end puts result was now
 puts_text text wanted end puts result was now e s =
-    puts_it (rw e at s)
+    as_result (λ r. r) (λ r. r) (λ r. absurd r) (rw e at s)

@@ -47,11 +47,11 @@ use Rattle.ln_top.specs.declared.frame.stop.Stop.TheVariants as stop
 use Rattle.ln_top.specs.declared.frame.stop.Why.{Why}
 use Rattle.ln_top.specs.declared.frame.stop.Why.TheVariants.{Header, Point}
 use Rattle.ln_top.proofs.JudgesLemmas.AuditLaws.{firsts_same}
-use Rattle.ln_top.specs.Judges.Three.{is_one_of_three, is_three, one_type, type_of}
+use Rattle.ln_top.specs.Judges.Three.{is_three, one_type, type_of}
 use Rattle.ln_top.specs.Frame.Carried.{CarriesOut, Halts, NoPart, Says, short, tells}
 use Rattle.ln_top.specs.Judges.Edges as edges
 use Rattle.ln_top.specs.Judges.Edges.{AreEdgesOf, AreOfType, EdgesEnds, EdgesSaid, HasPoints, HasType, HoldsPoints, IsTypeOf, ReadsPoints, edges_work}
-use Rattle.ln_top.specs.Judges.Edges.{StopsPoints, edges_signature, point_names}
+use Rattle.ln_top.specs.Judges.Edges.{StopsPoints, point_names}
 use Rattle.ln_compile.specs.Compiled.{AreNumbered}
 use Rattle.ln_top.specs.Frame.Ready.{StandsFor}
 use Rattle.ln_rows.specs.Header.{IsWrongHeader}
@@ -66,7 +66,8 @@ use Rattle.ln_top.proofs.FrameLemmas.Outcomes.{some_same}
 use Rattle.ln_rows.proofs.HeaderLaws.{site_like}
 use Rattle.ln_compile.proofs.Numbers.{one_numbered}
 use Rattle.ln_top.proofs.FrameLemmas.Laws.{IsLawful, shape_objects}
-use Rattle.ln_top.specs.Frame.Signature.{asks_shape}
+use Rattle.ln_top.specs.declared.frame.asked.Asked.TheVariants.{ThreeSites}
+use Rattle.ln_top.specs.Frame.Signature.{AreAsked}
 use Rattle.ln_rows.proofs.HeaderLaws.{header_is, tail_same}
 
 -- ---- what is given is one
@@ -178,7 +179,7 @@ kind g e (edges.stopped p s rs why h x f) = subst IsWorkEnd (sym f) (kind_stoppe
 kind g e (edges.done p s rs ps h x f) = subst IsWorkEnd (sym f) kind_of.done
 
 -- the laws of a work hold for `edges`
-pub lawful : IsLawful (asks_shape (λ preds. is_one_of_three preds ≡ true)) edges_work
+pub lawful : IsLawful ThreeSites edges_work
 lawful = record {
   tells = λ boxes. ends_so;
   single = one;
@@ -314,9 +315,9 @@ first_typed args x h i e =
 
 -- a command's one predicate in memory has what the command asked
 pub asked_three : (ps : List Pred) (numbers : List ℕ) (preds : List PredOf) (p : Pred) → AreNumbered (map pred_of ps) numbers preds
-    → length numbers ≡ 1 → slice_get ps (slice_index_or numbers 0 0) ≡ Some p → edges_signature.suits.asks preds
+    → length numbers ≡ 1 → slice_get ps (slice_index_or numbers 0 0) ≡ Some p → AreAsked ThreeSites preds
     → is_three (map arg_of p.args) ≡ true
-asked_three ps numbers preds p h l e a = subst edges_signature.suits.asks (one_numbered ps numbers preds p h l e) a
+asked_three ps numbers preds p h l e a = subst (AreAsked ThreeSites) (one_numbered ps numbers preds p h l e) a
 
 first_within : (sites params k : ℕ) (a b c : List ℕ)
     → list_all (is_one_of sites params) (SiteArg a k ∷ SiteArg b k ∷ SiteArg c k ∷ []) ≡ true → k < sites

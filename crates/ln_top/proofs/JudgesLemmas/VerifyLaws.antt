@@ -22,7 +22,7 @@ use Rattle.ln_top.specs.Frame.Work.{IsWorkEnd}
 use Rattle.ln_top.proofs.FrameLemmas.Carry.{text_carried}
 use Rattle.ln_top.proofs.FrameLemmas.Laws.{IsLawful, shape_objects}
 use Rattle.ln_top.specs.Judges.Verify.{IsListed, HasValid, HasFault, form, rule, VerifySaid, valid, invalid, VerifyEnds, done, faulty, verify_work}
-use Rattle.ln_top.specs.Frame.Signature.{asks_nothing}
+use Rattle.ln_top.specs.declared.frame.asked.Asked.TheVariants.{Nothing}
 
 -- one file has one text
 same_file : (g : Given) (a b : List ℕ) → g.texts ≡ a ∷ [] → g.texts ≡ b ∷ [] → a ≡ b
@@ -89,7 +89,7 @@ kind g e (done h) = kind_of.done
 kind g e (faulty n h) = kind_of.invalid
 
 -- the laws of a work hold for `verify`
-pub lawful : IsLawful asks_nothing verify_work
+pub lawful : IsLawful Nothing verify_work
 lawful = record {
   tells = λ boxes. tells;
   single = one;

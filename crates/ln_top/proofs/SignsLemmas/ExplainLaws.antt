@@ -7,7 +7,7 @@ use Rattle.ln_rows.proofs.Fields.RangeLemmas.{row_in_range}
 use Rattle.ln_trace.specs.Signs.{RowsDiffer}
 use Rattle.ln_trace.specs.Text.{first_line, text_of_lines}
 use Rattle.ln_trace.proofs.OneTelling.{explains-one}
-use Rattle.ln_top.specs.Frame.Signature.{asks_nothing}
+use Rattle.ln_top.specs.declared.frame.asked.Asked.TheVariants.{Nothing}
 use Rattle.ln_top.specs.Frame.Subject.{subject_of}
 use Rattle.ln_top.proofs.FrameLemmas.Laws.{IsLawful, shape_objects}
 use Rattle.ln_top.specs.Signs.Explain.{ExplainLine, explain_work}
@@ -24,5 +24,5 @@ one_explained q names n fields x y a b =
     one_line (λ s t d e. unseen (ap text_of_lines (explains-one (subject_of (pred_of q)) n fields (rows_differ q) s t d e)))
 
 -- the laws of a work hold for `explain`
-pub lawful : IsLawful asks_nothing explain_work
-lawful = lawful_rows asks_nothing first_line (λ preds. ExplainLine) (λ boxes. []) shape_objects (λ g i s q others f. one_explained q)
+pub lawful : IsLawful Nothing explain_work
+lawful = lawful_rows Nothing first_line (λ preds. ExplainLine) (λ boxes. []) shape_objects (λ g i s q others f. one_explained q)

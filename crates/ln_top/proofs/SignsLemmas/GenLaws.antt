@@ -39,7 +39,7 @@ use Rattle.ln_top.proofs.SignsLemmas.MadeRangeLemmas.{words_in_range, words_leng
 use Rattle.ln_top.proofs.SignsLemmas.WatchingLaws.{lines_alike, left_alike}
 use Rattle.ln_top.proofs.FrameLemmas.Laws.{IsLawful, shape_objects}
 use Rattle.ln_top.proofs.FrameLemmas.Grounded.{IsGrounded, in_memory}
-use Rattle.ln_top.specs.Frame.Signature.{asks_nothing}
+use Rattle.ln_top.specs.declared.frame.asked.Asked.TheVariants.{Nothing}
 
 -- the remaining rows: the next one, and those after it
 pub draws_more : (k n m : ℕ) (vars : List VarInfo) (g : Lcg) → n < k → m ≡ n + 1
@@ -74,7 +74,7 @@ pub record IsDrawn (p : Pred) (d : Draw) (r : code.Row) (v : Verdict) : Type 0 w
 pub row_put : {p : Pred} {d : Draw} {r : code.Row} {v : Verdict} {boxes z : List State} {all : Bool} {was now : Streams}
     → IsDrawn p d r v → WroteBoth (lines_at d.number v boxes) [] (faults_in was now) all was.shown now.shown
     → (all ≡ true → z ≡ left_after d.number v boxes)
-    → PutsOne (GenStep (pred_of p)) boxes d (faults_in was now) all was.shown now.shown z
+    → PutsOne (GenStep (pred_of p)) boxes d z (faults_in was now) all was.shown now.shown
 row_put {p = p} {d = d} {v = v} {boxes = boxes} i w s = record {
   out = lines_at d.number v boxes;
   err = [];
@@ -174,7 +174,7 @@ gen_one seed count boxes g i a b (made p o y e x) (made r out z f k) =
     ap (λ t. whole Done (t ++ last_lines y)) same.outs ∙ ap (λ t. whole Done (out ++ last_lines t)) same.lefts
 
 -- the laws of a work hold for `gen`
-pub lawful : (seed count : ℕ) → IsLawful asks_nothing (gen_work seed count)
+pub lawful : (seed count : ℕ) → IsLawful Nothing (gen_work seed count)
 lawful seed count = record {
   tells = tells seed count;
   single = one;

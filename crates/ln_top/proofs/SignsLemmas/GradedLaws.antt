@@ -1,8 +1,8 @@
 -- `graded`: a predicate with few stages by total degree has a program in that order, with its verdicts.
-use Rattle.std.proofs.Common.{◌≡◌, inl, inr, ℕ, ◌≤◌, ◌<◌, List, [], ◌∷◌, length, map, ap, sym, ◌∙◌, subst, arith}
+use Rattle.std.proofs.Common.{◌≡◌, inl, inr, ℕ, ◌≤◌, List, [], ◌∷◌, length, map, refl, ap, sym, ◌∙◌, subst, arith}
 use Rattle.std.proofs.Common.{All, Some, Ok, Err, Result}
 use Rattle.std.proofs.lemmas.List.Elements.{All-nil, All-cons}
-use Rattle.std.specs.Prelude.{IfErr, IfOk, IsErrAnd, IsSomeAnd, Option, slice_get, slice_index_or}
+use Rattle.std.specs.Prelude.{IfErr, IfOk, IfSome, IsErrAnd, None, Option, slice_get, slice_index_or}
 use Rattle.ln_base.specs.Outside.{refused}
 use Rattle.ln_algebra.specs.Orders.{ByDegree}
 use Rattle.ln_base.specs.Limits.{most_graded, most_weight}
@@ -26,7 +26,7 @@ use Rattle.ln_graded.specs.declared.stop.GradedStop.{GradedStop}
 use Rattle.ln_graded.specs.declared.stop.GradedStop.TheVariants.{NoMemory, Stages}
 use Rattle.ln_stage.proofs.Results.SamePoly.{one-normal}
 use Rattle.ln_top.specs.Frame.Given.{Given}
-use Rattle.ln_top.specs.Signs.Graded.{FirstHasFew, HasFewGraded, KeepsGraded}
+use Rattle.ln_top.specs.Signs.Graded.{FirstHasFew, HasFewGraded, IsGradedAt, KeepsGraded, rank_kept}
 use Rattle.ln_top.specs.Signs.Named.{IsGivenBy}
 use Rattle.ln_top.specs.Target.Target.{Belongs, HasProgram, TargetOf, pred_in}
 use Rattle.ln_top.proofs.TargetLemmas.TargetLaws.{has_program}
@@ -53,11 +53,12 @@ first_few table [] preds l h a = absurd (omega (arith, l))
 first_few table (i ∷ is) [] l h a = absurd a
 first_few table (i ∷ is) (p ∷ ps) l h a = (h p a.0).0
 
--- where a predicate is named, a program of that of the first number is kept
+-- where a predicate is named, a program of that of the first number is kept, by total degree
 pub kept_first : (table : List PredOf) (numbers : List ℕ) (kept : Option Part) → 1 ≤ length numbers → KeepsGraded table numbers kept
-    → IsSomeAnd kept (λ q. (p : PredOf) → slice_get table (slice_index_or numbers 0 0) ≡ Some p → AnswersFor ByDegree p q)
+    → IfSome kept (IsGradedAt table (slice_index_or numbers 0 0)) × (rank_kept kept ≡ ByDegree)
 kept_first table [] kept l h = absurd (omega (arith, l))
-kept_first table (i ∷ is) kept l h = h
+kept_first table (i ∷ is) None l h = absurd h
+kept_first table (i ∷ is) (Some q) l h = (h, refl)
 
 -- the one predicate that is given has a program, that of the target that is it
 pub program_given : {g : Given} {t : TargetOf} → IsGivenBy g t → t.rank ≡ ByDegree → Belongs t.rank t.pred t.program

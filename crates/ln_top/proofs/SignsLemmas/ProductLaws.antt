@@ -28,7 +28,7 @@ use Rattle.ln_compile.proofs.Listing.FilteredLemmas.{one_due}
 use Rattle.ln_rows.proofs.Fields.RangeLemmas.{row_in_range}
 use Rattle.ln_parse.specs.ReadsBack.{Every}
 use Rattle.ln_parse.proofs.Wholes.WholeParts.{PredParts, table_parts}
-use Rattle.ln_top.specs.Frame.Signature.{asks_shape}
+use Rattle.ln_top.specs.declared.frame.asked.Asked.TheVariants.{SameArgs}
 use Rattle.ln_top.specs.Frame.Source.{view}
 use Rattle.ln_top.proofs.SignsLemmas.OneLine.{line_of, said_there, says_alike}
 use Rattle.ln_top.proofs.SignsLemmas.RowsLaws.{HasLines, HasOneLine, SameLine, lawful_rows, one_line, unseen}
@@ -114,8 +114,8 @@ one_product q ps over names n fields x y a b =
     (λ row m k e. agreed q ps over names row m k (row_in_range q.shape.sites q.shape.vars fields row q.shape.kept e)) (λ stop. unseen refl))
 
 -- the laws of a work hold for `product`
-pub lawful : IsLawful (asks_shape (λ preds. are_alike preds ≡ true)) product_work
+pub lawful : IsLawful SameArgs product_work
 lawful =
     lawful_by (All (HasProgram BySmallest))
-    (lawful_rows (asks_shape (λ preds. are_alike preds ≡ true)) [] ProductLine (λ boxes. []) shape_objects (λ g i s q others f.
+    (lawful_rows SameArgs [] ProductLine (λ boxes. []) shape_objects (λ g i s q others f.
     one_product q g.preds (subst (Every (IsOver q.shape.sites q.shape.vars)) (sym f) (all_over g i s (pred_of q) others f))))

@@ -28,14 +28,15 @@ use Rattle.std.proofs.Common.{◌+◌, ◌<◌, length}
 use Rattle.ln_top.proofs.FrameLemmas.HeadCarry.{IsHeaded, after_head}
 use Rattle.ln_top.proofs.FrameLemmas.Laws.{IsLawful, IsNoUsage}
 use Rattle.ln_top.proofs.FrameLemmas.Grounded.{IsGrounded, in_memory}
-use Rattle.ln_top.specs.Frame.Signature.{Asked}
+use Rattle.ln_top.specs.declared.frame.asked.Asked.{Asked}
+use Rattle.ln_top.specs.Frame.Signature.{AreAsked}
 use Rattle.ln_top.proofs.SignsLemmas.RunLaws as run_laws
 
 -- a record was taken
 pub takes_all : (line : LineOf) (p : PredOf) (names : List (List ℕ)) {fields : List (List ℕ)} {shown : Option Verdict} {out held grown : List ℕ}
     {before after : Watching} {n m : ℕ} {was now : Option Shown} {right : Bool} → line p names (before.seen + 1) fields shown out
     → grown ≡ held ++ out → WroteBoth [] (next_lines shown before) (count n m) true was now → after ≡ next shown before → right ≡ is_row p fields
-    → Takes (RowStep (line p names)) (is_row p) before fields (count n m) (Ok right) held grown was now after
+    → Takes (RowStep (line p names)) (is_row p) before fields held grown after (count n m) (Ok right) was now
 takes_all line p names {shown = shown} {out = out} {before = before} {n = n} {m = m} {was = was} {now = now} l g w a r =
     let e = wrote_all [] (next_lines shown before) (count n m) was now w in
     took out (next_lines shown before) e.0 (record { shown = shown; is = l; told = refl; left = a }) (ap Ok r) g e.1
@@ -44,7 +45,7 @@ takes_all line p names {shown = shown} {out = out} {before = before} {n = n} {m 
 pub takes_cut : (line : LineOf) (p : PredOf) (names : List (List ℕ)) {fields : List (List ℕ)} {shown : Option Verdict} {out held grown : List ℕ}
     {before after : Watching} {n m : ℕ} {was now : Option Shown} → line p names (before.seen + 1) fields shown out
     → grown ≡ held ++ out → WroteBoth [] (next_lines shown before) (count n m) false was now
-    → Takes (RowStep (line p names)) (is_row p) before fields (count n m) (Err Write) held grown was now after
+    → Takes (RowStep (line p names)) (is_row p) before fields held grown after (count n m) (Err Write) was now
 takes_cut line p names {shown = shown} {out = out} {before = before} {n = n} {m = m} {was = was} {now = now} l g w =
     let e = broke_off [] (next_lines shown before) (count n m) was now w in
     tore out (next_lines shown before) (next shown before) (record { shown = shown; is = l; told = refl; left = refl }) e.0 refl e.1
@@ -192,7 +193,7 @@ module _ (first : List ℕ) (line : LineOf) (boxes : List State) (g : Given) whe
 
 -- the laws of a work hold for a command that writes lines of records, where a record has one line
 pub lawful_rows : (suits : Asked) (first : List ℕ) (line : List PredOf → LineOf) (seers : List State → List State) → IsNoUsage suits
-    → ((g : Given) → IsGrounded g → suits.asks g.preds → HaveOneLine (line g.preds) g) → IsLawful suits (rows_work first line seers)
+    → ((g : Given) → IsGrounded g → AreAsked suits g.preds → HaveOneLine (line g.preds) g) → IsLawful suits (rows_work first line seers)
 lawful_rows suits first line seers n o = record {
   tells = λ boxes g. tells first (line g.preds) (seers boxes) g;
   single = run_laws.one;

@@ -17,8 +17,8 @@ use Rattle.ln_top.specs.Frame.Carried.{CarriesOut}
 use Rattle.ln_top.specs.Frame.Given.{Given}
 use Rattle.ln_top.specs.Frame.Said.{Count, line}
 use Rattle.ln_top.specs.Frame.Stop.{why_end}
-use Rattle.ln_top.specs.Frame.Signature.{asks_nothing}
-use Rattle.ln_top.specs.Signs.Graded.{FirstHasFew, many_stages}
+use Rattle.ln_top.specs.declared.frame.asked.Asked.TheVariants.{FewStages, Nothing}
+use Rattle.ln_top.specs.Signs.Graded.{many_stages}
 use Rattle.ln_top.specs.Target.Line.{said_text}
 use Rattle.ln_top.specs.Signs.Signs.{RunLine, RunPart, RunSaid, graded_work, run_work, shown_of}
 use Rattle.ln_top.specs.Target.Target.{Belongs, HasProgram, TargetOf, pred_in}
@@ -56,13 +56,13 @@ many_objects bytes [] i = usage_other i tt
 many_objects bytes (p ∷ ps) i = usage_other i tt
 
 -- the laws of a work hold for `run`
-pub lawful : IsLawful asks_nothing run_work
-lawful = lawful_rows asks_nothing [] (λ preds. RunLine BySmallest) (λ boxes. boxes) shape_objects (λ g i s q others f. one_run BySmallest q)
+pub lawful : IsLawful Nothing run_work
+lawful = lawful_rows Nothing [] (λ preds. RunLine BySmallest) (λ boxes. boxes) shape_objects (λ g i s q others f. one_run BySmallest q)
 
 -- the laws of a work hold for `graded`
-pub lawful_graded : IsLawful (record { asks = FirstHasFew; objection = many_stages }) graded_work
+pub lawful_graded : IsLawful FewStages graded_work
 lawful_graded =
-    lawful_by (All (HasProgram ByDegree)) (lawful_rows (record { asks = FirstHasFew; objection = many_stages }) []
+    lawful_by (All (HasProgram ByDegree)) (lawful_rows FewStages []
     (λ preds. RunLine ByDegree) (λ boxes. []) many_objects (λ g i s q others f. one_run ByDegree q))
 
 -- what is carried out in one order and for some watchers, where these are others by name

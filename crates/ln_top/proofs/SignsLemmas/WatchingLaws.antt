@@ -8,8 +8,8 @@ use Rattle.ln_code.specs.declared.verdict.Verdict.{Verdict}
 use Rattle.ln_watch.specs.Panel.{State, state_after, line_of, said_of, left_after, lines_at, FailsAfter, StopsAt}
 use Rattle.ln_top.proofs.SignsLemmas.BoxLemmas.{lines-append}
 use Rattle.ln_top.proofs.SignsLemmas.PutLemmas.{fails_first, fails_behind}
-use Rattle.ln_top.specs.Frame.Said.{Count, Rises, IsCalm}
-use Rattle.ln_top.specs.Frame.Lines.{WroteOn, wrote, broke}
+use Rattle.ln_top.specs.Frame.Lines.{WroteOn}
+use Rattle.ln_top.specs.Frame.Said.{Count, Rises, IsCalm, broke, wrote}
 use Rattle.ln_top.specs.Signs.Watching.{told_on, left_on}
 use Rattle.ln_top.proofs.FrameLemmas.Carry.{front_of, out_alone, err_alone}
 

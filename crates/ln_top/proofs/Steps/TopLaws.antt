@@ -19,7 +19,7 @@ use Rattle.ln_top.specs.declared.frame.stop.Why.{Why}
 use Rattle.ln_top.specs.declared.frame.stop.Why.TheVariants.{Usage, TooLong, Refused, NoPredicate}
 use Rattle.ln_top.specs.declared.words.Command.{Command}
 use Rattle.ln_top.specs.declared.words.Command.TheVariants as command
-use Rattle.ln_top.specs.Frame.Said.{Said, Count, Rises, IsCalm, put_both, end_status, status_of}
+use Rattle.ln_top.specs.Frame.Said.{Said, Count, Rises, IsCalm, put_both, end_status, status_of, broke, stayed, wrote}
 use Rattle.ln_top.specs.Frame.Stop.{said_of, why_end}
 use Rattle.ln_top.specs.Plan.{Plan, plan_of}
 use Rattle.ln_top.specs.Steps as step
@@ -33,7 +33,7 @@ use Rattle.ln_top.specs.Answer.{PlanOwes, stopped, worked, PlanPart, PlanLacks, 
 use Rattle.ln_top.specs.Call.{HasRisen, Keeps, call}
 use Rattle.ln_top.specs.Causes as cause
 use Rattle.ln_top.specs.Causes.{SaysLine, IsSettled, Answered, Ends, Yields, EndsExactly}
-use Rattle.ln_top.proofs.FrameLemmas.Carry.{Duty, IsCarriedOut, lift, says_carried, told_carried}
+use Rattle.ln_top.proofs.FrameLemmas.Carry.{Duty, IsCarriedOut, lift, says_carried, writes_carried}
 use Rattle.ln_top.proofs.Steps.Chain.{One, one_gives, one_prepares, one_then}
 use Rattle.ln_top.proofs.Steps.Grounded.{IsFine, fine}
 use Rattle.ln_top.proofs.FrameLemmas.Laws.{IsLawful}
@@ -103,8 +103,7 @@ pub usage_carried : (words : List (List ℕ)) (told : Option Shelf) (boxes : Lis
     (result : Result End Early) (was now : Option Shown) → plan_of words ≡ None → Says (stop.Tell Usage) puts result was now
     → Carried words told boxes reads puts result was now
 usage_carried words told boxes reads puts result was now f s =
-    told_carried (Answer words told boxes) (Part words told boxes) (IsMissing words told) reads puts Usage result was now
-    (usage f) s
+    writes_carried (said_of Usage) (usage f) (λ r. r) (λ r. r.1) (λ r. r.1) s
 
 -- the laws of each work: a line a command
 pub lawful : (k : Command) → IsLawful (signature_of k).suits (work_of k)
@@ -510,9 +509,9 @@ settled_done result h = record { read = λ e. cc; write = λ e. cc; memory = λ 
 -- a fault of reading ends as one, or as one of writing
 pub says_read : (s : Stop) (puts : Count) (result : Result End Early) (was now : Option Shown) → s ≡ stop.Read
     → result ≢ Err early.Read → result ≢ Err early.Write → Says s puts result was now → ⊥
-says_read s puts result was now e n m (c.all q r i) = n (r ∙ ap c.stop_result e)
-says_read s puts result was now e n m (c.cut front p k f i r) = m r
-says_read s puts result was now e n m (c.short q k r i) = k e
+says_read s puts result was now e n m (wrote q r i) = n (r ∙ ap c.stop_result e)
+says_read s puts result was now e n m (broke r p k) = m r.1
+says_read s puts result was now e n m (stayed q r i) = r.0 e
 
 -- equal results that are Err have equal errors
 pub err_same : {T E : Type 0} {a b : E} → (let q : Result T E = Err a in q ≡ Err b) → a ≡ b

@@ -8,7 +8,7 @@ use Rattle.ln_top.specs.declared.frame.stop.Why.{Why}
 use Rattle.ln_top.specs.declared.frame.stop.Stop.{Stop}
 use Rattle.ln_top.specs.declared.frame.stop.Stop.TheVariants as stop
 use Rattle.ln_base.specs.Prefixes.{IsPrefix}
-use Rattle.ln_top.specs.Frame.Said.{Said, Count, Rises, IsCalm, line, put_both}
+use Rattle.ln_top.specs.Frame.Said.{Said, Count, Rises, IsCalm, Writes, line, put_both}
 use Rattle.ln_top.specs.Frame.Stop.{why_end, why_text}
 use Rattle.ln_top.specs.Frame.Given.{Outcome, stops, missing}
 
@@ -64,14 +64,10 @@ stop_result stop.Read = Err Read
 stop_result (stop.Memory m) = Err (Memory m)
 
 -- the line of a stop was written; or a fault of writing cut it short; or an allocation failed, and nothing was written
-pub data Says (s : Stop) (puts : Count) (result : Result End Early) (was now : Option Shown) : Type 0 where
-  all : IsCalm puts → result ≡ stop_result s → now ≡ put_both [] (stop_line s) was → Says s puts result was now
-  cut : (front : List ℕ) → Rises puts → s ≢ stop.Memory refused → IsPrefix (stop_line s) front → now ≡ put_both [] front was
-      → result ≡ Err Write → Says s puts result was now
-  short : IsCalm puts → s ≢ stop.Read → result ≡ Err (Memory refused) → now ≡ was → Says s puts result was now
+abbrev pub Says : Stop → Count → Result End Early → Option Shown → Option Shown → Type 0
+Says s = Writes [] (stop_line s) (λ result. result ≡ stop_result s) (λ result. (s ≢ stop.Memory refused) × (result ≡ Err Write))
+    (λ result. (s ≢ stop.Read) × (result ≡ Err (Memory refused)))
 
 -- a whole text was written to Out, or cut off
-pub data PutsText (text : List ℕ) (end : End) (puts : Count) (result : Result End Early) (was now : Option Shown) : Type 0 where
-  all : IsCalm puts → result ≡ Ok end → now ≡ put_both text [] was → PutsText text end puts result was now
-  cut : (front : List ℕ) → Rises puts → IsPrefix text front → now ≡ put_both front [] was → result ≡ Err Write
-      → PutsText text end puts result was now
+abbrev pub PutsText : List ℕ → End → Count → Result End Early → Option Shown → Option Shown → Type 0
+PutsText text end = Writes text [] (λ result. result ≡ Ok end) (λ result. result ≡ Err Write) (λ result. ⊥)

@@ -8,8 +8,7 @@ use Rattle.ln_base.specs.declared.outside.Port.TheVariants.{Out, Err as ErrPort}
 use Rattle.ln_top.specs.declared.frame.status.End.{End}
 use Rattle.ln_top.specs.declared.frame.status.Early.{Early}
 use Rattle.ln_top.specs.declared.frame.status.Early.TheVariants.{Write, Memory}
-use Rattle.ln_base.specs.Prefixes.{IsPrefix}
-use Rattle.ln_top.specs.Frame.Said.{Count, Rises, IsCalm, put_both}
+use Rattle.ln_top.specs.Frame.Said.{Count, PutsFronts, Rises, IsCalm, Writes, put_both}
 
 -- a step: from the state before a record, such as its watchers, to what it writes to Out and to Err and to the state after it
 abbrev pub Step : Type 0 → Type 0 → Type 1
@@ -26,18 +25,9 @@ abbrev pub all_good : {R : Type 0} → (R → Bool) → List R → Bool
 all_good good [] = true
 all_good good (r ∷ rest) = good r && all_good good rest
 
--- prefixes of these came to both streams
-pub record PutsFronts (out err : List ℕ) (was now : Option Shown) : Type 0 where
-  pub o : List ℕ
-  pub e : List ℕ
-  pub of_out : IsPrefix out o
-  pub of_err : IsPrefix err e
-  pub shown : now ≡ put_both o e was
-
 -- these were written to both streams, or cut off by a fault of writing
-pub data WroteBoth (out err : List ℕ) (puts : Count) (done : Bool) (was now : Option Shown) : Type 0 where
-  wrote : IsCalm puts → done ≡ true → now ≡ put_both out err was → WroteBoth out err puts done was now
-  broke : done ≡ false → Rises puts → PutsFronts out err was now → WroteBoth out err puts done was now
+abbrev pub WroteBoth : List ℕ → List ℕ → Count → Bool → Option Shown → Option Shown → Type 0
+WroteBoth out err = Writes out err (λ done. done ≡ true) (λ done. done ≡ false) (λ done. ⊥)
 
 -- a text was written to one stream, or cut off
 abbrev pub WroteOn : Port → List ℕ → Count → Bool → Option Shown → Option Shown → Type 0
@@ -45,56 +35,46 @@ WroteOn Out text = WroteBoth text []
 WroteOn ErrPort text = WroteBoth [] text
 
 -- the last lines for Err were written, or cut off
-pub data Closes (err : List ℕ) (end : End) (puts : Count) (result : Result End Early) (was now : Option Shown) : Type 0 where
-  closed : result ≡ Ok end → WroteBoth [] err puts true was now → Closes err end puts result was now
-  unclosed : result ≡ Err Write → WroteBoth [] err puts false was now → Closes err end puts result was now
+abbrev pub Closes : List ℕ → End → Count → Result End Early → Option Shown → Option Shown → Type 0
+Closes err end = Writes [] err (λ result. result ≡ Ok end) (λ result. result ≡ Err Write) (λ result. ⊥)
 
 -- one record: its bytes for Out were gathered and those for Err were written; or a write was cut off; or it was given up
 pub data Takes {S R : Type 0} (step : Step S R) (good : R → Bool) (s : S) (r : R)
-    (puts : Count) (result : Result Bool Early) (held grown : List ℕ) (was now : Option Shown) (z : S) : Type 0 where
+    (held grown : List ℕ) (z : S) (puts : Count) (result : Result Bool Early) (was now : Option Shown) : Type 0 where
   took : (o e : List ℕ) → IsCalm puts → step s r o e z → result ≡ Ok (good r) → grown ≡ held ++ o
-      → now ≡ put_both [] e was → Takes step good s r puts result held grown was now z
+      → now ≡ put_both [] e was → Takes step good s r held grown z puts result was now
   tore : (o e : List ℕ) (m : S) → step s r o e m → Rises puts → result ≡ Err Write → PutsFronts [] e was now
-      → Takes step good s r puts result held grown was now z
+      → Takes step good s r held grown z puts result was now
   left_off : IsCalm puts → result ≡ Err (Memory refused) → grown ≡ held → now ≡ was
-      → Takes step good s r puts result held grown was now z
+      → Takes step good s r held grown z puts result was now
 
 -- records of which some bytes for Out are still held: all are worked on, or a piece was cut off, or they were given up between two
 pub data Gathers {S R : Type 0} (step : Step S R) (good : R → Bool) (s : S) (records : List R)
-    (puts : Count) (result : Result Bool Early) (held : List ℕ) (was now : Option Shown) (z : S) : Type 0 where
+    (held : List ℕ) (z : S) (puts : Count) (result : Result Bool Early) (was now : Option Shown) : Type 0 where
   worked : (sent err : List ℕ) → IsCalm puts → Lines step s records (sent ++ held) err z → result ≡ Ok (all_good good records)
-      → now ≡ put_both sent err was → Gathers step good s records puts result held was now z
+      → now ≡ put_both sent err was → Gathers step good s records held z puts result was now
   torn : (done left : List R) (out err : List ℕ) (m : S) → records ≡ done ++ left → Lines step s done out err m → Rises puts
-      → PutsFronts out err was now → result ≡ Err Write → Gathers step good s records puts result held was now z
+      → PutsFronts out err was now → result ≡ Err Write → Gathers step good s records held z puts result was now
   given_up : (done left : List R) (sent err : List ℕ) (m : S) → IsCalm puts → records ≡ done ++ left
       → Lines step s done (sent ++ held) err m → now ≡ put_both sent err was → result ≡ Err (Memory refused)
-      → Gathers step good s records puts result held was now z
+      → Gathers step good s records held z puts result was now
 
 -- what is held stays, or it was written, or cut off by a fault of writing
-pub data Empties (held left : List ℕ) (puts : Count) (done : Bool) (was now : Option Shown) : Type 0 where
-  held_on : IsCalm puts → done ≡ true → left ≡ held → now ≡ was → Empties held left puts done was now
-  emptied : IsCalm puts → done ≡ true → left ≡ [] → now ≡ put_both held [] was → Empties held left puts done was now
-  stuck : done ≡ false → Rises puts → PutsFronts held [] was now → Empties held left puts done was now
+abbrev pub Empties : List ℕ → List ℕ → Count → Bool → Option Shown → Option Shown → Type 0
+Empties held left = Writes held [] (λ done. (done ≡ true) × (left ≡ [])) (λ done. done ≡ false) (λ done. (done ≡ true) × (left ≡ held))
 
 -- what was held was written at the end, whatever the end is but a failed write, after which nothing is written; a fault of this write decides
-pub data Sends (held : List ℕ) (ran result : Result Bool Early) (puts : Count) (was now : Option Shown) : Type 0 where
-  sent : ran ≢ Err Write → IsCalm puts → result ≡ ran → now ≡ put_both held [] was → Sends held ran result puts was now
-  broken : ran ≢ Err Write → Rises puts → result ≡ Err Write → PutsFronts held [] was now → Sends held ran result puts was now
-  failed : ran ≡ Err Write → IsCalm puts → result ≡ ran → now ≡ was → Sends held ran result puts was now
+abbrev pub Sends : List ℕ → Result Bool Early → Count → Result Bool Early → Option Shown → Option Shown → Type 0
+Sends held ran = Writes held [] (λ result. (ran ≢ Err Write) × (result ≡ ran)) (λ result. (ran ≢ Err Write) × (result ≡ Err Write))
+    (λ result. (ran ≡ Err Write) × (result ≡ ran))
 
--- records: all written, or cut off within one, or given up between two
-pub data Ran {S R : Type 0} (step : Step S R) (good : R → Bool) (s : S) (records : List R)
-    (puts : Count) (result : Result Bool Early) (was now : Option Shown) (z : S) : Type 0 where
-  all : (out err : List ℕ) → IsCalm puts → Lines step s records out err z → result ≡ Ok (all_good good records)
-      → now ≡ put_both out err was → Ran step good s records puts result was now z
-  cut : (done left : List R) (out err : List ℕ) (m : S) → records ≡ done ++ left → Lines step s done out err m → Rises puts
-      → PutsFronts out err was now → result ≡ Err Write → Ran step good s records puts result was now z
-  short : (done left : List R) (out err : List ℕ) (m : S) → IsCalm puts → records ≡ done ++ left → Lines step s done out err m
-      → now ≡ put_both out err was → result ≡ Err (Memory refused) → Ran step good s records puts result was now z
+-- records of which nothing is held at the end: all written, or cut off within one, or given up between two
+abbrev pub Ran : {S R : Type 0} → Step S R → (R → Bool) → S → List R → S → Count → Result Bool Early → Option Shown → Option Shown → Type 0
+Ran step good s records = Gathers step good s records []
 
 -- one record whose bytes are written at once: all of them, or they were cut off
 pub record PutsOne {S R : Type 0} (step : Step S R) (s : S) (r : R)
-    (puts : Count) (done : Bool) (was now : Option Shown) (z : S) : Type 0 where
+    (z : S) (puts : Count) (done : Bool) (was now : Option Shown) : Type 0 where
   pub out : List ℕ
   pub err : List ℕ
   pub left : S
@@ -112,5 +92,5 @@ ran_of true = Ok true
 ran_of false = Err Write
 
 -- records whose bytes are written as they come: all were written, or a write failed
-abbrev pub PutsAll : {S R : Type 0} → Step S R → S → List R → Count → Bool → Option Shown → Option Shown → S → Type 0
-PutsAll step s records puts done was now z = Ran step every s records puts (ran_of done) was now z
+abbrev pub PutsAll : {S R : Type 0} → Step S R → S → List R → S → Count → Bool → Option Shown → Option Shown → Type 0
+PutsAll step s records z puts done = Ran step every s records z puts (ran_of done)

@@ -7,7 +7,7 @@ use Rattle.ln_compile.specs.Compiled.{AreNumbered}
 use Rattle.ln_top.specs.declared.frame.ready.Ready.{Ready}
 use Rattle.ln_top.specs.Frame.Source.{view}
 use Rattle.ln_top.specs.Frame.Given.{Given}
-use Rattle.ln_top.specs.Frame.Signature.{Form, Signature}
+use Rattle.ln_top.specs.Frame.Signature.{AreAsked, Form, KeepsFor, Signature}
 
 -- the further files are within their limit
 abbrev pub AreShort : List (List ℕ) → Type 0
@@ -36,4 +36,5 @@ pub record HasStanding (r : Ready) : Type 0 where
 pub record IsReadyFor (s : Signature) (r : Ready) : Type 0 where
   pub stands : HasStanding r
   pub fit : IsFit s.form (length r.numbers.items) (length r.texts.items)
-  pub suited : s.suits.asks stands.given.preds
+  pub suited : AreAsked s.suits stands.given.preds
+  pub kept : KeepsFor s.suits (map pred_of r.compiled.table.preds) r.numbers.items r.kept

@@ -2,6 +2,7 @@
 use Rattle.std.specs.Prelude.{◌≡◌, ℕ, List, [], ◌∷◌, ◌++◌, Option, Result, Ok, Err}
 use Rattle.ln_base.specs.Outside.{Shown, counted, appended}
 use Rattle.ln_base.specs.declared.outside.Port.TheVariants.{Out, Err as ErrPort}
+use Rattle.ln_base.specs.Prefixes.{IsPrefix}
 use Rattle.ln_top.specs.declared.frame.status.End.{End}
 use Rattle.ln_top.specs.declared.frame.status.End.TheVariants as end
 use Rattle.ln_top.specs.declared.frame.status.Early.{Early}
@@ -78,6 +79,11 @@ pub record Count : Type 0 where
 abbrev pub count : ℕ → ℕ → Count
 count before after = record { before = before; after = after }
 
+-- what a call made of the console is in this relation: its count of faults, the call's result, and what came to both streams
+abbrev pub OnConsole : {A R : Type 0} → (A → ℕ) → (A → Option Shown) → A → R → A
+    → (Count → R → Option Shown → Option Shown → Type 0) → Type 0
+OnConsole faults shown was result now did = did (count (faults was) (faults now)) result (shown was) (shown now)
+
 -- one fault was counted
 abbrev pub Rises : Count → Type 0
 Rises c = c.after ≡ counted c.before
@@ -85,3 +91,17 @@ Rises c = c.after ≡ counted c.before
 -- none was
 abbrev pub IsCalm : Count → Type 0
 IsCalm c = c.after ≡ c.before
+
+-- prefixes of these came to both streams
+pub record PutsFronts (out err : List ℕ) (was now : Option Shown) : Type 0 where
+  pub o : List ℕ
+  pub e : List ℕ
+  pub of_out : IsPrefix out o
+  pub of_err : IsPrefix err e
+  pub shown : now ≡ put_both o e was
+
+-- what a call writes to both streams, by its result: all of this; or a fault of writing cut it off; or it stopped before the first byte
+pub data Writes {R : Type 0} (out err : List ℕ) (all torn stopped : R → Type 0) (puts : Count) (result : R) (was now : Option Shown) : Type 0 where
+  wrote : IsCalm puts → all result → now ≡ put_both out err was → Writes out err all torn stopped puts result was now
+  broke : torn result → Rises puts → PutsFronts out err was now → Writes out err all torn stopped puts result was now
+  stayed : IsCalm puts → stopped result → now ≡ was → Writes out err all torn stopped puts result was now

@@ -1,5 +1,5 @@
 -- `audit FILE NAME ROWS TRACE`: whether a trace, whoever made it, is agreed by the predicate and the records of the rows file.
-use Rattle.std.specs.Prelude.{◌≡◌, ℕ, List, [], ◌∷◌, ◌++◌, length, codes, decimal, Option, Result, Err}
+use Rattle.std.specs.Prelude.{◌≡◌, ℕ, List, [], ◌∷◌, ◌++◌, length, codes, decimal, Option, Result, Ok, Err}
 use Rattle.ln_base.specs.Outside.{Shown, refused}
 use Rattle.ln_tree.specs.Table.{PredOf}
 use Rattle.ln_rows.specs.Left.{Records, records_in}
@@ -13,17 +13,18 @@ use Rattle.ln_trace.specs.Unread.{AreLeft, Unread}
 use Rattle.ln_top.specs.declared.frame.status.End.{End}
 use Rattle.ln_top.specs.declared.frame.status.End.TheVariants.{Done, Invalid, Rows}
 use Rattle.ln_top.specs.declared.frame.status.Early.{Early}
-use Rattle.ln_top.specs.declared.frame.status.Early.TheVariants.{Memory}
+use Rattle.ln_top.specs.declared.frame.status.Early.TheVariants.{Memory, Write}
 use Rattle.ln_top.specs.declared.frame.stop.Why.TheVariants.{Header}
 use Rattle.ln_rows.specs.Header.{columns_of}
 use Rattle.ln_top.specs.Frame.Subject.{subject_of}
 use Rattle.ln_rows.specs.Header.{IsWrongHeader}
-use Rattle.ln_top.specs.Frame.Said.{Count, IsCalm, Said, line, whole}
+use Rattle.ln_top.specs.Frame.Said.{Count, Said, Writes, line, whole}
 use Rattle.ln_top.specs.Frame.Given.{Given}
 use Rattle.ln_top.specs.Frame.Stop.{said_of}
-use Rattle.ln_top.specs.Frame.Carried.{NoPart, PutsText}
+use Rattle.ln_top.specs.Frame.Carried.{NoPart}
 use Rattle.ln_top.specs.Frame.Work.{Work}
-use Rattle.ln_top.specs.Frame.Signature.{Signature, asks_nothing}
+use Rattle.ln_top.specs.Frame.Signature.{Signature}
+use Rattle.ln_top.specs.declared.frame.asked.Asked.TheVariants.{Nothing}
 
 -- the predicate, the names of its columns, the records of the rows file, and the bytes of the trace
 pub record HasTrace (g : Given) (p : PredOf) (names : List (List ℕ)) (records : Records) (trace : List ℕ) : Type 0 where
@@ -83,13 +84,12 @@ IsAuditOf p records trace (Agreed n) = IsRightTrace p records trace × (n ≡ le
 IsAuditOf p records trace (Wrong at) = IsWrongAt p records trace at
 
 -- a text was written or cut off; or memory ran out before
-pub data PutsOrStops (text : List ℕ) (end : End) (puts : Count) (result : Result End Early) (was now : Option Shown) : Type 0 where
-  puts_it : PutsText text end puts result was now → PutsOrStops text end puts result was now
-  stops_before : IsCalm puts → result ≡ Err (Memory refused) → now ≡ was → PutsOrStops text end puts result was now
+abbrev pub PutsOrStops : List ℕ → End → Count → Result End Early → Option Shown → Option Shown → Type 0
+PutsOrStops text end = Writes text [] (λ result. result ≡ Ok end) (λ result. result ≡ Err Write) (λ result. result ≡ Err (Memory refused))
 
 -- the signature of `audit`
 abbrev pub audit_signature : Signature
-audit_signature = record { word = codes "audit"; form = record { least = 1; most = 1; files = 2 }; suits = asks_nothing }
+audit_signature = record { word = codes "audit"; form = record { least = 1; most = 1; files = 2 }; suits = Nothing }
 
 -- the work of `audit`
 abbrev pub audit_work : Work

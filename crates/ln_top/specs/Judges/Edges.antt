@@ -1,5 +1,5 @@
 -- `edges FILE NAME POINTS`: a line on Out for each ordered pair of points that has every other point on the plus side of the predicate.
-use Rattle.std.specs.Prelude.{◌≡◌, ℕ, ◌<◌, ◌≤◌, List, [], ◌∷◌, length, map, Some, codes, true}
+use Rattle.std.specs.Prelude.{◌≡◌, ℕ, ◌<◌, ◌≤◌, List, [], ◌∷◌, length, map, Some, codes}
 use Rattle.ln_tree.specs.Table.{ArgOf, PredOf, SiteArg, SiteOf}
 use Rattle.ln_compile.specs.Accepted.{root_of}
 use Rattle.ln_rows.specs.Left.{Records, records_in}
@@ -22,8 +22,8 @@ use Rattle.ln_top.specs.Frame.Given.{Given, Outcome, stops, gives}
 use Rattle.ln_top.specs.Frame.Stop.{said_of, why_end}
 use Rattle.ln_top.specs.Frame.Carried.{Halts, NoPart}
 use Rattle.ln_top.specs.Frame.Work.{Work}
-use Rattle.ln_top.specs.Frame.Signature.{Signature, asks_shape}
-use Rattle.ln_top.specs.Judges.Three.{is_one_of_three}
+use Rattle.ln_top.specs.Frame.Signature.{Signature}
+use Rattle.ln_top.specs.declared.frame.asked.Asked.TheVariants.{ThreeSites}
 
 -- the columns of a points file: the index, named as the type, and for each coordinate the type's name, a dot and the coordinate's name
 abbrev pub point_names : SiteOf → List (List ℕ)
@@ -104,7 +104,7 @@ abbrev pub edges_signature : Signature
 edges_signature = record {
   word = codes "edges";
   form = record { least = 1; most = 1; files = 1 };
-  suits = asks_shape (λ preds. is_one_of_three preds ≡ true);
+  suits = ThreeSites;
 }
 
 -- the work of `edges`

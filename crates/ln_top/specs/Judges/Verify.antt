@@ -8,7 +8,8 @@ use Rattle.ln_top.specs.Frame.Said.{Said, line, whole}
 use Rattle.ln_top.specs.Frame.Given.{Given}
 use Rattle.ln_top.specs.Frame.Carried.{NoPart}
 use Rattle.ln_top.specs.Frame.Work.{Work}
-use Rattle.ln_top.specs.Frame.Signature.{Signature, asks_nothing}
+use Rattle.ln_top.specs.Frame.Signature.{Signature}
+use Rattle.ln_top.specs.declared.frame.asked.Asked.TheVariants.{Nothing}
 
 -- the further file is the text of this listing
 pub record IsListed (g : Given) (l : Listed) : Type 0 where
@@ -39,7 +40,7 @@ pub data VerifyEnds (g : Given) : End → Type 0 where
 
 -- the signature of `verify`
 abbrev pub verify_signature : Signature
-verify_signature = record { word = codes "verify"; form = record { least = 0; most = 0; files = 1 }; suits = asks_nothing }
+verify_signature = record { word = codes "verify"; form = record { least = 0; most = 0; files = 1 }; suits = Nothing }
 
 -- the work of `verify`
 abbrev pub verify_work : Work

@@ -5,7 +5,8 @@ use Rattle.ln_trace.specs.Text.{first_line, text_of_lines}
 use Rattle.ln_top.specs.Frame.Said.{Said}
 use Rattle.ln_top.specs.Frame.Given.{Given}
 use Rattle.ln_top.specs.Frame.Work.{Work}
-use Rattle.ln_top.specs.Frame.Signature.{Signature, asks_nothing}
+use Rattle.ln_top.specs.Frame.Signature.{Signature}
+use Rattle.ln_top.specs.declared.frame.asked.Asked.TheVariants.{Nothing}
 use Rattle.ln_top.specs.Frame.Subject.{subject_of}
 use Rattle.ln_top.specs.Signs.Rows.{LineOf, RowsPart, RowsSaid, SaysLine, rows_work}
 
@@ -23,7 +24,7 @@ ExplainPart g = RowsPart first_line ExplainLine [] g
 
 -- the signature of `explain`
 abbrev pub explain_signature : Signature
-explain_signature = record { word = codes "explain"; form = record { least = 1; most = 1; files = 1 }; suits = asks_nothing }
+explain_signature = record { word = codes "explain"; form = record { least = 1; most = 1; files = 1 }; suits = Nothing }
 
 -- the work of `explain`
 abbrev pub explain_work : Work

@@ -18,7 +18,8 @@ use Rattle.ln_top.specs.Signs.GenRow.{words, past, row_by}
 use Rattle.ln_top.specs.Frame.Lines.{Lines}
 use Rattle.ln_top.specs.Frame.Carried.{NoPart}
 use Rattle.ln_top.specs.Frame.Work.{Work}
-use Rattle.ln_top.specs.Frame.Signature.{Signature, asks_nothing}
+use Rattle.ln_top.specs.Frame.Signature.{Signature}
+use Rattle.ln_top.specs.declared.frame.asked.Asked.TheVariants.{Nothing}
 
 -- the generator of a seed
 abbrev pub seeded : ℕ → Lcg
@@ -62,7 +63,7 @@ pub data GenEnds (g : Given) : End → Type 0 where
 
 -- the signature of `gen`
 abbrev pub gen_signature : Signature
-gen_signature = record { word = codes "gen"; form = record { least = 1; most = 1; files = 0 }; suits = asks_nothing }
+gen_signature = record { word = codes "gen"; form = record { least = 1; most = 1; files = 0 }; suits = Nothing }
 
 -- the work of `gen`, with its seed and its count
 abbrev pub gen_work : ℕ → ℕ → Work

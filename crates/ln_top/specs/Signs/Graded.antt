@@ -1,6 +1,6 @@
 -- Defines what `graded` asks of its predicate: few stages by total degree.
-use Rattle.std.specs.Prelude.{◌≡◌, ℕ, List, [], ◌∷◌, length, slice_get, IsSomeAnd, Option, Some}
-use Rattle.ln_algebra.specs.Orders.{ByDegree}
+use Rattle.std.specs.Prelude.{◌≡◌, ℕ, List, [], ◌∷◌, length, slice_get, IsSomeAnd, Option, Some, None}
+use Rattle.ln_algebra.specs.Orders.{ByDegree, BySmallest, Rank}
 use Rattle.ln_base.specs.Limits.{most_graded, most_weight}
 use Rattle.ln_tree.specs.Table.{PredOf}
 use Rattle.ln_poly.specs.Expansion.{IsNormal}
@@ -31,10 +31,19 @@ abbrev pub FirstHasFew : List PredOf → Type 0
 FirstHasFew [] = Unit {0}
 FirstHasFew (p ∷ ps) = HasFewGraded p
 
+-- it is a program in that order of the predicate with this number
+abbrev pub IsGradedAt : List PredOf → ℕ → Part → Type 0
+IsGradedAt table i q = (p : PredOf) → slice_get table i ≡ Some p → AnswersFor ByDegree p q
+
 -- a program of the predicate with the first of these numbers in that order is kept
 abbrev pub KeepsGraded : List PredOf → List ℕ → Option Part → Type 0
 KeepsGraded table [] kept = Unit {0}
-KeepsGraded table (i ∷ is) kept = IsSomeAnd kept (λ q. (p : PredOf) → slice_get table i ≡ Some p → AnswersFor ByDegree p q)
+KeepsGraded table (i ∷ is) kept = IsSomeAnd kept (IsGradedAt table i)
+
+-- the order in which a predicate is run: that of the program that is kept, or else by the smallest infinitesimal
+abbrev pub rank_kept : Option Part → Rank
+rank_kept None = BySmallest
+rank_kept (Some q) = ByDegree
 
 -- a predicate with too many stops the command with `stages` at its name's place in the source
 abbrev pub many_stages : List ℕ → List PredOf → Why

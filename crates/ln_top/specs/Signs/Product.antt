@@ -1,12 +1,12 @@
 -- `product FILE NAME NAME.. ROWS`: a line for each record after the header, with the sign of the product and each factor's decider.
-use Rattle.std.specs.Prelude.{◌≡◌, ℕ, List, [], All, codes, true, None, Result}
+use Rattle.std.specs.Prelude.{◌≡◌, ℕ, List, [], All, codes, None, Result}
 use Rattle.ln_algebra.specs.Orders.{BySmallest}
 use Rattle.ln_algebra.specs.Product.{multiplied_numbers}
 use Rattle.ln_tree.specs.Table.{PredOf}
 use Rattle.ln_due.specs.Due.{sign_number}
 use Rattle.ln_factor.specs.Factors.{numbers_of}
 use Rattle.ln_rows.specs.declared.record.RowStop.{RowStop}
-use Rattle.ln_top.specs.Target.Alike.{are_alike}
+use Rattle.ln_top.specs.declared.frame.asked.Asked.TheVariants.{SameArgs}
 pub use Rattle.ln_top.specs.Target.Factors.{AreDue}
 use Rattle.ln_top.specs.Target.Line.{SaysOf}
 pub use Rattle.ln_top.specs.Target.Line.{Multiplied, deciders_after, product_text}
@@ -14,7 +14,7 @@ use Rattle.ln_top.specs.Target.Target.{HasProgram}
 use Rattle.ln_top.specs.Frame.Said.{Said, line}
 use Rattle.ln_top.specs.Frame.Given.{Given}
 use Rattle.ln_top.specs.Frame.Work.{Work, work_by}
-use Rattle.ln_top.specs.Frame.Signature.{Signature, asks_shape}
+use Rattle.ln_top.specs.Frame.Signature.{Signature}
 use Rattle.ln_top.specs.Signs.Rows.{LineOf, RowsPart, RowsSaid, SaysLine, rows_work}
 
 -- the sign is the product of the verdicts' signs
@@ -43,7 +43,7 @@ abbrev pub product_signature : Signature
 product_signature = record {
   word = codes "product";
   form = record { least = 2; most = 8; files = 1 };
-  suits = asks_shape (λ preds. are_alike preds ≡ true);
+  suits = SameArgs;
 }
 
 -- the work of `product`

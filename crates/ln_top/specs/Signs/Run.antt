@@ -9,8 +9,8 @@ use Rattle.ln_top.specs.declared.frame.status.End.{End}
 use Rattle.ln_top.specs.declared.frame.status.End.TheVariants.{Done, Rows}
 use Rattle.ln_top.specs.Frame.Given.{Given}
 use Rattle.ln_rows.specs.Header.{columns_of, IsWrongHeader}
-use Rattle.ln_top.specs.Frame.Signature.{Signature, asks_nothing}
-use Rattle.ln_top.specs.Signs.Graded.{FirstHasFew, many_stages}
+use Rattle.ln_top.specs.Frame.Signature.{Signature}
+use Rattle.ln_top.specs.declared.frame.asked.Asked.TheVariants.{FewStages, Nothing}
 
 -- how work on records ends: done where each of them is a row in range, else with the end of an invalid record
 abbrev pub end_of : Bool → End
@@ -55,12 +55,12 @@ pub data RunEnds (g : Given) : End → Type 0 where
 
 -- the signature of `run`
 abbrev pub run_signature : Signature
-run_signature = record { word = codes "run"; form = record { least = 1; most = 1; files = 1 }; suits = asks_nothing }
+run_signature = record { word = codes "run"; form = record { least = 1; most = 1; files = 1 }; suits = Nothing }
 
 -- the signature of `graded`
 abbrev pub graded_signature : Signature
 graded_signature = record {
   word = codes "graded";
   form = record { least = 1; most = 1; files = 1 };
-  suits = record { asks = FirstHasFew; objection = many_stages };
+  suits = FewStages;
 }

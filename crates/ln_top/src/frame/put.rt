@@ -1,6 +1,6 @@
 //! Writes to a stream, and numbers in texts.
 ghost use Rattle.std.specs.Prelude.{◌≡◌, ◌++◌, ◌↔◌, [], Err, IfOk, IsTrue, decimal};
-ghost use Rattle.ln_top.specs.Frame.Said.{count, line};
+ghost use Rattle.ln_top.specs.Frame.Said.{OnConsole, line};
 ghost use Rattle.ln_top.specs.Frame.Lines.{Sends, WroteBoth};
 
 use crate::frame::status::Early;
@@ -38,8 +38,7 @@ pub fn numbered(alloc: Global, word: &[u8], n: u32) -> Result<Vec<u8>, NoMemory>
 
 /// Writes a text to Out, and returns whether all of it was written.
 pub fn put_out<C: Console>(con: &mut C, text: &[u8]) -> bool
-    ensures { WroteBoth text.now []
-        (count (C.faults con.old) (C.faults con.new)) result (C.shown con.old) (C.shown con.new) }
+    ensures { OnConsole C.faults C.shown con.old result con.new (WroteBoth text.now []) }
 {
     match put_all(con, Port::Out, text) {
         Ok(()) => true,
@@ -63,8 +62,7 @@ pub fn put_rest<C: Console>(
     text: &[u8],
     ran: Result<bool, Early>,
 ) -> Result<bool, Early>
-    ensures { Sends text.now ran result
-        (count (C.faults con.old) (C.faults con.new)) (C.shown con.old) (C.shown con.new) }
+    ensures { OnConsole C.faults C.shown con.old result con.new (Sends text.now ran) }
 {
     if has_failed(ran) {
         return Err(Early::Write);

@@ -1,7 +1,7 @@
 //! Why a command stops before its work, and the writing of whole texts.
 ghost use Rattle.std.specs.Prelude.{◌≡◌, ◌≢◌, ◌++◌, IfOk};
 ghost use Rattle.ln_base.specs.Outside.{refused};
-ghost use Rattle.ln_top.specs.Frame.Said.{count, line};
+ghost use Rattle.ln_top.specs.Frame.Said.{OnConsole, line};
 ghost use Rattle.ln_top.specs.Frame.Stop.{placed_text, why_end};
 ghost use Rattle.ln_top.specs.Frame.Carried.{PutsText, Says, stop_line, stop_result};
 
@@ -126,8 +126,7 @@ fn stop_result(stop: Stop) -> Result<End, Early>
 fn put_line<C: Console>(con: &mut C, stop: Stop, text: &[u8]) -> Result<End, Early>
     requires line { text.now ≡ stop_line stop }
     requires some { stop ≢ Stop.Memory refused }
-    ensures { Says stop
-        (count (C.faults con.old) (C.faults con.new)) result (C.shown con.old) (C.shown con.new) }
+    ensures { OnConsole C.faults C.shown con.old result con.new (Says stop) }
 {
     match put_all(con, Port::Err, text) {
         Ok(()) => stop_result(stop),
@@ -144,8 +143,7 @@ fn put_made<C: Console>(
     requires line { IfOk made (λ v. v.items ≡ stop_line stop) }
     requires some { stop ≢ Stop.Memory refused }
     requires read { stop ≢ Stop.Read }
-    ensures { Says stop
-        (count (C.faults con.old) (C.faults con.new)) result (C.shown con.old) (C.shown con.new) }
+    ensures { OnConsole C.faults C.shown con.old result con.new (Says stop) }
 {
     match made {
         Ok(text) => put_line(con, stop, &text),
@@ -155,8 +153,7 @@ fn put_made<C: Console>(
 
 /// Writes the line of a stop to Err. Only one with a place or a number allocates.
 pub fn say<C: Console>(alloc: Global, con: &mut C, stop: Stop) -> Result<End, Early>
-    ensures { Says stop
-        (count (C.faults con.old) (C.faults con.new)) result (C.shown con.old) (C.shown con.new) }
+    ensures { OnConsole C.faults C.shown con.old result con.new (Says stop) }
 {
     let text: &[u8] = match stop {
         Stop::Read => b"error read\n",
@@ -182,8 +179,7 @@ pub fn say<C: Console>(alloc: Global, con: &mut C, stop: Stop) -> Result<End, Ea
 
 /// Writes a whole text to Out.
 pub fn put_text<C: Console>(con: &mut C, text: &[u8], end: End) -> Result<End, Early>
-    ensures { PutsText text.now end
-        (count (C.faults con.old) (C.faults con.new)) result (C.shown con.old) (C.shown con.new) }
+    ensures { OnConsole C.faults C.shown con.old result con.new (PutsText text.now end) }
 {
     match put_all(con, Port::Out, text) {
         Ok(()) => Ok(end),

@@ -6,7 +6,7 @@ ghost use Rattle.ln_top.specs.Judges.Audit.{AreJudged, AuditSaid, HasTrace, IsAu
 ghost use Rattle.ln_top.specs.Frame.Carried.{CarriesOut, NoPart};
 ghost use Rattle.ln_top.specs.Frame.Ready.{IsReadyFor, StandsFor};
 ghost use Rattle.ln_rows.specs.Header.{names_of};
-ghost use Rattle.ln_top.specs.Frame.Said.{count};
+ghost use Rattle.ln_top.specs.Frame.Said.{OnConsole};
 ghost use Rattle.ln_top.specs.Frame.Given.{Given};
 
 use crate::frame::put::numbered;
@@ -58,8 +58,7 @@ fn put_judged<C: Console>(
     n: u32,
     end: End,
 ) -> Result<End, Early>
-    ensures { PutsOrStops ((word.now ++ decimal n) ++ codes "\n") end
-        (count (C.faults con.old) (C.faults con.new)) result (C.shown con.old) (C.shown con.new) }
+    ensures { OnConsole C.faults C.shown con.old result con.new (PutsOrStops ((word.now ++ decimal n) ++ codes "\n") end) }
 {
     let text = numbered(alloc, word, n)?;
     put_text(con, &text, end)
@@ -75,8 +74,7 @@ fn audit_rows<C: Console>(
 ) -> Result<End, Early>
     requires { length trace.now ≤ most_file }
     ensures { (g : Given) (names : List (List ℕ)) → HasTrace g (pred_of a.now.pred) names (names ∷ rows.old) trace.now
-        → CarriesOut (AuditSaid g) NoPart ⊥ ⊥
-        (count (C.faults con.old) (C.faults con.new)) result (C.shown con.old) (C.shown con.new) }
+        → OnConsole C.faults C.shown con.old result con.new (CarriesOut (AuditSaid g) NoPart ⊥ ⊥) }
 {
     match audited(alloc, a, rows, trace) {
         Ok(Judged::Agreed(n)) => put_judged(alloc, con, b"agreed ", n, End::Done),
@@ -96,8 +94,7 @@ fn audit_records<C: Console>(
 ) -> Result<End, Early>
     requires { length trace.now ≤ most_file }
     ensures { (g : Given) → HasTrace g (pred_of a.now.pred) (names_of t.now a.now.pred) rows.old trace.now
-        → CarriesOut (AuditSaid g) NoPart ⊥ ⊥
-        (count (C.faults con.old) (C.faults con.new)) result (C.shown con.old) (C.shown con.new) }
+        → OnConsole C.faults C.shown con.old result con.new (CarriesOut (AuditSaid g) NoPart ⊥ ⊥) }
 {
     match rows.header(t, a.pred()) {
         Ok(true) => audit_rows(alloc, con, a, rows, trace),
@@ -109,8 +106,7 @@ fn audit_records<C: Console>(
 /// Writes `agreed N` or `wrong LINE`, or refuses the header.
 pub fn work<C: Console>(alloc: Global, con: &mut C, ready: &Ready) -> Result<End, Early>
     requires { IsReadyFor audit_signature ready.now }
-    ensures { (g : Given) → StandsFor ready.now g → CarriesOut (AuditSaid g) NoPart ⊥ ⊥
-        (count (C.faults con.old) (C.faults con.new)) result (C.shown con.old) (C.shown con.new) }
+    ensures { (g : Given) → StandsFor ready.now g → OnConsole C.faults C.shown con.old result con.new (CarriesOut (AuditSaid g) NoPart ⊥ ⊥) }
 {
     let (records, trace) = two_texts(ready);
     let mut rows = Rows::new(alloc, records)?;

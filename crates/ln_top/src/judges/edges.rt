@@ -7,7 +7,7 @@ ghost use Rattle.ln_top.specs.Judges.Three.{is_three};
 ghost use Rattle.ln_top.specs.Frame.Carried.{CarriesOut, Halts, NoPart};
 ghost use Rattle.ln_top.specs.Judges.Edges.{AreOfType, EdgesSaid, HoldsPoints, IsTypeOf, ReadsPoints, StopsPoints, point_names, edges_signature};
 ghost use Rattle.ln_top.specs.Frame.Ready.{IsReadyFor, StandsFor};
-ghost use Rattle.ln_top.specs.Frame.Said.{count, whole};
+ghost use Rattle.ln_top.specs.Frame.Said.{OnConsole, whole};
 ghost use Rattle.ln_top.specs.Frame.Given.{Given, gives};
 
 use crate::frame::ready::{Ready, named, one_text};
@@ -109,8 +109,7 @@ fn put_edges<C: Console>(
 ) -> Result<End, Early>
     requires ready { IsReadyFor edges_signature ready.now }
     requires points { (g : Given) → StandsFor ready.now g → HoldsPoints g points.now }
-    ensures { (g : Given) → StandsFor ready.now g → CarriesOut (EdgesSaid g) NoPart ⊥ ⊥
-        (count (C.faults con.old) (C.faults con.new)) result (C.shown con.old) (C.shown con.new) }
+    ensures { (g : Given) → StandsFor ready.now g → OnConsole C.faults C.shown con.old result con.new (CarriesOut (EdgesSaid g) NoPart ⊥ ⊥) }
 {
     let text = lines(alloc, ready, points)?;
     put_text(con, &text, End::Done)
@@ -119,8 +118,7 @@ fn put_edges<C: Console>(
 /// Writes the lines of the edges, all of them made before the first is written; or refuses the header, the number of points, or a record.
 pub fn work<C: Console>(alloc: Global, con: &mut C, ready: &Ready) -> Result<End, Early>
     requires { IsReadyFor edges_signature ready.now }
-    ensures { (g : Given) → StandsFor ready.now g → CarriesOut (EdgesSaid g) NoPart ⊥ ⊥
-        (count (C.faults con.old) (C.faults con.new)) result (C.shown con.old) (C.shown con.new) }
+    ensures { (g : Given) → StandsFor ready.now g → OnConsole C.faults C.shown con.old result con.new (CarriesOut (EdgesSaid g) NoPart ⊥ ⊥) }
 {
     match points(alloc, ready) {
         Ok(points) => put_edges(alloc, con, ready, &points),

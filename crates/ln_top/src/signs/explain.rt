@@ -6,7 +6,7 @@ ghost use Rattle.ln_compile.specs.Accepted.{IsSound};
 ghost use Rattle.ln_top.specs.Frame.Carried.{CarriesOut};
 ghost use Rattle.ln_top.specs.Signs.Explain.{ExplainPart, ExplainSaid, explain_signature, ExplainLine};
 ghost use Rattle.ln_top.specs.Frame.Ready.{IsReadyFor, StandsFor};
-ghost use Rattle.ln_top.specs.Frame.Said.{count};
+ghost use Rattle.ln_top.specs.Frame.Said.{OnConsole};
 ghost use Rattle.ln_top.specs.Frame.Given.{Given};
 ghost use Rattle.ln_top.specs.Target.Target.{Belongs};
 ghost use Rattle.ln_tree.specs.Table.{pred_of};
@@ -94,8 +94,8 @@ impl<'a> RecordWriter for Explainer<'a> {
 /// Writes a trace of the records after the header, or refuses the header.
 pub fn work<C: Console>(alloc: Global, con: &mut C, ready: &Ready) -> Result<End, Early>
     requires { IsReadyFor explain_signature ready.now }
-    ensures { (g : Given) → StandsFor ready.now g → CarriesOut (ExplainSaid g) (ExplainPart g) ⊥ ⊥
-        (count (C.faults con.old) (C.faults con.new)) result (C.shown con.old) (C.shown con.new) }
+    ensures { (g : Given) → StandsFor ready.now g → OnConsole C.faults C.shown con.old result con.new
+        (CarriesOut (ExplainSaid g) (ExplainPart g) ⊥ ⊥) }
 {
     let target = one_target(alloc, ready)?;
     let explainer = Explainer { target };

@@ -2,7 +2,7 @@
 ghost use Rattle.std.specs.Prelude.{◌≡◌, ◌<◌, true, vec_len, vec_capacity};
 ghost use Rattle.ln_top.specs.Frame.Lines.{Empties};
 ghost use Rattle.ln_top.specs.Signs.Run.{end_of, piece};
-ghost use Rattle.ln_top.specs.Frame.Said.{count};
+ghost use Rattle.ln_top.specs.Frame.Said.{OnConsole};
 
 use crate::frame::put::put_out;
 use crate::frame::status::End;
@@ -13,8 +13,7 @@ pub(crate) const PIECE: usize = 65_536;
 
 /// Writes what is gathered, where that is a piece, and returns whether all of it was written.
 pub(crate) fn put_piece<C: Console>(con: &mut C, text: &mut Vec<u8>) -> bool
-    ensures empties { Empties text.old.items text.new.items
-        (count (C.faults con.old) (C.faults con.new)) result (C.shown con.old) (C.shown con.new) }
+    ensures empties { OnConsole C.faults C.shown con.old result con.new (Empties text.old.items text.new.items) }
     ensures less { result ≡ true → vec_len text.new < piece }
     ensures room { vec_capacity text.new ≡ vec_capacity text.old }
 {

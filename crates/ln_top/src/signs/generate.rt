@@ -8,7 +8,7 @@ ghost use Rattle.ln_top.specs.Signs.Gen.{GenSaid, GenStep, draw, draws, gen_sign
 ghost use Rattle.ln_top.specs.Signs.GenRow.{past};
 ghost use Rattle.ln_top.specs.Frame.Lines.{PutsAll, PutsOne};
 ghost use Rattle.ln_top.specs.Frame.Ready.{IsReadyFor, StandsFor};
-ghost use Rattle.ln_top.specs.Frame.Said.{count};
+ghost use Rattle.ln_top.specs.Frame.Said.{OnConsole};
 ghost use Rattle.ln_top.specs.Frame.Given.{Given};
 ghost use Rattle.ln_top.specs.Target.Target.{Belongs, pred_in};
 ghost use Rattle.ln_watch.specs.Panel.{states_of};
@@ -38,10 +38,8 @@ fn put_row<C: Console>(
 ) -> bool
     requires made { MadeFor target.now.program s.old }
     requires rank { target.now.rank ≡ BySmallest }
-    ensures puts { PutsOne (GenStep (pred_in target.now)) (states_of kind_of tally_of panel.old.watchers.items)
-        (draw n g.old)
-        (count (C.faults con.old) (C.faults con.new)) result (C.shown con.old) (C.shown con.new)
-        (states_of kind_of tally_of panel.new.watchers.items) }
+    ensures puts { OnConsole C.faults C.shown con.old result con.new (PutsOne (GenStep (pred_in target.now))
+        (states_of kind_of tally_of panel.old.watchers.items) (draw n g.old) (states_of kind_of tally_of panel.new.watchers.items)) }
     ensures past { g.new ≡ past (length (columns target.now.pred.shape.vars)) g.old }
     ensures made { MadeFor target.now.program s.new }
 {
@@ -61,10 +59,9 @@ fn put_rows<C: Console>(
 ) -> bool
     requires made { MadeFor target.now.program s.old }
     requires rank { target.now.rank ≡ BySmallest }
-    ensures { PutsAll (GenStep (pred_in target.now)) (states_of kind_of tally_of panel.old.watchers.items)
-        (draws rows 0 target.now.pred.shape.vars g.old)
-        (count (C.faults con.old) (C.faults con.new)) result (C.shown con.old) (C.shown con.new)
-        (states_of kind_of tally_of panel.new.watchers.items) }
+    ensures { OnConsole C.faults C.shown con.old result con.new (PutsAll (GenStep (pred_in target.now))
+        (states_of kind_of tally_of panel.old.watchers.items) (draws rows 0 target.now.pred.shape.vars g.old)
+        (states_of kind_of tally_of panel.new.watchers.items)) }
 {
     let mut n = 0u64;
     'rows: while n < rows {
@@ -89,8 +86,8 @@ fn put_made<C: Console>(
     requires rank { target.now.rank ≡ BySmallest }
     requires belongs { Belongs target.now.rank target.now.pred target.now.program }
     ensures { (g : Given) → g.preds ≡ pred_in target.now ∷ []
-        → CarriesOut (GenSaid seed rows (states_of kind_of tally_of watchers.items) g) NoPart ⊥ ⊥
-        (count (C.faults con.old) (C.faults con.new)) result (C.shown con.old) (C.shown con.new) }
+        → OnConsole C.faults C.shown con.old result con.new
+        (CarriesOut (GenSaid seed rows (states_of kind_of tally_of watchers.items) g) NoPart ⊥ ⊥) }
 {
     let mut panel = Panel::new(watchers);
     let mut g = Lcg128Xsl64::seed_from_u64(seed);
@@ -114,8 +111,8 @@ fn run_made<C: Console>(
 ) -> Result<End, Early>
     requires { target.now.rank ≡ BySmallest }
     ensures { (g : Given) → g.preds ≡ pred_in target.now ∷ []
-        → CarriesOut (GenSaid seed rows (states_of kind_of tally_of watchers.items) g) NoPart ⊥ ⊥
-        (count (C.faults con.old) (C.faults con.new)) result (C.shown con.old) (C.shown con.new) }
+        → OnConsole C.faults C.shown con.old result con.new
+        (CarriesOut (GenSaid seed rows (states_of kind_of tally_of watchers.items) g) NoPart ⊥ ⊥) }
 {
     let mut scratch = target.scratch(alloc)?;
     put_made(con, target, &mut scratch, seed, rows, watchers)
@@ -133,8 +130,8 @@ pub fn work<C: Console>(
 ) -> Result<End, Early>
     requires { IsReadyFor gen_signature ready.now }
     ensures { (g : Given) → StandsFor ready.now g
-        → CarriesOut (GenSaid seed rows (states_of kind_of tally_of watchers.items) g) NoPart ⊥ ⊥
-        (count (C.faults con.old) (C.faults con.new)) result (C.shown con.old) (C.shown con.new) }
+        → OnConsole C.faults C.shown con.old result con.new
+        (CarriesOut (GenSaid seed rows (states_of kind_of tally_of watchers.items) g) NoPart ⊥ ⊥) }
 {
     let target = one_target(alloc, ready)?;
     run_made(alloc, con, &target, seed, rows, watchers)

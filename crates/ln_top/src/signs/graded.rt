@@ -7,10 +7,11 @@ ghost use Rattle.ln_compile.specs.Filtered.{AnswersFor};
 ghost use Rattle.ln_top.specs.Frame.Carried.{CarriesOut};
 ghost use Rattle.ln_top.specs.Signs.Graded.{FirstHasFew, HasFewGraded, KeepsGraded};
 ghost use Rattle.ln_compile.specs.Compiled.{AreNumbered};
+ghost use Rattle.ln_top.specs.declared.frame.asked.Asked.TheVariants.{FewStages};
 ghost use Rattle.ln_top.specs.Frame.Ready.{IsReadyFor, StandsFor};
 ghost use Rattle.ln_top.specs.Frame.Signature.{Refuses};
 ghost use Rattle.ln_top.specs.Signs.Run.{graded_signature};
-ghost use Rattle.ln_top.specs.Frame.Said.{count};
+ghost use Rattle.ln_top.specs.Frame.Said.{OnConsole};
 ghost use Rattle.ln_top.specs.Frame.Given.{Given};
 ghost use Rattle.ln_top.specs.Signs.Signs.{GradedSaid, RunPart};
 
@@ -18,7 +19,7 @@ use crate::frame::place::place_at;
 use crate::frame::ready::{Ready, short_text};
 use crate::frame::status::{Early, End};
 use crate::frame::stop::{Stop, Why};
-use crate::signs::named::degree_target;
+use crate::signs::named::one_target;
 use crate::signs::records::put_lines;
 use crate::signs::watching::no_watchers;
 use ln_base::limits::{MOST_GRADED, MOST_WEIGHT};
@@ -62,7 +63,7 @@ pub fn graded_first(
     ensures few { OnOk result ((preds : List PredOf) → AreNumbered (map pred_of c.now.table.preds) numbers.now preds → FirstHasFew preds) }
     ensures kept { IfOk result (KeepsGraded (map pred_of c.now.table.preds) numbers.now) }
     ensures err { IfErr result (λ s. (preds : List PredOf) → AreNumbered (map pred_of c.now.table.preds) numbers.now preds
-        → Refuses graded_signature.suits bytes.now preds s) }
+        → Refuses FewStages bytes.now preds s) }
     ensures quiet { result ≢ Err Stop.Read }
 {
     match numbers {
@@ -81,12 +82,10 @@ pub fn graded_first(
 /// Writes a line for each record after the header, by total degree first; or refuses the header. The watchers are shown nothing. No operation of the
 /// program that it runs leaves its width.
 pub fn work<C: Console>(alloc: Global, con: &mut C, ready: &Ready) -> Result<End, Early>
-    requires ready { IsReadyFor graded_signature ready.now }
-    requires kept { KeepsGraded (map pred_of ready.now.compiled.table.preds) ready.now.numbers.items ready.now.kept }
+    requires { IsReadyFor graded_signature ready.now }
     ensures { (g : Given) → StandsFor ready.now g
-        → CarriesOut (GradedSaid g) (RunPart ByDegree [] g) ⊥ ⊥
-        (count (C.faults con.old) (C.faults con.new)) result (C.shown con.old) (C.shown con.new) }
+        → OnConsole C.faults C.shown con.old result con.new (CarriesOut (GradedSaid g) (RunPart ByDegree [] g) ⊥ ⊥) }
 {
-    let target = degree_target(ready);
+    let target = one_target(alloc, ready)?;
     put_lines(alloc, con, &target, short_text(ready), no_watchers(alloc))
 }

@@ -1,13 +1,11 @@
 //! The named predicates as they are run.
-ghost use Rattle.std.specs.Prelude.{◌≡◌, IfOk, length, map};
-ghost use Rattle.ln_algebra.specs.Orders.{ByDegree, BySmallest};
+ghost use Rattle.std.specs.Prelude.{◌≡◌, IfOk, IfSome, length, map, slice_index_or};
 ghost use Rattle.ln_tree.specs.Table.{pred_of};
 ghost use Rattle.ln_top.specs.Frame.Given.{Given};
 ghost use Rattle.ln_top.specs.Frame.Ready.{HasStanding, IsReadyFor, StandsFor};
-ghost use Rattle.ln_top.specs.Signs.Graded.{KeepsGraded};
+ghost use Rattle.ln_top.specs.Signs.Graded.{IsGradedAt, rank_kept};
 ghost use Rattle.ln_top.specs.Signs.Named.{AreGivenBy, IsGivenBy};
 ghost use Rattle.ln_top.specs.Signs.Product.{product_signature};
-ghost use Rattle.ln_top.specs.Signs.Run.{graded_signature};
 ghost use Rattle.ln_top.specs.Target.Factors.{AreFactors};
 ghost use Rattle.ln_top.specs.Target.Target.{Belongs};
 
@@ -17,28 +15,22 @@ use crate::target::factors::Factors;
 use ln_base::NoMemory;
 use std::alloc::Global;
 
-/// The one named predicate, with its program.
+/// The one named predicate, with its program: the one that is kept, or else one that is made here.
 pub fn one_target(alloc: Global, ready: &Ready) -> Result<Target<'_>, NoMemory>
     requires stands { HasStanding ready.now }
     requires one { length ready.now.numbers.items ≡ 1 }
+    requires kept { IfSome ready.now.kept (IsGradedAt (map pred_of ready.now.compiled.table.preds) (slice_index_or ready.now.numbers.items 0 0)) }
     ensures given { IfOk result (λ t. (g : Given) → StandsFor ready.now g → IsGivenBy g t) }
-    ensures rank { IfOk result (λ t. t.rank ≡ BySmallest) }
+    ensures rank { IfOk result (λ t. t.rank ≡ rank_kept ready.now.kept) }
+    ensures belongs { IfOk result (λ t. Belongs t.rank t.pred t.program) }
 {
-    let target = Target::new(alloc, &ready.compiled, ready.numbers.as_slice()[0])?;
-    Ok(target)
-}
-
-/// The one named predicate, with its program by total degree, which is ready.
-pub fn degree_target(ready: &Ready) -> Target<'_>
-    requires ready { IsReadyFor graded_signature ready.now }
-    requires kept { KeepsGraded (map pred_of ready.now.compiled.table.preds) ready.now.numbers.items ready.now.kept }
-    ensures given { (g : Given) → StandsFor ready.now g → IsGivenBy g result }
-    ensures rank { result.rank ≡ ByDegree }
-    ensures belongs { Belongs result.rank result.pred result.program }
-{
+    let i = ready.numbers.as_slice()[0];
     match &ready.kept {
-        Some(program) => { Target::graded(&ready.compiled, ready.numbers.as_slice()[0], program) }
-        None => unreachable!(),
+        Some(program) => Ok(Target::graded(&ready.compiled, i, program)),
+        None => {
+            let target = Target::new(alloc, &ready.compiled, i)?;
+            Ok(target)
+        }
     }
 }
 

@@ -7,7 +7,7 @@ ghost use Rattle.ln_top.specs.Target.Factors.{AreProgramsAt, IsInRangeOf, IsRead
 ghost use Rattle.ln_top.specs.Target.Line.{with_verdicts};
 ghost use Rattle.ln_top.specs.Signs.Product.{ProductPart, ProductSaid, SaysProduct, product_signature, ProductLine};
 ghost use Rattle.ln_top.specs.Frame.Ready.{IsReadyFor, StandsFor};
-ghost use Rattle.ln_top.specs.Frame.Said.{count};
+ghost use Rattle.ln_top.specs.Frame.Said.{OnConsole};
 ghost use Rattle.ln_top.specs.Frame.Given.{Given};
 ghost use Rattle.ln_top.specs.Signs.Run.{piece_room};
 
@@ -94,8 +94,8 @@ impl<'a> RecordWriter for Factors<'a> {
 /// Writes a line for each record after the header, or refuses the header. No operation of a factor's program leaves its width.
 pub fn work<C: Console>(alloc: Global, con: &mut C, ready: &Ready) -> Result<End, Early>
     requires { IsReadyFor product_signature ready.now }
-    ensures { (g : Given) → StandsFor ready.now g → CarriesOut (ProductSaid g) (ProductPart g) ⊥ ⊥
-        (count (C.faults con.old) (C.faults con.new)) result (C.shown con.old) (C.shown con.new) }
+    ensures { (g : Given) → StandsFor ready.now g → OnConsole C.faults C.shown con.old result con.new
+        (CarriesOut (ProductSaid g) (ProductPart g) ⊥ ⊥) }
 {
     let factors = product_factors(alloc, ready)?;
     put_lines(alloc, con, &factors, short_text(ready), no_watchers(alloc))

@@ -11,7 +11,7 @@ ghost use Rattle.ln_top.specs.Frame.Lines.{Closes, Gathers, Takes};
 ghost use Rattle.ln_top.specs.Signs.Rows.{RowStep, RowsPart, RowsSaid};
 ghost use Rattle.ln_top.specs.Signs.Run.{HasRecords, end_of, piece_room, piece};
 ghost use Rattle.ln_rows.specs.Header.{names_of};
-ghost use Rattle.ln_top.specs.Frame.Said.{count};
+ghost use Rattle.ln_top.specs.Frame.Said.{OnConsole};
 ghost use Rattle.ln_top.specs.Frame.Given.{Given};
 ghost use Rattle.ln_top.specs.Signs.Watching.{watching};
 ghost use Rattle.ln_watch.specs.Panel.{last_lines, states_of};
@@ -126,11 +126,10 @@ fn take_record<C: Console, W: RecordWriter>(
     requires few { viewers.old.seen + 1 < 2 ^ 32 }
     ensures takes { (fields : List (List ℕ)) → IsReadOf (W.over writer.now) fields found.entry.read found.entry.row.now
         → (ps : List PredOf) → W.knows writer.now ps
-        → Takes (RowStep (W.line writer.now ps (pred_of (W.over writer.now)) (W.columns writer.now))) (is_row (pred_of (W.over writer.now)))
+        → OnConsole C.faults C.shown con.old result con.new
+        (Takes (RowStep (W.line writer.now ps (pred_of (W.over writer.now)) (W.columns writer.now))) (is_row (pred_of (W.over writer.now)))
         (watching viewers.old.seen (states_of kind_of tally_of viewers.old.panel.watchers.items)) fields
-        (count (C.faults con.old) (C.faults con.new)) result text.old.items text.new.items
-        (C.shown con.old) (C.shown con.new)
-        (watching viewers.new.seen (states_of kind_of tally_of viewers.new.panel.watchers.items)) }
+        text.old.items text.new.items (watching viewers.new.seen (states_of kind_of tally_of viewers.new.panel.watchers.items))) }
     ensures seen { OnOk result (viewers.new.seen ≡ viewers.old.seen + 1) }
     ensures fits { W.fits writer.now room.new }
     ensures space { W.space writer.now (vec_capacity text.new) }
@@ -159,10 +158,10 @@ fn put_records<C: Console, W: RecordWriter>(
     requires few { viewers.old.seen + length rows.old < 2 ^ 32 }
     requires empty { text.old.items ≡ [] }
     ensures { (ps : List PredOf) → W.knows writer.now ps
-        → Gathers (RowStep (W.line writer.now ps (pred_of (W.over writer.now)) (W.columns writer.now))) (is_row (pred_of (W.over writer.now)))
+        → OnConsole C.faults C.shown con.old result con.new
+        (Gathers (RowStep (W.line writer.now ps (pred_of (W.over writer.now)) (W.columns writer.now))) (is_row (pred_of (W.over writer.now)))
         (watching viewers.old.seen (states_of kind_of tally_of viewers.old.panel.watchers.items)) rows.old
-        (count (C.faults con.old) (C.faults con.new)) result text.new.items (C.shown con.old) (C.shown con.new)
-        (watching viewers.new.seen (states_of kind_of tally_of viewers.new.panel.watchers.items)) }
+        text.new.items (watching viewers.new.seen (states_of kind_of tally_of viewers.new.panel.watchers.items))) }
 {
     let mut row = Row {
         index: [0; 5],
@@ -189,8 +188,8 @@ fn put_records<C: Console, W: RecordWriter>(
 
 // Writes the lines of the watchers that remain after the records.
 fn close_after<C: Console>(con: &mut C, panel: Panel, good: bool) -> Result<End, Early>
-    ensures { Closes (last_lines (states_of kind_of tally_of panel.watchers.items)) (end_of good)
-        (count (C.faults con.old) (C.faults con.new)) result (C.shown con.old) (C.shown con.new) }
+    ensures { OnConsole C.faults C.shown con.old result con.new
+        (Closes (last_lines (states_of kind_of tally_of panel.watchers.items)) (end_of good)) }
 {
     match panel.close(con, Port::Err) {
         Ok(()) => Ok(end_of(good)),
@@ -209,9 +208,9 @@ fn put_rows<C: Console, W: RecordWriter>(
     requires few { length rows.old < 2 ^ 32 }
     ensures { (g : Given) → W.knows writer.now g.preds
         → HasRecords g (pred_of (W.over writer.now)) (W.columns writer.now) (W.columns writer.now ∷ rows.old)
-        → CarriesOut (RowsSaid (W.begins writer.now) (W.line writer.now g.preds) (states_of kind_of tally_of watchers.items) g)
-        (RowsPart (W.begins writer.now) (W.line writer.now g.preds) (states_of kind_of tally_of watchers.items) g) ⊥ ⊥
-        (count (C.faults con.old) (C.faults con.new)) result (C.shown con.old) (C.shown con.new) }
+        → OnConsole C.faults C.shown con.old result con.new
+        (CarriesOut (RowsSaid (W.begins writer.now) (W.line writer.now g.preds) (states_of kind_of tally_of watchers.items) g)
+        (RowsPart (W.begins writer.now) (W.line writer.now g.preds) (states_of kind_of tally_of watchers.items) g) ⊥ ⊥) }
 {
     let mut room = writer.make_room(alloc)?;
     let mut text = Vec::with_capacity(alloc, PIECE + ROOM)?;
@@ -237,9 +236,9 @@ fn put_from_header<C: Console, W: RecordWriter>(
 ) -> Result<End, Early>
     requires few { length rows.old < 2 ^ 32 }
     ensures { (g : Given) → W.knows writer.now g.preds → HasRecords g (pred_of (W.over writer.now)) (W.columns writer.now) rows.old
-        → CarriesOut (RowsSaid (W.begins writer.now) (W.line writer.now g.preds) (states_of kind_of tally_of watchers.items) g)
-        (RowsPart (W.begins writer.now) (W.line writer.now g.preds) (states_of kind_of tally_of watchers.items) g) ⊥ ⊥
-        (count (C.faults con.old) (C.faults con.new)) result (C.shown con.old) (C.shown con.new) }
+        → OnConsole C.faults C.shown con.old result con.new
+        (CarriesOut (RowsSaid (W.begins writer.now) (W.line writer.now g.preds) (states_of kind_of tally_of watchers.items) g)
+        (RowsPart (W.begins writer.now) (W.line writer.now g.preds) (states_of kind_of tally_of watchers.items) g) ⊥ ⊥) }
 {
     match rows.header(writer.table(), writer.pred()) {
         Ok(true) => put_rows(alloc, con, writer, rows, watchers),
@@ -259,9 +258,9 @@ pub(crate) fn put_lines<C: Console, W: RecordWriter>(
     requires short { length text.now ≤ most_file }
     ensures { (g : Given) → W.knows writer.now g.preds
         → HasRecords g (pred_of (W.over writer.now)) (W.columns writer.now) (records_in text.now)
-        → CarriesOut (RowsSaid (W.begins writer.now) (W.line writer.now g.preds) (states_of kind_of tally_of watchers.items) g)
-        (RowsPart (W.begins writer.now) (W.line writer.now g.preds) (states_of kind_of tally_of watchers.items) g) ⊥ ⊥
-        (count (C.faults con.old) (C.faults con.new)) result (C.shown con.old) (C.shown con.new) }
+        → OnConsole C.faults C.shown con.old result con.new
+        (CarriesOut (RowsSaid (W.begins writer.now) (W.line writer.now g.preds) (states_of kind_of tally_of watchers.items) g)
+        (RowsPart (W.begins writer.now) (W.line writer.now g.preds) (states_of kind_of tally_of watchers.items) g) ⊥ ⊥) }
 {
     let mut rows = Rows::new(alloc, text)?;
     put_from_header(alloc, con, writer, &mut rows, watchers)

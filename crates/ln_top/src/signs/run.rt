@@ -7,7 +7,7 @@ ghost use Rattle.ln_top.specs.Frame.Carried.{CarriesOut};
 ghost use Rattle.ln_top.specs.Target.Line.{Says, is_bare_record, line_room, said_text};
 ghost use Rattle.ln_top.specs.Frame.Ready.{IsReadyFor, StandsFor};
 ghost use Rattle.ln_top.specs.Signs.Run.{run_signature, piece_room};
-ghost use Rattle.ln_top.specs.Frame.Said.{count, line};
+ghost use Rattle.ln_top.specs.Frame.Said.{OnConsole, line};
 ghost use Rattle.ln_top.specs.Frame.Given.{Given};
 ghost use Rattle.ln_top.specs.Target.Factors.{IsInRangeOf, IsReadOf};
 ghost use Rattle.ln_top.specs.Target.Target.{pred_in};
@@ -129,9 +129,8 @@ pub fn work<C: Console>(
 ) -> Result<End, Early>
     requires { IsReadyFor run_signature ready.now }
     ensures { (g : Given) → StandsFor ready.now g
-        → CarriesOut (RunSaid BySmallest (states_of kind_of tally_of watchers.items) g)
-        (RunPart BySmallest (states_of kind_of tally_of watchers.items) g) ⊥ ⊥
-        (count (C.faults con.old) (C.faults con.new)) result (C.shown con.old) (C.shown con.new) }
+        → OnConsole C.faults C.shown con.old result con.new (CarriesOut (RunSaid BySmallest (states_of kind_of tally_of watchers.items) g)
+        (RunPart BySmallest (states_of kind_of tally_of watchers.items) g) ⊥ ⊥) }
 {
     let target = one_target(alloc, ready)?;
     put_lines(alloc, con, &target, short_text(ready), watchers)

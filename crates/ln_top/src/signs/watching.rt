@@ -1,7 +1,7 @@
 //! Watchers that see the records.
 ghost use Rattle.std.specs.Prelude.{◌≡◌, [], true, ◌<◌, ◌+◌, ◌^◌};
 ghost use Rattle.ln_top.specs.Frame.Lines.{WroteBoth, WroteOn};
-ghost use Rattle.ln_top.specs.Frame.Said.{count};
+ghost use Rattle.ln_top.specs.Frame.Said.{OnConsole};
 ghost use Rattle.ln_top.specs.Signs.Watching.{next, next_lines, watching};
 ghost use Rattle.ln_watch.specs.Panel.{left_after, lines_at, states_of};
 
@@ -33,8 +33,8 @@ pub(crate) fn show<C: Console>(
     row: u64,
     v: &Verdict,
 ) -> bool
-    ensures wrote { WroteOn port (lines_at row v.now (states_of kind_of tally_of panel.old.watchers.items))
-        (count (C.faults con.old) (C.faults con.new)) result (C.shown con.old) (C.shown con.new) }
+    ensures wrote { OnConsole C.faults C.shown con.old result con.new
+        (WroteOn port (lines_at row v.now (states_of kind_of tally_of panel.old.watchers.items))) }
     ensures left { result ≡ true → states_of kind_of tally_of panel.new.watchers.items
         ≡ left_after row v.now (states_of kind_of tally_of panel.old.watchers.items) }
 {
@@ -47,9 +47,8 @@ pub(crate) fn show<C: Console>(
 /// Shows the verdict on the next record, if it has one, to the watchers, and returns whether all that was to be written to Err was written.
 pub(crate) fn view<C: Console>(con: &mut C, viewers: &mut Viewers, shown: Option<Verdict>) -> bool
     requires { viewers.old.seen + 1 < 2 ^ 32 }
-    ensures wrote { WroteBoth []
-        (next_lines shown (watching viewers.old.seen (states_of kind_of tally_of viewers.old.panel.watchers.items)))
-        (count (C.faults con.old) (C.faults con.new)) result (C.shown con.old) (C.shown con.new) }
+    ensures wrote { OnConsole C.faults C.shown con.old result con.new (WroteBoth []
+        (next_lines shown (watching viewers.old.seen (states_of kind_of tally_of viewers.old.panel.watchers.items)))) }
     ensures left { result ≡ true → watching viewers.new.seen (states_of kind_of tally_of viewers.new.panel.watchers.items)
         ≡ next shown (watching viewers.old.seen (states_of kind_of tally_of viewers.old.panel.watchers.items)) }
     ensures seen { viewers.new.seen ≡ viewers.old.seen + 1 }

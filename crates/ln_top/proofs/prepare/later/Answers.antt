@@ -17,13 +17,19 @@ pub returns-in-Err-suited-clause-err : goal.returns-in-Err-suited-clause-err
 returns-in-Err-suited-clause-err g c =
     let n = c.in-Ok.ensures.ok in
     suits_stop (with_bytes c.args.plan) (g.F.Files.told c.args.files.now) _ _ n.preds _ _ c.requires.read c.requires.compiles n.found
-    ((rw c.deref.ensures.value at c.in-Err-suited.ensures.err) n.preds n.numbered)
+    ((rw (c.deref.ensures.value, c.asked.ensures) at c.in-Err-suited.ensures.err) n.preds n.numbered)
 
 pub returns-in-Err-texts-clause-err : goal.returns-in-Err-texts-clause-err
 returns-in-Err-texts-clause-err g c =
     let n = c.in-Ok.ensures.ok in
     files_stop (with_bytes c.args.plan) (g.F.Files.told c.args.files.now) _ _ n.preds _ _ c.requires.read c.requires.compiles n.found
-    ((rw c.deref.ensures.value at c.in-Ok-suited.ensures.ok) n.preds n.numbered) c.in-Err-texts.ensures.err
+    ((rw (c.deref.ensures.value, c.asked.ensures) at c.in-Ok-suited.ensures.ok) n.preds n.numbered) c.in-Err-texts.ensures.err
 
 pub returns-in-Err-texts-clause-quiet : goal.returns-in-Err-texts-clause-quiet
 returns-in-Err-texts-clause-quiet g c n = c.in-Err-texts.ensures.quiet (λ e. n (ap Err (err_same e)))
+
+pub returns-in-Ok-texts-clause-asked : goal.returns-in-Ok-texts-clause-asked
+returns-in-Ok-texts-clause-asked g c = rw (c.deref.ensures.value, c.asked.ensures) at c.in-Ok-suited.ensures.ok
+
+pub returns-in-Ok-texts-clause-kept : goal.returns-in-Ok-texts-clause-kept
+returns-in-Ok-texts-clause-kept g c = rw (c.deref.ensures.value, c.asked.ensures) at c.in-Ok-suited.ensures.kept

@@ -19,8 +19,8 @@ pub returns-in-Err-clause-quiet : goal.returns-in-Err-clause-quiet
 returns-in-Err-clause-quiet g c n m =
     c.prepare.ensures.quiet (λ e. says_read _ _ _ _ _ (err_same (sym c.in-Err.is ∙ e)) n m c.say.ensures)
 
-pub work-ended-requires-clause-ready : goal.work-ended-requires-clause-ready
-work-ended-requires-clause-ready g c =
+pub work-ended-requires : goal.work-ended-requires
+work-ended-requires g c =
     ready_for (with_bytes c.args.plan) (g.F.Files.told c.args.files.now) c.in-Ok.ready c.in-Ok.ensures.ok c.requires
     (c.in-Ok.ensures.numbers ∙ sym (length-map c.args.plan.names.now string_bytes))
-    (c.in-Ok.ensures.texts ∙ sym (length-map c.args.plan.files.now string_bytes))
+    (c.in-Ok.ensures.texts ∙ sym (length-map c.args.plan.files.now string_bytes)) c.in-Ok.ensures.kept

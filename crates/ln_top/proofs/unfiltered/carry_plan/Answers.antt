@@ -25,4 +25,4 @@ pub work-requires : goal.work-requires
 work-requires g c =
     (ready_for (with_bytes c.args.plan) (g.F.Files.told c.args.files.now) c.in-Ok.ready c.in-Ok.ensures.ok c.requires
     (c.in-Ok.ensures.numbers ∙ sym (length-map c.args.plan.names.now string_bytes))
-    (c.in-Ok.ensures.texts ∙ sym (length-map c.args.plan.files.now string_bytes))).stands
+    (c.in-Ok.ensures.texts ∙ sym (length-map c.args.plan.files.now string_bytes)) c.in-Ok.ensures.kept).stands

@@ -11,3 +11,8 @@ pub invariant_of-result : goal.invariant_of-result
 invariant_of-result c =
     let there = slice_get-map pred_of c.args.c.now.table.preds _ ∙ ap (option_map pred_of) c.pred.ensures in
     record { kept = c.blocks-blocks.ensures.kept; answers = answers_for _ _ (c.in_ok-program.ensures.program _ there) }
+
+pub returns-clause-belongs : goal.returns-clause-belongs
+returns-clause-belongs c =
+    let there = slice_get-map pred_of c.args.c.now.table.preds _ ∙ ap (option_map pred_of) c.pred.ensures in
+    record { kept = c.blocks-blocks.ensures.kept; answers = answers_for _ _ (c.in_ok-program.ensures.program _ there) }
