@@ -1,6 +1,6 @@
 -- A file without a fault is within the limits: the table's tests, turned round.
-use Rattle.std.proofs.Common.{◌≡◌, ℕ, zero, suc, ◌+◌, ◌-◌, ◌≤◌, ◌==◌, Bool, true, false, cond, not, ◌||◌, nat_lt, List, [], ◌∷◌, ◌++◌}
-use Rattle.std.proofs.Common.{length, Option, Some, None, refl, sym, true≢false, subst, arith}
+use Rattle.std.proofs.Common.{◌≡◌, ℕ, zero, suc, ◌+◌, ◌-◌, ◌≤◌, ◌==◌, Bool, true, false, cond, not, ◌||◌, nat_lt, List, []}
+use Rattle.std.proofs.Common.{◌∷◌, ◌++◌, length, Option, Some, None, refl, sym, true≢false, subst, arith}
 use Rattle.std.specs.Prelude.{count_by, int_lt, ℤ, pos, negsuc, ◌≤ℤ◌}
 use Rattle.std.specs.List.{list_any}
 use Rattle.std.proofs.lemmas.List.{length-append, append_assoc, append-nil}
@@ -8,13 +8,9 @@ use Rattle.std.proofs.lemmas.List.Sums.{sum_by-append}
 use Rattle.std.proofs.lemmas.Bool.{ltb-false}
 use Rattle.std.proofs.lemmas.Bool.Decides.{nat_tests}
 use Rattle.std.proofs.lemmas.Int.{ints}
-use Rattle.ln_lex.specs.declared.token.Token.{Token}
-use Rattle.ln_syntax.specs.declared.raw.RawRange.{RawRange}
-use Rattle.ln_syntax.specs.declared.raw.RawCoord.{RawCoord}
-use Rattle.ln_syntax.specs.declared.raw.RawArg.{RawArg}
-use Rattle.ln_syntax.specs.declared.raw.RawLet.{RawLet}
-use Rattle.ln_syntax.specs.declared.raw.Places.{Places}
-use Rattle.ln_syntax.specs.Raw.{Item, SiteItem, ParamItem, PredItem, is_site, is_param, is_pred, text, same, span_at}
+use Rattle.ln_syntax.specs.Raw.{Token, Item, SiteItem, ParamItem, PredItem, is_site, is_param, is_pred, text, same, span_at}
+use Rattle.ln_names.specs.Rules.{RawRange, RawCoord, RawArg, RawLet, Places, InputNode, OperatorNode, Scope, scope, ArgSite, ArgParam, is_site_arg}
+use Rattle.ln_names.specs.Rules.{is_param_arg, has_site, has_param, has_site_arg, has_param_arg, has_let, coords_at, fault_at}
 use Rattle.ln_names.specs.declared.faults.Fault.{Fault}
 use Rattle.ln_names.specs.declared.roles.Role.{Role}
 use Rattle.ln_names.specs.declared.roles.Role.TheVariants.{Value, AfterCaret, Bare, Input, AfterDot, Operator, Caret}
@@ -23,11 +19,8 @@ use Rattle.ln_names.specs.Numbers.{number, end_value, most_end}
 use Rattle.ln_names.proofs.Trees.{Judged, judge, judged}
 use Rattle.ln_names.proofs.Machine.{tokens_of}
 use Rattle.ln_syntax.specs.Expression.{Tree, TNum, TName, TInput, TNeg, TAdd, TSub, TMul, TPow}
-use Rattle.ln_names.specs.Rules.{InputNode, OperatorNode}
-use Rattle.ln_names.specs.Rules.{Scope, scope, ArgSite, ArgParam, is_site_arg, is_param_arg, has_site, has_param, has_site_arg}
-use Rattle.ln_names.specs.Rules.{has_param_arg, has_let, coords_at, fault_at}
-use Rattle.ln_names.specs.Visits.{Visit, visits_by, range_visits, coord_visits, arg_visits, role_at, is_node_at, token_visits, expr_visits}
-use Rattle.ln_names.specs.Visits.{nodes, value_visits, value_nodes, nodes_before, let_visits, pred_visits, item_visits}
+use Rattle.ln_names.specs.Visits.{Visit, visits_by, range_visits, coord_visits, arg_visits, role_at, is_node_at, token_visits, expr_visits, nodes, value_visits}
+use Rattle.ln_names.specs.Visits.{value_nodes, nodes_before, let_visits, pred_visits, item_visits}
 use Rattle.ln_names.specs.First.{Clean, NoFault}
 use Rattle.ln_names.specs.Limits.{Each, RangeWithin, CoordWithin, IsKnown, ArgWithin, Fit, ValueWithin, LetWithin, PredWithin, ItemWithin, FileWithin}
 

@@ -1,9 +1,8 @@
 -- The table of a text.
 use Rattle.std.specs.Prelude.{ℕ, ◌≤◌, List, length}
 use Rattle.ln_base.specs.Limits.{most_tokens}
-use Rattle.ln_lex.specs.declared.token.Token.{Token}
+use Rattle.ln_syntax.specs.Raw.{Token, Item}
 use Rattle.ln_lex.specs.Tokens.{Lexed}
-use Rattle.ln_syntax.specs.Raw.{Item}
 use Rattle.ln_syntax.specs.File.{Spelt}
 use Rattle.ln_syntax.specs.Place.{IsShallow}
 use Rattle.ln_names.specs.First.{NoFault}

@@ -1,15 +1,16 @@
 -- The items of a file, without where they lie in memory, and the tokens by their places.
 use Rattle.std.specs.Prelude.{◌≡◌, ℕ, ◌-◌, Bool, true, false, List, [], Option, Some}
 use Rattle.std.specs.Prelude.{None, option_map, slice_get, take, drop, map, bytes_eq}
-use Rattle.ln_base.specs.declared.span.Span.{Span}
-use Rattle.ln_lex.specs.declared.token.Token.{Token}
+pub use Rattle.ln_base.specs.declared.span.Span.{Span}
+pub use Rattle.ln_lex.specs.declared.token.Token.{Token}
 use Rattle.ln_lex.specs.declared.token.Kind.{Kind}
-use Rattle.ln_syntax.specs.declared.raw.RawRange.{RawRange}
-use Rattle.ln_syntax.specs.declared.raw.RawCoord.{RawCoord}
-use Rattle.ln_syntax.specs.declared.raw.RawArg.{RawArg}
-use Rattle.ln_syntax.specs.declared.raw.RawLet.{RawLet}
-use Rattle.ln_syntax.specs.declared.raw.Places.{Places}
-use Rattle.ln_syntax.specs.declared.raw.RawItem.{RawItem}
+pub use Rattle.ln_syntax.specs.declared.raw.RawEnd.{RawEnd}
+pub use Rattle.ln_syntax.specs.declared.raw.RawRange.{RawRange}
+pub use Rattle.ln_syntax.specs.declared.raw.RawCoord.{RawCoord}
+pub use Rattle.ln_syntax.specs.declared.raw.RawArg.{RawArg}
+pub use Rattle.ln_syntax.specs.declared.raw.RawLet.{RawLet}
+pub use Rattle.ln_syntax.specs.declared.raw.Places.{Places}
+pub use Rattle.ln_syntax.specs.declared.raw.RawItem.{RawItem}
 use Rattle.ln_syntax.specs.declared.raw.RawItem.TheVariants.{Site, Param, Pred}
 
 -- a site type, a param, or a predicate: the spans of its names and numbers, the token places of its expressions

@@ -1,8 +1,7 @@
 //! What tokens spell is one: no tokens have two trees or two lists of items.
 ghost use Rattle.std.specs.Prelude.{◌≡◌, ℕ, List};
-ghost use Rattle.ln_lex.specs.declared.token.Token.{Token as TokenOf};
+ghost use Rattle.ln_syntax.specs.Raw.{Token as TokenOf, Item, Is};
 ghost use Rattle.ln_lex.specs.declared.token.Kind.TheVariants.{Semi};
-ghost use Rattle.ln_syntax.specs.Raw.{Item, Is};
 ghost use Rattle.ln_syntax.specs.Expression.{Tree, Sum, Derives};
 ghost use Rattle.ln_syntax.specs.File.{Spelt};
 

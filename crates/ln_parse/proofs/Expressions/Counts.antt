@@ -1,10 +1,8 @@
 -- How many nodes an expression has, by its tokens.
 use Rattle.std.proofs.Common.{◌≡◌, ℕ, ◌+◌, ◌-◌, List, [], Option, Some, None, ap, refl, arith}
 use Rattle.std.specs.Prelude.{position}
-use Rattle.ln_base.specs.declared.span.Span.{Span}
-use Rattle.ln_lex.specs.declared.token.Token.{Token}
+use Rattle.ln_syntax.specs.Raw.{Span, Token, Is, same}
 use Rattle.ln_lex.specs.declared.token.Kind.TheVariants.{Semi}
-use Rattle.ln_syntax.specs.Raw.{Is, same}
 use Rattle.ln_syntax.specs.Expression.{Tree, TNum, TName, TInput, TNeg, TAdd, TSub, TMul, TPow, Derives, Sum}
 use Rattle.ln_names.specs.Nodes.{Begins}
 use Rattle.ln_names.specs.Rules.{Scope, OperatorNode}

@@ -1,20 +1,17 @@
 -- Nodes in postfix order are the formula of their tree.
-use Rattle.std.proofs.Common.{◌≡◌, ℕ, ◌+◌, ◌≤◌, ◌<◌, ◌&&◌, List, [], ◌∷◌, ◌++◌, length, get_or, drop, drop-cons, add-one, map, reverse, Bool, Option}
-use Rattle.std.proofs.Common.{Some, None, refl, sym, ◌∙◌, subst, arith}
+use Rattle.std.proofs.Common.{◌≡◌, ℕ, ◌+◌, ◌≤◌, ◌<◌, ◌&&◌, List, [], ◌∷◌, ◌++◌, length, get_or, drop, drop-cons, add-one}
+use Rattle.std.proofs.Common.{map, reverse, Bool, Option, Some, None, refl, sym, ◌∙◌, subst, arith}
 use Rattle.std.specs.List.{position_from}
 use Rattle.std.specs.Prelude.{unwrap_or}
 use Rattle.std.proofs.lemmas.List.{length-reverse, length-map}
-use Rattle.ln_base.specs.declared.span.Span.{Span}
-use Rattle.ln_lex.specs.declared.token.Token.{Token}
-use Rattle.ln_syntax.specs.declared.raw.Places.{Places}
-use Rattle.ln_syntax.specs.Raw.{same}
+use Rattle.ln_syntax.specs.Raw.{Span, Token, same}
+use Rattle.ln_names.specs.Rules.{Places, Scope, is_site_arg, is_param_arg, coords_at}
 use Rattle.ln_syntax.specs.Expression.{Tree, TNum, TName, TInput, TNeg, TAdd, TSub, TMul, TPow}
 use Rattle.ln_names.specs.declared.nodes.Node.{Node}
 use Rattle.ln_names.specs.declared.resolve.ArgKind.TheVariants.{Site, Param}
 use Rattle.ln_names.specs.Nodes as nodes
 use Rattle.ln_names.specs.Nodes.{postfix, named, AreNodes}
 use Rattle.ln_names.specs.Resolve.{is_arg, let_place, arg_place, coord_place}
-use Rattle.ln_names.specs.Rules.{Scope, is_site_arg, is_param_arg, coords_at}
 use Rattle.ln_names.proofs.Lists.{place_below}
 use Rattle.ln_tree.specs.declared.expr.Expr.{Expr}
 use Rattle.ln_tree.specs.Formula.{Formula, formula}

@@ -1,22 +1,18 @@
 -- The items of a canonical text say the table's, and their tokens have no fault.
-use Rattle.std.proofs.Common.{◌≡◌, ℕ, suc, ◌<◌, ◌≤◌, ◌^◌, Bool, true, false, List, [], ◌∷◌, ◌++◌, length, map}
-use Rattle.std.proofs.Common.{None, refl, ap, sym, ◌∙◌, subst, arith, append_assoc, append-nil, length-append}
+use Rattle.std.proofs.Common.{◌≡◌, ℕ, suc, ◌<◌, ◌≤◌, ◌^◌, Bool, true, false, List, [], ◌∷◌, ◌++◌, length, map, None, refl, ap}
+use Rattle.std.proofs.Common.{sym, ◌∙◌, subst, arith, append_assoc, append-nil, length-append}
 use Rattle.std.specs.Prelude.{int_lt, unsigned_abs, count_by, filter_map, Option}
 use Rattle.std.specs.List.{list_any}
 use Rattle.std.proofs.lemmas.Bool.Decides.{nat_tests}
 use Rattle.std.proofs.lemmas.Int.{ints}
 use Rattle.std.proofs.lemmas.List.{length-map}
 use Rattle.std.proofs.lemmas.List.Elements.{filter_map-append}
-use Rattle.ln_base.specs.declared.span.Span.{Span}
-use Rattle.ln_lex.specs.declared.token.Token.{Token}
+use Rattle.ln_syntax.specs.Raw.{Span, Token, Item, item_name, is_site, is_param, is_pred, text, same}
 use Rattle.ln_lex.specs.declared.token.Kind.TheVariants.{Sign}
-use Rattle.ln_syntax.specs.declared.raw.RawRange.{RawRange}
-use Rattle.ln_syntax.specs.declared.raw.RawCoord.{RawCoord}
-use Rattle.ln_syntax.specs.Raw.{Item, item_name, is_site, is_param, is_pred, text, same}
+use Rattle.ln_names.specs.Rules.{RawRange, RawCoord, SiteName, ParamName, PredName, fault_at}
 use Rattle.ln_syntax.specs.File as file
 use Rattle.ln_base.specs.Limits.{most_literal}
 use Rattle.ln_names.specs.Numbers.{number, signed, end_value, most_end}
-use Rattle.ln_names.specs.Rules.{SiteName, ParamName, PredName, fault_at}
 use Rattle.ln_names.specs.Visits.{visits_by, range_visits, coord_visits, item_visits}
 use Rattle.ln_names.specs.First.{Clean}
 use Rattle.ln_tree.specs.Table.{CoordOf, SiteOf, PredOf, TableOf}

@@ -2,10 +2,9 @@
 use Rattle.std.proofs.Common.{◌≡◌, ℕ, true, List, [], length, map, refl, ap, sym, ◌∙◌, subst, arith, append-nil}
 use Rattle.std.specs.Prelude.{count_by}
 use Rattle.std.proofs.lemmas.List.{length-map}
-use Rattle.ln_syntax.specs.declared.raw.RawLet.{RawLet}
+use Rattle.ln_names.specs.Rules.{RawLet, scope}
 use Rattle.ln_syntax.specs.Raw.{text}
 use Rattle.ln_syntax.specs.File.{Lets}
-use Rattle.ln_names.specs.Rules.{scope}
 use Rattle.ln_names.specs.Visits.{visits_by, arg_visits, let_visits, pred_visits, nodes_before}
 use Rattle.ln_names.specs.First.{Clean}
 use Rattle.ln_tree.specs.Formula.{tree}

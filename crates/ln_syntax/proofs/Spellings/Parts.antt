@@ -1,20 +1,13 @@
 -- The parts of an item, one after the other: what a part is, where it is, and where the next one begins.
-use Rattle.std.proofs.Common.{◌≡◌, true, false, ℕ, zero, suc, ◌+◌, ◌<◌, ◌≤◌, inl, inr, List, [], ◌∷◌, ◌++◌, length, refl, ap, sym, ◌∙◌}
-use Rattle.std.proofs.Common.{subst, arith, append_assoc, ◌^◌, Fits, w64}
+use Rattle.std.proofs.Common.{◌≡◌, true, false, ℕ, zero, suc, ◌+◌, ◌<◌, ◌≤◌, inl, inr, List, [], ◌∷◌, ◌++◌, length, refl, ap}
+use Rattle.std.proofs.Common.{sym, ◌∙◌, subst, arith, append_assoc, ◌^◌, Fits, w64}
 use Rattle.std.proofs.lemmas.Bool.{cases_lt}
-use Rattle.ln_base.specs.declared.span.Span.{Span}
-use Rattle.ln_lex.specs.declared.token.Token.{Token}
+use Rattle.ln_syntax.specs.Raw.{Span, Token, RawEnd, RawRange, RawCoord, RawArg, RawLet, Item, SiteItem, ParamItem, PredItem, Is, span_at}
 use Rattle.ln_lex.specs.declared.token.Kind.{Kind}
 use Rattle.ln_lex.specs.declared.token.Kind.TheVariants.{Name, Number, Site, Param, Let, Sign, BraceR, ParR, Colon, Semi, Comma, Dots, Minus}
-use Rattle.ln_syntax.specs.declared.raw.RawEnd.{RawEnd}
-use Rattle.ln_syntax.specs.declared.raw.RawRange.{RawRange}
-use Rattle.ln_syntax.specs.declared.raw.RawCoord.{RawCoord}
-use Rattle.ln_syntax.specs.declared.raw.RawArg.{RawArg}
-use Rattle.ln_syntax.specs.declared.raw.RawLet.{RawLet}
-use Rattle.ln_syntax.specs.Raw.{Item, SiteItem, ParamItem, PredItem, Is, span_at}
 use Rattle.ln_syntax.specs.Expression.{IsExpr}
-use Rattle.ln_syntax.specs.File.{End, plain, minus, Range, range, Coords, no_coord, coord, Arg, site_arg, param_arg, Args, last_arg}
-use Rattle.ln_syntax.specs.File.{more_args, Lets, no_let, a_let, IsItem, site, param, predicate, Items, no_item, an_item, Spelt}
+use Rattle.ln_syntax.specs.File.{End, plain, minus, Range, range, Coords, no_coord, coord, Arg, site_arg, param_arg, Args, last_arg, more_args, Lets, no_let}
+use Rattle.ln_syntax.specs.File.{a_let, IsItem, site, param, predicate, Items, no_item, an_item, Spelt}
 use Rattle.ln_syntax.specs.Reading.{HasEnd, HasRange, HasCoords, HasArg, HasArgs, HasLets, HasExpr}
 use Rattle.ln_syntax.proofs.Recognising.Ahead.{NoSemi, no_semi, one_end}
 use Rattle.ln_syntax.proofs.Spellings.OneSpelling.{end_same, range_same, coords_same, args_same, lets_same, item_same, no_more}

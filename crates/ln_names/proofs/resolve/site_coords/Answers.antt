@@ -1,6 +1,5 @@
 use Rattle.std.proofs.Common.{◌∙◌, ap, sym, ◌&&◌}
-use Rattle.ln_syntax.specs.Raw.{same, item_name, is_site}
-use Rattle.ln_syntax.specs.Raw.{coords_in}
+use Rattle.ln_syntax.specs.Raw.{same, item_name, is_site, coords_in}
 use Rattle.ln_names.proofs.Lists.{find_items}
 use Rattle.ln_names.proofs.resolve.site_coords.Goals as goal
 

@@ -1,9 +1,8 @@
 use Rattle.std.proofs.Common.{List, map, ap, ◌∙◌, arith}
-use Rattle.ln_syntax.specs.declared.raw.RawCoord.{RawCoord}
+use Rattle.ln_parse.specs.Says.{RawCoord, ranged}
 use Rattle.ln_tree.specs.declared.items.Coord.{Coord}
 use Rattle.ln_tree.specs.Table.{coord_of}
 use Rattle.ln_parse.specs.Ready.{ReadyCoord}
-use Rattle.ln_parse.specs.Says.{ranged}
 use Rattle.ln_parse.proofs.Building.Loops.{each_or}
 use Rattle.ln_parse.proofs.Building.Turns.{all_mapped, one_mapped, same_site_of}
 use Rattle.ln_parse.proofs.build.site.Goals as goal

@@ -1,9 +1,8 @@
 use Rattle.std.proofs.Common.{List, [], map, ap, subst, ◌∙◌, arith}
 use Rattle.std.proofs.lemmas.List.{map_push, take_all}
-use Rattle.ln_syntax.specs.declared.raw.RawLet.{RawLet}
+use Rattle.ln_names.specs.Rules.{RawLet, scope}
 use Rattle.ln_syntax.specs.Raw.{items}
 use Rattle.ln_names.specs.Nodes.{AreNodes}
-use Rattle.ln_names.specs.Rules.{scope}
 use Rattle.ln_names.proofs.Walking.{paired_next}
 use Rattle.ln_tree.specs.declared.expr.Expr.{Expr}
 use Rattle.ln_tree.specs.Formula.{formula}

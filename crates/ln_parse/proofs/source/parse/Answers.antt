@@ -1,10 +1,9 @@
 use Rattle.std.proofs.Common.{◌≡◌, true, List, sym, subst}
 use Rattle.std.proofs.lemmas.Result.{err_from_is_err_and}
 use Rattle.std.specs.Prelude.{All}
-use Rattle.ln_lex.specs.declared.token.Token.{Token}
+use Rattle.ln_syntax.specs.Raw.{Token, items}
 use Rattle.ln_lex.specs.Tokens.{IsSlice, Lexed}
 use Rattle.ln_syntax.specs.declared.raw.RawItem.{RawItem}
-use Rattle.ln_syntax.specs.Raw.{items}
 use Rattle.ln_names.specs.Nodes.{BodiesAre}
 use Rattle.ln_names.proofs.Faultless.{faultless_is_within}
 use Rattle.ln_tree.specs.Table.{table_of}
