@@ -1,9 +1,7 @@
 -- An expression is read as its tree says.
 use Rattle.std.proofs.Common.{◌≡◌, ℕ, suc, ◌+◌, ◌-◌, ◌<◌, ◌≤◌, nat_lt, Bool, true, false, cond, List, [], ◌∷◌, Option, Some}
 use Rattle.std.proofs.Common.{None, refl, ap, sym, ◌∙◌, subst, arith, add-one}
-use Rattle.ln_syntax.specs.Raw.{Span, Token, Is, kind_at, span_at}
-use Rattle.ln_lex.specs.declared.token.Kind.{Kind}
-use Rattle.ln_lex.specs.declared.token.Kind.TheVariants.{Name, Number, ParL, ParR, Dot, Plus, Minus, Star, Caret as CaretToken, Semi}
+use Rattle.ln_syntax.specs.Raw.{Span, Token, Is, kind_at, span_at, Kind, Name, Number, ParL, ParR, Dot, Plus, Minus, Star, Caret as CaretToken, Semi}
 use Rattle.ln_names.specs.Rules.{Places, Scope, OperatorNode}
 use Rattle.ln_syntax.specs.Expression.{Tree, TNum, TName, TInput, TAdd, TSub, TMul, TPow, Sort, Atom, Power, Unary, Term, Sum as SumOf, Factors, Terms, Derives}
 use Rattle.ln_syntax.specs.Expression.{number, name, input, parens, plain, power, base, minus, term, no_factor, times, sum, no_term, plus, less}

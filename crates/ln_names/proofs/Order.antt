@@ -1,9 +1,7 @@
 -- Each NAME and each NUMBER of a file is judged, in order of the text: rule by rule of the grammar.
 use Rattle.std.proofs.Common.{◌≡◌, ℕ, zero, suc, ◌+◌, ◌-◌, Bool, true, false, if◌then◌else◌, List, [], ◌∷◌, ◌++◌, length}
 use Rattle.std.proofs.Common.{Option, Some, None, refl, subst, arith, add-one}
-use Rattle.ln_syntax.specs.Raw.{Token, Item, Is, kind_at}
-use Rattle.ln_lex.specs.declared.token.Kind.{Kind}
-use Rattle.ln_lex.specs.declared.token.Kind.TheVariants.{Name, Number, Plus, Minus, Star, Caret}
+use Rattle.ln_syntax.specs.Raw.{Token, Item, Is, kind_at, Kind, Name, Number, Plus, Minus, Star, Caret}
 use Rattle.ln_names.specs.Rules.{RawEnd, RawRange, RawCoord, RawArg, RawLet, Scope, scope, Use, LowEnd, HighEnd, is_number}
 use Rattle.ln_syntax.specs.Expression.{IsExpr}
 use Rattle.ln_syntax.specs.File.{End, plain, minus, Range, range, Coords, no_coord, coord, Arg, site_arg, param_arg, Args, last_arg, more_args, Lets, no_let}

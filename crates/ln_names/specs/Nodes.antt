@@ -1,7 +1,6 @@
 -- The nodes of an expression in postfix order, with names resolved and literals read.
 use Rattle.std.specs.Prelude.{◌≡◌, ℕ, ◌-◌, pos, false, List, [], ◌∷◌, ◌++◌, Option, Some, None, unwrap_or}
-use Rattle.ln_syntax.specs.Raw.{Span, Token, Item, PredItem, Is, kind_at}
-use Rattle.ln_lex.specs.declared.token.Kind.TheVariants.{Semi}
+use Rattle.ln_syntax.specs.Raw.{Span, Token, Item, PredItem, Is, kind_at, Semi}
 use Rattle.ln_names.specs.Rules.{RawArg, RawLet, Places, Scope, scope, coords_at}
 use Rattle.ln_syntax.specs.Expression.{Tree, TNum, TName, TInput, TNeg, TAdd, TSub, TMul, TPow, Derives, Sum as SumOf}
 use Rattle.ln_names.specs.declared.nodes.Node.{Node}

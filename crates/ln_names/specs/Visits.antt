@@ -1,9 +1,8 @@
 -- The tokens that the rules speak of, in order of the text, each with what it is.
 use Rattle.std.specs.Prelude.{ℕ, zero, suc, ◌+◌, ◌-◌, Bool, true, false, if◌then◌else◌, List, [], ◌∷◌, ◌++◌, sum_by, Option, Some}
 use Rattle.std.specs.Prelude.{None}
-use Rattle.ln_syntax.specs.Raw.{Span, Token, Item, SiteItem, ParamItem, PredItem, kind_at, span_at}
-use Rattle.ln_lex.specs.declared.token.Kind.{Kind}
-use Rattle.ln_lex.specs.declared.token.Kind.TheVariants.{Name, Number, ParR, Dot, Plus, Minus, Star, Caret as CaretToken}
+use Rattle.ln_syntax.specs.Raw.{Span, Token, Item, SiteItem, ParamItem, PredItem, kind_at, span_at, Kind, Name, Number, ParR, Dot, Plus, Minus, Star}
+use Rattle.ln_syntax.specs.Raw.{Caret as CaretToken}
 use Rattle.ln_names.specs.Rules.{RawRange, RawCoord, RawArg, RawLet, Places, Scope, scope, Use, SiteName, ParamName, PredName, CoordName, LowEnd, HighEnd}
 use Rattle.ln_names.specs.Rules.{ArgName, ArgSite, ArgParam, LetName, NumberNode, NameNode, InputNode, InputCoord, OperatorNode, ExponentOf, fault_at}
 use Rattle.ln_names.specs.declared.faults.Fault.{Fault}

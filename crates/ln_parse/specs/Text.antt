@@ -6,8 +6,7 @@ use Rattle.ln_lex.specs.Tokens.{Lexed}
 use Rattle.ln_syntax.specs.File.{Spelt}
 use Rattle.ln_syntax.specs.Place.{IsShallow}
 use Rattle.ln_names.specs.First.{NoFault}
-use Rattle.ln_tree.specs.Table.{TableOf}
-use Rattle.ln_parse.specs.Says.{ItemsSay}
+use Rattle.ln_parse.specs.Says.{TableOf, ItemsSay}
 
 -- the bytes are tokens, at most 65,536, with no parenthesis nested too deep; the tokens spell items; no rule of names and limits
 -- has a fault; the items say the table

@@ -1,9 +1,7 @@
 -- The automaton that recognises a file: a state, a count of open parentheses, and the step at a token.
 use Rattle.std.specs.Prelude.{ℕ, zero, suc, Bool, true, false, List, [], ◌∷◌, Option, Some, None}
-use Rattle.ln_syntax.specs.Raw.{Token}
-use Rattle.ln_lex.specs.declared.token.Kind.{Kind}
-use Rattle.ln_lex.specs.declared.token.Kind.TheVariants.{Name, Number, Site, Param, Predicate, Let, Sign, BraceL, BraceR, ParL, ParR, Colon, Semi, Comma, Dot}
-use Rattle.ln_lex.specs.declared.token.Kind.TheVariants.{Dots, Plus, Minus, Star, Caret, Equals}
+use Rattle.ln_syntax.specs.Raw.{Token, Kind, Name, Number, Site, Param, Predicate, Let, Sign, BraceL, BraceR, ParL, ParR, Colon, Semi, Comma, Dot, Dots, Plus}
+use Rattle.ln_syntax.specs.Raw.{Minus, Star, Caret, Equals}
 use Rattle.ln_syntax.specs.declared.place.Ranged.{Ranged}
 use Rattle.ln_syntax.specs.declared.place.Ranged.TheVariants.{Coordinate, Parameter}
 use Rattle.ln_syntax.specs.declared.place.Part.{Part}

@@ -1,7 +1,6 @@
 -- What is at a place, for the reader of items: some derivation begins there, and its end token follows it.
 use Rattle.std.specs.Prelude.{ℕ, List}
-use Rattle.ln_syntax.specs.Raw.{Token, RawEnd, RawRange, RawCoord, RawArg, RawLet, Item, Is}
-use Rattle.ln_lex.specs.declared.token.Kind.TheVariants.{Sign, BraceR, ParR, Semi}
+use Rattle.ln_syntax.specs.Raw.{Token, RawEnd, RawRange, RawCoord, RawArg, RawLet, Item, Is, Sign, BraceR, ParR, Semi}
 use Rattle.ln_syntax.specs.Expression.{IsExpr}
 use Rattle.ln_syntax.specs.File.{End, Range, Coords, Arg, Args, Lets, IsItem}
 

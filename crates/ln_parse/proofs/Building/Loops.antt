@@ -13,10 +13,9 @@ use Rattle.ln_names.specs.Limits.{Each}
 use Rattle.ln_names.specs.declared.nodes.Body.{Body}
 use Rattle.ln_names.specs.declared.nodes.Node.{Node}
 use Rattle.ln_names.specs.Nodes.{ArePairedBy, AreNodes, LetsNodes}
-use Rattle.ln_tree.specs.Formula.{Formula}
+use Rattle.ln_parse.specs.Says.{Formula, Says}
 use Rattle.ln_names.proofs.Lists.{place_below, item_at}
 use Rattle.ln_parse.specs.Ready.{IsNarrow, ReadyLet, is_few}
-use Rattle.ln_parse.specs.Says.{Says}
 use Rattle.ln_parse.specs.Stack.{Brings, AreOne}
 use Rattle.ln_parse.proofs.Expressions.Stack.{value_one, value_said}
 use Rattle.ln_parse.proofs.Expressions.Found.{each_get}

@@ -3,9 +3,7 @@ use Rattle.std.proofs.Common.{◌≡◌, ℕ, List, [], map, refl}
 use Rattle.std.specs.Prelude.{count_by}
 use Rattle.ln_syntax.specs.Raw.{Span, Token, Item, text}
 use Rattle.ln_names.specs.Rules.{RawArg, RawLet, Places, scope}
-use Rattle.ln_tree.specs.Formula.{Formula}
-use Rattle.ln_tree.specs.Table.{CoordOf, SiteOf, PredOf, TableOf}
-use Rattle.ln_parse.specs.Says.{LetsSay, Says, PredSays, vars_behind, is_site_said}
+use Rattle.ln_parse.specs.Says.{Formula, CoordOf, SiteOf, PredOf, TableOf, LetsSay, Says, PredSays, vars_behind, is_site_said}
 use Rattle.ln_parse.proofs.Expressions.Fitting.{said}
 
 -- a predicate as it is read: the bytes, their tokens, the items before it, and its name, arguments, lets and root

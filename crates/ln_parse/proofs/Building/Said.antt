@@ -5,10 +5,9 @@ use Rattle.std.specs.Prelude.{filter_map, Option, Some, None}
 use Rattle.std.specs.List.{cons_option}
 use Rattle.std.proofs.lemmas.List.{drop_all, map_push}
 use Rattle.ln_syntax.specs.Raw.{Span, Token, Item, SiteItem, ParamItem, PredItem, item, items, is_pred}
-use Rattle.ln_parse.specs.Says.{Places, RawArg, RawCoord, RawLet, PredsSay, site_said}
+use Rattle.ln_parse.specs.Says.{Places, RawArg, RawCoord, RawLet, PredsSay, site_said, TableOf, PredOf}
 use Rattle.ln_syntax.specs.declared.raw.RawItem.{RawItem}
 use Rattle.ln_syntax.specs.declared.raw.RawItem.TheVariants.{Site, Param, Pred}
-use Rattle.ln_tree.specs.Table.{TableOf, PredOf}
 use Rattle.ln_parse.proofs.Building.Lists.{SeenAt, drop_seen, take_seen}
 
 -- what these say, and what the items from place i on say, is all that the items say

@@ -1,14 +1,13 @@
 -- What a turn of a loop keeps that builds a list.
-use Rattle.std.proofs.Common.{◌≡◌, ◌∙◌, ℕ, suc, ◌+◌, ◌<◌, ◌≤◌, List, [], ◌∷◌, ◌++◌, append_assoc, length, map, get_or, take, drop}
-use Rattle.std.proofs.Common.{drop-cons, add-one, Some, refl, ap, sym, arith}
+use Rattle.std.proofs.Common.{◌≡◌, ◌∙◌, ℕ, suc, ◌+◌, ◌<◌, ◌≤◌, List, [], ◌∷◌, ◌++◌, append_assoc, length, map, get_or}
+use Rattle.std.proofs.Common.{take, drop, drop-cons, add-one, Some, refl, ap, sym, arith}
 use Rattle.std.specs.Prelude.{slice_get, count_by}
 use Rattle.std.proofs.lemmas.List.{append-nil, drop_all, map_push, take_all}
 use Rattle.ln_tree.specs.declared.items.Arg.{Arg}
 use Rattle.ln_tree.specs.declared.items.Coord.{Coord}
 use Rattle.ln_tree.specs.declared.shape.VarInfo.{VarInfo}
-use Rattle.ln_tree.specs.Table.{ArgOf, CoordOf, SiteOf, arg_of, coord_of}
+use Rattle.ln_parse.specs.Says.{ArgOf, CoordOf, SiteOf, arg_of, coord_of, coords_or, is_site_said, param_vars, site_vars, vars_behind}
 use Rattle.ln_parse.proofs.Building.Lists.{IsAt, seen_or, drop_item, take_seen}
-use Rattle.ln_parse.specs.Says.{coords_or, is_site_said, param_vars, site_vars, vars_behind}
 
 -- ---- lists that are seen through a function
 -- one more element

@@ -14,8 +14,7 @@ use Rattle.ln_names.specs.Nodes.{postfix, named, AreNodes}
 use Rattle.ln_names.specs.Resolve.{is_arg, let_place, arg_place, coord_place}
 use Rattle.ln_names.proofs.Lists.{place_below}
 use Rattle.ln_tree.specs.declared.expr.Expr.{Expr}
-use Rattle.ln_tree.specs.Formula.{Formula, formula}
-use Rattle.ln_parse.specs.Says.{resolved, Says}
+use Rattle.ln_parse.specs.Says.{Formula, formula, resolved, Says}
 use Rattle.ln_parse.specs.Ready.{IsNarrow, ReadyValue}
 use Rattle.ln_parse.specs.Stack.{applied_by, applied, arity, is_small_power, Brings, AreOne}
 use Rattle.ln_parse.proofs.Building.Places.{position_is, place_is}

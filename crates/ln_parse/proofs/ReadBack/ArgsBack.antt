@@ -8,9 +8,8 @@ use Rattle.ln_syntax.specs.Raw.{Span, Item, text, same}
 use Rattle.ln_names.specs.Rules.{RawArg, is_site_arg, is_param_arg, ArgName, ArgSite, ArgParam, has_site, has_param, fault_at}
 use Rattle.ln_names.specs.Visits.{visits_by, arg_visits}
 use Rattle.ln_names.specs.First.{Clean}
-use Rattle.ln_tree.specs.Table.{CoordOf, SiteOf, ArgOf, SiteArg, ParamArg, PredOf, TableOf}
+use Rattle.ln_parse.specs.Says.{CoordOf, SiteOf, ArgOf, SiteArg, ParamArg, PredOf, TableOf, place, arg_said, site_names, param_names, sites_said, params_said}
 use Rattle.ln_tree.specs.Whole.{arg_name, is_one_of, is_site_said, is_param_said}
-use Rattle.ln_parse.specs.Says.{place, arg_said, site_names, param_names, sites_said, params_said}
 use Rattle.ln_parse.specs.ReadsBack.{Every, ArgWritten, ArgsWritten}
 use Rattle.ln_parse.specs.WholeTable.{IsShortName, SiteNames, ArgNames, PredKept}
 use Rattle.ln_parse.specs.Written.{range_name, site_name}

@@ -4,8 +4,7 @@ use Rattle.std.proofs.Common.{◌∷◌, ◌++◌, length, None, refl, ap, subst
 use Rattle.std.specs.Prelude.{bytes_eq, find}
 use Rattle.std.specs.List.{list_any}
 use Rattle.std.proofs.lemmas.Bool.Decides.{nat_tests}
-use Rattle.ln_syntax.specs.Raw.{Span, Token, Is, text}
-use Rattle.ln_lex.specs.declared.token.Kind.TheVariants.{Semi}
+use Rattle.ln_syntax.specs.Raw.{Span, Token, Is, text, Semi}
 use Rattle.ln_names.specs.Rules.{RawArg, RawLet, RawCoord, Scope, Use, InputNode, OperatorNode, is_site_arg, is_param_arg, coords_of, fault_at}
 use Rattle.ln_syntax.specs.Expression.{Tree, TNum, TName, TInput, TNeg, TAdd, TSub, TMul, TPow, Derives, Sum}
 use Rattle.ln_names.specs.Numbers as numbers

@@ -7,17 +7,15 @@ use Rattle.std.proofs.lemmas.Bool.Decides.{nat_tests}
 use Rattle.std.proofs.lemmas.Int.{ints}
 use Rattle.std.proofs.lemmas.List.{length-map}
 use Rattle.std.proofs.lemmas.List.Elements.{filter_map-append}
-use Rattle.ln_syntax.specs.Raw.{Span, Token, Item, item_name, is_site, is_param, is_pred, text, same}
-use Rattle.ln_lex.specs.declared.token.Kind.TheVariants.{Sign}
+use Rattle.ln_syntax.specs.Raw.{Span, Token, Item, item_name, is_site, is_param, is_pred, text, same, Sign}
 use Rattle.ln_names.specs.Rules.{RawRange, RawCoord, SiteName, ParamName, PredName, fault_at}
 use Rattle.ln_syntax.specs.File as file
 use Rattle.ln_base.specs.Limits.{most_literal}
 use Rattle.ln_names.specs.Numbers.{number, signed, end_value, most_end}
 use Rattle.ln_names.specs.Visits.{visits_by, range_visits, coord_visits, item_visits}
 use Rattle.ln_names.specs.First.{Clean}
-use Rattle.ln_tree.specs.Table.{CoordOf, SiteOf, PredOf, TableOf}
+use Rattle.ln_parse.specs.Says.{CoordOf, SiteOf, PredOf, TableOf, ranged, site_said, param_said, sites_said, params_said, PredsSay}
 use Rattle.ln_tree.specs.Whole.{item_names}
-use Rattle.ln_parse.specs.Says.{ranged, site_said, param_said, sites_said, params_said, PredsSay}
 use Rattle.ln_parse.specs.ReadsBack.{Every}
 use Rattle.ln_parse.specs.Spanless.{pred_spanless}
 use Rattle.ln_parse.specs.WholeTable.{IsShortName, SiteNames, PredKept, IsWhole}

@@ -7,10 +7,8 @@ use Rattle.ln_syntax.specs.Raw.{text}
 use Rattle.ln_syntax.specs.File.{Lets}
 use Rattle.ln_names.specs.Visits.{visits_by, arg_visits, let_visits, pred_visits, nodes_before}
 use Rattle.ln_names.specs.First.{Clean}
-use Rattle.ln_tree.specs.Formula.{tree}
+use Rattle.ln_parse.specs.Says.{tree, PredOf, TableOf, PredSays, vars_behind, is_site_said}
 use Rattle.ln_tree.specs.Fits.{is_fit}
-use Rattle.ln_tree.specs.Table.{PredOf, TableOf}
-use Rattle.ln_parse.specs.Says.{PredSays, vars_behind, is_site_said}
 use Rattle.ln_parse.specs.ReadsBack.{PredWritten}
 use Rattle.ln_parse.specs.Spanless.{pred_spanless}
 use Rattle.ln_parse.specs.WholeTable.{PredKept}

@@ -11,11 +11,10 @@ use Rattle.ln_syntax.specs.Raw.{Span, Item, item_name, is_site, is_param, coords
 use Rattle.ln_names.specs.Rules.{RawArg, RawLet, RawCoord, Scope, is_site_arg, is_param_arg, coords_of}
 use Rattle.ln_tree.specs.declared.shape.VarInfo.{VarInfo}
 use Rattle.ln_tree.specs.Variables.{number_or_end}
-use Rattle.ln_tree.specs.Formula.{Formula, FNum, FInput, FName, FNeg, FAdd, FSub, FMul, FPow, tree}
-use Rattle.ln_tree.specs.Fits.{is_fit}
-use Rattle.ln_tree.specs.Table.{CoordOf, SiteOf, ArgOf, SiteArg, ParamArg, PredOf, TableOf}
-use Rattle.ln_tree.specs.Whole.{vars_behind, range_name, arg_name}
+use Rattle.ln_parse.specs.Says.{Formula, FNum, FInput, FName, FNeg, FAdd, FSub, FMul, FPow, tree, CoordOf, SiteOf, ArgOf, SiteArg, ParamArg, PredOf, TableOf}
 use Rattle.ln_parse.specs.Says.{ranged, site_names, param_names, sites_said, params_said}
+use Rattle.ln_tree.specs.Fits.{is_fit}
+use Rattle.ln_tree.specs.Whole.{vars_behind, range_name, arg_name}
 use Rattle.ln_parse.specs.ReadsBack.{Every, ArgWritten, ArgsWritten}
 use Rattle.ln_parse.specs.Spanless.{no_span, spanless}
 use Rattle.ln_parse.specs.WholeTable.{IsShortName, SiteNames, ArgNames}

@@ -15,11 +15,9 @@ use Rattle.ln_names.specs.declared.faults.LimitWhat.TheVariants.{Tokens, Nesting
 use Rattle.ln_names.specs.Visits.{file_visits}
 use Rattle.ln_names.specs.First.{FirstFault, NoFault}
 use Rattle.ln_names.proofs.FirstFault.{first_of, none_of_clean}
-use Rattle.ln_tree.specs.Formula.{Formula}
-use Rattle.ln_tree.specs.Table.{CoordOf, SiteOf, PredOf, TableOf}
+use Rattle.ln_parse.specs.Says.{Formula, CoordOf, SiteOf, PredOf, TableOf, Says, LetsSay, PredSays, PredsSay, ItemsSay, resolved, vars_behind, is_site_said}
 use Rattle.ln_parse.specs.declared.source.ParseStop.{ParseStop}
 use Rattle.ln_parse.specs.declared.source.ParseStop.TheVariants.{Lexical, Limit, Syntax}
-use Rattle.ln_parse.specs.Says.{Says, LetsSay, PredSays, PredsSay, ItemsSay, resolved, vars_behind, is_site_said}
 use Rattle.ln_parse.specs.Text.{TextOf}
 use Rattle.ln_parse.proofs.Building.Predicates.{PredAt, same_pred}
 use Rattle.ln_parse.specs.Fault.{TextFault, IsRefusal, IsWithoutTable, lexical, tokens, nesting, syntax, names, one_byte, place_of, stop_of}

@@ -2,16 +2,14 @@
 use Rattle.std.proofs.Common.{◌≡◌, ℕ, suc, ◌+◌, ◌-◌, ◌≤◌, Bool, true, false, cond, List, [], ◌∷◌, length, take, drop, refl, ap, sym}
 use Rattle.std.proofs.Common.{◌∙◌, arith, length-drop, codes}
 use Rattle.std.proofs.Math.Seq.{take-append_seam}
-use Rattle.ln_lex.specs.declared.token.Kind.TheVariants.{Number, ParL, ParR, Plus, Minus, Star, Caret}
-use Rattle.ln_syntax.specs.Raw.{Token, Is, span_at, text}
+use Rattle.ln_syntax.specs.Raw.{Number, ParL, ParR, Plus, Minus, Star, Caret, Token, Is, span_at, text}
 use Rattle.ln_parse.specs.declared.printer.Room.{Room}
 use Rattle.ln_parse.specs.declared.printer.Room.TheVariants.{OfSum, OfProduct, OfUnary, OfAtom}
 use Rattle.ln_parse.specs.Written.{Written, WNum, WName, WInput, WNeg, WAdd, WSub, WMul, WPow, spelling, IsNamed}
 use Rattle.ln_syntax.specs.Expression.{Tree, TNum, TName, TInput, TNeg, TAdd, TSub, TMul, TPow, Sort, Atom, Power, Unary, Term, Sum, Factors, Terms, Derives}
 use Rattle.ln_syntax.specs.Expression.{number, name, input, parens, plain, power, base, minus, term, no_factor, times, sum, no_term, plus, less}
 use Rattle.ln_syntax.proofs.Recognising.Builds.{from}
-use Rattle.ln_parse.specs.Lexemes.{Lexeme, gap, line, word, text_of}
-use Rattle.ln_parse.specs.Canonical.{fits, wrap, inside, whole}
+use Rattle.ln_parse.specs.Canonical.{Lexeme, gap, line, word, text_of, fits, wrap, inside, whole}
 use Rattle.std.specs.Fmt.{decimal}
 use Rattle.ln_base.specs.Decimal.{decimal_value}
 use Rattle.ln_base.proofs.DecimalLemmas.{value_of_text}

@@ -1,21 +1,17 @@
 -- The tokens of a canonical text spell the table's items.
 use Rattle.std.proofs.Common.{◌≡◌, ℕ, suc, ◌<◌, ◌^◌, Bool, true, false, ℤ, pos, negsuc, List, [], ◌∷◌, length, map, refl, ap, ◌∙◌}
-use Rattle.std.proofs.Common.{subst, arith, codes, sym}
+use Rattle.std.proofs.Common.{subst, arith, codes}
 use Rattle.std.specs.Prelude.{int_lt, unsigned_abs}
 use Rattle.std.proofs.lemmas.Int.{ints}
 use Rattle.std.proofs.lemmas.List.{length-map}
 use Rattle.std.specs.Fmt.{decimal}
-use Rattle.ln_syntax.specs.Raw.{Span, Token, Item, SiteItem, ParamItem, PredItem, Is, span_at, text}
-use Rattle.ln_lex.specs.declared.token.Kind.TheVariants.{Name, Site, BraceL, BraceR, ParR, Colon, Semi, Comma, Dots}
+use Rattle.ln_syntax.specs.Raw.{Span, Token, Item, SiteItem, ParamItem, PredItem, Is, span_at, text, Name, Site, BraceL, BraceR, ParR, Colon, Semi, Comma, Dots}
 use Rattle.ln_names.specs.Rules.{RawEnd, RawRange, RawCoord, RawArg, RawLet, Places}
 use Rattle.ln_syntax.specs.File as file
 use Rattle.ln_names.specs.Numbers as names
-use Rattle.ln_tree.specs.Formula.{Formula}
-use Rattle.ln_tree.specs.Table.{CoordOf, SiteOf, ArgOf, SiteArg, ParamArg, PredOf, TableOf}
+use Rattle.ln_parse.specs.Written.{Formula, CoordOf, SiteOf, ArgOf, SiteArg, ParamArg, PredOf, TableOf, Naming, naming, written}
 use Rattle.ln_parse.specs.Says as said
-use Rattle.ln_parse.specs.Lexemes.{Lexeme, gap, line, word, signed, minus_if, number, each}
-use Rattle.ln_parse.specs.Written.{Naming, naming, written}
-use Rattle.ln_parse.specs.Canonical.{ranged, coord, site, param, arg, args, lets, root, pred}
+use Rattle.ln_parse.specs.Canonical.{Lexeme, gap, line, word, signed, minus_if, number, each, ranged, coord, site, param, arg, args, lets, root, pred}
 use Rattle.ln_parse.specs.ReadsBack.{Every, CoordNamed, SiteNamed, LetsNamed, PredNamed, ArgWritten, ArgsWritten, LetsWritten, PredWritten, PredsWritten}
 use Rattle.ln_base.specs.Decimal.{decimal_value}
 use Rattle.ln_base.proofs.DecimalLemmas.{value_of_text}

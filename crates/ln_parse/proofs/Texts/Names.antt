@@ -3,10 +3,8 @@ use Rattle.std.proofs.Common.{◌≡◌, ℕ, zero, suc, ◌==◌, ◌&&◌, ◌
 use Rattle.std.proofs.Common.{refl, ap, sym, ◌∙◌, true≢false}
 use Rattle.std.specs.Prelude.{codes, bytes_eq}
 use Rattle.ln_base.specs.Words.{is_digit, is_letter, is_name_byte, every, is_keyword, is_name}
-use Rattle.ln_syntax.specs.Raw.{Token, Is, span_at, text}
-use Rattle.ln_lex.specs.declared.token.Kind.{Kind}
-use Rattle.ln_lex.specs.declared.token.Kind.TheVariants.{Name, Number, Site, Param, Predicate, Let, Sign, BraceL, BraceR, ParL, ParR, Colon, Semi, Comma, Dot}
-use Rattle.ln_lex.specs.declared.token.Kind.TheVariants.{Dots, Plus, Minus, Star, Caret, Equals}
+use Rattle.ln_syntax.specs.Raw.{Token, Is, span_at, text, Kind, Name, Number, Site, Param, Predicate, Let, Sign, BraceL, BraceR, ParL, ParR, Colon, Semi, Comma}
+use Rattle.ln_syntax.specs.Raw.{Dot, Dots, Plus, Minus, Star, Caret, Equals}
 use Rattle.ln_lex.specs.Tokens.{kind_of, word_kind, sign_kind, sign_of}
 
 -- is it the kind of a NAME?

@@ -21,13 +21,11 @@ use Rattle.ln_names.specs.Numbers.{number, signed, end_value}
 use Rattle.ln_names.specs.Limits.{Each, CoordWithin, IsKnown, ArgWithin, LetWithin, ItemWithin, FileWithin}
 use Rattle.ln_tree.specs.declared.shape.VarInfo.{VarInfo}
 use Rattle.ln_tree.specs.Variables.{same_site}
-use Rattle.ln_tree.specs.Formula.{Formula}
-use Rattle.ln_tree.specs.Table.{CoordOf, SiteOf, ArgOf, PredOf, TableOf}
+use Rattle.ln_parse.specs.Says.{Formula, CoordOf, SiteOf, ArgOf, PredOf, TableOf, place, ranged, resolved, Says, LetsSay, PredSays, PredsSay, ItemsSay}
+use Rattle.ln_parse.specs.Says.{arg_said, site_names, param_names, sites_said, params_said, is_site_said}
 use Rattle.ln_tree.specs.Whole.{is_new, differ, is_range, site_whole, is_one_of, is_param_said, arg_name, range_name, same_var, same_vars, nesting, tokens_of}
 use Rattle.ln_tree.specs.Whole.{total, end_tokens, range_tokens, site_tokens, param_tokens, pred_tokens, text_tokens, item_names, pred_whole, vars_behind}
 use Rattle.ln_tree.specs.Whole.{is_whole}
-use Rattle.ln_parse.specs.Says.{place, ranged, resolved, Says, LetsSay, PredSays, PredsSay, ItemsSay, arg_said, site_names, param_names, sites_said}
-use Rattle.ln_parse.specs.Says.{params_said, is_site_said}
 use Rattle.ln_parse.specs.Ready.{ReadyValue, ReadyLet, ReadyPred, ReadyItem, ReadySite, ReadyFile, Declares}
 use Rattle.ln_parse.proofs.Expressions.Fitting.{said, all_known}
 use Rattle.ln_parse.proofs.Expressions.Found.{found_at, sites_named, params_named, any_param, get_longer, each_weaker}

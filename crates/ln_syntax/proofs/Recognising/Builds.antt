@@ -1,9 +1,7 @@
 -- What the automaton has read is a prefix of a derivation: what a state still wants is the function that takes it.
 use Rattle.std.proofs.Common.{◌≡◌, ℕ, zero, suc, ◌+◌, ◌<◌, List, [], ◌∷◌, length, drop, Some, None, refl, ap, sym, subst, arith}
-use Rattle.ln_syntax.specs.Raw.{Token, RawEnd, RawCoord, RawArg, RawLet, Item, Is, span_at}
-use Rattle.ln_lex.specs.declared.token.Kind.{Kind}
-use Rattle.ln_lex.specs.declared.token.Kind.TheVariants.{Name, Number, Site, Param, Predicate, Let, Sign, BraceL, BraceR, ParL, ParR, Colon, Semi, Comma, Dot}
-use Rattle.ln_lex.specs.declared.token.Kind.TheVariants.{Dots, Plus, Minus, Star, Caret, Equals}
+use Rattle.ln_syntax.specs.Raw.{Token, RawEnd, RawCoord, RawArg, RawLet, Item, Is, span_at, Kind, Name, Number, Site, Param, Predicate, Let, Sign, BraceL}
+use Rattle.ln_syntax.specs.Raw.{BraceR, ParL, ParR, Colon, Semi, Comma, Dot, Dots, Plus, Minus, Star, Caret, Equals}
 use Rattle.ln_syntax.specs.declared.place.Ranged.{Ranged}
 use Rattle.ln_syntax.specs.declared.place.Ranged.TheVariants.{Coordinate, Parameter}
 use Rattle.ln_syntax.specs.declared.place.Part.{Part}

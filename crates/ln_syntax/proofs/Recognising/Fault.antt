@@ -4,9 +4,7 @@ use Rattle.std.proofs.Common.{take, Some, None, refl, ap, sym, ◌∙◌, subst,
 use Rattle.std.proofs.Math.Seq.{take-length}
 use Rattle.std.proofs.lemmas.Bool.{cases_lt}
 use Rattle.std.proofs.lemmas.List.{append-nil}
-use Rattle.ln_syntax.specs.Raw.{Token, Is}
-use Rattle.ln_lex.specs.declared.token.Kind.{Kind}
-use Rattle.ln_lex.specs.declared.token.Kind.TheVariants.{Name, Number, Sign, BraceL, BraceR, ParL, ParR, Colon, Semi, Dots, Equals}
+use Rattle.ln_syntax.specs.Raw.{Token, Is, Kind, Name, Number, Sign, BraceL, BraceR, ParL, ParR, Colon, Semi, Dots, Equals}
 use Rattle.ln_syntax.specs.declared.place.Ranged.{Ranged}
 use Rattle.ln_syntax.specs.declared.place.Ranged.TheVariants.{Coordinate, Parameter}
 use Rattle.ln_syntax.specs.declared.place.Part.{Part}

@@ -2,9 +2,8 @@
 use Rattle.std.proofs.Common.{◌≡◌, true, false, ℕ, zero, suc, ◌+◌, ◌<◌, ◌≤◌, inl, inr, List, [], ◌∷◌, ◌++◌, length, refl, ap}
 use Rattle.std.proofs.Common.{sym, ◌∙◌, subst, arith, append_assoc, ◌^◌, Fits, w64}
 use Rattle.std.proofs.lemmas.Bool.{cases_lt}
-use Rattle.ln_syntax.specs.Raw.{Span, Token, RawEnd, RawRange, RawCoord, RawArg, RawLet, Item, SiteItem, ParamItem, PredItem, Is, span_at}
-use Rattle.ln_lex.specs.declared.token.Kind.{Kind}
-use Rattle.ln_lex.specs.declared.token.Kind.TheVariants.{Name, Number, Site, Param, Let, Sign, BraceR, ParR, Colon, Semi, Comma, Dots, Minus}
+use Rattle.ln_syntax.specs.Raw.{Span, Token, RawEnd, RawRange, RawCoord, RawArg, RawLet, Item, SiteItem, ParamItem, PredItem, Is, span_at, Kind, Name, Number}
+use Rattle.ln_syntax.specs.Raw.{Site, Param, Let, Sign, BraceR, ParR, Colon, Semi, Comma, Dots, Minus}
 use Rattle.ln_syntax.specs.Expression.{IsExpr}
 use Rattle.ln_syntax.specs.File.{End, plain, minus, Range, range, Coords, no_coord, coord, Arg, site_arg, param_arg, Args, last_arg, more_args, Lets, no_let}
 use Rattle.ln_syntax.specs.File.{a_let, IsItem, site, param, predicate, Items, no_item, an_item, Spelt}

@@ -2,8 +2,7 @@
 use Rattle.std.proofs.Common.{◌≡◌, ℕ, ◌+◌, ◌≤◌, List, [], ◌∷◌, length, refl, ap, subst, arith}
 use Rattle.std.specs.List.{All}
 use Rattle.std.proofs.lemmas.List.Elements.{All-nil, All-cons}
-use Rattle.ln_syntax.specs.Raw.{Token, RawLet, Places, RawItem, Item, PredItem, item, items, Is}
-use Rattle.ln_lex.specs.declared.token.Kind.TheVariants.{Semi}
+use Rattle.ln_syntax.specs.Raw.{Token, RawLet, Places, RawItem, Item, PredItem, item, items, Is, Semi}
 use Rattle.ln_syntax.specs.declared.raw.RawItem.TheVariants.{Site, Param, Pred}
 use Rattle.ln_syntax.specs.Expression.{Tree, Sort, Atom, Power, Unary, Term, Sum, Factors, Terms, Derives, number, name, input, parens, plain, power, base}
 use Rattle.ln_syntax.specs.Expression.{minus, term, no_factor, times, sum, no_term, plus, less, IsExpr}

@@ -1,7 +1,6 @@
 use Rattle.std.proofs.Common.{List, map, ap, ◌∙◌, arith}
-use Rattle.ln_parse.specs.Says.{RawCoord, ranged}
+use Rattle.ln_parse.specs.Says.{RawCoord, ranged, coord_of}
 use Rattle.ln_tree.specs.declared.items.Coord.{Coord}
-use Rattle.ln_tree.specs.Table.{coord_of}
 use Rattle.ln_parse.specs.Ready.{ReadyCoord}
 use Rattle.ln_parse.proofs.Building.Loops.{each_or}
 use Rattle.ln_parse.proofs.Building.Turns.{all_mapped, one_mapped, same_site_of}

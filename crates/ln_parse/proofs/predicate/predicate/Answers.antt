@@ -1,9 +1,8 @@
 use Rattle.std.proofs.Common.{List, map, refl, ◌∙◌, ap, arith}
 use Rattle.std.specs.Prelude.{count_by}
 use Rattle.ln_syntax.specs.Raw.{Span, items}
-use Rattle.ln_parse.specs.Says.{Places, vars_behind, is_site_said}
+use Rattle.ln_parse.specs.Says.{Places, vars_behind, is_site_said, arg_of, site_of, param_of}
 use Rattle.ln_tree.specs.declared.items.Arg.{Arg}
-use Rattle.ln_tree.specs.Table.{arg_of, site_of, param_of}
 use Rattle.ln_parse.specs.declared.predicate.Scene.{Scene}
 use Rattle.ln_parse.proofs.Building.Predicates.{PredAt}
 use Rattle.ln_parse.proofs.Building.Kept.{PredReady, few_args, shape_kept, pred_kept, args_kept, as_many}

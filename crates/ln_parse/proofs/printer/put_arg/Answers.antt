@@ -2,8 +2,7 @@ use Rattle.std.proofs.Common.{map}
 use Rattle.std.specs.Prelude.{slice_get}
 use Rattle.std.proofs.lemmas.Result.{IfOk-weaker}
 use Rattle.ln_base.proofs.Texts.Putting.{puts_last, puts_then}
-use Rattle.ln_tree.specs.Table.{site_of, param_of}
-use Rattle.ln_parse.specs.Written.{site_name, range_name}
+use Rattle.ln_parse.specs.Written.{site_of, param_of, site_name, range_name}
 use Rattle.ln_parse.proofs.Texts.Putting.{puts_name}
 use Rattle.ln_parse.proofs.printer.put_arg.Goals as goal
 

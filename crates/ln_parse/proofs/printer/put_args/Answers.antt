@@ -4,8 +4,7 @@ use Rattle.ln_base.specs.Lines.{Appends}
 use Rattle.ln_base.proofs.Texts.Putting.{puts_last}
 use Rattle.ln_tree.specs.declared.items.Arg.{Arg}
 use Rattle.ln_tree.specs.Table.{arg_of, table_of}
-use Rattle.ln_parse.specs.Canonical.{args}
-use Rattle.ln_parse.specs.Lexemes.{text_of}
+use Rattle.ln_parse.specs.Canonical.{args, text_of}
 use Rattle.ln_parse.proofs.Building.Lists.{first_rest}
 use Rattle.ln_parse.proofs.printer.put_args.Goals as goal
 

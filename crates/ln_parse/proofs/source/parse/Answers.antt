@@ -6,9 +6,8 @@ use Rattle.ln_lex.specs.Tokens.{IsSlice, Lexed}
 use Rattle.ln_syntax.specs.declared.raw.RawItem.{RawItem}
 use Rattle.ln_names.specs.Nodes.{BodiesAre}
 use Rattle.ln_names.proofs.Faultless.{faultless_is_within}
-use Rattle.ln_tree.specs.Table.{table_of}
+use Rattle.ln_parse.specs.Says.{table_of, ItemsSay}
 use Rattle.ln_tree.specs.Whole.{is_whole}
-use Rattle.ln_parse.specs.Says.{ItemsSay}
 use Rattle.ln_parse.specs.Ready.{ReadyFile}
 use Rattle.ln_parse.proofs.Building.Readiness.{faultless_ready}
 use Rattle.ln_parse.proofs.Settling.OneAnswer.{memory_alone}
