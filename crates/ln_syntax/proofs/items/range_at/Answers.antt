@@ -1,4 +1,4 @@
-use Rattle.ln_syntax.proofs.Spellings.Parts.{high_there, range_read, low_fits}
+use Rattle.ln_syntax.proofs.Spellings.Parts.{high_there, range_read}
 use Rattle.ln_syntax.proofs.items.range_at.Goals as goal
 
 pub end_at-high-requires-clause-there : goal.end_at-high-requires-clause-there
@@ -6,6 +6,3 @@ end_at-high-requires-clause-there c = high_there c.requires.there.derives c.end_
 
 pub returns : goal.returns
 returns c = range_read c.requires.there.derives c.end_at-low.ensures c.end_at-high.ensures
-
-pub overflow_add-low : goal.overflow_add-low
-overflow_add-low c = low_fits c.requires.there.derives c.end_at-low.ensures c.requires.small
