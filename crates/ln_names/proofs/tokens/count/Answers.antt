@@ -1,19 +1,9 @@
-use Rattle.std.proofs.Common.{arith, ap, ◌∙◌}
+use Rattle.std.proofs.Common.{ap, ◌∙◌}
 use Rattle.std.specs.Int.{from_bool}
 use Rattle.ln_names.specs.Resolve.{is_of_kind}
-use Rattle.ln_names.proofs.Lists.{items_counted, items_fit, items_all}
+use Rattle.ln_names.proofs.Lists.{items_counted}
 use Rattle.ln_names.proofs.tokens.count.Goals as goal
-
-pub overflow_add-n : goal.overflow_add-n
-overflow_add-n c = omega (
-  arith,
-  items_fit (is_of_kind c.args.kind) c.args.before.now c.each.i-index c.each.n c.from-n.result c.i-item.result c.each-test.true c.i-item.is c.each.invariant
-      (c.from-n.ensures ∙ ap from_bool c.is_of_kind.ensures),
-)
 
 pub each-preserved : goal.each-preserved
 each-preserved c = items_counted (is_of_kind c.args.kind) c.args.before.now c.each.i-index c.each.n c.from-n.result c.i-item.result c.each-test.true
     c.i-item.is c.each.invariant (c.from-n.ensures ∙ ap from_bool c.is_of_kind.ensures)
-
-pub returns : goal.returns
-returns c = items_all (is_of_kind c.args.kind) c.args.before.now c.each.i-index c.each.n c.each-test.false c.each.invariant
