@@ -11,8 +11,8 @@ pub use Rattle.ln_syntax.specs.declared.raw.Places.{Places}
 pub use Rattle.ln_syntax.specs.declared.raw.RawItem.{RawItem}
 use Rattle.ln_syntax.specs.declared.raw.RawItem.TheVariants.{Site as OfSite, Param as OfParam, Pred as OfPred}
 pub use Rattle.ln_lex.specs.declared.token.Kind.{Kind}
-pub use Rattle.ln_lex.specs.declared.token.Kind.TheVariants.{BraceL, BraceR, Caret, Colon, Comma, Dot, Dots, Equals, Let, Minus, Name, Number, ParL, ParR, Param}
-pub use Rattle.ln_lex.specs.declared.token.Kind.TheVariants.{Plus, Predicate, Semi, Sign, Site, Star}
+pub use Rattle.ln_lex.specs.declared.token.Kind.TheVariants.{BraceL, BraceR, Caret, Colon, Comma, Dot, Dots, Equals, Let, Minus, Name, Number, ParL, ParR}
+pub use Rattle.ln_lex.specs.declared.token.Kind.TheVariants.{Param, Plus, Predicate, Semi, Sign, Site, Star}
 
 -- a site type, a param, or a predicate: the spans of its names and numbers, the token places of its expressions
 pub data Item : Type 0 where

@@ -19,7 +19,7 @@ use Rattle.ln_tree.specs.Whole.{item_names}
 use Rattle.ln_parse.specs.ReadsBack.{Every}
 use Rattle.ln_parse.specs.Spanless.{pred_spanless}
 use Rattle.ln_parse.specs.WholeTable.{IsShortName, SiteNames, PredKept, IsWhole}
-use Rattle.ln_parse.proofs.Texts.ItemsBack.{Like, no_more, a_site, a_param, a_pred, like_sites, like_params}
+use Rattle.ln_parse.proofs.Texts.ItemsBack.{of_coord, Like, no_more, a_site, a_param, a_pred, like_sites, like_params}
 use Rattle.ln_parse.proofs.Building.Predicates.{PredAt}
 use Rattle.ln_parse.proofs.Building.Kept.{pred_name, said_sites, said_params, preds_counted}
 use Rattle.ln_names.proofs.Machine.{begins}
@@ -52,9 +52,6 @@ range_clean bytes name r c e h =
 
 abbrev coord_name : List ℕ → RawCoord → List ℕ
 coord_name bytes c = text bytes c.name
-
-abbrev of_coord : List ℕ → RawCoord → CoordOf
-of_coord bytes c = ranged bytes c.name c.range
 
 short : {a b : List ℕ} → a ≡ b → IsShortName b → length a ≤ 32
 short e s = rw e s.1

@@ -29,11 +29,15 @@ sign_says (pos n) false h = refl
 sign_says (negsuc n) true h = refl
 sign_says (negsuc n) false h = let e = below n in absurd (cc)
 
+-- the coordinate that is read
+abbrev pub of_coord : List ℕ → RawCoord → CoordOf
+of_coord bytes c = said.ranged bytes c.name c.range
+
 -- items that are these site types, then these params, and then these predicates
 pub data Like (bytes : List ℕ) (ts : List Token) (t : TableOf) : List Item → List SiteOf → List CoordOf → List PredOf → Type 0 where
   no_more : Like bytes ts t [] [] [] []
   a_site : {n : Span} {raws : List RawCoord} {is : List Item} {s : SiteOf} {ss : List SiteOf} {cs : List CoordOf} {ps : List PredOf}
-      → text bytes n ≡ s.name → map (λ (c : RawCoord). said.ranged bytes c.name c.range) raws ≡ s.coords → Like bytes ts t is ss cs ps
+      → text bytes n ≡ s.name → map (of_coord bytes) raws ≡ s.coords → Like bytes ts t is ss cs ps
       → Like bytes ts t (SiteItem n raws ∷ is) (s ∷ ss) cs ps
   a_param : {n : Span} {r : RawRange} {is : List Item} {c : CoordOf} {cs : List CoordOf} {ps : List PredOf} → said.ranged bytes n r ≡ c
       → Like bytes ts t is [] cs ps → Like bytes ts t (ParamItem n r ∷ is) [] (c ∷ cs) ps
@@ -63,9 +67,6 @@ like_preds no_more = tt
 like_preds (a_site n m l) = like_preds l
 like_preds (a_param n l) = like_preds l
 like_preds (a_pred w l) = (w, like_preds l)
-
-abbrev of_coord : List ℕ → RawCoord → CoordOf
-of_coord bytes c = said.ranged bytes c.name c.range
 
 -- the items from place i on, up to the end
 pub record FileBack (bytes : List ℕ) (ts : List Token) (t : TableOf) (i : ℕ) (ss : List SiteOf) (cs : List CoordOf) (ps : List PredOf) : Type 0 where
@@ -114,10 +115,10 @@ module _ (bytes : List ℕ) (ts : List Token) where
       back m.to (record { name = span_at ts i; range = r.raw } ∷ m.raw)
       (file.coord r.derives.0 r.derives.1 r.derives.2 r.after.0 m.derives) (rw (r.says, m.says) refl) m.after
 
-  site_of : {i k : ℕ} {raws : List RawCoord} → Is ts i Site → Is ts (suc i) Name → Is ts (suc (suc i)) BraceL → file.Coords ts (suc (suc (suc i))) k raws
+  as_site : {i k : ℕ} {raws : List RawCoord} → Is ts i Site → Is ts (suc i) Name → Is ts (suc (suc i)) BraceL → file.Coords ts (suc (suc (suc i))) k raws
       → 0 < length raws → Is ts k BraceR → file.IsItem ts i (suc k) (SiteItem (span_at ts (suc i)) raws)
-  site_of s n b file.no_coord l e = absurd (omega arith)
-  site_of s n b (file.coord n1 c r m cs) l e = file.site s n b (file.coord n1 c r m cs) e
+  as_site s n b file.no_coord l e = absurd (omega arith)
+  as_site s n b (file.coord n1 c r m cs) l e = file.site s n b (file.coord n1 c r m cs) e
 
   -- a site type
   site_back : (s : SiteOf) → SiteNamed s → (i : ℕ) (rest : List Lexeme) → Sits bytes ts i (site s rest)
@@ -128,7 +129,7 @@ module _ (bytes : List ℕ) (ts : List Token) where
       let m = coords_back s.coords n.coords (suc (suc (suc i))) (word BraceR (codes "}") ∷ line ∷ rest) b.2 in
       let e = m.after in
       let l = length-map m.raw (of_coord bytes) in let q = ap (λ (w : List CoordOf). length w) m.says in let some = n.some in
-      back (suc m.to) m.raw (site_of h.0 a.0 b.0 m.derives (omega arith) e.0) (a.1, m.says) e.2
+      back (suc m.to) m.raw (as_site h.0 a.0 b.0 m.derives (omega arith) e.0) (a.1, m.says) e.2
 
   module _ (t : TableOf) where
     -- an argument
