@@ -1,4 +1,4 @@
-use Rattle.std.proofs.Common.{◌≡◌, length, Some, arith}
+use Rattle.std.proofs.Common.{◌≡◌, length, arith}
 use Rattle.ln_syntax.proofs.Recognising.Fault.{is_at}
 use Rattle.ln_syntax.proofs.Recognising.Depth.{depth_more, shallow_more, shallow_all}
 use Rattle.ln_syntax.proofs.nesting.nesting_fault.Goals as goal
