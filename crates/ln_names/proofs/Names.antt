@@ -1,6 +1,5 @@
 -- What a name in an expression stands for, and when it is unknown.
-use Rattle.std.proofs.Common.{◌≡◌, ℕ, ◌||◌, ◌&&◌, Bool, true, false, nat_lt, List, [], ◌∷◌, length, Some, None, refl, ap, sym, ◌∙◌}
-use Rattle.std.proofs.Common.{is_some}
+use Rattle.std.proofs.Common.{◌≡◌, ℕ, ◌||◌, ◌&&◌, Bool, true, false, nat_lt, List, [], ◌∷◌, length, Some, None, refl, ap, sym, ◌∙◌, is_some}
 use Rattle.std.specs.List.{list_any, find, position_from}
 use Rattle.std.proofs.lemmas.Bool.{ne_eqb}
 use Rattle.ln_syntax.specs.Raw.{Span, text, same}

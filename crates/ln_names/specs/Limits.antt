@@ -1,6 +1,5 @@
 -- What holds of a file without a fault of names and limits: the limits of the language and the rules on its names, item by item.
-use Rattle.std.specs.Prelude.{◌≡◌, ℕ, ◌+◌, ◌<◌, ◌≤◌, ◌^◌, ◌≤ℤ◌, Bool, true, false, ◌||◌, List, [], ◌∷◌, ◌++◌}
-use Rattle.std.specs.Prelude.{length, count_by}
+use Rattle.std.specs.Prelude.{◌≡◌, ℕ, ◌+◌, ◌<◌, ◌≤◌, ◌^◌, ◌≤ℤ◌, Bool, true, false, ◌||◌, List, [], ◌∷◌, ◌++◌, length, count_by}
 use Rattle.std.specs.List.{list_any}
 use Rattle.ln_syntax.specs.Raw.{Span, Token, Item, SiteItem, ParamItem, PredItem, item_name, is_site, is_param, is_pred, Is, text, same, Semi}
 use Rattle.ln_names.specs.Rules.{RawRange, RawCoord, RawArg, RawLet, Places, Scope, scope, is_site_arg, is_param_arg, has_site, has_param, has_site_arg}

@@ -1,6 +1,5 @@
 -- How the nodes of an expression are read in one pass over its tokens: those whose operands were read, and what waits.
-use Rattle.std.specs.Prelude.{◌≡◌, ℕ, zero, suc, ◌-◌, pos, Bool, true, false, if◌then◌else◌, nat_lt, List, [], ◌∷◌, ◌++◌, Option}
-use Rattle.std.specs.Prelude.{Some, None, reverse}
+use Rattle.std.specs.Prelude.{◌≡◌, ℕ, zero, suc, ◌-◌, pos, Bool, true, false, if◌then◌else◌, nat_lt, List, [], ◌∷◌, ◌++◌, Option, Some, None, reverse}
 use Rattle.ln_syntax.specs.Raw.{Span, Token, kind_at, span_at, Kind, ParL, ParR}
 use Rattle.ln_names.specs.declared.nodes.Node.{Node}
 use Rattle.ln_names.specs.declared.nodes.What.TheVariants as what

@@ -1,6 +1,5 @@
 -- The tokens that the rules speak of, in order of the text, each with what it is.
-use Rattle.std.specs.Prelude.{ℕ, zero, suc, ◌+◌, ◌-◌, Bool, true, false, if◌then◌else◌, List, [], ◌∷◌, ◌++◌, sum_by, Option, Some}
-use Rattle.std.specs.Prelude.{None}
+use Rattle.std.specs.Prelude.{ℕ, zero, suc, ◌+◌, ◌-◌, Bool, true, false, if◌then◌else◌, List, [], ◌∷◌, ◌++◌, sum_by, Option, Some, None}
 use Rattle.ln_syntax.specs.Raw.{Span, Token, Item, SiteItem, ParamItem, PredItem, kind_at, span_at, Kind, Name, Number, ParR, Dot, Plus, Minus, Star}
 use Rattle.ln_syntax.specs.Raw.{Caret as CaretToken}
 use Rattle.ln_names.specs.Rules.{RawRange, RawCoord, RawArg, RawLet, Places, Scope, scope, Use, SiteName, ParamName, PredName, CoordName, LowEnd, HighEnd}

@@ -1,6 +1,5 @@
 -- The tokens of a canonical text spell the table's items.
-use Rattle.std.proofs.Common.{◌≡◌, ℕ, suc, ◌<◌, ◌^◌, Bool, true, false, ℤ, pos, negsuc, List, [], ◌∷◌, length, map, refl, ap, ◌∙◌}
-use Rattle.std.proofs.Common.{subst, arith, codes}
+use Rattle.std.proofs.Common.{◌≡◌, ℕ, suc, ◌<◌, ◌^◌, Bool, true, false, ℤ, pos, negsuc, List, [], ◌∷◌, length, map, refl, ap, ◌∙◌, subst, arith, codes}
 use Rattle.std.specs.Prelude.{int_lt, unsigned_abs}
 use Rattle.std.proofs.lemmas.Int.{ints}
 use Rattle.std.proofs.lemmas.List.{length-map}
