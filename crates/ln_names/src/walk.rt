@@ -46,11 +46,13 @@ pub fn one_fault()
 {}
 
 /// The tokens that are judged are in order of the text, and no NAME and no NUMBER is left out.
+#[tactic(auto, using(crate::proofs::Order::judges_in_order))]
 pub fn judges_in_order()
     ensures { JudgesInOrder }
 {}
 
 /// A file without a fault is within the limits, and its names are known and each its own.
+#[tactic(auto, using(crate::proofs::Faultless::faultless_is_within))]
 pub fn faultless_is_within()
     ensures { FaultlessIsWithin }
 {}

@@ -14,6 +14,7 @@ pub fn one_tree()
 {}
 
 /// A law: no tokens spell two lists of items.
+#[tactic(auto, using(crate::proofs::Spellings::OneSpelling::one_spelling))]
 pub fn one_spelling()
     ensures { (ts : List TokenOf) (xs ys : List Item) → Spelt ts xs → Spelt ts ys → xs ≡ ys }
 {}
