@@ -61,6 +61,7 @@ fn declared(bytes: &[u8], before: &[RawItem], kind: Option<ItemKind>, at: Span) 
     any_of(bytes, before, kind, at)
 }
 
+#[tactic(auto, using(crate::proofs::Lists::items_counted))]
 fn count(before: &[RawItem], kind: Option<ItemKind>) -> usize
     ensures { result ≡ count_by (is_of_kind kind) (items before.now) }
 {
