@@ -1,5 +1,5 @@
 -- Blanks and comments, passed one by one.
-use Rattle.std.proofs.Common.{◌≡◌, ℕ, suc, ◌+◌, ◌-◌, ◌<◌, ◌≤◌, Bool, true, List, [], ◌∷◌, length, drop, ap, sym, ◌∙◌, arith, subst, length-drop}
+use Rattle.std.proofs.Common.{◌≡◌, ℕ, suc, ◌+◌, ◌<◌, ◌≤◌, Bool, true, List, [], ◌∷◌, length, drop, ap, sym, ◌∙◌, arith, subst, length-drop}
 use Rattle.std.proofs.lemmas.List.{drop-drop}
 use Rattle.ln_lex.specs.Tokens.{comment_len, begins_comment, begins_blank, Skips, nothing, blank, comment}
 
@@ -53,23 +53,3 @@ after_blank {bytes = bytes} {rest = rest} {at = at} s r e t =
 pub after_comment : {bytes rest : List ℕ} {at n : ℕ} {b : Bool} → Skipped bytes at → rest ≡ drop at bytes → b ≡ begins_comment rest
     → b ≡ true → n ≡ comment_len rest → n ≤ length rest → Skipped bytes (at + n)
 after_comment s r e t q w = skipped_comment s (rw (← r) q) (rw (← r) w) (rw (← r) (sym e ∙ t))
-
--- what follows a place is no longer than the bytes
-pub rest_small : (bytes : List ℕ) (at : ℕ) {rest : List ℕ} {n : ℕ} → rest ≡ drop at bytes → length bytes < n → length rest < n
-rest_small bytes at r s =
-    let long = ap length r ∙ length-drop at bytes in
-    omega (arith, long, s)
-
--- a comment has its two slashes
-pub comment_nearer : {bytes rest : List ℕ} {at n : ℕ} → Skipped bytes at → rest ≡ drop at bytes → n ≡ comment_len rest → n ≤ length rest
-    → length bytes - (at + n) < length bytes - at
-comment_nearer {bytes = bytes} {rest = rest} {at = at} s r e w =
-    let long = ap length r ∙ length-drop at bytes in
-    omega (arith, long, e, w, s.within)
-
--- the place after a blank is nearer to the end
-pub blank_nearer : (bytes : List ℕ) (at : ℕ) {rest : List ℕ} {b : Bool} → rest ≡ drop at bytes → b ≡ begins_blank rest → b ≡ true
-    → length bytes - (at + 1) < length bytes - at
-blank_nearer bytes at {rest = rest} r e t =
-    let long = ap length r ∙ length-drop at bytes in
-    omega (arith, long, blank_some rest (sym e ∙ t))

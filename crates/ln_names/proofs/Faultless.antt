@@ -1,6 +1,6 @@
 -- A file without a fault is within the limits: the table's tests, turned round.
-use Rattle.std.proofs.Common.{◌≡◌, ℕ, zero, suc, ◌+◌, ◌-◌, ◌≤◌, ◌==◌, Bool, true, false, cond, not, ◌||◌, nat_lt, List, [], ◌∷◌, ◌++◌}
-use Rattle.std.proofs.Common.{length, Option, Some, None, refl, sym, true≢false, subst, arith}
+use Rattle.std.proofs.Common.{◌≡◌, ℕ, zero, suc, ◌+◌, ◌-◌, ◌≤◌, ◌==◌, Bool, true, false, cond, not, ◌||◌, nat_lt, List, []}
+use Rattle.std.proofs.Common.{◌∷◌, ◌++◌, length, Option, Some, None, refl, sym, true≢false, subst, arith}
 use Rattle.std.specs.Prelude.{count_by, int_lt, ℤ, pos, negsuc, ◌≤ℤ◌}
 use Rattle.std.specs.List.{list_any}
 use Rattle.std.proofs.lemmas.List.{length-append, append_assoc, append-nil}
@@ -8,13 +8,9 @@ use Rattle.std.proofs.lemmas.List.Sums.{sum_by-append}
 use Rattle.std.proofs.lemmas.Bool.{ltb-false}
 use Rattle.std.proofs.lemmas.Bool.Decides.{nat_tests}
 use Rattle.std.proofs.lemmas.Int.{ints}
-use Rattle.ln_lex.specs.declared.token.Token.{Token}
-use Rattle.ln_syntax.specs.declared.raw.RawRange.{RawRange}
-use Rattle.ln_syntax.specs.declared.raw.RawCoord.{RawCoord}
-use Rattle.ln_syntax.specs.declared.raw.RawArg.{RawArg}
-use Rattle.ln_syntax.specs.declared.raw.RawLet.{RawLet}
-use Rattle.ln_syntax.specs.declared.raw.Places.{Places}
-use Rattle.ln_syntax.specs.Raw.{Item, SiteItem, ParamItem, PredItem, is_site, is_param, is_pred, text, same, span_at}
+use Rattle.ln_syntax.specs.Raw.{Token, Item, SiteItem, ParamItem, PredItem, is_site, is_param, is_pred, text, same, span_at}
+use Rattle.ln_names.specs.Rules.{RawRange, RawCoord, RawArg, RawLet, Places, InputNode, OperatorNode, Scope, scope, ArgSite, ArgParam, is_site_arg}
+use Rattle.ln_names.specs.Rules.{is_param_arg, has_site, has_param, has_site_arg, has_param_arg, has_let, coords_at, fault_at}
 use Rattle.ln_names.specs.declared.faults.Fault.{Fault}
 use Rattle.ln_names.specs.declared.roles.Role.{Role}
 use Rattle.ln_names.specs.declared.roles.Role.TheVariants.{Value, AfterCaret, Bare, Input, AfterDot, Operator, Caret}
@@ -23,11 +19,8 @@ use Rattle.ln_names.specs.Numbers.{number, end_value, most_end}
 use Rattle.ln_names.proofs.Trees.{Judged, judge, judged}
 use Rattle.ln_names.proofs.Machine.{tokens_of}
 use Rattle.ln_syntax.specs.Expression.{Tree, TNum, TName, TInput, TNeg, TAdd, TSub, TMul, TPow}
-use Rattle.ln_names.specs.Rules.{InputNode, OperatorNode}
-use Rattle.ln_names.specs.Rules.{Scope, scope, ArgSite, ArgParam, is_site_arg, is_param_arg, has_site, has_param, has_site_arg}
-use Rattle.ln_names.specs.Rules.{has_param_arg, has_let, coords_at, fault_at}
-use Rattle.ln_names.specs.Visits.{Visit, visits_by, range_visits, coord_visits, arg_visits, role_at, is_node_at, token_visits, expr_visits}
-use Rattle.ln_names.specs.Visits.{nodes, value_visits, value_nodes, nodes_before, let_visits, pred_visits, item_visits}
+use Rattle.ln_names.specs.Visits.{Visit, visits_by, range_visits, coord_visits, arg_visits, role_at, is_node_at, token_visits, expr_visits, nodes, value_visits}
+use Rattle.ln_names.specs.Visits.{value_nodes, nodes_before, let_visits, pred_visits, item_visits}
 use Rattle.ln_names.specs.First.{Clean, NoFault}
 use Rattle.ln_names.specs.Limits.{Each, RangeWithin, CoordWithin, IsKnown, ArgWithin, Fit, ValueWithin, LetWithin, PredWithin, ItemWithin, FileWithin}
 
@@ -61,17 +54,13 @@ pub clean_append : (bytes : List ℕ) (vs ws : List Visit) → Clean bytes (vs +
 clean_append bytes [] ws c = (tt, c)
 clean_append bytes (v ∷ vs) ws c = let r = clean_append bytes vs ws c.1 in ((c.0, r.0), r.1)
 
--- where no token of a list's elements has a fault, none of any element has, after the elements before it
-pub clean_each : {A : Type 0} (bytes : List ℕ) (f : List A → A → List Visit) (before xs : List A) → Clean bytes (visits_by f before xs)
-    → Each (λ b x. Clean bytes (f b x)) before xs
-clean_each bytes f before [] c = tt
-clean_each bytes f before (x ∷ xs) c =
+-- where no token of a list's elements has a fault, what follows for one of them, after the elements before it, holds of each
+pub clean_each : {A : Type 0} (bytes : List ℕ) (f : List A → A → List Visit) (Q : List A → A → Type 0)
+    → ((b : List A) (x : A) → Clean bytes (f b x) → Q b x) → (before xs : List A) → Clean bytes (visits_by f before xs) → Each Q before xs
+clean_each bytes f Q h before [] c = tt
+clean_each bytes f Q h before (x ∷ xs) c =
     let p = clean_append bytes (f before x) (visits_by f (before ++ (x ∷ [])) xs) c in
-    (p.0, clean_each bytes f (before ++ (x ∷ [])) xs p.1)
-
-each_weaker : {A : Type 0} (P Q : List A → A → Type 0) (before xs : List A) → ((b : List A) (x : A) → P b x → Q b x) → Each P before xs → Each Q before xs
-each_weaker P Q before [] f e = tt
-each_weaker P Q before (x ∷ xs) f e = (f before x e.0, each_weaker P Q (before ++ (x ∷ [])) xs f e.1)
+    (h before x p.0, clean_each bytes f Q h (before ++ (x ∷ [])) xs p.1)
 
 -- no element comes after n others, so there are at most n
 at_most : {A : Type 0} (n : ℕ) (before xs : List A) → length before ≤ n → Each (λ b x. (length b == n) ≡ false) before xs → length before + length xs ≤ n
@@ -228,13 +217,14 @@ let_within bytes ts is args before l c =
     (record { short = not_above 32 _ n.0; new = n.2; value = value_within bytes ts (scope is args before) (nodes_before ts before) l.value c.1 }, n.1)
 
 lets_few : (bytes : List ℕ) (ts : List Token) (is : List Item) (args : List RawArg) (before ls : List RawLet)
-    → Each (λ b l. Clean bytes (let_visits ts is args b l)) before ls → nodes_before ts before ≤ 2048 → nodes_before ts (before ++ ls) ≤ 2048
-lets_few bytes ts is args before [] e h = rw (append-nil before) h
-lets_few bytes ts is args before (l ∷ ls) e h =
-    let a = tokens_few bytes ts (scope is args before) (nodes_before ts before) l.value.from (l.value.to - l.value.from) e.0.1 h in
+    → Clean bytes (visits_by (let_visits ts is args) before ls) → nodes_before ts before ≤ 2048 → nodes_before ts (before ++ ls) ≤ 2048
+lets_few bytes ts is args before [] c h = rw (append-nil before) h
+lets_few bytes ts is args before (l ∷ ls) c h =
+    let p = clean_append bytes (let_visits ts is args before l) (visits_by (let_visits ts is args) (before ++ (l ∷ [])) ls) c in
+    let a = tokens_few bytes ts (scope is args before) (nodes_before ts before) l.value.from (l.value.to - l.value.from) p.0.1 h in
     let b : nodes_before ts (before ++ (l ∷ [])) ≡ nodes_before ts before + (0 + value_nodes ts l.value) =
     sum_by-append (λ (m : RawLet). value_nodes ts m.value) before (l ∷ []) in
-    let r = lets_few bytes ts is args (before ++ (l ∷ [])) ls e.1 (omega (arith, a, b)) in
+    let r = lets_few bytes ts is args (before ++ (l ∷ [])) ls p.1 (omega (arith, a, b)) in
     subst (λ (ms : List RawLet). nodes_before ts ms ≤ 2048) (append_assoc before (l ∷ []) ls) r
 
 pred_within : (bytes : List ℕ) (ts : List Token) (is : List Item) (args : List RawArg) (ls : List RawLet) (root : Places)
@@ -243,70 +233,44 @@ pred_within bytes ts is args ls root c =
     let p = clean_append bytes (visits_by (arg_visits is) [] args)
     (visits_by (let_visits ts is args) [] ls ++ value_visits ts (scope is args ls) (nodes_before ts ls) root) c in
     let q = clean_append bytes (visits_by (let_visits ts is args) [] ls) (value_visits ts (scope is args ls) (nodes_before ts ls) root) p.1 in
-    let a = clean_each bytes (arg_visits is) [] args p.0 in
-    let l = clean_each bytes (let_visits ts is args) [] ls q.0 in
-    let few = lets_few bytes ts is args [] ls l (omega arith) in
-    let counted = at_most 64 [] ls (omega arith) (each_weaker (λ b x. Clean bytes (let_visits ts is args b x))
-    (λ b x. (length b == 64) ≡ false) [] ls (λ b x h. (let_within bytes ts is args b x h).1) l) in
+    let few = lets_few bytes ts is args [] ls q.0 (omega arith) in
+    let counted = at_most 64 [] ls (omega arith) (clean_each bytes (let_visits ts is args) _ (λ b x h. (let_within bytes ts is args b x h).1) [] ls q.0) in
     record {
-      site_args = at_most_of is_site_arg 5 [] args (omega arith) (each_weaker (λ b x. Clean bytes (arg_visits is b x))
-          (λ b x. is_site_arg x ≡ true → (count_by is_site_arg b == 5) ≡ false) [] args (λ b x h. (kind_within bytes is b x x.is_param h.1.0).2) a);
-      param_args = at_most_of is_param_arg 8 [] args (omega arith) (each_weaker (λ b x. Clean bytes (arg_visits is b x))
-          (λ b x. is_param_arg x ≡ true → (count_by is_param_arg b == 8) ≡ false) [] args (λ b x h. (kind_within bytes is b x x.is_param h.1.0).1) a);
-      args_each = each_weaker (λ b x. Clean bytes (arg_visits is b x)) (ArgWithin bytes is) [] args (arg_within bytes is) a;
+      site_args = at_most_of is_site_arg 5 [] args (omega arith)
+          (clean_each bytes (arg_visits is) _ (λ b x h. (kind_within bytes is b x x.is_param h.1.0).2) [] args p.0);
+      param_args = at_most_of is_param_arg 8 [] args (omega arith)
+          (clean_each bytes (arg_visits is) _ (λ b x h. (kind_within bytes is b x x.is_param h.1.0).1) [] args p.0);
+      args_each = clean_each bytes (arg_visits is) (ArgWithin bytes is) (arg_within bytes is) [] args p.0;
       let_count = omega (arith, counted);
-      lets_each = each_weaker (λ b x. Clean bytes (let_visits ts is args b x)) (LetWithin bytes ts is args) [] ls
-          (λ b x h. (let_within bytes ts is args b x h).0) l;
+      lets_each = clean_each bytes (let_visits ts is args) (LetWithin bytes ts is args) (λ b x h. (let_within bytes ts is args b x h).0) [] ls q.0;
       root_value = value_within bytes ts (scope is args ls) (nodes_before ts ls) root q.1;
       node_count = tokens_few bytes ts (scope is args ls) (nodes_before ts ls) root.from (root.to - root.from) q.1 few;
     }
 
 coords_within : (bytes : List ℕ) (cs : List RawCoord) → Clean bytes (visits_by coord_visits [] cs) → (length cs ≤ 32) × Each (CoordWithin bytes) [] cs
 coords_within bytes cs c =
-    let e = clean_each bytes coord_visits [] cs c in
-    let counted = at_most 32 [] cs (omega arith)
-    (each_weaker (λ b x. Clean bytes (coord_visits b x)) (λ b x. (length b == 32) ≡ false) [] cs (λ b x h. (coord_within bytes b x h).1) e) in
-    (omega (arith, counted), each_weaker (λ b x. Clean bytes (coord_visits b x)) (CoordWithin bytes) [] cs (λ b x h. (coord_within bytes b x h).0) e)
+    let counted = at_most 32 [] cs (omega arith) (clean_each bytes coord_visits _ (λ b x h. (coord_within bytes b x h).1) [] cs c) in
+    (omega (arith, counted), clean_each bytes coord_visits (CoordWithin bytes) (λ b x h. (coord_within bytes b x h).0) [] cs c)
 
-item_within : (bytes : List ℕ) (ts : List Token) (before : List Item) (i : Item) → Clean bytes (item_visits ts before i) → ItemWithin bytes ts before i
+-- an item is within the limits, and comes after fewer items of its kind than there may be
+item_within : (bytes : List ℕ) (ts : List Token) (before : List Item) (i : Item) → Clean bytes (item_visits ts before i)
+    → ItemWithin bytes ts before i × (is_site i ≡ true → (count_by is_site before == 16) ≡ false)
+    × (is_param i ≡ true → (count_by is_param before == 16) ≡ false) × (is_pred i ≡ true → (count_by is_pred before == 16) ≡ false)
 item_within bytes ts before (SiteItem name cs) c =
     let n = rows_three _ _ _ _ _ _ c.0 in
-    record { short = not_above 32 _ n.0; new = n.2; parts = coords_within bytes cs c.1 }
+    (record { short = not_above 32 _ n.0; new = n.2; parts = coords_within bytes cs c.1 }, λ q. n.1, λ q. absurd (cc), λ q. absurd (cc))
 item_within bytes ts before (ParamItem name r) c =
     let n = rows_three _ _ _ _ _ _ c.0 in
-    record { short = not_above 32 _ n.0; new = n.2; parts = range_within bytes r c.1 }
+    (record { short = not_above 32 _ n.0; new = n.2; parts = range_within bytes r c.1 }, λ q. absurd (cc), λ q. n.1, λ q. absurd (cc))
 item_within bytes ts before (PredItem name args ls root) c =
     let n = rows_three _ _ _ _ _ _ c.0 in
-    record { short = not_above 32 _ n.0; new = n.2; parts = pred_within bytes ts before args ls root c.1 }
-
-site_counted : (bytes : List ℕ) (ts : List Token) (before : List Item) (i : Item) → Clean bytes (item_visits ts before i) → is_site i ≡ true
-    → (count_by is_site before == 16) ≡ false
-site_counted bytes ts before (SiteItem name cs) c q = (rows_three _ _ _ _ _ _ c.0).1
-site_counted bytes ts before (ParamItem name r) c q = absurd (cc)
-site_counted bytes ts before (PredItem name args ls root) c q = absurd (cc)
-
-param_counted : (bytes : List ℕ) (ts : List Token) (before : List Item) (i : Item) → Clean bytes (item_visits ts before i)
-    → is_param i ≡ true → (count_by is_param before == 16) ≡ false
-param_counted bytes ts before (SiteItem name cs) c q = absurd (cc)
-param_counted bytes ts before (ParamItem name r) c q = (rows_three _ _ _ _ _ _ c.0).1
-param_counted bytes ts before (PredItem name args ls root) c q = absurd (cc)
-
-pred_counted : (bytes : List ℕ) (ts : List Token) (before : List Item) (i : Item) → Clean bytes (item_visits ts before i) → is_pred i ≡ true
-    → (count_by is_pred before == 16) ≡ false
-pred_counted bytes ts before (SiteItem name cs) c q = absurd (cc)
-pred_counted bytes ts before (ParamItem name r) c q = absurd (cc)
-pred_counted bytes ts before (PredItem name args ls root) c q = (rows_three _ _ _ _ _ _ c.0).1
+    (record { short = not_above 32 _ n.0; new = n.2; parts = pred_within bytes ts before args ls root c.1 }, λ q. absurd (cc), λ q. absurd (cc), λ q. n.1)
 
 -- a file without a fault is within the limits, and its names are known and its own
 pub faultless_is_within : (bytes : List ℕ) (ts : List Token) (is : List Item) → NoFault bytes ts is → FileWithin bytes ts is
-faultless_is_within bytes ts is c =
-    let e = clean_each bytes (item_visits ts) [] is c in
-    record {
-      sites = at_most_of is_site 16 [] is (omega arith) (each_weaker (λ b x. Clean bytes (item_visits ts b x))
-          (λ b x. is_site x ≡ true → (count_by is_site b == 16) ≡ false) [] is (site_counted bytes ts) e);
-      params = at_most_of is_param 16 [] is (omega arith) (each_weaker (λ b x. Clean bytes (item_visits ts b x))
-          (λ b x. is_param x ≡ true → (count_by is_param b == 16) ≡ false) [] is (param_counted bytes ts) e);
-      preds = at_most_of is_pred 16 [] is (omega arith) (each_weaker (λ b x. Clean bytes (item_visits ts b x))
-          (λ b x. is_pred x ≡ true → (count_by is_pred b == 16) ≡ false) [] is (pred_counted bytes ts) e);
-      each = each_weaker (λ b x. Clean bytes (item_visits ts b x)) (ItemWithin bytes ts) [] is (item_within bytes ts) e;
-    }
+faultless_is_within bytes ts is c = record {
+  sites = at_most_of is_site 16 [] is (omega arith) (clean_each bytes (item_visits ts) _ (λ b x h. (item_within bytes ts b x h).1) [] is c);
+  params = at_most_of is_param 16 [] is (omega arith) (clean_each bytes (item_visits ts) _ (λ b x h. (item_within bytes ts b x h).2) [] is c);
+  preds = at_most_of is_pred 16 [] is (omega arith) (clean_each bytes (item_visits ts) _ (λ b x h. (item_within bytes ts b x h).3) [] is c);
+  each = clean_each bytes (item_visits ts) (ItemWithin bytes ts) (λ b x h. (item_within bytes ts b x h).0) [] is c;
+}

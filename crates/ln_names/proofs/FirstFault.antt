@@ -1,8 +1,7 @@
 -- The first fault as a fold is the first fault.
 use Rattle.std.proofs.Common.{◌≡◌, ℕ, List, [], ◌∷◌, Option, Some, None, refl, ap, subst}
 use Rattle.ln_names.specs.declared.faults.Fault.{Fault}
-use Rattle.ln_lex.specs.declared.token.Token.{Token}
-use Rattle.ln_syntax.specs.Raw.{Item}
+use Rattle.ln_syntax.specs.Raw.{Token, Item}
 use Rattle.ln_names.specs.declared.faults.Found.{Found}
 use Rattle.ln_names.specs.declared.faults.NamesStop.{NamesStop}
 use Rattle.ln_names.specs.declared.faults.NamesStop.TheVariants as stop

@@ -1,12 +1,12 @@
 -- Lists of items.
-use Rattle.std.proofs.Common.{◌≡◌, ℕ, suc, ◌+◌, ◌<◌, ◌≤◌, Bool, true, false, cond, ◌||◌, List, [], ◌∷◌}
+use Rattle.std.proofs.Common.{◌≡◌, ℕ, suc, ◌+◌, ◌<◌, Bool, true, false, cond, ◌||◌, List, [], ◌∷◌}
 use Rattle.std.proofs.Common.{length, get_or, take, Some, refl, ap, sym, ◌∙◌, arith, is_some}
 use Rattle.std.specs.Prelude.{option_map}
 use Rattle.std.specs.List.{list_any, find, position_from, count_by}
 use Rattle.std.specs.Int.{from_bool}
 use Rattle.std.proofs.Math.ListN.{get_or-map}
-use Rattle.std.proofs.lemmas.List.{take_all, length-map}
-use Rattle.ln_base.proofs.Counting.{counted_more, counted_fits}
+use Rattle.std.proofs.lemmas.List.{length-map}
+use Rattle.ln_base.proofs.Counting.{counted_more}
 use Rattle.ln_syntax.specs.declared.raw.RawItem.{RawItem}
 use Rattle.ln_syntax.specs.Raw.{Item, item, items}
 
@@ -54,15 +54,3 @@ pub items_counted : (p : Item → Bool) (is : List RawItem) (i n m : ℕ) (x : R
     → n ≡ count_by p (take i (items is)) → m ≡ from_bool (p (item x)) → n + m ≡ count_by p (take (i + 1) (items is))
 items_counted p is i n m x l e c h =
     counted_more p (items is) i n m (item x) (omega (arith, l, length-map is item)) c (h ∙ ap (λ (w : Item). from_bool (p w)) (sym (item_at is i x e)))
-
--- there are this many items
-pub items_fit : (p : Item → Bool) (is : List RawItem) (i n m : ℕ) (x : RawItem) → i < length is → x ≡ get_or is i x
-    → n ≡ count_by p (take i (items is)) → m ≡ from_bool (p (item x)) → n + m ≤ length is
-items_fit p is i n m x l e c h =
-    let most =
-    counted_fits p (items is) i n m (item x) (omega (arith, l, length-map is item)) c (h ∙ ap (λ (w : Item). from_bool (p w)) (sym (item_at is i x e))) in
-    omega (arith, most, length-map is item)
-
--- all items are counted
-pub items_all : (p : Item → Bool) (is : List RawItem) (i n : ℕ) → length is ≤ i → n ≡ count_by p (take i (items is)) → n ≡ count_by p (items is)
-items_all p is i n l e = e ∙ ap (count_by p) (take_all i (items is) (omega (arith, l, length-map is item)))

@@ -1,18 +1,12 @@
 -- An expression is read as its tree says.
-use Rattle.std.proofs.Common.{◌≡◌, ℕ, suc, ◌+◌, ◌-◌, ◌<◌, ◌≤◌, nat_lt, Bool, true, false, cond, List, [], ◌∷◌, Option, Some, None, refl, ap, sym, ◌∙◌}
-use Rattle.std.proofs.Common.{subst, arith, add-one}
-use Rattle.ln_base.specs.declared.span.Span.{Span}
-use Rattle.ln_lex.specs.declared.token.Token.{Token}
-use Rattle.ln_lex.specs.declared.token.Kind.{Kind}
-use Rattle.ln_lex.specs.declared.token.Kind.TheVariants.{Name, Number, ParL, ParR, Dot, Plus, Minus, Star, Caret as CaretToken, Semi}
-use Rattle.ln_syntax.specs.declared.raw.Places.{Places}
-use Rattle.ln_syntax.specs.Raw.{Is, kind_at, span_at}
-use Rattle.ln_syntax.specs.Expression.{Tree, TNum, TName, TInput, TAdd, TSub, TMul, TPow, Sort, Atom, Power, Unary, Term, Sum as SumOf}
-use Rattle.ln_syntax.specs.Expression.{Factors, Terms, Derives, number, name, input, parens, plain, power, base, minus, term, no_factor, times, sum}
-use Rattle.ln_syntax.specs.Expression.{no_term, plus, less}
+use Rattle.std.proofs.Common.{◌≡◌, ℕ, suc, ◌+◌, ◌-◌, ◌<◌, ◌≤◌, nat_lt, Bool, true, false, cond, List, [], ◌∷◌, Option, Some}
+use Rattle.std.proofs.Common.{None, refl, ap, sym, ◌∙◌, subst, arith, add-one}
+use Rattle.ln_syntax.specs.Raw.{Span, Token, Is, kind_at, span_at, Kind, Name, Number, ParL, ParR, Dot, Plus, Minus, Star, Caret as CaretToken, Semi}
+use Rattle.ln_names.specs.Rules.{Places, Scope, OperatorNode}
+use Rattle.ln_syntax.specs.Expression.{Tree, TNum, TName, TInput, TAdd, TSub, TMul, TPow, Sort, Atom, Power, Unary, Term, Sum as SumOf, Factors, Terms, Derives}
+use Rattle.ln_syntax.specs.Expression.{number, name, input, parens, plain, power, base, minus, term, no_factor, times, sum, no_term, plus, less}
 use Rattle.ln_syntax.specs.Stops.{strength_of, Stops}
 use Rattle.ln_syntax.proofs.Spellings.OneTree.{stops, tighter, factors_stop, terms_stop}
-use Rattle.ln_names.specs.Rules.{Scope, OperatorNode}
 use Rattle.ln_names.specs.Visits.{is_dot, is_caret, ends_operand, role_of, role_at, expr_visits, nodes}
 use Rattle.ln_names.specs.declared.nodes.Operation.{Operation}
 use Rattle.ln_names.specs.declared.nodes.Operation.TheVariants.{Negation, Sum, Difference, Product}
@@ -21,8 +15,7 @@ use Rattle.ln_names.specs.declared.nodes.Waiting.TheVariants.{Open, For}
 use Rattle.ln_names.specs.declared.roles.Role.{Role}
 use Rattle.ln_names.specs.declared.roles.Role.TheVariants.{Value, AfterCaret, Bare, Input, AfterDot, Operator, Caret}
 use Rattle.ln_names.specs.declared.nodes.Node.{Node}
-use Rattle.ln_names.specs.Machine.{binding, Machine, machine, settle, settled, wait, closed, enclose}
-use Rattle.ln_names.specs.Machine.{step_by, machine_step, read}
+use Rattle.ln_names.specs.Machine.{binding, Machine, machine, settle, settled, wait, closed, enclose, step_by, machine_step, read}
 use Rattle.ln_names.specs.Nodes.{postfix, Begins, AreNodes}
 use Rattle.ln_names.proofs.Trees.{Judged, judge, judged, judge_by, judges, judges_visits}
 

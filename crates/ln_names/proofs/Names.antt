@@ -2,16 +2,14 @@
 use Rattle.std.proofs.Common.{◌≡◌, ℕ, ◌||◌, ◌&&◌, Bool, true, false, nat_lt, List, [], ◌∷◌, length, Some, None, refl, ap, sym, ◌∙◌, is_some}
 use Rattle.std.specs.List.{list_any, find, position_from}
 use Rattle.std.proofs.lemmas.Bool.{ne_eqb}
-use Rattle.ln_base.specs.declared.span.Span.{Span}
-use Rattle.ln_syntax.specs.declared.raw.RawArg.{RawArg}
-use Rattle.ln_syntax.specs.Raw.{text, same}
+use Rattle.ln_syntax.specs.Raw.{Span, text, same}
+use Rattle.ln_names.specs.Rules.{RawArg, Scope, NameNode, InputCoord, has_let, has_param_arg, is_site_arg, coords_at, fault_at}
 use Rattle.ln_names.specs.declared.faults.Fault.TheVariants.{Named}
 use Rattle.ln_names.specs.declared.faults.NameWhat.TheVariants.{Unknown}
 use Rattle.ln_names.specs.declared.nodes.What.TheVariants.{Let, Input}
 use Rattle.ln_names.specs.declared.resolve.ArgKind.TheVariants.{Site, Param}
 use Rattle.ln_names.specs.Nodes.{named, input_of}
 use Rattle.ln_names.specs.Resolve.{is_arg, let_place, arg_place, coord_place}
-use Rattle.ln_names.specs.Rules.{Scope, NameNode, InputCoord, has_let, has_param_arg, is_site_arg, coords_at, fault_at}
 use Rattle.ln_names.proofs.Lists.{place_is_some}
 
 -- where a place is found, some element passes

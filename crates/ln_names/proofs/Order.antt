@@ -1,23 +1,15 @@
 -- Each NAME and each NUMBER of a file is judged, in order of the text: rule by rule of the grammar.
-use Rattle.std.proofs.Common.{◌≡◌, ℕ, zero, suc, ◌+◌, ◌-◌, Bool, true, false, if◌then◌else◌, List, [], ◌∷◌, ◌++◌, length, Option, Some}
-use Rattle.std.proofs.Common.{None, refl, subst, arith, add-one}
-use Rattle.ln_lex.specs.declared.token.Token.{Token}
-use Rattle.ln_lex.specs.declared.token.Kind.{Kind}
-use Rattle.ln_lex.specs.declared.token.Kind.TheVariants.{Name, Number, Plus, Minus, Star, Caret}
-use Rattle.ln_syntax.specs.declared.raw.RawEnd.{RawEnd}
-use Rattle.ln_syntax.specs.declared.raw.RawRange.{RawRange}
-use Rattle.ln_syntax.specs.declared.raw.RawCoord.{RawCoord}
-use Rattle.ln_syntax.specs.declared.raw.RawArg.{RawArg}
-use Rattle.ln_syntax.specs.declared.raw.RawLet.{RawLet}
-use Rattle.ln_syntax.specs.Raw.{Item, Is, kind_at}
+use Rattle.std.proofs.Common.{◌≡◌, ℕ, zero, suc, ◌+◌, ◌-◌, Bool, true, false, if◌then◌else◌, List, [], ◌∷◌, ◌++◌, length}
+use Rattle.std.proofs.Common.{Option, Some, None, refl, subst, arith, add-one}
+use Rattle.ln_syntax.specs.Raw.{Token, Item, Is, kind_at, Kind, Name, Number, Plus, Minus, Star, Caret}
+use Rattle.ln_names.specs.Rules.{RawEnd, RawRange, RawCoord, RawArg, RawLet, Scope, scope, Use, LowEnd, HighEnd, is_number}
 use Rattle.ln_syntax.specs.Expression.{IsExpr}
-use Rattle.ln_syntax.specs.File.{End, plain, minus, Range, range, Coords, no_coord, coord, Arg, site_arg, param_arg, Args, last_arg}
-use Rattle.ln_syntax.specs.File.{more_args, Lets, no_let, a_let, IsItem, site, param, predicate, Items, no_item, an_item, Spelt}
+use Rattle.ln_syntax.specs.File.{End, plain, minus, Range, range, Coords, no_coord, coord, Arg, site_arg, param_arg, Args, last_arg, more_args, Lets, no_let}
+use Rattle.ln_syntax.specs.File.{a_let, IsItem, site, param, predicate, Items, no_item, an_item, Spelt}
 use Rattle.ln_names.specs.declared.nodes.Operation.TheVariants.{Negation, Difference}
 use Rattle.ln_names.specs.declared.roles.Role.TheVariants.{Value, AfterCaret, Bare, Input, AfterDot, Operator}
-use Rattle.ln_names.specs.Rules.{Scope, scope, Use, LowEnd, HighEnd, is_number}
-use Rattle.ln_names.specs.Visits.{Visit, visit, visits_by, range_visits, coord_visits, arg_visits, role_of, role_at, is_node_at}
-use Rattle.ln_names.specs.Visits.{token_visits, expr_visits, value_visits, let_visits, item_visits, nodes_before}
+use Rattle.ln_names.specs.Visits.{Visit, visit, visits_by, range_visits, coord_visits, arg_visits, role_of, role_at, is_node_at, token_visits, expr_visits}
+use Rattle.ln_names.specs.Visits.{value_visits, let_visits, item_visits, nodes_before}
 use Rattle.ln_names.specs.Along.{is_other, Along, done, passed, judged}
 use Rattle.ln_names.proofs.Within.{within}
 

@@ -1,16 +1,12 @@
 -- A walk over a list of tokens.
-use Rattle.std.proofs.Common.{◌≡◌, ℕ, suc, ◌+◌, ◌-◌, ◌<◌, ◌≤◌, List, [], ◌∷◌, ◌++◌, length, get_or, take, drop, Option, Some, None, refl, ap}
-use Rattle.std.proofs.Common.{sym, ◌∙◌, subst, arith, drop-cons, add-one}
+use Rattle.std.proofs.Common.{◌≡◌, ℕ, suc, ◌+◌, ◌-◌, ◌<◌, List, [], ◌∷◌, ◌++◌, length, get_or, take, drop, Option}
+use Rattle.std.proofs.Common.{Some, None, refl, ap, sym, ◌∙◌, subst, arith, drop-cons, add-one}
 use Rattle.std.proofs.Math.Seq.{take-suc}
-use Rattle.std.proofs.lemmas.List.{take-map, length-map, append-nil, append_assoc, drop_all, take_all}
+use Rattle.std.proofs.lemmas.List.{take-map, length-map, append-nil, append_assoc}
 use Rattle.std.proofs.lemmas.List.Sums.{sum_by-append}
 use Rattle.ln_syntax.specs.declared.raw.RawItem.{RawItem}
-use Rattle.ln_syntax.specs.declared.raw.RawArg.{RawArg}
-use Rattle.ln_syntax.specs.declared.raw.RawLet.{RawLet}
-use Rattle.ln_syntax.specs.declared.raw.Places.{Places}
-use Rattle.ln_syntax.specs.Raw.{Item, PredItem, item, items}
-use Rattle.ln_base.specs.declared.span.Span.{Span}
-use Rattle.ln_lex.specs.declared.token.Token.{Token}
+use Rattle.ln_names.specs.Rules.{RawArg, RawLet, Places, fault_at, Scope, scope, PredName}
+use Rattle.ln_syntax.specs.Raw.{Span, Token, Item, PredItem, item, items}
 use Rattle.ln_names.specs.declared.faults.Fault.{Fault}
 use Rattle.ln_names.specs.declared.faults.Found.{Found}
 use Rattle.ln_names.specs.declared.faults.NamesStop.{NamesStop}
@@ -19,9 +15,8 @@ use Rattle.ln_names.proofs.Lists.{item_at}
 use Rattle.ln_names.specs.First.{NamesStopAt}
 use Rattle.ln_names.specs.declared.nodes.Body.{Body}
 use Rattle.ln_names.specs.Nodes.{ArePairedBy}
-use Rattle.ln_names.specs.Rules.{fault_at, Scope, scope, PredName}
-use Rattle.ln_names.specs.Visits.{Visit, visit, or_later, first_fault, visits_by, expr_visits, token_visits, role_at, is_node_at, nodes}
-use Rattle.ln_names.specs.Visits.{arg_visits, let_visits, value_visits, nodes_before, value_nodes, body_visits, item_visits, file_visits}
+use Rattle.ln_names.specs.Visits.{Visit, visit, or_later, first_fault, visits_by, expr_visits, token_visits, role_at, is_node_at, nodes, arg_visits, let_visits}
+use Rattle.ln_names.specs.Visits.{value_visits, nodes_before, value_nodes, body_visits, item_visits, file_visits}
 
 -- the fault that comes first, or else the later one
 abbrev pub first_or : Option Found → Option Found → Option Found
@@ -184,15 +179,3 @@ pub items_next : (P : List Item → Item → Body → Type 0) (is : List RawItem
 items_next P is bs i x b l e p h =
     let len = length-map is item in
     paired_next P (items is) bs i (item x) b (omega arith) p (rw (item_at is i x e, take-map item i is) h)
-
--- the end of `file_nodes`: no item has a fault, and each has its nodes
-pub items_done : (bytes : List ℕ) (ts : List Token) (is : List RawItem) (i : ℕ) → length is ≤ i → Left bytes (item_visits ts) (items is) i
-    → first_fault bytes (file_visits ts (items is)) ≡ None
-items_done bytes ts is i h l =
-    let len = length-map is item in
-    let d : drop i (items is) ≡ [] = drop_all i (items is) (omega arith) in
-    sym l ∙ rw d refl
-
--- as many items as there are, or more, are all of them
-pub items_taken : (is : List RawItem) (i : ℕ) → length is ≤ i → take i (items is) ≡ items is
-items_taken is i h = let len = length-map is item in take_all i (items is) (omega arith)

@@ -1,9 +1,6 @@
 -- Each NAME and each NUMBER of a file is judged, in order of the text.
 use Rattle.std.specs.Prelude.{◌≡◌, ℕ, suc, ◌||◌, not, Bool, true, false, List, [], ◌∷◌, length, Option, Some}
-use Rattle.ln_lex.specs.declared.token.Token.{Token}
-use Rattle.ln_lex.specs.declared.token.Kind.{Kind}
-use Rattle.ln_lex.specs.declared.token.Kind.TheVariants.{Name, Number}
-use Rattle.ln_syntax.specs.Raw.{Item, kind_at, span_at}
+use Rattle.ln_syntax.specs.Raw.{Token, Item, kind_at, span_at, Kind, Name, Number}
 use Rattle.ln_syntax.specs.File.{Spelt}
 use Rattle.ln_names.specs.Rules.{Use, is_name, is_number}
 use Rattle.ln_names.specs.Visits.{Visit, visit, file_visits}

@@ -1,7 +1,6 @@
 -- The first fault of a file: a token that has one, after tokens that have none.
 use Rattle.std.specs.Prelude.{◌≡◌, ℕ, List, [], ◌∷◌, ◌++◌, Option, Some, None}
-use Rattle.ln_lex.specs.declared.token.Token.{Token}
-use Rattle.ln_syntax.specs.Raw.{Item}
+use Rattle.ln_syntax.specs.Raw.{Token, Item}
 use Rattle.ln_names.specs.declared.faults.Found.{Found}
 use Rattle.ln_names.specs.declared.faults.NamesStop.{NamesStop}
 use Rattle.ln_names.specs.declared.faults.NamesStop.TheVariants as stop

@@ -1,20 +1,11 @@
 -- What holds of a file without a fault of names and limits: the limits of the language and the rules on its names, item by item.
-use Rattle.std.specs.Prelude.{◌≡◌, ℕ, ◌+◌, ◌<◌, ◌≤◌, ◌^◌, ◌≤ℤ◌, Bool, true, false}
-use Rattle.std.specs.Prelude.{◌||◌, List, [], ◌∷◌, ◌++◌, length, count_by}
+use Rattle.std.specs.Prelude.{◌≡◌, ℕ, ◌+◌, ◌<◌, ◌≤◌, ◌^◌, ◌≤ℤ◌, Bool, true, false, ◌||◌, List, [], ◌∷◌, ◌++◌, length, count_by}
 use Rattle.std.specs.List.{list_any}
-use Rattle.ln_base.specs.declared.span.Span.{Span}
-use Rattle.ln_lex.specs.declared.token.Token.{Token}
-use Rattle.ln_lex.specs.declared.token.Kind.TheVariants.{Semi}
-use Rattle.ln_syntax.specs.declared.raw.RawRange.{RawRange}
-use Rattle.ln_syntax.specs.declared.raw.RawCoord.{RawCoord}
-use Rattle.ln_syntax.specs.declared.raw.RawArg.{RawArg}
-use Rattle.ln_syntax.specs.declared.raw.RawLet.{RawLet}
-use Rattle.ln_syntax.specs.declared.raw.Places.{Places}
-use Rattle.ln_syntax.specs.Raw.{Item, SiteItem, ParamItem, PredItem, item_name, is_site, is_param, is_pred, Is, text, same}
+use Rattle.ln_syntax.specs.Raw.{Span, Token, Item, SiteItem, ParamItem, PredItem, item_name, is_site, is_param, is_pred, Is, text, same, Semi}
+use Rattle.ln_names.specs.Rules.{RawRange, RawCoord, RawArg, RawLet, Places, Scope, scope, is_site_arg, is_param_arg, has_site, has_param, has_site_arg}
+use Rattle.ln_names.specs.Rules.{has_param_arg, has_let, coords_at}
 use Rattle.ln_syntax.specs.Expression.{Tree, TNum, TName, TInput, TNeg, TAdd, TSub, TMul, TPow, Derives, Sum}
 use Rattle.ln_names.specs.Numbers.{number, end_value}
-use Rattle.ln_names.specs.Rules.{Scope, scope, is_site_arg, is_param_arg, has_site, has_param}
-use Rattle.ln_names.specs.Rules.{has_site_arg, has_param_arg, has_let, coords_at}
 use Rattle.ln_names.specs.Nodes.{Begins}
 use Rattle.ln_names.specs.Visits.{nodes_before, value_nodes}
 use Rattle.ln_names.specs.First.{NoFault}

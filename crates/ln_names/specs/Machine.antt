@@ -1,10 +1,6 @@
 -- How the nodes of an expression are read in one pass over its tokens: those whose operands were read, and what waits.
 use Rattle.std.specs.Prelude.{◌≡◌, ℕ, zero, suc, ◌-◌, pos, Bool, true, false, if◌then◌else◌, nat_lt, List, [], ◌∷◌, ◌++◌, Option, Some, None, reverse}
-use Rattle.ln_base.specs.declared.span.Span.{Span}
-use Rattle.ln_lex.specs.declared.token.Token.{Token}
-use Rattle.ln_lex.specs.declared.token.Kind.{Kind}
-use Rattle.ln_lex.specs.declared.token.Kind.TheVariants.{ParL, ParR}
-use Rattle.ln_syntax.specs.Raw.{kind_at, span_at}
+use Rattle.ln_syntax.specs.Raw.{Span, Token, kind_at, span_at, Kind, ParL, ParR}
 use Rattle.ln_names.specs.declared.nodes.Node.{Node}
 use Rattle.ln_names.specs.declared.nodes.What.TheVariants as what
 use Rattle.ln_names.specs.declared.nodes.Operation.{Operation}

@@ -1,12 +1,7 @@
 -- The nodes of an expression in postfix order, with names resolved and literals read.
 use Rattle.std.specs.Prelude.{◌≡◌, ℕ, ◌-◌, pos, false, List, [], ◌∷◌, ◌++◌, Option, Some, None, unwrap_or}
-use Rattle.ln_base.specs.declared.span.Span.{Span}
-use Rattle.ln_lex.specs.declared.token.Token.{Token}
-use Rattle.ln_lex.specs.declared.token.Kind.TheVariants.{Semi}
-use Rattle.ln_syntax.specs.declared.raw.RawArg.{RawArg}
-use Rattle.ln_syntax.specs.declared.raw.RawLet.{RawLet}
-use Rattle.ln_syntax.specs.declared.raw.Places.{Places}
-use Rattle.ln_syntax.specs.Raw.{Item, PredItem, Is, kind_at}
+use Rattle.ln_syntax.specs.Raw.{Span, Token, Item, PredItem, Is, kind_at, Semi}
+use Rattle.ln_names.specs.Rules.{RawArg, RawLet, Places, Scope, scope, coords_at}
 use Rattle.ln_syntax.specs.Expression.{Tree, TNum, TName, TInput, TNeg, TAdd, TSub, TMul, TPow, Derives, Sum as SumOf}
 use Rattle.ln_names.specs.declared.nodes.Node.{Node}
 use Rattle.ln_names.specs.declared.nodes.Body.{Body}
@@ -15,7 +10,6 @@ use Rattle.ln_names.specs.declared.nodes.What.TheVariants as what
 use Rattle.ln_names.specs.declared.resolve.ArgKind.TheVariants.{Site, Param}
 use Rattle.ln_names.specs.declared.nodes.Operation.TheVariants.{Negation, Sum, Difference, Product}
 use Rattle.ln_names.specs.Numbers.{number}
-use Rattle.ln_names.specs.Rules.{Scope, scope, coords_at}
 use Rattle.ln_names.specs.Resolve.{let_place, arg_place, coord_place}
 use Rattle.ln_names.specs.Visits.{is_dot, is_caret, ends_operand}
 

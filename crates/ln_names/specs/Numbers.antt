@@ -1,9 +1,8 @@
 -- The value of a NUMBER, and of an end of a range.
 use Rattle.std.specs.Prelude.{ℕ, ℤ, pos, neg_ℤ, List, Bool, true, false}
 use Rattle.ln_base.specs.Decimal.{decimal_value}
-use Rattle.ln_base.specs.declared.span.Span.{Span}
+use Rattle.ln_syntax.specs.Raw.{Span, text}
 use Rattle.ln_syntax.specs.declared.raw.RawEnd.{RawEnd}
-use Rattle.ln_syntax.specs.Raw.{text}
 
 -- the number that the bytes of a NUMBER are
 abbrev pub number : List ℕ → Span → ℕ

@@ -1,17 +1,13 @@
 -- What the names of an expression stand for, as places in lists; the rules see to it that each is there.
 use Rattle.std.specs.Prelude.{ℕ, ◌&&◌, Bool, true, List, Option, Some, None}
 use Rattle.std.specs.List.{position_from}
-use Rattle.ln_base.specs.declared.span.Span.{Span}
-use Rattle.ln_syntax.specs.declared.raw.RawCoord.{RawCoord}
-use Rattle.ln_syntax.specs.declared.raw.RawArg.{RawArg}
-use Rattle.ln_syntax.specs.declared.raw.RawLet.{RawLet}
-use Rattle.ln_syntax.specs.Raw.{Item, items, is_site, is_param, is_pred, same}
+use Rattle.ln_syntax.specs.Raw.{Span, Item, items, is_site, is_param, is_pred, same}
+use Rattle.ln_names.specs.Rules.{RawCoord, RawArg, RawLet, Scope, scope, is_site_arg, is_param_arg}
 use Rattle.ln_names.specs.declared.resolve.Visible.{Visible}
 use Rattle.ln_names.specs.declared.resolve.ArgKind.{ArgKind}
 use Rattle.ln_names.specs.declared.resolve.ArgKind.TheVariants as of
 use Rattle.ln_names.specs.declared.tokens.ItemKind.{ItemKind}
 use Rattle.ln_names.specs.declared.tokens.ItemKind.TheVariants.{Site, Param, Pred}
-use Rattle.ln_names.specs.Rules.{Scope, scope, is_site_arg, is_param_arg}
 
 -- what an expression can speak of
 abbrev pub visible : Visible → Scope

@@ -1,17 +1,18 @@
 -- The rules on names and limits at one token: what the token is, and the table of its faults in their order.
-use Rattle.std.specs.Prelude.{ℕ, ◌==◌, ◌&&◌, ◌||◌, not, nat_lt, int_lt, Bool, true, false, if◌then◌else◌}
-use Rattle.std.specs.Prelude.{List, [], ◌∷◌, length, count_by, find, Option, Some, None}
+use Rattle.std.specs.Prelude.{ℕ, ◌==◌, ◌&&◌, ◌||◌, not, nat_lt, int_lt, Bool, true, false, if◌then◌else◌, List, [], ◌∷◌, length}
+use Rattle.std.specs.Prelude.{count_by, find, Option, Some, None}
 use Rattle.std.specs.List.{list_any}
-use Rattle.ln_base.specs.declared.span.Span.{Span}
-use Rattle.ln_syntax.specs.declared.raw.RawRange.{RawRange}
-use Rattle.ln_syntax.specs.declared.raw.RawCoord.{RawCoord}
-use Rattle.ln_syntax.specs.declared.raw.RawArg.{RawArg}
-use Rattle.ln_syntax.specs.declared.raw.RawLet.{RawLet}
-use Rattle.ln_syntax.specs.Raw.{Item, item_name, is_site, is_param, is_pred, coords_in, text, same}
+use Rattle.ln_syntax.specs.Raw.{Span, Item, item_name, is_site, is_param, is_pred, coords_in, text, same}
+pub use Rattle.ln_syntax.specs.declared.raw.Places.{Places}
+pub use Rattle.ln_syntax.specs.declared.raw.RawEnd.{RawEnd}
+pub use Rattle.ln_syntax.specs.declared.raw.RawRange.{RawRange}
+pub use Rattle.ln_syntax.specs.declared.raw.RawCoord.{RawCoord}
+pub use Rattle.ln_syntax.specs.declared.raw.RawArg.{RawArg}
+pub use Rattle.ln_syntax.specs.declared.raw.RawLet.{RawLet}
 use Rattle.ln_names.specs.declared.faults.Fault.{Fault}
 use Rattle.ln_names.specs.declared.faults.Fault.TheVariants.{Limit, Named}
-use Rattle.ln_names.specs.declared.faults.LimitWhat.TheVariants.{NameLength, Literal, RangeEnd, Exponent, Sites, Params}
-use Rattle.ln_names.specs.declared.faults.LimitWhat.TheVariants.{Predicates, Coords, Lets, SiteArgs, ParamArgs, Nodes}
+use Rattle.ln_names.specs.declared.faults.LimitWhat.TheVariants.{NameLength, Literal, RangeEnd, Exponent, Sites, Params, Predicates, Coords, Lets, SiteArgs}
+use Rattle.ln_names.specs.declared.faults.LimitWhat.TheVariants.{ParamArgs, Nodes}
 use Rattle.ln_names.specs.declared.faults.NameWhat.TheVariants.{Twice, Unknown}
 use Rattle.ln_base.specs.Limits.{most_literal}
 use Rattle.ln_names.specs.Numbers.{number, end_value, most_end}

@@ -1,23 +1,14 @@
 -- The tokens that the rules speak of, in order of the text, each with what it is.
 use Rattle.std.specs.Prelude.{ℕ, zero, suc, ◌+◌, ◌-◌, Bool, true, false, if◌then◌else◌, List, [], ◌∷◌, ◌++◌, sum_by, Option, Some, None}
-use Rattle.ln_base.specs.declared.span.Span.{Span}
-use Rattle.ln_lex.specs.declared.token.Token.{Token}
-use Rattle.ln_lex.specs.declared.token.Kind.{Kind}
-use Rattle.ln_lex.specs.declared.token.Kind.TheVariants.{Name, Number, ParR, Dot, Plus, Minus, Star, Caret as CaretToken}
-use Rattle.ln_syntax.specs.declared.raw.RawRange.{RawRange}
-use Rattle.ln_syntax.specs.declared.raw.RawCoord.{RawCoord}
-use Rattle.ln_syntax.specs.declared.raw.RawArg.{RawArg}
-use Rattle.ln_syntax.specs.declared.raw.RawLet.{RawLet}
-use Rattle.ln_syntax.specs.declared.raw.Places.{Places}
-use Rattle.ln_syntax.specs.Raw.{Item, SiteItem, ParamItem, PredItem, kind_at, span_at}
+use Rattle.ln_syntax.specs.Raw.{Span, Token, Item, SiteItem, ParamItem, PredItem, kind_at, span_at, Kind, Name, Number, ParR, Dot, Plus, Minus, Star}
+use Rattle.ln_syntax.specs.Raw.{Caret as CaretToken}
+use Rattle.ln_names.specs.Rules.{RawRange, RawCoord, RawArg, RawLet, Places, Scope, scope, Use, SiteName, ParamName, PredName, CoordName, LowEnd, HighEnd}
+use Rattle.ln_names.specs.Rules.{ArgName, ArgSite, ArgParam, LetName, NumberNode, NameNode, InputNode, InputCoord, OperatorNode, ExponentOf, fault_at}
 use Rattle.ln_names.specs.declared.faults.Fault.{Fault}
 use Rattle.ln_names.specs.declared.faults.Found.{Found}
 use Rattle.ln_names.specs.declared.nodes.Operation.TheVariants.{Negation, Sum, Difference, Product}
 use Rattle.ln_names.specs.declared.roles.Role.{Role}
 use Rattle.ln_names.specs.declared.roles.Role.TheVariants.{Value, AfterCaret, Bare, Input, AfterDot, Operator, Caret}
-use Rattle.ln_names.specs.Rules.{Scope, scope, Use, SiteName, ParamName, PredName, CoordName, LowEnd}
-use Rattle.ln_names.specs.Rules.{HighEnd, ArgName, ArgSite, ArgParam, LetName, NumberNode, NameNode}
-use Rattle.ln_names.specs.Rules.{InputNode, InputCoord, OperatorNode, ExponentOf, fault_at}
 
 -- a token: what it is, and where it is
 pub record Visit : Type 0 where

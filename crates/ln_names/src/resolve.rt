@@ -85,6 +85,7 @@ fn coords_in_items<'a>(bytes: &[u8], its: &'a [RawItem], kind: Span) -> &'a [Raw
     &[]
 }
 
+#[tactic(auto, using(crate::proofs::Lists::find_items))]
 fn site_coords<'a>(bytes: &[u8], its: &'a [RawItem], kind: Span) -> &'a [RawCoord]
     ensures { result.now ≡ coords_in (find (λ i. is_site i && same bytes.now (item_name i) kind) (items its.now)) }
 {

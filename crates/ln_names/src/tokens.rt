@@ -54,12 +54,14 @@ fn any_of(bytes: &[u8], before: &[RawItem], kind: Option<ItemKind>, at: Span) ->
 }
 
 // Does one of the items have this name?
+#[tactic(auto, using(crate::proofs::Lists::any_items))]
 fn declared(bytes: &[u8], before: &[RawItem], kind: Option<ItemKind>, at: Span) -> bool
     ensures { result ≡ list_any (λ i. is_of_kind kind i && same bytes.now (item_name i) at) (items before.now) }
 {
     any_of(bytes, before, kind, at)
 }
 
+#[tactic(auto, using(crate::proofs::Lists::items_counted))]
 fn count(before: &[RawItem], kind: Option<ItemKind>) -> usize
     ensures { result ≡ count_by (is_of_kind kind) (items before.now) }
 {
@@ -70,6 +72,7 @@ fn count(before: &[RawItem], kind: Option<ItemKind>) -> usize
     n
 }
 
+#[tactic(auto, using(crate::proofs::Lists::place_is_some))]
 fn coord_twice(bytes: &[u8], before: &[RawCoord], at: Span) -> bool
     ensures { result ≡ list_any (λ c. same bytes.now c.name at) before.now }
 {
@@ -207,6 +210,7 @@ pub fn high_end(bytes: &[u8], range: RawRange) -> Option<Fault>
 }
 
 // Does one of the arguments have this name?
+#[tactic(auto, using(crate::proofs::Lists::place_is_some))]
 fn known_arg(bytes: &[u8], args: &[RawArg], kind: Option<ArgKind>, at: Span) -> bool
     ensures { result ≡ list_any (λ a. is_arg kind a && same bytes.now a.name at) args.now }
 {
@@ -270,6 +274,7 @@ pub fn arg_param(
     }
 }
 
+#[tactic(auto, using(crate::proofs::Lists::place_is_some))]
 fn known_let(bytes: &[u8], before: &[RawLet], at: Span) -> bool
     ensures { result ≡ has_let bytes.now before.now at }
 {

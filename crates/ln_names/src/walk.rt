@@ -1,7 +1,6 @@
 //! The first fault of a file: its tokens in order of the text.
 ghost use Rattle.std.specs.Prelude.{◌≡◌, ◌+◌, ◌<◌, ◌≤◌, [], ◌∷◌, None, Some, IfOk, IfErr, OnOk, ℕ, List};
-ghost use Rattle.ln_lex.specs.declared.token.Token.{Token as Tok};
-ghost use Rattle.ln_syntax.specs.Raw.{Item, items, item, span_at};
+ghost use Rattle.ln_syntax.specs.Raw.{Token as Tok, Item, items, item, span_at};
 ghost use Rattle.ln_names.specs.declared.faults.Found.{Found as Fnd};
 ghost use Rattle.ln_names.specs.Along.{JudgesInOrder};
 ghost use Rattle.ln_names.specs.First.{FirstFault, NoFault, NamesStopAt, StopsNames};
@@ -10,9 +9,8 @@ ghost use Rattle.ln_names.specs.Machine.{machine_step, node_at, machine_in};
 ghost use Rattle.ln_names.specs.Nodes.{AreNodes, LetsNodes, PredNodes, BodyIs, BodiesAre};
 ghost use Rattle.ln_names.specs.Rules.{fault_at, SiteName, ParamName, PredName};
 ghost use Rattle.ln_names.specs.Resolve.{visible};
-ghost use Rattle.ln_names.specs.Visits.{visit, first_fault, visits_by, range_visits, coord_visits, arg_visits, role_at, is_node, role_use};
-ghost use Rattle.ln_names.specs.Visits.{kind_use, token_visits, is_node_at, body_visits, value_visits, value_nodes, nodes_before, let_visits};
-ghost use Rattle.ln_names.specs.Visits.{item_visits, file_visits};
+ghost use Rattle.ln_names.specs.Visits.{visit, first_fault, visits_by, range_visits, coord_visits, arg_visits, role_at, is_node, role_use, kind_use};
+ghost use Rattle.ln_names.specs.Visits.{token_visits, is_node_at, body_visits, value_visits, value_nodes, nodes_before, let_visits, item_visits, file_visits};
 
 use crate::faults::{Fault, Found, NamesStop};
 use crate::nodes::{Body, Node};
@@ -48,11 +46,13 @@ pub fn one_fault()
 {}
 
 /// The tokens that are judged are in order of the text, and no NAME and no NUMBER is left out.
+#[tactic(auto, using(crate::proofs::Order::judges_in_order))]
 pub fn judges_in_order()
     ensures { JudgesInOrder }
 {}
 
 /// A file without a fault is within the limits, and its names are known and each its own.
+#[tactic(auto, using(crate::proofs::Faultless::faultless_is_within))]
 pub fn faultless_is_within()
     ensures { FaultlessIsWithin }
 {}

@@ -3,7 +3,6 @@ pub mod Places
 pub mod Predicates
 pub mod Lists
 pub mod Said
-pub mod Turns
 pub mod LaidOut
 pub mod Arguments
 pub mod Readiness

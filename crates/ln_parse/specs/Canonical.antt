@@ -1,14 +1,12 @@
 -- The canonical text of a table.
 use Rattle.std.specs.Prelude.{ℕ, Bool, true, false, if◌then◌else◌, List, [], ◌∷◌, codes, slice_get}
-use Rattle.ln_lex.specs.declared.token.Kind.TheVariants.{Site, Param, Predicate, Let, Sign, BraceL, BraceR, ParL, ParR}
-use Rattle.ln_lex.specs.declared.token.Kind.TheVariants.{Colon, Semi, Comma, Dot, Dots, Plus, Minus, Star, Caret, Equals}
-use Rattle.ln_tree.specs.Formula.{Formula, FAdd, FSub, FMul}
-use Rattle.ln_tree.specs.Table.{CoordOf, SiteOf, ArgOf, SiteArg, ParamArg, PredOf, TableOf}
+use Rattle.ln_lex.specs.declared.token.Kind.TheVariants.{Site, Param, Predicate, Let, Sign, BraceL, BraceR, ParL, ParR, Colon, Semi, Comma, Dot, Dots, Plus}
+use Rattle.ln_lex.specs.declared.token.Kind.TheVariants.{Minus, Star, Caret, Equals}
+use Rattle.ln_parse.specs.Written.{Formula, FAdd, FSub, FMul, CoordOf, SiteOf, ArgOf, SiteArg, ParamArg, PredOf, TableOf, Written, WNum, WName, WInput, WNeg}
+use Rattle.ln_parse.specs.Written.{WAdd, WSub, WMul, WPow, Naming, naming, written, range_name, site_name}
 use Rattle.ln_parse.specs.declared.printer.Room.{Room}
 use Rattle.ln_parse.specs.declared.printer.Room.TheVariants.{OfSum, OfProduct, OfUnary, OfAtom}
-use Rattle.ln_parse.specs.Lexemes.{Lexeme, gap, line, word, text_of, name, number, signed, each}
-use Rattle.ln_parse.specs.Written.{Written, WNum, WName, WInput, WNeg, WAdd, WSub, WMul}
-use Rattle.ln_parse.specs.Written.{WPow, Naming, naming, written, range_name, site_name}
+pub use Rattle.ln_parse.specs.Lexemes.{Lexeme, gap, line, word, text_of, name, number, signed, each, closing, lexemes_in, minus_if, opening, token}
 
 -- may the expression be written in this room without parentheses? A sum or difference may only where a sum may, a product where a sum
 -- or product may, a negation or power everywhere but under ^

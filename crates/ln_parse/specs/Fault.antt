@@ -2,10 +2,8 @@
 use Rattle.std.specs.Prelude.{◌≡◌, ℕ, suc, ◌≤◌, ◌⊎◌, nat_lt, if◌then◌else◌, List, length}
 use Rattle.ln_base.specs.Limits.{most_tokens}
 use Rattle.ln_base.specs.Outside.{refused}
-use Rattle.ln_base.specs.declared.span.Span.{Span}
-use Rattle.ln_lex.specs.declared.token.Token.{Token}
+use Rattle.ln_syntax.specs.Raw.{Span, Token, Item, span_at}
 use Rattle.ln_lex.specs.Tokens.{Lexed, IsLexFault, IsLexLimit}
-use Rattle.ln_syntax.specs.Raw.{Item, span_at}
 use Rattle.ln_syntax.specs.File.{Spelt}
 use Rattle.ln_syntax.specs.Place.{IsShallow, IsSyntaxFault, IsNestingFault}
 use Rattle.ln_names.specs.declared.faults.Fault.{Fault}

@@ -1,19 +1,11 @@
 -- What the canonical text of a table is read as.
 use Rattle.std.specs.Prelude.{◌≡◌, ◌<◌, ◌^◌, ℕ, true, false, List, [], ◌∷◌, length, slice_get, unsigned_abs}
-use Rattle.ln_base.specs.declared.span.Span.{Span}
+use Rattle.ln_syntax.specs.Raw.{Span, Token, Item, SiteItem, ParamItem, PredItem, Is, text, Semi}
 use Rattle.ln_base.specs.Words.{is_name}
-use Rattle.ln_lex.specs.declared.token.Token.{Token}
-use Rattle.ln_lex.specs.declared.token.Kind.TheVariants.{Semi}
 use Rattle.ln_lex.specs.Tokens.{Lexed}
-use Rattle.ln_syntax.specs.declared.raw.RawArg.{RawArg}
-use Rattle.ln_syntax.specs.declared.raw.RawLet.{RawLet}
-use Rattle.ln_syntax.specs.declared.raw.Places.{Places}
-use Rattle.ln_syntax.specs.Raw.{Item, SiteItem, ParamItem, PredItem, Is, text}
+use Rattle.ln_parse.specs.Says.{RawArg, RawLet, Places, sites_said, params_said, Formula, CoordOf, SiteOf, ArgOf, SiteArg, ParamArg, PredOf, TableOf}
 use Rattle.ln_syntax.specs.Expression.{Tree, Derives, Sum}
 use Rattle.ln_syntax.specs.File.{Spelt}
-use Rattle.ln_tree.specs.Formula.{Formula}
-use Rattle.ln_tree.specs.Table.{CoordOf, SiteOf, ArgOf, SiteArg, ParamArg, PredOf, TableOf}
-use Rattle.ln_parse.specs.Says.{sites_said, params_said}
 use Rattle.ln_parse.specs.Written.{Written, Naming, naming, written, range_name, site_name, spelling, IsNamed}
 pub use Rattle.ln_base.specs.Exponents.{Each as Every}
 

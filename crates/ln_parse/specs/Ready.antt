@@ -1,26 +1,15 @@
 -- What holds of a source without a fault, for the code that builds its table: names are names, numbers fit, and what names stand for is there.
-use Rattle.std.specs.Prelude.{◌≡◌, ◌+◌, ℕ, nat_lt, nat_le, ◌&&◌, ◌<◌}
-use Rattle.std.specs.Prelude.{◌≤◌, Bool, true, List, [], ◌++◌, length, count_by}
+use Rattle.std.specs.Prelude.{◌≡◌, ◌+◌, ℕ, nat_lt, nat_le, ◌&&◌, ◌<◌, ◌≤◌, Bool, true, List, [], ◌++◌, length, count_by}
 use Rattle.std.specs.List.{list_all}
-use Rattle.ln_base.specs.declared.span.Span.{Span}
+use Rattle.ln_syntax.specs.Raw.{Span, Token, Item, SiteItem, ParamItem, PredItem, Is, is_site, is_param, is_pred, text, Semi}
 use Rattle.ln_base.specs.Words.{is_name}
-use Rattle.ln_lex.specs.declared.token.Token.{Token}
-use Rattle.ln_lex.specs.declared.token.Kind.TheVariants.{Semi}
-use Rattle.ln_syntax.specs.declared.raw.RawCoord.{RawCoord}
-use Rattle.ln_syntax.specs.declared.raw.RawRange.{RawRange}
-use Rattle.ln_syntax.specs.declared.raw.RawArg.{RawArg}
-use Rattle.ln_syntax.specs.declared.raw.RawLet.{RawLet}
-use Rattle.ln_syntax.specs.declared.raw.Places.{Places}
-use Rattle.ln_syntax.specs.Raw.{Item, SiteItem, ParamItem, PredItem, Is, is_site, is_param, is_pred, text}
+use Rattle.ln_names.specs.Rules.{RawCoord, RawRange, RawArg, RawLet, Places, Scope, scope, is_site_arg, is_param_arg, coords_at}
 use Rattle.ln_syntax.specs.Expression.{Tree, Derives, Sum}
-use Rattle.ln_names.specs.Rules.{Scope, scope, is_site_arg, is_param_arg, coords_at}
 use Rattle.ln_names.specs.Visits.{nodes_before, value_nodes}
 use Rattle.ln_names.specs.Nodes.{Begins}
 pub use Rattle.ln_names.specs.Limits.{Each, RangeWithin, IsKnown, Fit}
-use Rattle.ln_tree.specs.Formula.{node_count}
-use Rattle.ln_tree.specs.Table.{CoordOf, SiteOf}
+use Rattle.ln_parse.specs.Says.{node_count, CoordOf, SiteOf, resolved, site_names, param_names, sites_said, params_said}
 use Rattle.ln_tree.specs.Whole.{is_range}
-use Rattle.ln_parse.specs.Says.{resolved, site_names, param_names, sites_said, params_said}
 
 -- a name of the language, of at most 32 bytes
 pub record IsNamed (bytes : List ℕ) (at : Span) : Type 0 where

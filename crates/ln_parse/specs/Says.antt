@@ -1,21 +1,15 @@
 -- What tokens say: the table of items and expressions, once names are resolved.
-use Rattle.std.specs.Prelude.{◌≡◌, ℕ, pos, ◌&&◌, Bool, true, false, List, [], ◌∷◌, ◌++◌}
-use Rattle.std.specs.Prelude.{if◌then◌else◌, Option, Some, None, map, filter_map, position, unwrap_or, count_by}
-use Rattle.ln_base.specs.declared.span.Span.{Span}
-use Rattle.ln_lex.specs.declared.token.Token.{Token}
-use Rattle.ln_lex.specs.declared.token.Kind.TheVariants.{Semi}
-use Rattle.ln_syntax.specs.declared.raw.RawRange.{RawRange}
-use Rattle.ln_syntax.specs.declared.raw.RawArg.{RawArg}
-use Rattle.ln_syntax.specs.declared.raw.RawLet.{RawLet}
-use Rattle.ln_syntax.specs.declared.raw.Places.{Places}
-use Rattle.ln_syntax.specs.Raw.{Item, SiteItem, ParamItem, PredItem, Is, text, same}
+use Rattle.std.specs.Prelude.{◌≡◌, ℕ, pos, ◌&&◌, Bool, true, false, List, [], ◌∷◌, ◌++◌, if◌then◌else◌, Option, Some, None, map}
+use Rattle.std.specs.Prelude.{filter_map, position, unwrap_or, count_by}
+use Rattle.ln_syntax.specs.Raw.{Span, Token, Item, SiteItem, ParamItem, PredItem, Is, text, same, Semi}
+pub use Rattle.ln_names.specs.Rules.{RawEnd, RawRange, RawCoord, RawArg, RawLet, Places}
+use Rattle.ln_names.specs.Rules.{Scope, scope, is_site_arg, is_param_arg, coords_at}
 use Rattle.ln_syntax.specs.Expression.{Tree, TNum, TName, TInput, TNeg, TAdd, TSub, TMul, TPow, Derives, Sum}
 use Rattle.ln_names.specs.Numbers.{number, end_value}
 use Rattle.ln_names.specs.Nodes.{ArePairedBy}
-use Rattle.ln_names.specs.Rules.{Scope, scope, is_site_arg, is_param_arg, coords_at}
-use Rattle.ln_tree.specs.Formula.{Formula, FNum, FInput, FName, FNeg, FAdd, FSub, FMul, FPow}
-use Rattle.ln_tree.specs.Table.{CoordOf, SiteOf, ArgOf, SiteArg, ParamArg, PredOf, TableOf}
 pub use Rattle.ln_tree.specs.Whole.{site_vars, coords_or, param_vars, vars_behind, is_site_said}
+pub use Rattle.ln_tree.specs.Table.{CoordOf, SiteOf, ArgOf, SiteArg, ParamArg, PredOf, TableOf, arg_of, coord_of, param_of, pred_fits, site_of, table_of}
+pub use Rattle.ln_tree.specs.Formula.{Formula, FNum, FInput, FName, FNeg, FAdd, FSub, FMul, FPow, formula, node_count, node_counts, tree}
 
 -- the place of the first that passes; the rules of names see to it that there is one
 abbrev pub place : {A : Type 0} → (A → Bool) → List A → ℕ

@@ -1,14 +1,12 @@
 -- The table of a text.
 use Rattle.std.specs.Prelude.{ℕ, ◌≤◌, List, length}
 use Rattle.ln_base.specs.Limits.{most_tokens}
-use Rattle.ln_lex.specs.declared.token.Token.{Token}
+use Rattle.ln_syntax.specs.Raw.{Token, Item}
 use Rattle.ln_lex.specs.Tokens.{Lexed}
-use Rattle.ln_syntax.specs.Raw.{Item}
 use Rattle.ln_syntax.specs.File.{Spelt}
 use Rattle.ln_syntax.specs.Place.{IsShallow}
 use Rattle.ln_names.specs.First.{NoFault}
-use Rattle.ln_tree.specs.Table.{TableOf}
-use Rattle.ln_parse.specs.Says.{ItemsSay}
+use Rattle.ln_parse.specs.Says.{TableOf, ItemsSay}
 
 -- the bytes are tokens, at most 65,536, with no parenthesis nested too deep; the tokens spell items; no rule of names and limits
 -- has a fault; the items say the table

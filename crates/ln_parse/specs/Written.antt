@@ -4,9 +4,9 @@ use Rattle.ln_base.specs.Words.{is_name}
 use Rattle.ln_syntax.specs.Raw.{text}
 use Rattle.ln_syntax.specs.Expression.{Tree, TNum, TName, TInput, TNeg, TAdd, TSub, TMul, TPow}
 use Rattle.ln_names.specs.Numbers.{number}
-use Rattle.ln_tree.specs.Formula.{Formula, FNum, FInput, FName, FNeg, FAdd, FSub, FMul, FPow}
-use Rattle.ln_tree.specs.Table.{CoordOf, SiteOf, ArgOf, SiteArg, ParamArg, PredOf, TableOf}
 pub use Rattle.ln_tree.specs.Whole.{range_name}
+pub use Rattle.ln_tree.specs.Formula.{Formula, FNum, FInput, FName, FNeg, FAdd, FSub, FMul, FPow, formula, node_formula, tree}
+pub use Rattle.ln_tree.specs.Table.{CoordOf, SiteOf, ArgOf, SiteArg, ParamArg, PredOf, TableOf, arg_of, param_of, pred_of, site_of, table_of}
 
 -- an expression as it is written: a number, a bare name, an input as an argument's name and a coordinate's, or an operation
 pub data Written : Type 0 where

@@ -61,6 +61,7 @@ fn sites(alloc: Global, bytes: &[u8], its: &[RawItem]) -> Result<Seq<Site>, NoMe
     Ok(sites)
 }
 
+#[tactic(auto, using(crate::proofs::Building::Loops::each_or))]
 fn site(alloc: Global, bytes: &[u8], name: Span, raw: &[RawCoord]) -> Result<Site, NoMemory>
     requires { ReadySite bytes.now name raw.now }
     ensures { IfOk result (λ s. site_of s

@@ -23,7 +23,7 @@ pub struct Layout {
 }
 
 /// The arguments of a predicate, resolved among the items before it.
-#[tactic(auto, using(crate::proofs::Building::Turns::one_mapped, crate::proofs::Building::Turns::all_mapped))]
+#[tactic(auto, using(crate::proofs::Building::Lists::one_mapped, crate::proofs::Building::Lists::all_mapped, crate::proofs::Building::Loops::each_or))]
 pub fn args(alloc: Global, s: &Scene) -> Result<Seq<Arg>, NoMemory>
     requires ready { Each (λ before a. ReadyArg s.now.bytes.now (items s.now.items.now) a) [] s.now.args.now }
     requires sites { length (site_names (items s.now.items.now)) ≤ 16 }

@@ -136,7 +136,7 @@ fn lets(alloc: Global, s: &Scene) -> Result<Seq<Expr>, NoMemory>
     Ok(values)
 }
 
-#[tactic(auto, using(crate::proofs::Building::Turns::one_mapped, crate::proofs::Building::Turns::all_mapped))]
+#[tactic(auto, using(crate::proofs::Building::Lists::one_mapped, crate::proofs::Building::Lists::all_mapped, crate::proofs::Building::Loops::each_or))]
 fn let_names(alloc: Global, s: &Scene, lets: &[RawLet]) -> Result<Seq<Name>, NoMemory>
     requires { Each (ReadyLet s.now.bytes.now s.now.ts.now (items s.now.items.now) s.now.args.now) [] lets.now }
     ensures { IfOk result (λ xs. map name_bytes xs ≡ map (λ l. text s.now.bytes.now l.name) lets.now) }

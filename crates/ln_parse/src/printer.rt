@@ -49,12 +49,14 @@ fn canonical_text(alloc: Global, t: &Table) -> Result<Vec<u8>, NoMemory>
 
 /// A law: the canonical text of a table, all of whose names are names of the language, is tokens that spell the table's
 /// site types, params and predicates, each written with its names.
+#[tactic(auto, using(crate::proofs::Texts::ClearText::reads_back))]
 pub fn canonical_text_reads_back()
     ensures { (t : TableOf) → TableNamed t → ReadsBack (canonical t) t }
 {}
 
 /// A law: the canonical text of a table within the limits of the language, whose names are names of their own, is a text
 /// of this table up to spans.
+#[tactic(auto, using(crate::proofs::Wholes::HasTable::has_table))]
 pub fn canonical_text_has_its_table()
     ensures { (t : TableOf) → IsWhole t → IsTextUpToSpans (canonical t) t }
 {}

@@ -1,9 +1,7 @@
 -- The automaton that recognises a file: a state, a count of open parentheses, and the step at a token.
 use Rattle.std.specs.Prelude.{ℕ, zero, suc, Bool, true, false, List, [], ◌∷◌, Option, Some, None}
-use Rattle.ln_lex.specs.declared.token.Token.{Token}
-use Rattle.ln_lex.specs.declared.token.Kind.{Kind}
-use Rattle.ln_lex.specs.declared.token.Kind.TheVariants.{Name, Number, Site, Param, Predicate, Let, Sign, BraceL, BraceR, ParL}
-use Rattle.ln_lex.specs.declared.token.Kind.TheVariants.{ParR, Colon, Semi, Comma, Dot, Dots, Plus, Minus, Star, Caret, Equals}
+use Rattle.ln_syntax.specs.Raw.{Token, Kind, Name, Number, Site, Param, Predicate, Let, Sign, BraceL, BraceR, ParL, ParR, Colon, Semi, Comma, Dot, Dots, Plus}
+use Rattle.ln_syntax.specs.Raw.{Minus, Star, Caret, Equals}
 use Rattle.ln_syntax.specs.declared.place.Ranged.{Ranged}
 use Rattle.ln_syntax.specs.declared.place.Ranged.TheVariants.{Coordinate, Parameter}
 use Rattle.ln_syntax.specs.declared.place.Part.{Part}
@@ -11,11 +9,9 @@ use Rattle.ln_syntax.specs.declared.place.Part.TheVariants.{Value, Root}
 use Rattle.ln_syntax.specs.declared.place.Last.{Last}
 use Rattle.ln_syntax.specs.declared.place.Last.TheVariants.{Named, Whole, Raised}
 use Rattle.ln_syntax.specs.declared.place.State.{State}
-use Rattle.ln_syntax.specs.declared.place.State.TheVariants.{AnItem, SiteName, SiteOpen, CoordName, CoordColon, CoordOrEnd}
-use Rattle.ln_syntax.specs.declared.place.State.TheVariants.{ParamName, ParamColon, Low, LowNumber, Between, High}
-use Rattle.ln_syntax.specs.declared.place.State.TheVariants.{HighNumber, RangeEnd, PredicateName, PredicateOpen, ArgName}
-use Rattle.ln_syntax.specs.declared.place.State.TheVariants.{ArgColon, ArgKind, ArgEnd, BodyOpen, Body, LetName, LetEquals}
-use Rattle.ln_syntax.specs.declared.place.State.TheVariants.{Operand, InputName, Exponent, After, BodyEnd}
+use Rattle.ln_syntax.specs.declared.place.State.TheVariants.{AnItem, SiteName, SiteOpen, CoordName, CoordColon, CoordOrEnd, ParamName, ParamColon, Low}
+use Rattle.ln_syntax.specs.declared.place.State.TheVariants.{LowNumber, Between, High, HighNumber, RangeEnd, PredicateName, PredicateOpen, ArgName, ArgColon}
+use Rattle.ln_syntax.specs.declared.place.State.TheVariants.{ArgKind, ArgEnd, BodyOpen, Body, LetName, LetEquals, Operand, InputName, Exponent, After, BodyEnd}
 
 -- a state and the count of open parentheses; none after a token with which no file goes on
 abbrev pub Standing : Type 0

@@ -1,9 +1,6 @@
 -- Which tokens spell which expression: the grammar from EXPR down, one rule a constructor.
 use Rattle.std.specs.Prelude.{ℕ, suc, List}
-use Rattle.ln_base.specs.declared.span.Span.{Span}
-use Rattle.ln_lex.specs.declared.token.Token.{Token}
-use Rattle.ln_lex.specs.declared.token.Kind.TheVariants.{Name, Number, ParL, ParR, Dot, Plus, Minus, Star, Caret}
-use Rattle.ln_syntax.specs.Raw.{Is, span_at}
+use Rattle.ln_syntax.specs.Raw.{Span, Token, Is, span_at, Name, Number, ParL, ParR, Dot, Plus, Minus, Star, Caret}
 
 -- an expression with unresolved names: each node has the span of its own token; an input has its coordinate's too, a power its exponent's
 pub data Tree : Type 0 where

@@ -1,14 +1,7 @@
 -- Which tokens spell which items: the grammar from FILE down to its expressions, one rule a constructor.
 use Rattle.std.specs.Prelude.{ℕ, suc, List, [], ◌∷◌, length, true, false}
-use Rattle.ln_lex.specs.declared.token.Token.{Token}
-use Rattle.ln_lex.specs.declared.token.Kind.TheVariants.{Name, Number, Site, Param, Predicate, Let, Sign, BraceL}
-use Rattle.ln_lex.specs.declared.token.Kind.TheVariants.{BraceR, ParL, ParR, Colon, Semi, Comma, Dots, Minus, Equals}
-use Rattle.ln_syntax.specs.declared.raw.RawEnd.{RawEnd}
-use Rattle.ln_syntax.specs.declared.raw.RawRange.{RawRange}
-use Rattle.ln_syntax.specs.declared.raw.RawCoord.{RawCoord}
-use Rattle.ln_syntax.specs.declared.raw.RawArg.{RawArg}
-use Rattle.ln_syntax.specs.declared.raw.RawLet.{RawLet}
-use Rattle.ln_syntax.specs.Raw.{Item, SiteItem, ParamItem, PredItem, Is, span_at}
+use Rattle.ln_syntax.specs.Raw.{Token, RawEnd, RawRange, RawCoord, RawArg, RawLet, Item, SiteItem, ParamItem, PredItem, Is, span_at, Name, Number, Site, Param}
+use Rattle.ln_syntax.specs.Raw.{Predicate, Let, Sign, BraceL, BraceR, ParL, ParR, Colon, Semi, Comma, Dots, Minus, Equals}
 use Rattle.ln_syntax.specs.Expression.{IsExpr}
 
 -- SNUM := NUMBER | - NUMBER

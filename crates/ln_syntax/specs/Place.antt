@@ -1,10 +1,7 @@
 -- Where tokens stop being a prefix of a file, and where parentheses are nested too deep.
 use Rattle.std.specs.Prelude.{◌≡◌, ℕ, suc, ◌-◌, ◌<◌, ◌≤◌, List, [], ◌∷◌, length, take}
 use Rattle.ln_base.specs.Prefixes.{IsPrefixOf}
-use Rattle.ln_lex.specs.declared.token.Token.{Token}
-use Rattle.ln_lex.specs.declared.token.Kind.{Kind}
-use Rattle.ln_lex.specs.declared.token.Kind.TheVariants.{ParL, ParR}
-use Rattle.ln_syntax.specs.Raw.{Item, Is}
+use Rattle.ln_syntax.specs.Raw.{Token, Item, Is, Kind, ParL, ParR}
 use Rattle.ln_syntax.specs.File.{Spelt}
 
 -- the tokens are a file of the grammar

@@ -1,16 +1,18 @@
 -- The items of a file, without where they lie in memory, and the tokens by their places.
-use Rattle.std.specs.Prelude.{◌≡◌, ℕ, ◌-◌, Bool, true, false, List, [], Option, Some}
-use Rattle.std.specs.Prelude.{None, option_map, slice_get, take, drop, map, bytes_eq}
-use Rattle.ln_base.specs.declared.span.Span.{Span}
-use Rattle.ln_lex.specs.declared.token.Token.{Token}
-use Rattle.ln_lex.specs.declared.token.Kind.{Kind}
-use Rattle.ln_syntax.specs.declared.raw.RawRange.{RawRange}
-use Rattle.ln_syntax.specs.declared.raw.RawCoord.{RawCoord}
-use Rattle.ln_syntax.specs.declared.raw.RawArg.{RawArg}
-use Rattle.ln_syntax.specs.declared.raw.RawLet.{RawLet}
-use Rattle.ln_syntax.specs.declared.raw.Places.{Places}
-use Rattle.ln_syntax.specs.declared.raw.RawItem.{RawItem}
-use Rattle.ln_syntax.specs.declared.raw.RawItem.TheVariants.{Site, Param, Pred}
+use Rattle.std.specs.Prelude.{◌≡◌, ℕ, ◌-◌, Bool, true, false, List, [], Option, Some, None, option_map, slice_get, take, drop, map, bytes_eq}
+pub use Rattle.ln_base.specs.declared.span.Span.{Span}
+pub use Rattle.ln_lex.specs.declared.token.Token.{Token}
+pub use Rattle.ln_syntax.specs.declared.raw.RawEnd.{RawEnd}
+pub use Rattle.ln_syntax.specs.declared.raw.RawRange.{RawRange}
+pub use Rattle.ln_syntax.specs.declared.raw.RawCoord.{RawCoord}
+pub use Rattle.ln_syntax.specs.declared.raw.RawArg.{RawArg}
+pub use Rattle.ln_syntax.specs.declared.raw.RawLet.{RawLet}
+pub use Rattle.ln_syntax.specs.declared.raw.Places.{Places}
+pub use Rattle.ln_syntax.specs.declared.raw.RawItem.{RawItem}
+use Rattle.ln_syntax.specs.declared.raw.RawItem.TheVariants.{Site as OfSite, Param as OfParam, Pred as OfPred}
+pub use Rattle.ln_lex.specs.declared.token.Kind.{Kind}
+pub use Rattle.ln_lex.specs.declared.token.Kind.TheVariants.{BraceL, BraceR, Caret, Colon, Comma, Dot, Dots, Equals, Let, Minus, Name, Number, ParL, ParR}
+pub use Rattle.ln_lex.specs.declared.token.Kind.TheVariants.{Param, Plus, Predicate, Semi, Sign, Site, Star}
 
 -- a site type, a param, or a predicate: the spans of its names and numbers, the token places of its expressions
 pub data Item : Type 0 where
@@ -20,9 +22,9 @@ pub data Item : Type 0 where
 
 -- the item that a value of the program is
 abbrev pub item : RawItem → Item
-item (Site name coords) = SiteItem name coords.items
-item (Param name range) = ParamItem name range
-item (Pred name args lets root) = PredItem name args.items lets.items root
+item (OfSite name coords) = SiteItem name coords.items
+item (OfParam name range) = ParamItem name range
+item (OfPred name args lets root) = PredItem name args.items lets.items root
 
 -- the items that values of the program are
 abbrev pub items : List RawItem → List Item

@@ -1,13 +1,6 @@
 -- What is at a place, for the reader of items: some derivation begins there, and its end token follows it.
 use Rattle.std.specs.Prelude.{ℕ, List}
-use Rattle.ln_lex.specs.declared.token.Token.{Token}
-use Rattle.ln_lex.specs.declared.token.Kind.TheVariants.{Sign, BraceR, ParR, Semi}
-use Rattle.ln_syntax.specs.declared.raw.RawEnd.{RawEnd}
-use Rattle.ln_syntax.specs.declared.raw.RawRange.{RawRange}
-use Rattle.ln_syntax.specs.declared.raw.RawCoord.{RawCoord}
-use Rattle.ln_syntax.specs.declared.raw.RawArg.{RawArg}
-use Rattle.ln_syntax.specs.declared.raw.RawLet.{RawLet}
-use Rattle.ln_syntax.specs.Raw.{Item, Is}
+use Rattle.ln_syntax.specs.Raw.{Token, RawEnd, RawRange, RawCoord, RawArg, RawLet, Item, Is, Sign, BraceR, ParR, Semi}
 use Rattle.ln_syntax.specs.Expression.{IsExpr}
 use Rattle.ln_syntax.specs.File.{End, Range, Coords, Arg, Args, Lets, IsItem}
 

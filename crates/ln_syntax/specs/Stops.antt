@@ -1,9 +1,6 @@
 -- Where an expression stops: how tightly tokens bind to what comes before them.
 use Rattle.std.specs.Prelude.{ℕ, ◌<◌, List, Option, Some, None}
-use Rattle.ln_lex.specs.declared.token.Token.{Token}
-use Rattle.ln_lex.specs.declared.token.Kind.{Kind}
-use Rattle.ln_lex.specs.declared.token.Kind.TheVariants.{Dot, Plus, Minus, Star, Caret}
-use Rattle.ln_syntax.specs.Raw.{kind_at}
+use Rattle.ln_syntax.specs.Raw.{Token, kind_at, Kind, Dot, Plus, Minus, Star, Caret}
 use Rattle.ln_syntax.specs.Expression.{Sort, Atom, Power, Unary, Term, Sum, Factors, Terms}
 
 -- how tightly a token of this kind binds to what comes before it: a dot most, then ^, then *, then + and -

@@ -1,8 +1,7 @@
 -- Which token places an item has.
 use Rattle.std.specs.Prelude.{ℕ, ◌<◌}
 use Rattle.std.specs.List.{All}
-use Rattle.ln_syntax.specs.declared.raw.Places.{Places}
-use Rattle.ln_syntax.specs.declared.raw.RawItem.{RawItem}
+use Rattle.ln_syntax.specs.Raw.{Places, RawItem}
 use Rattle.ln_syntax.specs.declared.raw.RawItem.TheVariants.{Site, Param, Pred}
 
 -- the places of an expression are one token or more, and one more of the n tokens follows them

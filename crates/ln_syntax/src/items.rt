@@ -200,6 +200,7 @@ fn arg_at(ts: &[Token], at: usize) -> RawArg
 }
 
 /// The range that begins at a place, both ends included.
+#[tactic(auto, using(crate::proofs::Spellings::Parts::high_there, crate::proofs::Spellings::Parts::range_read))]
 fn range_at(ts: &[Token], at: usize) -> Read<RawRange>
     requires small { length ts.now < 2 ^ 32 }
     requires there { HasRange ts.now at }

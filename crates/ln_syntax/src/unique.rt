@@ -1,8 +1,7 @@
 //! What tokens spell is one: no tokens have two trees or two lists of items.
 ghost use Rattle.std.specs.Prelude.{◌≡◌, ℕ, List};
-ghost use Rattle.ln_lex.specs.declared.token.Token.{Token as TokenOf};
+ghost use Rattle.ln_syntax.specs.Raw.{Token as TokenOf, Item, Is};
 ghost use Rattle.ln_lex.specs.declared.token.Kind.TheVariants.{Semi};
-ghost use Rattle.ln_syntax.specs.Raw.{Item, Is};
 ghost use Rattle.ln_syntax.specs.Expression.{Tree, Sum, Derives};
 ghost use Rattle.ln_syntax.specs.File.{Spelt};
 
@@ -15,6 +14,7 @@ pub fn one_tree()
 {}
 
 /// A law: no tokens spell two lists of items.
+#[tactic(auto, using(crate::proofs::Spellings::OneSpelling::one_spelling))]
 pub fn one_spelling()
     ensures { (ts : List TokenOf) (xs ys : List Item) → Spelt ts xs → Spelt ts ys → xs ≡ ys }
 {}

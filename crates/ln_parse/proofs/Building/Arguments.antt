@@ -1,6 +1,6 @@
 -- Variables are of their arguments, and arguments are of their types.
-use Rattle.std.proofs.Common.{◌≡◌, ℕ, suc, ◌+◌, ◌<◌, ◌≤◌, ◌==◌, Bool, true, nat_lt, List, [], ◌∷◌, ◌++◌, length, map, Option, Some, None}
-use Rattle.std.proofs.Common.{refl, ap, ◌∙◌, subst, arith, append_assoc}
+use Rattle.std.proofs.Common.{◌≡◌, ℕ, suc, ◌+◌, ◌<◌, ◌≤◌, ◌==◌, Bool, true, nat_lt, List, [], ◌∷◌, ◌++◌, length, map}
+use Rattle.std.proofs.Common.{Option, Some, None, refl, ap, ◌∙◌, subst, arith, append_assoc}
 use Rattle.std.specs.Prelude.{slice_get, count_by, option_map}
 use Rattle.std.specs.List.{list_all}
 use Rattle.std.proofs.lemmas.Bool.{and_parts, and_from, eq-eqb, ne_eqb}
@@ -14,8 +14,7 @@ use Rattle.ln_tree.specs.declared.items.Site.{Site}
 use Rattle.ln_tree.specs.declared.items.Param.{Param}
 use Rattle.ln_tree.specs.Variables.{same_site}
 use Rattle.ln_tree.specs.Arguments.{site_behind, is_of, are_of, coords_of, args_fit}
-use Rattle.ln_tree.specs.Table.{CoordOf, SiteOf, ArgOf, SiteArg, ParamArg, arg_of, site_of, param_of, coord_of}
-use Rattle.ln_parse.specs.Says.{site_vars, coords_or, param_vars, vars_behind}
+use Rattle.ln_parse.specs.Says.{CoordOf, SiteOf, ArgOf, SiteArg, ParamArg, arg_of, site_of, param_of, coord_of, site_vars, coords_or, param_vars, vars_behind}
 use Rattle.ln_parse.proofs.Building.LaidOut.{Known, all_laid, site_none, count_cons, count_append}
 use Rattle.ln_tree.specs.Whole.{is_one_of}
 

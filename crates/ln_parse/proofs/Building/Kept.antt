@@ -1,6 +1,6 @@
 -- What shapes, predicates and tables keep holds of what a ready file is built into.
-use Rattle.std.proofs.Common.{◌≡◌, ℕ, suc, ◌+◌, ◌<◌, ◌≤◌, ◌^◌, not, Bool, true, false, cond, List, [], ◌∷◌, ◌++◌, length, map, refl, ap}
-use Rattle.std.proofs.Common.{sym, ◌∙◌, subst, arith, length-append}
+use Rattle.std.proofs.Common.{◌≡◌, ℕ, suc, ◌+◌, ◌<◌, ◌≤◌, ◌^◌, not, Bool, true, false, cond, List, [], ◌∷◌, ◌++◌, length}
+use Rattle.std.proofs.Common.{map, refl, ap, sym, ◌∙◌, subst, arith, length-append}
 use Rattle.std.specs.Prelude.{pos, neg_ℤ, int_lt, count_by, filter_map, Option, Some, None, is_some}
 use Rattle.std.specs.List.{list_all}
 use Rattle.std.proofs.lemmas.Bool.{and_from, le-leb, eq-eqb, lt-ltb}
@@ -9,17 +9,10 @@ use Rattle.std.proofs.lemmas.Int.{ints}
 use Rattle.std.proofs.lemmas.List.{length-map}
 use Rattle.std.proofs.lemmas.List.Elements.{filter_map-append}
 use Rattle.std.proofs.lemmas.List.Sums.{sum_by-cons}
-use Rattle.ln_base.specs.declared.span.Span.{Span}
-use Rattle.ln_lex.specs.declared.token.Token.{Token}
-use Rattle.ln_syntax.specs.declared.raw.RawCoord.{RawCoord}
-use Rattle.ln_syntax.specs.declared.raw.RawRange.{RawRange}
-use Rattle.ln_syntax.specs.declared.raw.RawArg.{RawArg}
-use Rattle.ln_syntax.specs.declared.raw.RawLet.{RawLet}
-use Rattle.ln_syntax.specs.declared.raw.Places.{Places}
-use Rattle.ln_syntax.specs.Raw.{Item, SiteItem, ParamItem, PredItem, is_site, is_param, is_pred, text}
+use Rattle.ln_syntax.specs.Raw.{Span, Token, Item, SiteItem, ParamItem, PredItem, is_site, is_param, is_pred, text}
+use Rattle.ln_names.specs.Rules.{RawCoord, RawRange, RawArg, RawLet, Places, scope, is_site_arg, is_param_arg}
 use Rattle.ln_syntax.proofs.Spellings.OneTree.{one_tree}
 use Rattle.ln_names.specs.Numbers.{number, signed, end_value}
-use Rattle.ln_names.specs.Rules.{scope, is_site_arg, is_param_arg}
 use Rattle.ln_names.specs.Visits.{value_nodes, nodes_before}
 use Rattle.ln_names.specs.Limits.{Each, RangeWithin}
 use Rattle.ln_tree.specs.declared.shape.VarInfo.{VarInfo}
@@ -37,8 +30,7 @@ use Rattle.ln_tree.specs.declared.items.Param.{Param}
 use Rattle.ln_tree.specs.Names.{name_bytes}
 use Rattle.ln_tree.specs.Variables.{is_laid_out}
 use Rattle.ln_tree.specs.Table.{CoordOf, SiteOf, ArgOf, TableOf, PredOf, arg_of, site_of, param_of, pred_of, pred_fits, is_table}
-use Rattle.ln_parse.specs.Says.{ranged, resolved, Says, LetsSay, PredsSay, arg_said, site_said, param_said, sites_said, params_said, vars_behind}
-use Rattle.ln_parse.specs.Says.{is_site_said}
+use Rattle.ln_parse.specs.Says.{ranged, resolved, Says, LetsSay, PredsSay, arg_said, site_said, param_said, sites_said, params_said, vars_behind, is_site_said}
 use Rattle.ln_parse.specs.Ready.{ReadyValue, ReadyCoord, ReadyArg, ReadyLet, ReadyPred, ReadyItem, ReadyFile, is_good_site, Declares}
 use Rattle.ln_parse.proofs.Building.Predicates.{PredAt}
 use Rattle.ln_parse.proofs.Building.LaidOut.{Known, count_cons, laid_out}

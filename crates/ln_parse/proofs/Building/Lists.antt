@@ -1,5 +1,5 @@
 -- Lists read from the beginning on.
-use Rattle.std.proofs.Common.{◌≡◌, ℕ, ◌+◌, ◌-◌, ◌<◌, ◌≤◌, arith, List, [], ◌∷◌, ◌++◌, length, map, get_or, take, drop, ap, sym, ◌∙◌}
+use Rattle.std.proofs.Common.{◌≡◌, ℕ, ◌+◌, ◌<◌, ◌≤◌, List, [], ◌∷◌, ◌++◌, length, map, get_or, take, drop, ap, sym, ◌∙◌}
 use Rattle.std.proofs.lemmas.List.{drop_more, take_more, take_all, map_push, get_or_default}
 
 -- an element is the one at place i of a list
@@ -12,11 +12,6 @@ pub record SeenAt {A B : Type 0} (f : A → B) (xs : List A) (i : ℕ) (y : B) :
   pub element : A
   pub at : IsAt xs i element
   pub seen : f element ≡ y
-
--- the first element of a list, and the slice after it
-pub first_rest : {A : Type 0} (xs : List A) (x : A) → 1 ≤ length xs → x ≡ get_or xs 0 x → x ∷ take (length xs - 1) (drop 1 xs) ≡ xs
-first_rest [] x l e = absurd (omega arith)
-first_rest (y ∷ ys) x l e = ap (λ w. x ∷ w) (take_all (length (y ∷ ys) - 1) ys (omega arith)) ∙ ap (λ w. w ∷ ys) e
 
 -- the remaining list at an item
 pub drop_item : {A : Type 0} (xs : List A) (i : ℕ) (x : A) → IsAt xs i x → drop i xs ≡ x ∷ drop (i + 1) xs
@@ -39,3 +34,12 @@ take_seen f xs i y s =
 pub seen_or : {A B : Type 0} (f : A → B) (xs : List A) (i : ℕ) (d : A) (y : B) → i < length xs → y ≡ f (get_or xs i d) → SeenAt f xs i y
 seen_or f xs i d y l e =
     record { element = get_or xs i d; at = record { below = l; is = get_or_default xs i d (get_or xs i d) l }; seen = sym e }
+
+-- one more element of a list that is seen through a function
+pub one_mapped : {A B C : Type 0} (f : A → C) (g : B → C) (xs : List B) (i : ℕ) (d : B) (y : A) (ys : List A) → i < length xs → f y ≡ g (get_or xs i d)
+    → map f ys ≡ map g (take i xs) → map f (ys ++ (y ∷ [])) ≡ map g (take (i + 1) xs)
+one_mapped f g xs i d y ys l e inv = map_push f ys y ∙ ap (λ w. w ++ (f y ∷ [])) inv ∙ sym (take_seen g xs i (f y) (seen_or g xs i d (f y) l e))
+
+-- all elements
+pub all_mapped : {B C : Type 0} (g : B → C) (xs : List B) (i : ℕ) → length xs ≤ i → map g (take i xs) ≡ map g xs
+all_mapped g xs i l = ap (λ z. map g z) (take_all i xs l)

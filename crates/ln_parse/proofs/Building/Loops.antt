@@ -1,26 +1,21 @@
 -- What a loop has at each element.
-use Rattle.std.proofs.Common.{◌≡◌, ℕ, suc, ◌<◌, ◌≤◌, ◌&&◌, Bool, true, false, cond, List, [], ◌∷◌, ◌++◌, zero, length, get_or, take, append-nil}
-use Rattle.std.proofs.Common.{append_assoc, Option, Some, None}
-use Rattle.std.proofs.Common.{refl, ap, sym, subst, arith, length-take}
+use Rattle.std.proofs.Common.{◌≡◌, ℕ, suc, ◌<◌, ◌≤◌, ◌&&◌, Bool, true, false, cond, List, [], ◌∷◌, ◌++◌, zero, length, get_or}
+use Rattle.std.proofs.Common.{take, append-nil, append_assoc, Option, Some, None, refl, ap, sym, subst, arith, length-take}
 use Rattle.std.specs.Prelude.{IfSome}
 use Rattle.std.specs.List.{list_all, find, position_from}
 use Rattle.std.proofs.lemmas.Bool.{and_parts, leb-true}
 use Rattle.std.proofs.lemmas.List.{take-map, length-map}
 use Rattle.std.proofs.lemmas.Option.{slice_get-get_or}
-use Rattle.ln_syntax.specs.declared.raw.RawArg.{RawArg}
-use Rattle.ln_syntax.specs.declared.raw.RawLet.{RawLet}
+use Rattle.ln_names.specs.Rules.{RawArg, RawLet, scope, is_site_arg, coords_of}
 use Rattle.ln_syntax.specs.declared.raw.RawItem.{RawItem}
-use Rattle.ln_syntax.specs.Raw.{Item, SiteItem, ParamItem, PredItem, item, items, item_name, is_site, coords_in, same}
-use Rattle.ln_names.specs.Rules.{scope, is_site_arg, coords_of}
+use Rattle.ln_syntax.specs.Raw.{Token, Item, SiteItem, ParamItem, PredItem, item, items, item_name, is_site, coords_in, same}
 use Rattle.ln_names.specs.Limits.{Each}
 use Rattle.ln_names.specs.declared.nodes.Body.{Body}
 use Rattle.ln_names.specs.declared.nodes.Node.{Node}
 use Rattle.ln_names.specs.Nodes.{ArePairedBy, AreNodes, LetsNodes}
-use Rattle.ln_lex.specs.declared.token.Token.{Token}
-use Rattle.ln_tree.specs.Formula.{Formula}
+use Rattle.ln_parse.specs.Says.{Formula, Says}
 use Rattle.ln_names.proofs.Lists.{place_below, item_at}
 use Rattle.ln_parse.specs.Ready.{IsNarrow, ReadyLet, is_few}
-use Rattle.ln_parse.specs.Says.{Says}
 use Rattle.ln_parse.specs.Stack.{Brings, AreOne}
 use Rattle.ln_parse.proofs.Expressions.Stack.{value_one, value_said}
 use Rattle.ln_parse.proofs.Expressions.Found.{each_get}

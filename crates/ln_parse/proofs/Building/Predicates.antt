@@ -1,16 +1,9 @@
 -- Predicates: one among the items of a text, and two that agree.
 use Rattle.std.proofs.Common.{◌≡◌, ℕ, List, [], map, refl}
 use Rattle.std.specs.Prelude.{count_by}
-use Rattle.ln_base.specs.declared.span.Span.{Span}
-use Rattle.ln_lex.specs.declared.token.Token.{Token}
-use Rattle.ln_syntax.specs.declared.raw.RawArg.{RawArg}
-use Rattle.ln_syntax.specs.declared.raw.RawLet.{RawLet}
-use Rattle.ln_syntax.specs.declared.raw.Places.{Places}
-use Rattle.ln_syntax.specs.Raw.{Item, text}
-use Rattle.ln_names.specs.Rules.{scope}
-use Rattle.ln_tree.specs.Formula.{Formula}
-use Rattle.ln_tree.specs.Table.{CoordOf, SiteOf, PredOf, TableOf}
-use Rattle.ln_parse.specs.Says.{LetsSay, Says, PredSays, vars_behind, is_site_said}
+use Rattle.ln_syntax.specs.Raw.{Span, Token, Item, text}
+use Rattle.ln_names.specs.Rules.{RawArg, RawLet, Places, scope}
+use Rattle.ln_parse.specs.Says.{Formula, CoordOf, SiteOf, PredOf, TableOf, LetsSay, Says, PredSays, vars_behind, is_site_said}
 use Rattle.ln_parse.proofs.Expressions.Fitting.{said}
 
 -- a predicate as it is read: the bytes, their tokens, the items before it, and its name, arguments, lets and root

@@ -4,17 +4,12 @@ use Rattle.std.specs.Prelude.{count_by, is_some, All}
 use Rattle.std.specs.List.{list_all}
 use Rattle.std.proofs.lemmas.Bool.{and_from, le-leb}
 use Rattle.std.proofs.lemmas.List.Folds.{list_all-append}
-use Rattle.ln_lex.specs.declared.token.Token.{Token}
+use Rattle.ln_syntax.specs.Raw.{Token, Item, SiteItem, ParamItem, PredItem, Is, is_site, is_param, span_at, Equals, Sign, Semi}
 use Rattle.ln_lex.specs.Tokens.{IsSlice}
-use Rattle.ln_lex.specs.declared.token.Kind.TheVariants.{Equals, Sign, Semi}
-use Rattle.ln_syntax.specs.declared.raw.RawCoord.{RawCoord}
-use Rattle.ln_syntax.specs.declared.raw.RawArg.{RawArg}
-use Rattle.ln_syntax.specs.declared.raw.RawLet.{RawLet}
-use Rattle.ln_syntax.specs.Raw.{Item, SiteItem, ParamItem, PredItem, Is, is_site, is_param, span_at}
+use Rattle.ln_names.specs.Rules.{RawCoord, RawArg, RawLet, Scope}
 use Rattle.ln_syntax.specs.Expression.{IsExpr}
-use Rattle.ln_syntax.specs.File.{Coords, no_coord, coord, Arg, site_arg, param_arg, Args, last_arg, more_args, Lets, no_let, a_let, IsItem}
-use Rattle.ln_syntax.specs.File.{site, param, predicate, Items, no_item, an_item, Spelt}
-use Rattle.ln_names.specs.Rules.{Scope}
+use Rattle.ln_syntax.specs.File.{Coords, no_coord, coord, Arg, site_arg, param_arg, Args, last_arg, more_args, Lets, no_let, a_let, IsItem, site, param}
+use Rattle.ln_syntax.specs.File.{predicate, Items, no_item, an_item, Spelt}
 use Rattle.ln_names.specs.Limits.{Each, CoordWithin, ArgWithin, LetWithin, ItemWithin, ValueWithin, FileWithin}
 use Rattle.ln_names.proofs.Faultless.{faultless_is_within}
 use Rattle.ln_parse.specs.Fault.{IsFaultless}

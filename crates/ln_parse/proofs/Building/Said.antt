@@ -1,20 +1,13 @@
 -- What has been said so far, and what remains to be said.
-use Rattle.std.proofs.Common.{◌≡◌, ℕ, ◌<◌, get_or, false, ◌+◌, ◌≤◌, List, [], ◌∷◌, ◌++◌, length, take, drop, map, refl, ap, sym, subst, ◌∙◌}
-use Rattle.std.proofs.Common.{Global, Vec, append-nil, append_assoc}
+use Rattle.std.proofs.Common.{◌≡◌, ℕ, ◌<◌, get_or, false, ◌+◌, ◌≤◌, List, [], ◌∷◌, ◌++◌, length, take, drop, map, refl, ap, sym}
+use Rattle.std.proofs.Common.{subst, ◌∙◌, Global, Vec, append-nil, append_assoc}
 use Rattle.std.specs.Prelude.{filter_map, Option, Some, None}
 use Rattle.std.specs.List.{cons_option}
 use Rattle.std.proofs.lemmas.List.{drop_all, map_push}
-use Rattle.ln_base.specs.declared.span.Span.{Span}
-use Rattle.ln_lex.specs.declared.token.Token.{Token}
-use Rattle.ln_syntax.specs.declared.raw.Places.{Places}
-use Rattle.ln_syntax.specs.declared.raw.RawArg.{RawArg}
-use Rattle.ln_syntax.specs.declared.raw.RawCoord.{RawCoord}
-use Rattle.ln_syntax.specs.declared.raw.RawLet.{RawLet}
+use Rattle.ln_syntax.specs.Raw.{Span, Token, Item, SiteItem, ParamItem, PredItem, item, items, is_pred}
+use Rattle.ln_parse.specs.Says.{Places, RawArg, RawCoord, RawLet, PredsSay, site_said, TableOf, PredOf}
 use Rattle.ln_syntax.specs.declared.raw.RawItem.{RawItem}
 use Rattle.ln_syntax.specs.declared.raw.RawItem.TheVariants.{Site, Param, Pred}
-use Rattle.ln_syntax.specs.Raw.{Item, SiteItem, ParamItem, PredItem, item, items, is_pred}
-use Rattle.ln_tree.specs.Table.{TableOf, PredOf}
-use Rattle.ln_parse.specs.Says.{PredsSay, site_said}
 use Rattle.ln_parse.proofs.Building.Lists.{SeenAt, drop_seen, take_seen}
 
 -- what these say, and what the items from place i on say, is all that the items say

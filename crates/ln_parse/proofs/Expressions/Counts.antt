@@ -1,18 +1,14 @@
 -- How many nodes an expression has, by its tokens.
 use Rattle.std.proofs.Common.{◌≡◌, ℕ, ◌+◌, ◌-◌, List, [], Option, Some, None, ap, refl, arith}
 use Rattle.std.specs.Prelude.{position}
-use Rattle.ln_base.specs.declared.span.Span.{Span}
-use Rattle.ln_lex.specs.declared.token.Token.{Token}
-use Rattle.ln_lex.specs.declared.token.Kind.TheVariants.{Semi}
-use Rattle.ln_syntax.specs.Raw.{Is, same}
+use Rattle.ln_syntax.specs.Raw.{Span, Token, Is, same, Semi}
 use Rattle.ln_syntax.specs.Expression.{Tree, TNum, TName, TInput, TNeg, TAdd, TSub, TMul, TPow, Derives, Sum}
 use Rattle.ln_names.specs.Nodes.{Begins}
 use Rattle.ln_names.specs.Rules.{Scope, OperatorNode}
 use Rattle.ln_names.specs.Visits.{nodes}
 use Rattle.ln_names.proofs.Machine.{tokens_of}
 use Rattle.ln_names.proofs.Trees.{Judged, judge, judged}
-use Rattle.ln_tree.specs.Formula.{node_count}
-use Rattle.ln_parse.specs.Says.{resolved, name_of}
+use Rattle.ln_parse.specs.Says.{node_count, resolved, name_of}
 
 one_node : (bytes : List ℕ) (s : Scope) (at : Span) (o : Option ℕ) → node_count (name_of bytes s at o) ≡ 1
 one_node bytes s at None = refl

@@ -1,6 +1,6 @@
 -- Resolved expressions are fit for a predicate.
-use Rattle.std.proofs.Common.{◌≡◌, ℕ, ◌<◌, ◌^◌, ◌&&◌, ◌||◌, not, Bool, true, false, List, [], ◌∷◌, ◌++◌, length, map, Option, Some, None}
-use Rattle.std.proofs.Common.{refl, ap, ◌∙◌, subst, arith}
+use Rattle.std.proofs.Common.{◌≡◌, ℕ, ◌<◌, ◌^◌, ◌&&◌, ◌||◌, not, Bool, true, false, List, [], ◌∷◌, ◌++◌, length, map, Option}
+use Rattle.std.proofs.Common.{Some, None, refl, ap, ◌∙◌, subst, arith}
 use Rattle.std.specs.Prelude.{slice_get, position, option_map, int_lt, pos}
 use Rattle.std.specs.List.{list_any, list_all, find}
 use Rattle.std.proofs.lemmas.Bool.{and_parts, and_from, lt-ltb, le-leb, not-true}
@@ -8,24 +8,19 @@ use Rattle.std.proofs.lemmas.Bool.Decides.{nat_tests}
 use Rattle.std.proofs.lemmas.Int.{ints}
 use Rattle.std.proofs.lemmas.List.{length-map}
 use Rattle.std.proofs.lemmas.Option.{slice_get-map, slice_get_within}
-use Rattle.ln_base.specs.declared.span.Span.{Span}
-use Rattle.ln_syntax.specs.declared.raw.RawCoord.{RawCoord}
-use Rattle.ln_syntax.specs.declared.raw.RawArg.{RawArg}
-use Rattle.ln_syntax.specs.declared.raw.RawLet.{RawLet}
-use Rattle.ln_syntax.specs.Raw.{Item, item_name, is_site, is_param, coords_in, same, text}
+use Rattle.ln_syntax.specs.Raw.{Span, Item, item_name, is_site, is_param, coords_in, same, text}
+use Rattle.ln_names.specs.Rules.{RawCoord, RawArg, RawLet, scope, is_site_arg, is_param_arg, has_let, has_site_arg, has_param_arg, coords_of, coords_at}
 use Rattle.ln_syntax.specs.Expression.{Tree, TNum, TName, TInput, TNeg, TAdd, TSub, TMul, TPow}
 use Rattle.ln_names.specs.Numbers.{number}
-use Rattle.ln_names.specs.Rules.{scope, is_site_arg, is_param_arg, has_let, has_site_arg, has_param_arg, coords_of, coords_at}
 use Rattle.ln_names.specs.Limits.{Each, IsKnown}
 use Rattle.ln_tree.specs.Variables.{number_or_end}
 use Rattle.ln_tree.specs.Formula as formulas
 use Rattle.ln_tree.specs.Fits.{is_fit}
 use Rattle.ln_tree.specs.Table.{CoordOf, SiteOf, ArgOf, SiteArg, ParamArg}
-use Rattle.ln_parse.specs.Says.{place, ranged, resolved, name_of, arg_said, site_names, param_names, sites_said, params_said, coords_or}
-use Rattle.ln_parse.specs.Says.{vars_behind}
+use Rattle.ln_parse.specs.Says.{place, ranged, resolved, name_of, arg_said, site_names, param_names, sites_said, params_said, coords_or, vars_behind}
 use Rattle.ln_parse.specs.Ready.{Declares, Fit}
-use Rattle.ln_parse.proofs.Expressions.Found.{found_at, place_len, position_below, no_position, number_from, coord_there, param_there}
-use Rattle.ln_parse.proofs.Expressions.Found.{sites_named, params_named, any_site, any_param, coords_found, get_longer, each_get}
+use Rattle.ln_parse.proofs.Expressions.Found.{found_at, place_len, position_below, no_position, number_from, coord_there, param_there, sites_named}
+use Rattle.ln_parse.proofs.Expressions.Found.{params_named, any_site, any_param, coords_found, get_longer, each_get}
 use Rattle.ln_parse.proofs.ReadBack.InputsThere.{at_place}
 use Rattle.ln_tree.specs.Whole.{is_one_of}
 

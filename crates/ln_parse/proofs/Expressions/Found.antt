@@ -1,18 +1,16 @@
 -- What names stand for is there.
-use Rattle.std.proofs.Common.{◌≡◌, ℕ, zero, suc, ◌+◌, ◌<◌, ◌==◌, ◌&&◌, ◌||◌, Bool, true, false, cond, nat_lt, List, [], ◌∷◌, ◌++◌, length}
-use Rattle.std.proofs.Common.{take, map, Option, Some, None, refl, ap, sym, ◌∙◌, subst, arith, append_assoc, append-nil}
+use Rattle.std.proofs.Common.{◌≡◌, ℕ, zero, suc, ◌+◌, ◌<◌, ◌==◌, ◌&&◌, ◌||◌, Bool, true, false, cond, nat_lt, List, [], ◌∷◌}
+use Rattle.std.proofs.Common.{◌++◌, length, take, map, Option, Some, None, refl, ap, sym, ◌∙◌, subst, arith, append_assoc, append-nil}
 use Rattle.std.specs.Prelude.{slice_get, position, filter_map, count_by, is_some}
 use Rattle.std.specs.List.{list_any, find, position_or_len, cons_option}
 use Rattle.std.proofs.lemmas.Bool.{and_from, or_left, or_right, ltb-true, lt-ltb, eq-eqb}
 use Rattle.std.proofs.lemmas.List.Folds.{list_any-append}
-use Rattle.ln_base.specs.declared.span.Span.{Span}
-use Rattle.ln_syntax.specs.declared.raw.RawCoord.{RawCoord}
-use Rattle.ln_syntax.specs.Raw.{Item, SiteItem, ParamItem, PredItem, item_name, is_site, is_param, coords_in, text}
+use Rattle.ln_syntax.specs.Raw.{Span, Item, SiteItem, ParamItem, PredItem, item_name, is_site, is_param, coords_in, text}
+use Rattle.ln_parse.specs.Says.{RawCoord, place, ranged, site_names, param_names, sites_said, params_said, site_vars, coords_or, param_vars, vars_behind}
 use Rattle.ln_names.specs.Limits.{Each}
 use Rattle.ln_tree.specs.declared.shape.VarInfo.{VarInfo}
 use Rattle.ln_tree.specs.Variables.{is_var, number_or_end}
 use Rattle.ln_tree.specs.Table.{CoordOf, SiteOf, ArgOf, SiteArg, ParamArg}
-use Rattle.ln_parse.specs.Says.{place, ranged, site_names, param_names, sites_said, params_said, site_vars, coords_or, param_vars, vars_behind}
 use Rattle.ln_parse.proofs.Building.LaidOut.{count_cons}
 
 -- the first place of an element that passes

@@ -1,15 +1,10 @@
 -- What an expression means is settled by how it is written.
 use Rattle.std.proofs.Common.{◌≡◌, ℕ, ◌&&◌, Bool, pos, List, Option, Some, None, refl, ap}
 use Rattle.std.specs.Prelude.{bytes_eq, position, find}
-use Rattle.ln_base.specs.declared.span.Span.{Span}
-use Rattle.ln_syntax.specs.declared.raw.RawArg.{RawArg}
-use Rattle.ln_syntax.specs.declared.raw.RawLet.{RawLet}
-use Rattle.ln_syntax.specs.declared.raw.RawCoord.{RawCoord}
-use Rattle.ln_syntax.specs.Raw.{text}
+use Rattle.ln_syntax.specs.Raw.{Span, text}
+use Rattle.ln_names.specs.Rules.{RawArg, RawLet, RawCoord, Scope, is_site_arg, is_param_arg, coords_of}
 use Rattle.ln_syntax.specs.Expression.{Tree, TNum, TName, TInput, TNeg, TAdd, TSub, TMul, TPow}
-use Rattle.ln_names.specs.Rules.{Scope, is_site_arg, is_param_arg, coords_of}
-use Rattle.ln_tree.specs.Formula.{Formula, FNum, FInput, FName, FNeg, FAdd, FSub, FMul, FPow}
-use Rattle.ln_parse.specs.Says.{place, name_of, resolved}
+use Rattle.ln_parse.specs.Says.{Formula, FNum, FInput, FName, FNeg, FAdd, FSub, FMul, FPow, place, name_of, resolved}
 use Rattle.ln_parse.specs.Written.{Written, WNum, WName, WInput, WNeg, WAdd, WSub, WMul, WPow, spelling}
 use Rattle.ln_parse.specs.Spanless.{no_span, spanless}
 

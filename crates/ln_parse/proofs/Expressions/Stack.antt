@@ -1,24 +1,18 @@
 -- Nodes in postfix order are the formula of their tree.
-use Rattle.std.proofs.Common.{◌≡◌, ℕ, ◌+◌, ◌≤◌, ◌<◌, ◌&&◌, List, [], ◌∷◌, ◌++◌, length, get_or, drop, drop-cons, add-one, map, reverse, Bool, Option}
-use Rattle.std.proofs.Common.{Some, None, refl, sym, ◌∙◌, subst, arith}
+use Rattle.std.proofs.Common.{◌≡◌, ℕ, ◌≤◌, ◌<◌, ◌&&◌, List, [], ◌∷◌, ◌++◌, length, drop, map, reverse, Bool, Option, Some, None, refl, sym, subst, arith}
 use Rattle.std.specs.List.{position_from}
 use Rattle.std.specs.Prelude.{unwrap_or}
-use Rattle.std.proofs.lemmas.List.{length-reverse, length-map}
-use Rattle.ln_base.specs.declared.span.Span.{Span}
-use Rattle.ln_lex.specs.declared.token.Token.{Token}
-use Rattle.ln_syntax.specs.declared.raw.Places.{Places}
-use Rattle.ln_syntax.specs.Raw.{same}
+use Rattle.ln_syntax.specs.Raw.{Span, Token, same}
+use Rattle.ln_names.specs.Rules.{Places, Scope, is_site_arg, is_param_arg, coords_at}
 use Rattle.ln_syntax.specs.Expression.{Tree, TNum, TName, TInput, TNeg, TAdd, TSub, TMul, TPow}
 use Rattle.ln_names.specs.declared.nodes.Node.{Node}
 use Rattle.ln_names.specs.declared.resolve.ArgKind.TheVariants.{Site, Param}
 use Rattle.ln_names.specs.Nodes as nodes
 use Rattle.ln_names.specs.Nodes.{postfix, named, AreNodes}
 use Rattle.ln_names.specs.Resolve.{is_arg, let_place, arg_place, coord_place}
-use Rattle.ln_names.specs.Rules.{Scope, is_site_arg, is_param_arg, coords_at}
 use Rattle.ln_names.proofs.Lists.{place_below}
 use Rattle.ln_tree.specs.declared.expr.Expr.{Expr}
-use Rattle.ln_tree.specs.Formula.{Formula, formula}
-use Rattle.ln_parse.specs.Says.{resolved, Says}
+use Rattle.ln_parse.specs.Says.{Formula, formula, resolved, Says}
 use Rattle.ln_parse.specs.Ready.{IsNarrow, ReadyValue}
 use Rattle.ln_parse.specs.Stack.{applied_by, applied, arity, is_small_power, Brings, AreOne}
 use Rattle.ln_parse.proofs.Building.Places.{position_is, place_is}
@@ -82,21 +76,6 @@ Left ns i fs = (gs : List Formula) → Brings ns [] gs → Brings (drop i ns) fs
 -- operands as formulas, the last first
 abbrev pub formulas : List Expr → List Formula
 formulas xs = reverse (map formula xs)
-
--- there are as many formulas as trees
-pub formulas_length : (xs : List Expr) → length (formulas xs) ≡ length xs
-formulas_length xs = length-reverse (map formula xs) ∙ length-map xs formula
-
-module _ (ns : List Node) (i : ℕ) (d : Node) (xs : List Expr) (left : Left ns i (formulas xs)) (l : i < length ns) where
-  -- its step
-  pub next : (hs : List Formula) → hs ≡ applied (get_or ns i d) (formulas xs) → Left ns (i + 1) hs
-  next hs q gs b = let e = rw (drop-cons ns i d l) at (left gs b) in rw (q, add-one i) e.2
-
-  -- what the next node needs
-  pub needs : AreOne ns → (arity (get_or ns i d).what ≤ length xs) × is_small_power (get_or ns i d).what
-  needs r =
-      let e = rw (drop-cons ns i d l) at (left (r.0 ∷ []) r.1) in
-      let n = formulas_length xs in (omega (arith, e.0, n), e.1)
 
 module _ {bytes : List ℕ} {ts : List Token} {s : Scope} {p : Places} {ns : List Node} (v : ReadyValue bytes ts s p) (k : IsNarrow bytes s)
     (a : AreNodes bytes ts s p ns) where

@@ -1,18 +1,15 @@
 -- The arguments of a canonical text say those of the table, and their tokens have no fault.
-use Rattle.std.proofs.Common.{◌≡◌, ℕ, ◌<◌, ◌≤◌, not, Bool, true, false, cond, List, [], ◌∷◌, ◌++◌, length, map, Some}
-use Rattle.std.proofs.Common.{None, refl, ap, sym, ◌∙◌, subst, arith, append_assoc}
+use Rattle.std.proofs.Common.{◌≡◌, ℕ, ◌<◌, ◌≤◌, not, Bool, true, false, cond, List, [], ◌∷◌, ◌++◌, length, map, Some, None, refl}
+use Rattle.std.proofs.Common.{ap, sym, ◌∙◌, subst, arith, append_assoc}
 use Rattle.std.specs.Prelude.{slice_get, unwrap_or, count_by}
 use Rattle.std.specs.List.{list_all}
 use Rattle.std.proofs.lemmas.Bool.{and_parts, ltb-true}
-use Rattle.ln_base.specs.declared.span.Span.{Span}
-use Rattle.ln_syntax.specs.declared.raw.RawArg.{RawArg}
-use Rattle.ln_syntax.specs.Raw.{Item, text, same}
-use Rattle.ln_names.specs.Rules.{is_site_arg, is_param_arg, ArgName, ArgSite, ArgParam, has_site, has_param, fault_at}
+use Rattle.ln_syntax.specs.Raw.{Span, Item, text, same}
+use Rattle.ln_names.specs.Rules.{RawArg, is_site_arg, is_param_arg, ArgName, ArgSite, ArgParam, has_site, has_param, fault_at}
 use Rattle.ln_names.specs.Visits.{visits_by, arg_visits}
 use Rattle.ln_names.specs.First.{Clean}
-use Rattle.ln_tree.specs.Table.{CoordOf, SiteOf, ArgOf, SiteArg, ParamArg, PredOf, TableOf}
+use Rattle.ln_parse.specs.Says.{CoordOf, SiteOf, ArgOf, SiteArg, ParamArg, PredOf, TableOf, place, arg_said, site_names, param_names, sites_said, params_said}
 use Rattle.ln_tree.specs.Whole.{arg_name, is_one_of, is_site_said, is_param_said}
-use Rattle.ln_parse.specs.Says.{place, arg_said, site_names, param_names, sites_said, params_said}
 use Rattle.ln_parse.specs.ReadsBack.{Every, ArgWritten, ArgsWritten}
 use Rattle.ln_parse.specs.WholeTable.{IsShortName, SiteNames, ArgNames, PredKept}
 use Rattle.ln_parse.specs.Written.{range_name, site_name}

@@ -3,18 +3,12 @@ use Rattle.std.proofs.Common.{◌≡◌, ℕ, ◌+◌, ◌-◌, ◌<◌, ◌≤�
 use Rattle.std.specs.Prelude.{bytes_eq, find}
 use Rattle.std.specs.List.{list_any}
 use Rattle.std.proofs.lemmas.Bool.Decides.{nat_tests}
-use Rattle.ln_base.specs.declared.span.Span.{Span}
-use Rattle.ln_lex.specs.declared.token.Token.{Token}
-use Rattle.ln_lex.specs.declared.token.Kind.TheVariants.{Semi}
-use Rattle.ln_syntax.specs.declared.raw.RawArg.{RawArg}
-use Rattle.ln_syntax.specs.declared.raw.RawLet.{RawLet}
-use Rattle.ln_syntax.specs.declared.raw.RawCoord.{RawCoord}
-use Rattle.ln_syntax.specs.Raw.{Is, text}
+use Rattle.ln_syntax.specs.Raw.{Span, Token, Is, text, Semi}
+use Rattle.ln_names.specs.Rules.{RawArg, RawLet, RawCoord, Scope, Use, InputNode, OperatorNode, is_site_arg, is_param_arg, coords_of, fault_at}
 use Rattle.ln_syntax.specs.Expression.{Tree, TNum, TName, TInput, TNeg, TAdd, TSub, TMul, TPow, Derives, Sum}
 use Rattle.ln_names.specs.Numbers as numbers
 use Rattle.ln_base.specs.Limits.{most_literal}
 use Rattle.ln_names.specs.Nodes.{Begins}
-use Rattle.ln_names.specs.Rules.{Scope, Use, InputNode, OperatorNode, is_site_arg, is_param_arg, coords_of, fault_at}
 use Rattle.ln_names.specs.Visits.{Visit, visit, nodes, expr_visits}
 use Rattle.ln_names.specs.First.{Clean}
 use Rattle.ln_names.proofs.Machine.{tokens_of}

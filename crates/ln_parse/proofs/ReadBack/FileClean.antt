@@ -1,31 +1,25 @@
 -- The items of a canonical text say the table's, and their tokens have no fault.
-use Rattle.std.proofs.Common.{◌≡◌, ℕ, suc, ◌<◌, ◌≤◌, ◌^◌, Bool, true, false, List, [], ◌∷◌, ◌++◌, length, map}
-use Rattle.std.proofs.Common.{None, refl, ap, sym, ◌∙◌, subst, arith, append_assoc, append-nil, length-append}
+use Rattle.std.proofs.Common.{◌≡◌, ℕ, suc, ◌<◌, ◌≤◌, ◌^◌, Bool, true, false, List, [], ◌∷◌, ◌++◌, length, map, None, refl, ap}
+use Rattle.std.proofs.Common.{sym, ◌∙◌, subst, arith, append_assoc, append-nil, length-append}
 use Rattle.std.specs.Prelude.{int_lt, unsigned_abs, count_by, filter_map, Option}
 use Rattle.std.specs.List.{list_any}
 use Rattle.std.proofs.lemmas.Bool.Decides.{nat_tests}
 use Rattle.std.proofs.lemmas.Int.{ints}
 use Rattle.std.proofs.lemmas.List.{length-map}
 use Rattle.std.proofs.lemmas.List.Elements.{filter_map-append}
-use Rattle.ln_base.specs.declared.span.Span.{Span}
-use Rattle.ln_lex.specs.declared.token.Token.{Token}
-use Rattle.ln_lex.specs.declared.token.Kind.TheVariants.{Sign}
-use Rattle.ln_syntax.specs.declared.raw.RawRange.{RawRange}
-use Rattle.ln_syntax.specs.declared.raw.RawCoord.{RawCoord}
-use Rattle.ln_syntax.specs.Raw.{Item, item_name, is_site, is_param, is_pred, text, same}
+use Rattle.ln_syntax.specs.Raw.{Span, Token, Item, item_name, is_site, is_param, is_pred, text, same, Sign}
+use Rattle.ln_names.specs.Rules.{RawRange, RawCoord, SiteName, ParamName, PredName, fault_at}
 use Rattle.ln_syntax.specs.File as file
 use Rattle.ln_base.specs.Limits.{most_literal}
 use Rattle.ln_names.specs.Numbers.{number, signed, end_value, most_end}
-use Rattle.ln_names.specs.Rules.{SiteName, ParamName, PredName, fault_at}
 use Rattle.ln_names.specs.Visits.{visits_by, range_visits, coord_visits, item_visits}
 use Rattle.ln_names.specs.First.{Clean}
-use Rattle.ln_tree.specs.Table.{CoordOf, SiteOf, PredOf, TableOf}
+use Rattle.ln_parse.specs.Says.{CoordOf, SiteOf, PredOf, TableOf, ranged, site_said, param_said, sites_said, params_said, PredsSay}
 use Rattle.ln_tree.specs.Whole.{item_names}
-use Rattle.ln_parse.specs.Says.{ranged, site_said, param_said, sites_said, params_said, PredsSay}
 use Rattle.ln_parse.specs.ReadsBack.{Every}
 use Rattle.ln_parse.specs.Spanless.{pred_spanless}
 use Rattle.ln_parse.specs.WholeTable.{IsShortName, SiteNames, PredKept, IsWhole}
-use Rattle.ln_parse.proofs.Texts.ItemsBack.{Like, no_more, a_site, a_param, a_pred, like_sites, like_params}
+use Rattle.ln_parse.proofs.Texts.ItemsBack.{of_coord, Like, no_more, a_site, a_param, a_pred, like_sites, like_params}
 use Rattle.ln_parse.proofs.Building.Predicates.{PredAt}
 use Rattle.ln_parse.proofs.Building.Kept.{pred_name, said_sites, said_params, preds_counted}
 use Rattle.ln_names.proofs.Machine.{begins}
@@ -58,9 +52,6 @@ range_clean bytes name r c e h =
 
 abbrev coord_name : List ℕ → RawCoord → List ℕ
 coord_name bytes c = text bytes c.name
-
-abbrev of_coord : List ℕ → RawCoord → CoordOf
-of_coord bytes c = ranged bytes c.name c.range
 
 short : {a b : List ℕ} → a ≡ b → IsShortName b → length a ≤ 32
 short e s = rw e s.1

@@ -1,6 +1,6 @@
 -- The inputs of a fit expression are of arguments that there are, and their names are names.
-use Rattle.std.proofs.Common.{◌≡◌, ℕ, zero, suc, ◌+◌, ◌<◌, ◌≤◌, ◌^◌, ◌==◌, ◌&&◌, ◌||◌, not, Bool, true, false, nat_lt, List, [], ◌∷◌}
-use Rattle.std.proofs.Common.{length, Option, Some, None, refl, ap, sym, ◌∙◌, subst, arith}
+use Rattle.std.proofs.Common.{◌≡◌, ℕ, zero, suc, ◌+◌, ◌<◌, ◌≤◌, ◌^◌, ◌==◌, ◌&&◌, ◌||◌, not, Bool, true, false, nat_lt}
+use Rattle.std.proofs.Common.{List, [], ◌∷◌, length, Option, Some, None, refl, ap, sym, ◌∙◌, subst, arith}
 use Rattle.std.specs.Prelude.{ℤ, pos, int_lt, unsigned_abs, slice_get, position, unwrap_or, nat_le}
 use Rattle.std.specs.List.{list_any, position_from}
 use Rattle.std.proofs.lemmas.Bool.{and_parts, leb-true, eqb-true}
@@ -10,13 +10,12 @@ use Rattle.std.proofs.lemmas.List.Folds.{list_any-append}
 use Rattle.std.proofs.lemmas.Iterator.Adapters.{position_from-zero}
 use Rattle.ln_tree.specs.declared.shape.VarInfo.{VarInfo}
 use Rattle.ln_tree.specs.Variables.{is_var, number_or_end}
-use Rattle.ln_tree.specs.Formula.{Formula, FNum, FInput, FName, FNeg, FAdd, FSub, FMul, FPow, tree}
+use Rattle.ln_parse.specs.Written.{Formula, FNum, FInput, FName, FNeg, FAdd, FSub, FMul, FPow, tree, CoordOf, SiteOf, ArgOf, SiteArg, ParamArg, Naming, input}
+use Rattle.ln_parse.specs.Written.{written, IsNamed}
 use Rattle.ln_tree.specs.Fits.{is_fit}
-use Rattle.ln_tree.specs.Table.{CoordOf, SiteOf, ArgOf, SiteArg, ParamArg}
 use Rattle.ln_tree.specs.Whole.{site_vars, coords_or, param_vars, vars_behind}
 use Rattle.ln_parse.specs.ReadsBack.{Every}
 use Rattle.ln_parse.specs.WholeTable.{IsShortName, SiteNames, ArgNames}
-use Rattle.ln_parse.specs.Written.{Naming, input, written, IsNamed}
 use Rattle.ln_parse.proofs.Wholes.TestLemmas.{below, neither, or_cases}
 
 -- argument d is a site whose type has coordinate c, or a param, where c is 0

@@ -2,16 +2,13 @@
 use Rattle.std.proofs.Common.{◌≡◌, ℕ, true, List, [], length, map, refl, ap, sym, ◌∙◌, subst, arith, append-nil}
 use Rattle.std.specs.Prelude.{count_by}
 use Rattle.std.proofs.lemmas.List.{length-map}
-use Rattle.ln_syntax.specs.declared.raw.RawLet.{RawLet}
+use Rattle.ln_names.specs.Rules.{RawLet, scope}
 use Rattle.ln_syntax.specs.Raw.{text}
 use Rattle.ln_syntax.specs.File.{Lets}
-use Rattle.ln_names.specs.Rules.{scope}
 use Rattle.ln_names.specs.Visits.{visits_by, arg_visits, let_visits, pred_visits, nodes_before}
 use Rattle.ln_names.specs.First.{Clean}
-use Rattle.ln_tree.specs.Formula.{tree}
+use Rattle.ln_parse.specs.Says.{tree, PredOf, TableOf, PredSays, vars_behind, is_site_said}
 use Rattle.ln_tree.specs.Fits.{is_fit}
-use Rattle.ln_tree.specs.Table.{PredOf, TableOf}
-use Rattle.ln_parse.specs.Says.{PredSays, vars_behind, is_site_said}
 use Rattle.ln_parse.specs.ReadsBack.{PredWritten}
 use Rattle.ln_parse.specs.Spanless.{pred_spanless}
 use Rattle.ln_parse.specs.WholeTable.{PredKept}

@@ -1,25 +1,20 @@
 -- What the names of a canonical text stand for.
-use Rattle.std.proofs.Common.{◌≡◌, ℕ, zero, suc, ◌+◌, ◌<◌, ◌&&◌, not, Bool, true, false, nat_lt, List, [], ◌∷◌, ◌++◌, length}
-use Rattle.std.proofs.Common.{map, Some, None, refl, ap, sym, ◌∙◌, subst, arith, zero-add}
+use Rattle.std.proofs.Common.{◌≡◌, ℕ, zero, suc, ◌+◌, ◌<◌, ◌&&◌, not, Bool, true, false, nat_lt, List, [], ◌∷◌, ◌++◌, length, map}
+use Rattle.std.proofs.Common.{Some, None, refl, ap, sym, ◌∙◌, subst, arith, zero-add}
 use Rattle.std.specs.Prelude.{slice_get, position, unwrap_or, bytes_eq, find, nat_le}
 use Rattle.std.specs.List.{list_any, position_from, position_or_len}
 use Rattle.std.proofs.lemmas.Bool.{and_parts, or_left, or_right, ltb-true, leb-true}
 use Rattle.std.proofs.lemmas.List.{length-map}
 use Rattle.std.proofs.lemmas.Slice.Eq.{bytes_eq-Decides}
 use Rattle.std.proofs.lemmas.Iterator.Adapters.{position_from-zero}
-use Rattle.ln_base.specs.declared.span.Span.{Span}
-use Rattle.ln_syntax.specs.declared.raw.RawArg.{RawArg}
-use Rattle.ln_syntax.specs.declared.raw.RawLet.{RawLet}
-use Rattle.ln_syntax.specs.declared.raw.RawCoord.{RawCoord}
-use Rattle.ln_syntax.specs.Raw.{Item, item_name, is_site, is_param, coords_in, text, same}
-use Rattle.ln_names.specs.Rules.{Scope, is_site_arg, is_param_arg, coords_of}
+use Rattle.ln_syntax.specs.Raw.{Span, Item, item_name, is_site, is_param, coords_in, text, same}
+use Rattle.ln_names.specs.Rules.{RawArg, RawLet, RawCoord, Scope, is_site_arg, is_param_arg, coords_of}
 use Rattle.ln_tree.specs.declared.shape.VarInfo.{VarInfo}
 use Rattle.ln_tree.specs.Variables.{number_or_end}
-use Rattle.ln_tree.specs.Formula.{Formula, FNum, FInput, FName, FNeg, FAdd, FSub, FMul, FPow, tree}
-use Rattle.ln_tree.specs.Fits.{is_fit}
-use Rattle.ln_tree.specs.Table.{CoordOf, SiteOf, ArgOf, SiteArg, ParamArg, PredOf, TableOf}
-use Rattle.ln_tree.specs.Whole.{vars_behind, range_name, arg_name}
+use Rattle.ln_parse.specs.Says.{Formula, FNum, FInput, FName, FNeg, FAdd, FSub, FMul, FPow, tree, CoordOf, SiteOf, ArgOf, SiteArg, ParamArg, PredOf, TableOf}
 use Rattle.ln_parse.specs.Says.{ranged, site_names, param_names, sites_said, params_said}
+use Rattle.ln_tree.specs.Fits.{is_fit}
+use Rattle.ln_tree.specs.Whole.{vars_behind, range_name, arg_name}
 use Rattle.ln_parse.specs.ReadsBack.{Every, ArgWritten, ArgsWritten}
 use Rattle.ln_parse.specs.Spanless.{no_span, spanless}
 use Rattle.ln_parse.specs.WholeTable.{IsShortName, SiteNames, ArgNames}

@@ -1,28 +1,21 @@
 -- The expressions, lets and arguments of a canonical text say those of the table, and their tokens have no fault.
-use Rattle.std.proofs.Common.{◌≡◌, ℕ, suc, ◌+◌, ◌<◌, ◌≤◌, ◌||◌, Bool, true, false, List, [], ◌∷◌, ◌++◌, length, map, None, refl, ap, sym, ◌∙◌}
-use Rattle.std.proofs.Common.{subst, arith, append_assoc, append-nil, length-append}
+use Rattle.std.proofs.Common.{◌≡◌, ℕ, suc, ◌+◌, ◌<◌, ◌≤◌, ◌||◌, Bool, true, false, List, [], ◌∷◌, ◌++◌, length, map, None}
+use Rattle.std.proofs.Common.{refl, ap, sym, ◌∙◌, subst, arith, append_assoc, append-nil, length-append}
 use Rattle.std.specs.Prelude.{bytes_eq, count_by}
 use Rattle.std.specs.List.{list_any}
 use Rattle.std.proofs.lemmas.Bool.{and_parts}
 use Rattle.std.proofs.lemmas.List.{map-append}
 use Rattle.std.proofs.lemmas.List.Folds.{list_any-append}
 use Rattle.std.proofs.lemmas.List.Sums.{sum_by-append}
-use Rattle.ln_base.specs.declared.span.Span.{Span}
-use Rattle.ln_lex.specs.declared.token.Token.{Token}
-use Rattle.ln_lex.specs.declared.token.Kind.TheVariants.{Equals}
-use Rattle.ln_syntax.specs.declared.raw.RawArg.{RawArg}
-use Rattle.ln_syntax.specs.declared.raw.RawLet.{RawLet}
-use Rattle.ln_syntax.specs.declared.raw.Places.{Places}
-use Rattle.ln_syntax.specs.Raw.{span_at, text, same}
+use Rattle.ln_syntax.specs.Raw.{Span, Token, span_at, text, same, Equals}
+use Rattle.ln_names.specs.Rules.{RawArg, RawLet, Places, Scope, scope, LetName, fault_at}
 use Rattle.ln_syntax.specs.File.{Lets, no_let, a_let}
-use Rattle.ln_names.specs.Rules.{Scope, scope, LetName, fault_at}
 use Rattle.ln_names.specs.Visits.{visits_by, let_visits, value_visits, value_nodes, nodes_before}
 use Rattle.ln_names.specs.First.{Clean}
-use Rattle.ln_tree.specs.Formula.{Formula, FNum, FInput, FName, FNeg, FAdd, FSub, FMul, FPow, tree, node_count, node_counts}
+use Rattle.ln_parse.specs.Says.{Formula, FNum, FInput, FName, FNeg, FAdd, FSub, FMul, FPow, tree, node_count, node_counts, PredOf, TableOf, resolved, Says}
+use Rattle.ln_parse.specs.Says.{LetsSay}
 use Rattle.ln_tree.specs.Fits.{is_fit, lets_fit}
-use Rattle.ln_tree.specs.Table.{PredOf, TableOf}
 use Rattle.ln_tree.specs.Whole.{arg_name}
-use Rattle.ln_parse.specs.Says.{resolved, Says, LetsSay}
 use Rattle.ln_parse.specs.ReadsBack.{Every, Spells, LetsWritten}
 use Rattle.ln_parse.specs.Spanless.{spanless}
 use Rattle.ln_parse.specs.WholeTable.{IsShortName}

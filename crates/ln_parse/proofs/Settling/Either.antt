@@ -1,28 +1,22 @@
 -- All bytes have a table or a first fault.
 use Rattle.std.proofs.Common.{◌≡◌, ℕ, suc, ◌≤◌, ◌⊎◌, inl, inr, List, [], ◌∷◌, ◌++◌, length, Option, Some, None, refl}
 use Rattle.ln_base.specs.Limits.{most_tokens}
-use Rattle.ln_lex.specs.declared.token.Token.{Token}
-use Rattle.ln_lex.specs.declared.token.Kind.TheVariants.{Semi}
+use Rattle.ln_syntax.specs.Raw.{Token, Item, Is, item_name, Semi}
 use Rattle.ln_lex.specs.Answers as lexed
 use Rattle.ln_lex.specs.Tokens.{Lexed}
 use Rattle.ln_lex.proofs.HasAnswer.{has_answer}
-use Rattle.ln_syntax.specs.declared.raw.RawArg.{RawArg}
-use Rattle.ln_syntax.specs.declared.raw.RawLet.{RawLet}
-use Rattle.ln_syntax.specs.Raw.{Item, Is, item_name}
+use Rattle.ln_names.specs.Rules.{RawArg, RawLet, Scope, scope}
 use Rattle.ln_syntax.specs.Expression.{IsExpr}
 use Rattle.ln_syntax.specs.File.{Lets, Items, Spelt, no_let, a_let, site, param, predicate, no_item, an_item}
 use Rattle.ln_syntax.specs.Place.{IsShallow}
 use Rattle.ln_syntax.proofs.Recognising.Either.{either_depth, either_place}
 use Rattle.ln_names.specs.declared.faults.Found.{Found}
-use Rattle.ln_names.specs.Rules.{Scope, scope}
 use Rattle.ln_names.specs.Visits.{file_visits, first_fault}
 use Rattle.ln_names.proofs.FirstFault.{is_first, is_clean}
-use Rattle.ln_tree.specs.Formula.{Formula}
-use Rattle.ln_tree.specs.Table.{CoordOf, SiteOf, PredOf, TableOf}
+use Rattle.ln_parse.specs.Says.{Formula, CoordOf, SiteOf, PredOf, TableOf, Says, LetsSay, PredsSay, ItemsSay, resolved, sites_said, params_said}
 use Rattle.ln_parse.specs.declared.source.ParseStop.{ParseStop}
 use Rattle.ln_parse.specs.Fault as fault
 use Rattle.ln_parse.specs.Fault.{TextFault}
-use Rattle.ln_parse.specs.Says.{Says, LetsSay, PredsSay, ItemsSay, resolved, sites_said, params_said}
 use Rattle.ln_parse.specs.Text.{TextOf}
 use Rattle.ln_parse.proofs.Building.Predicates.{PredAt, pred_said, one_pred}
 

@@ -1,12 +1,9 @@
 -- A text has one result: one table, or one fault, and not both.
 use Rattle.std.proofs.Common.{◌≡◌, inl, inr, ℕ, List, [], ◌∷◌, ◌++◌, refl, ap, sym, ◌∙◌, subst}
 use Rattle.std.specs.Prelude.{count_by}
-use Rattle.ln_lex.specs.declared.token.Token.{Token}
+use Rattle.ln_syntax.specs.Raw.{Token, Item, SiteItem, ParamItem, PredItem, span_at}
 use Rattle.ln_lex.proofs.OneAnswer.{one_list, one_fault as one_lex_fault, one_limit, list_or_fault, list_or_limit, fault_or_limit}
-use Rattle.ln_syntax.specs.declared.raw.RawArg.{RawArg}
-use Rattle.ln_syntax.specs.declared.raw.RawLet.{RawLet}
-use Rattle.ln_syntax.specs.declared.raw.Places.{Places}
-use Rattle.ln_syntax.specs.Raw.{Item, SiteItem, ParamItem, PredItem, span_at}
+use Rattle.ln_names.specs.Rules.{RawArg, RawLet, Places, scope}
 use Rattle.ln_syntax.specs.File.{Spelt}
 use Rattle.ln_syntax.specs.Place.{IsShallow, IsNestingFault, IsSyntaxFault}
 use Rattle.ln_syntax.proofs.Recognising.Depth.{one_depth, no_depth}
@@ -14,16 +11,13 @@ use Rattle.ln_syntax.proofs.Recognising.Fault.{one_place, no_text}
 use Rattle.ln_syntax.proofs.Spellings.OneSpelling.{one_spelling}
 use Rattle.ln_syntax.proofs.Spellings.OneTree.{one_tree}
 use Rattle.ln_names.specs.declared.faults.Found.{Found}
-use Rattle.ln_names.specs.Rules.{scope}
 use Rattle.ln_names.specs.declared.faults.LimitWhat.TheVariants.{Tokens, Nesting}
 use Rattle.ln_names.specs.Visits.{file_visits}
 use Rattle.ln_names.specs.First.{FirstFault, NoFault}
 use Rattle.ln_names.proofs.FirstFault.{first_of, none_of_clean}
-use Rattle.ln_tree.specs.Formula.{Formula}
-use Rattle.ln_tree.specs.Table.{CoordOf, SiteOf, PredOf, TableOf}
+use Rattle.ln_parse.specs.Says.{Formula, CoordOf, SiteOf, PredOf, TableOf, Says, LetsSay, PredSays, PredsSay, ItemsSay, resolved, vars_behind, is_site_said}
 use Rattle.ln_parse.specs.declared.source.ParseStop.{ParseStop}
 use Rattle.ln_parse.specs.declared.source.ParseStop.TheVariants.{Lexical, Limit, Syntax}
-use Rattle.ln_parse.specs.Says.{Says, LetsSay, PredSays, PredsSay, ItemsSay, resolved, vars_behind, is_site_said}
 use Rattle.ln_parse.specs.Text.{TextOf}
 use Rattle.ln_parse.proofs.Building.Predicates.{PredAt, same_pred}
 use Rattle.ln_parse.specs.Fault.{TextFault, IsRefusal, IsWithoutTable, lexical, tokens, nesting, syntax, names, one_byte, place_of, stop_of}

@@ -2,12 +2,10 @@
 use Rattle.std.proofs.Common.{ℕ, ◌<◌, ◌^◌, Bool, true, false, pos, List, [], ◌∷◌, refl, codes, arith}
 use Rattle.std.specs.Prelude.{int_lt, slice_get}
 use Rattle.ln_lex.specs.declared.token.Kind.TheVariants.{Semi, BraceL, BraceR, ParR, Comma, Dots}
-use Rattle.ln_tree.specs.Formula.{Formula}
-use Rattle.ln_tree.specs.Table.{CoordOf, SiteOf, ArgOf, SiteArg, ParamArg, PredOf, TableOf}
+use Rattle.ln_parse.specs.Written.{Formula, CoordOf, SiteOf, ArgOf, SiteArg, ParamArg, PredOf, TableOf, Naming, naming, range_name, site_name}
 use Rattle.ln_tree.specs.Whole.{nesting}
-use Rattle.ln_parse.specs.Lexemes.{Lexeme, gap, line, word, signed, minus_if, number, each}
-use Rattle.ln_parse.specs.Written.{Naming, naming, range_name, site_name}
-use Rattle.ln_parse.specs.Canonical.{ranged, coord, site, param, arg, args, lets, root, pred, lexemes, canonical}
+use Rattle.ln_parse.specs.Canonical.{Lexeme, gap, line, word, signed, minus_if, number, each, ranged, coord, site, param, arg, args, lets, root, pred, lexemes}
+use Rattle.ln_parse.specs.Canonical.{canonical}
 use Rattle.ln_parse.specs.ReadsBack.{Every, CoordNamed, SiteNamed, ArgNamed, LetsNamed, PredNamed, TableNamed, ReadsBack}
 use Rattle.ln_parse.proofs.Texts.WordTokens.{number_kind, name_kind}
 use Rattle.ln_parse.proofs.Texts.LexBack.{Clear, toks, lexed}

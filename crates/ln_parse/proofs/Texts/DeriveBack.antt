@@ -1,19 +1,15 @@
 -- The tokens of an expression that is written canonically derive it.
-use Rattle.std.proofs.Common.{◌≡◌, ℕ, suc, ◌+◌, ◌-◌, ◌≤◌, Bool, true, false, cond, List, [], ◌∷◌, length, take, drop, refl}
-use Rattle.std.proofs.Common.{ap, sym, ◌∙◌, arith, length-drop, codes}
+use Rattle.std.proofs.Common.{◌≡◌, ℕ, suc, ◌+◌, ◌-◌, ◌≤◌, Bool, true, false, cond, List, [], ◌∷◌, length, take, drop, refl, ap, sym}
+use Rattle.std.proofs.Common.{◌∙◌, arith, length-drop, codes}
 use Rattle.std.proofs.Math.Seq.{take-append_seam}
-use Rattle.ln_lex.specs.declared.token.Kind.TheVariants.{Number, ParL, ParR, Plus, Minus, Star, Caret}
-use Rattle.ln_lex.specs.declared.token.Token.{Token}
+use Rattle.ln_syntax.specs.Raw.{Number, ParL, ParR, Plus, Minus, Star, Caret, Token, Is, span_at, text}
 use Rattle.ln_parse.specs.declared.printer.Room.{Room}
 use Rattle.ln_parse.specs.declared.printer.Room.TheVariants.{OfSum, OfProduct, OfUnary, OfAtom}
 use Rattle.ln_parse.specs.Written.{Written, WNum, WName, WInput, WNeg, WAdd, WSub, WMul, WPow, spelling, IsNamed}
-use Rattle.ln_syntax.specs.Raw.{Is, span_at, text}
-use Rattle.ln_syntax.specs.Expression.{Tree, TNum, TName, TInput, TNeg, TAdd, TSub, TMul, TPow, Sort, Atom, Power, Unary, Term, Sum}
-use Rattle.ln_syntax.specs.Expression.{Factors, Terms, Derives, number, name, input, parens, plain, power, base, minus, term, no_factor}
-use Rattle.ln_syntax.specs.Expression.{times, sum, no_term, plus, less}
+use Rattle.ln_syntax.specs.Expression.{Tree, TNum, TName, TInput, TNeg, TAdd, TSub, TMul, TPow, Sort, Atom, Power, Unary, Term, Sum, Factors, Terms, Derives}
+use Rattle.ln_syntax.specs.Expression.{number, name, input, parens, plain, power, base, minus, term, no_factor, times, sum, no_term, plus, less}
 use Rattle.ln_syntax.proofs.Recognising.Builds.{from}
-use Rattle.ln_parse.specs.Lexemes.{Lexeme, gap, line, word, text_of}
-use Rattle.ln_parse.specs.Canonical.{fits, wrap, inside, whole}
+use Rattle.ln_parse.specs.Canonical.{Lexeme, gap, line, word, text_of, fits, wrap, inside, whole}
 use Rattle.std.specs.Fmt.{decimal}
 use Rattle.ln_base.specs.Decimal.{decimal_value}
 use Rattle.ln_base.proofs.DecimalLemmas.{value_of_text}
@@ -45,13 +41,23 @@ sits bytes ts (word k t ∷ xs) i at e f h =
     ∙ take-append_seam t (text_of xs) in
     (r.first, p, sits bytes ts xs (suc i) (at + length t) (drop_word bytes t (text_of xs) at e) r.rest (omega (arith, r.more)))
 
+-- a part of a text that is read back, before other lexemes: where it ends, what it is read as, that its tokens are this, and what this says
+pub record Back (bytes : List ℕ) (ts : List Token) (A : Type 0) (Reads : ℕ → ℕ → A → Type 0) (Says : A → Type 0) (i : ℕ)
+    (rest : List Lexeme) : Type 0 where
+  pub to : ℕ
+  pub raw : A
+  pub derives : Reads i to raw
+  pub says : Says raw
+  pub after : Sits bytes ts to rest
+
+-- the part with these
+pub back : {bytes : List ℕ} {ts : List Token} {A : Type 0} {Reads : ℕ → ℕ → A → Type 0} {Says : A → Type 0} {i : ℕ} {rest : List Lexeme}
+    (k : ℕ) (x : A) → Reads i k x → Says x → Sits bytes ts k rest → Back bytes ts A Reads Says i rest
+back k x d s a = record { to = k; raw = x; derives = d; says = s; after = a }
+
 -- a tree is spelt before other lexemes
-pub record Derived (bytes : List ℕ) (ts : List Token) (s : Sort) (i : ℕ) (t : Written) (rest : List Lexeme) : Type 0 where
-  pub end : ℕ
-  pub tree : Tree
-  pub derives : Derives ts s i end tree
-  pub same : spelling bytes tree ≡ t
-  pub after : Sits bytes ts end rest
+abbrev pub Derived : List ℕ → List Token → Sort → ℕ → Written → List Lexeme → Type 0
+Derived bytes ts s i t rest = Back bytes ts Tree (Derives ts s) (λ e. spelling bytes e ≡ t) i rest
 
 abbrev sort_of : Room → Sort
 sort_of OfSum = Sum
@@ -140,92 +146,45 @@ term_times : {ts : List Token} {i j k : ℕ} {e g : Tree} → Derives ts Term i 
     → Derives ts Term i k (TMul (span_at ts j) e g)
 term_times (term x y) is d = term x (factors_times y is d)
 
-wrap_by : (bytes : List ℕ) (ts : List Token) (w : Room) (t : Written) (v : Bool) → fits w t ≡ v
-    → ((i : ℕ) (rest : List Lexeme) → Sits bytes ts i (inside t rest) → Derived bytes ts (own t) i t rest)
-    → (i : ℕ) (rest : List Lexeme) → Sits bytes ts i (cond v (inside t rest) (word ParL (codes "(") ∷ inside t (word ParR (codes ")") ∷ rest)))
-    → Derived bytes ts (sort_of w) i t rest
-wrap_by bytes ts w t true e f i rest h =
-    let d = f i rest h in
-    record { end = d.end; tree = d.tree; derives = lift w t e d.derives; same = d.same; after = d.after }
-wrap_by bytes ts w t false e f i rest h =
-    let d = f (suc i) (word ParR (codes ")") ∷ rest) h.2 in
-    record {
-      end = suc d.end;
-      tree = d.tree;
-      derives = atom_up w (parens h.0 (lift OfSum t (any_fits t) d.derives) d.after.0);
-      same = d.same;
-      after = d.after.2;
-    }
+module _ (bytes : List ℕ) (ts : List Token) where
+  wrap_by : (w : Room) (t : Written) (v : Bool) → fits w t ≡ v
+      → ((i : ℕ) (rest : List Lexeme) → Sits bytes ts i (inside t rest) → Derived bytes ts (own t) i t rest)
+      → (i : ℕ) (rest : List Lexeme) → Sits bytes ts i (cond v (inside t rest) (word ParL (codes "(") ∷ inside t (word ParR (codes ")") ∷ rest)))
+      → Derived bytes ts (sort_of w) i t rest
+  wrap_by w t true e f i rest h = let d = f i rest h in back d.to d.raw (lift w t e d.derives) d.says d.after
+  wrap_by w t false e f i rest h =
+      let d = f (suc i) (word ParR (codes ")") ∷ rest) h.2 in
+      back (suc d.to) d.raw (atom_up w (parens h.0 (lift OfSum t (any_fits t) d.derives) d.after.0)) d.says d.after.2
 
-derived : (bytes : List ℕ) (ts : List Token) (t : Written) → IsNamed t → (i : ℕ) (rest : List Lexeme) → Sits bytes ts i (inside t rest)
-    → Derived bytes ts (own t) i t rest
-derived bytes ts (WNum t) n i rest h = record {
-  end = suc i;
-  tree = TNum (span_at ts i);
-  derives = number h.0;
-  same = ap (λ (w : List ℕ). WNum (decimal_value w)) h.1 ∙ ap (λ (w : ℕ). WNum w) (value_of_text t n);
-  after = h.2;
-}
-derived bytes ts (WName t) m i rest h =
-    record { end = suc i; tree = TName (span_at ts i); derives = name h.0; same = ap (λ (w : List ℕ). WName w) h.1; after = h.2 }
-derived bytes ts (WInput t x) m i rest h =
-    let q = h.2.2 in
-    record {
-      end = suc (suc (suc i));
-      tree = TInput (span_at ts i) (span_at ts (suc (suc i)));
-      derives = input h.0 h.2.0 q.0;
-      same = rw (h.1, q.1) refl;
-      after = q.2;
-    }
-derived bytes ts (WNeg a) m i rest h =
-    let d = wrap_by bytes ts OfUnary a (fits OfUnary a) refl (λ j r g. derived bytes ts a m j r g) (suc i) rest h.2 in
-    record { end = d.end; tree = TNeg (span_at ts i) d.tree; derives = minus h.0 d.derives; same = ap (λ (w : Written). WNeg w) d.same; after = d.after }
-derived bytes ts (WAdd a b) m i rest h =
-    let l = wrap_by bytes ts OfSum a (fits OfSum a) refl (λ j r g. derived bytes ts a m.0 j r g) i
-    (gap ∷ word Plus (codes "+") ∷ gap ∷ wrap OfProduct b (inside b) rest) h in
-    let r = wrap_by bytes ts OfProduct b (fits OfProduct b) refl (λ j r g. derived bytes ts b m.1 j r g) (suc l.end) rest l.after.2 in
-    record {
-      end = r.end;
-      tree = TAdd (span_at ts l.end) l.tree r.tree;
-      derives = sum_plus l.derives l.after.0 r.derives;
-      same = rw (l.same, r.same) refl;
-      after = r.after;
-    }
-derived bytes ts (WSub a b) m i rest h =
-    let l = wrap_by bytes ts OfSum a (fits OfSum a) refl (λ j r g. derived bytes ts a m.0 j r g) i
-    (gap ∷ word Minus (codes "-") ∷ gap ∷ wrap OfProduct b (inside b) rest) h in
-    let r = wrap_by bytes ts OfProduct b (fits OfProduct b) refl (λ j r g. derived bytes ts b m.1 j r g) (suc l.end) rest l.after.2 in
-    record {
-      end = r.end;
-      tree = TSub (span_at ts l.end) l.tree r.tree;
-      derives = sum_less l.derives l.after.0 r.derives;
-      same = rw (l.same, r.same) refl;
-      after = r.after;
-    }
-derived bytes ts (WMul a b) m i rest h =
-    let l = wrap_by bytes ts OfProduct a (fits OfProduct a) refl (λ j r g. derived bytes ts a m.0 j r g) i
-    (word Star (codes "*") ∷ wrap OfUnary b (inside b) rest) h in
-    let r = wrap_by bytes ts OfUnary b (fits OfUnary b) refl (λ j r g. derived bytes ts b m.1 j r g) (suc l.end) rest l.after.2 in
-    record {
-      end = r.end;
-      tree = TMul (span_at ts l.end) l.tree r.tree;
-      derives = term_times l.derives l.after.0 r.derives;
-      same = rw (l.same, r.same) refl;
-      after = r.after;
-    }
-derived bytes ts (WPow a n) m i rest h =
-    let l = wrap_by bytes ts OfAtom a (fits OfAtom a) refl (λ j r g. derived bytes ts a m.0 j r g) i
-    (word Caret (codes "^") ∷ word Number (decimal n) ∷ rest) h in
-    let q = l.after.2 in
-    record {
-      end = suc (suc l.end);
-      tree = TPow (span_at ts l.end) l.tree (span_at ts (suc l.end));
-      derives = power l.derives l.after.0 q.0;
-      same = rw (l.same, q.1, value_of_text n m.1) refl;
-      after = q.2;
-    }
+  derived : (t : Written) → IsNamed t → (i : ℕ) (rest : List Lexeme) → Sits bytes ts i (inside t rest) → Derived bytes ts (own t) i t rest
+  derived (WNum t) n i rest h =
+      back (suc i) (TNum (span_at ts i)) (number h.0)
+      (ap (λ (w : List ℕ). WNum (decimal_value w)) h.1 ∙ ap (λ (w : ℕ). WNum w) (value_of_text t n)) h.2
+  derived (WName t) m i rest h = back (suc i) (TName (span_at ts i)) (name h.0) (ap (λ (w : List ℕ). WName w) h.1) h.2
+  derived (WInput t x) m i rest h =
+      let q = h.2.2 in
+      back (suc (suc (suc i))) (TInput (span_at ts i) (span_at ts (suc (suc i)))) (input h.0 h.2.0 q.0) (rw (h.1, q.1) refl) q.2
+  derived (WNeg a) m i rest h =
+      let d = wrap_by OfUnary a (fits OfUnary a) refl (derived a m) (suc i) rest h.2 in
+      back d.to (TNeg (span_at ts i) d.raw) (minus h.0 d.derives) (ap (λ (w : Written). WNeg w) d.says) d.after
+  derived (WAdd a b) m i rest h =
+      let l = wrap_by OfSum a (fits OfSum a) refl (derived a m.0) i (gap ∷ word Plus (codes "+") ∷ gap ∷ wrap OfProduct b (inside b) rest) h in
+      let r = wrap_by OfProduct b (fits OfProduct b) refl (derived b m.1) (suc l.to) rest l.after.2 in
+      back r.to (TAdd (span_at ts l.to) l.raw r.raw) (sum_plus l.derives l.after.0 r.derives) (rw (l.says, r.says) refl) r.after
+  derived (WSub a b) m i rest h =
+      let l = wrap_by OfSum a (fits OfSum a) refl (derived a m.0) i (gap ∷ word Minus (codes "-") ∷ gap ∷ wrap OfProduct b (inside b) rest) h in
+      let r = wrap_by OfProduct b (fits OfProduct b) refl (derived b m.1) (suc l.to) rest l.after.2 in
+      back r.to (TSub (span_at ts l.to) l.raw r.raw) (sum_less l.derives l.after.0 r.derives) (rw (l.says, r.says) refl) r.after
+  derived (WMul a b) m i rest h =
+      let l = wrap_by OfProduct a (fits OfProduct a) refl (derived a m.0) i (word Star (codes "*") ∷ wrap OfUnary b (inside b) rest) h in
+      let r = wrap_by OfUnary b (fits OfUnary b) refl (derived b m.1) (suc l.to) rest l.after.2 in
+      back r.to (TMul (span_at ts l.to) l.raw r.raw) (term_times l.derives l.after.0 r.derives) (rw (l.says, r.says) refl) r.after
+  derived (WPow a n) m i rest h =
+      let l = wrap_by OfAtom a (fits OfAtom a) refl (derived a m.0) i (word Caret (codes "^") ∷ word Number (decimal n) ∷ rest) h in
+      let q = l.after.2 in
+      back (suc (suc l.to)) (TPow (span_at ts l.to) l.raw (span_at ts (suc l.to))) (power l.derives l.after.0 q.0)
+      (rw (l.says, q.1, value_of_text n m.1) refl) q.2
 
--- a whole expression is derived
-pub whole_back : (bytes : List ℕ) (ts : List Token) (e : Written) → IsNamed e → (i : ℕ) (rest : List Lexeme)
-    → Sits bytes ts i (whole e rest) → Derived bytes ts Sum i e rest
-whole_back bytes ts e n i rest h = wrap_by bytes ts OfSum e (fits OfSum e) refl (λ j r g. derived bytes ts e n j r g) i rest h
+  -- a whole expression is derived
+  pub whole_back : (e : Written) → IsNamed e → (i : ℕ) (rest : List Lexeme) → Sits bytes ts i (whole e rest) → Derived bytes ts Sum i e rest
+  whole_back e n i rest h = wrap_by OfSum e (fits OfSum e) refl (derived e n) i rest h

@@ -1,14 +1,11 @@
 -- The text of a NAME is a name.
-use Rattle.std.proofs.Common.{◌≡◌, ℕ, zero, suc, ◌==◌, ◌&&◌, ◌||◌, not, Bool, true, false, cond, List, [], ◌∷◌, Option, Some, None, refl}
-use Rattle.std.proofs.Common.{ap, sym, ◌∙◌, true≢false}
+use Rattle.std.proofs.Common.{◌≡◌, ℕ, zero, suc, ◌==◌, ◌&&◌, ◌||◌, not, Bool, true, false, cond, List, [], ◌∷◌, Option, Some, None}
+use Rattle.std.proofs.Common.{refl, ap, sym, ◌∙◌, true≢false}
 use Rattle.std.specs.Prelude.{codes, bytes_eq}
 use Rattle.ln_base.specs.Words.{is_digit, is_letter, is_name_byte, every, is_keyword, is_name}
-use Rattle.ln_lex.specs.declared.token.Token.{Token}
-use Rattle.ln_lex.specs.declared.token.Kind.{Kind}
-use Rattle.ln_lex.specs.declared.token.Kind.TheVariants.{Name, Number, Site, Param, Predicate, Let, Sign, BraceL, BraceR, ParL, ParR, Colon}
-use Rattle.ln_lex.specs.declared.token.Kind.TheVariants.{Semi, Comma, Dot, Dots, Plus, Minus, Star, Caret, Equals}
+use Rattle.ln_syntax.specs.Raw.{Token, Is, span_at, text, Kind, Name, Number, Site, Param, Predicate, Let, Sign, BraceL, BraceR, ParL, ParR, Colon, Semi, Comma}
+use Rattle.ln_syntax.specs.Raw.{Dot, Dots, Plus, Minus, Star, Caret, Equals}
 use Rattle.ln_lex.specs.Tokens.{kind_of, word_kind, sign_kind, sign_of}
-use Rattle.ln_syntax.specs.Raw.{Is, span_at, text}
 
 -- is it the kind of a NAME?
 abbrev is_named : Option Kind → Bool

@@ -1,23 +1,19 @@
 -- The parentheses and the tokens of a canonical text.
-use Rattle.std.proofs.Common.{◌≡◌, ℕ, zero, suc, ◌+◌, ◌-◌, ◌*◌, ◌<◌, ◌≤◌, Bool, true, false, cond, List, [], ◌∷◌, length, take, Option}
-use Rattle.std.proofs.Common.{Some, None, refl, ap, sym, ◌∙◌, subst, arith, codes, ◌++◌, ◌==◌}
+use Rattle.std.proofs.Common.{◌≡◌, ℕ, zero, suc, ◌+◌, ◌-◌, ◌*◌, ◌<◌, ◌≤◌, Bool, true, false, cond, List, [], ◌∷◌, length}
+use Rattle.std.proofs.Common.{take, Option, Some, None, refl, ap, sym, ◌∙◌, subst, arith, codes, ◌++◌, ◌==◌}
 use Rattle.std.specs.Fmt.{decimal}
 use Rattle.std.specs.Prelude.{nat_le, slice_get, unwrap_or, unsigned_abs}
 use Rattle.std.proofs.lemmas.Bool.{le-leb, and_parts}
 use Rattle.std.proofs.lemmas.Bool.Decides.{nat_tests}
 use Rattle.ln_base.specs.Words.{is_name, is_letter}
-use Rattle.ln_lex.specs.declared.token.Kind.{Kind}
-use Rattle.ln_lex.specs.declared.token.Kind.TheVariants.{ParL, ParR, Plus, Minus, Star, Caret, Number}
-use Rattle.ln_syntax.specs.Raw.{Is}
+use Rattle.ln_syntax.specs.Raw.{Kind, ParL, ParR, Plus, Minus, Star, Caret, Number, Is}
 use Rattle.ln_syntax.specs.Place.{depth_behind, depth_after, IsShallow}
-use Rattle.ln_tree.specs.Formula.{Formula, FNum, FInput, FName, FNeg, FAdd, FSub, FMul, FPow}
-use Rattle.ln_tree.specs.Table.{ArgOf, SiteArg, ParamArg}
+use Rattle.ln_parse.specs.Written.{Formula, FNum, FInput, FName, FNeg, FAdd, FSub, FMul, FPow, ArgOf, SiteArg, ParamArg, Naming, written, input, coord_name}
+use Rattle.ln_parse.specs.Written.{range_name, IsNamed}
 use Rattle.ln_tree.specs.Whole.{tightness, pairs, nesting, input_tokens, tokens_of}
 use Rattle.ln_parse.specs.declared.printer.Room.{Room}
 use Rattle.ln_parse.specs.declared.printer.Room.TheVariants.{OfSum, OfProduct, OfUnary, OfAtom}
-use Rattle.ln_parse.specs.Lexemes.{Lexeme, gap, line, word, text_of}
-use Rattle.ln_parse.specs.Written.{Naming, written, input, coord_name, range_name, IsNamed}
-use Rattle.ln_parse.specs.Canonical.{fits, wrap, inside}
+use Rattle.ln_parse.specs.Canonical.{Lexeme, gap, line, word, text_of, fits, wrap, inside}
 use Rattle.ln_parse.proofs.Texts.WordTokens.{number_kind, name_kind}
 use Rattle.ln_parse.proofs.Texts.LexBack.{toks, soft, undotted, Goes, Clear}
 

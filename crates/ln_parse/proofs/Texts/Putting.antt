@@ -1,6 +1,6 @@
 -- Proves that what the printer appends is the text of the lexemes of names, numbers, operators, elements and lets.
-use Rattle.std.proofs.Common.{drop, map, length, get_or, ◌<◌, ◌+◌, ◌≡◌, ℕ, Bool, true, false, List, [], ◌∷◌, ◌++◌, refl, ap, sym, ◌∙◌}
-use Rattle.std.proofs.Common.{append_assoc, subst, decimal, Some, None, ◌⊎◌, inl, inr, arith}
+use Rattle.std.proofs.Common.{drop, map, length, get_or, ◌<◌, ◌+◌, ◌≡◌, ℕ, Bool, true, false, List, [], ◌∷◌, ◌++◌, refl, ap, sym}
+use Rattle.std.proofs.Common.{◌∙◌, append_assoc, subst, decimal, Some, None, ◌⊎◌, inl, inr, arith}
 use Rattle.std.specs.Prelude.{◌==◌, if◌then◌else◌, slice_get, option_map}
 use Rattle.std.proofs.lemmas.Bool.{eqb-true}
 use Rattle.std.proofs.lemmas.Option.{slice_get-map}
@@ -11,12 +11,11 @@ use Rattle.ln_tree.specs.declared.expr.Expr.{Expr}
 use Rattle.ln_tree.specs.declared.expr.Node.{Node}
 use Rattle.ln_tree.specs.declared.name.Name.{Name}
 use Rattle.ln_tree.specs.Names.{name_bytes}
-use Rattle.ln_tree.specs.Formula.{Formula, FAdd, FSub, FMul, formula, node_formula}
+use Rattle.ln_parse.specs.Written.{Formula, FAdd, FSub, FMul, formula, node_formula, Written, Naming, written}
 use Rattle.ln_parse.proofs.Building.Lists.{drop_item}
 use Rattle.ln_parse.specs.declared.printer.Room.{Room}
-use Rattle.ln_parse.specs.Lexemes.{Lexeme, gap, line, text_of, token, lexemes_in, each, name, number, opening, closing}
-use Rattle.ln_parse.specs.Written.{Written, Naming, written}
-use Rattle.ln_parse.specs.Canonical.{fits, wrap, inside, between, left_room, right_room, lets}
+use Rattle.ln_parse.specs.Canonical.{Lexeme, gap, line, text_of, token, lexemes_in, each, name, number, opening, closing, fits, wrap, inside, between}
+use Rattle.ln_parse.specs.Canonical.{left_room, right_room, lets}
 
 -- a token is written as its text
 token_text : (w : List ℕ) (rest : List Lexeme) → text_of (token w rest) ≡ w ++ text_of rest

@@ -3,22 +3,14 @@ use Rattle.std.proofs.Common.{◌≡◌, ℕ, suc, ◌+◌, ◌-◌, ◌≤◌, 
 use Rattle.std.specs.Prelude.{slice_get, position, max}
 use Rattle.std.proofs.lemmas.Bool.{and_parts}
 use Rattle.std.proofs.lemmas.Bool.Decides.{nat_tests}
-use Rattle.ln_base.specs.declared.span.Span.{Span}
-use Rattle.ln_lex.specs.declared.token.Token.{Token}
-use Rattle.ln_lex.specs.declared.token.Kind.{Kind}
-use Rattle.ln_lex.specs.declared.token.Kind.TheVariants.{Name, Number, ParL, ParR, Dot, Plus, Minus, Star, Caret}
-use Rattle.ln_syntax.specs.declared.raw.RawArg.{RawArg}
-use Rattle.ln_syntax.specs.declared.raw.RawLet.{RawLet}
-use Rattle.ln_syntax.specs.Raw.{Item, Is, span_at, same}
+use Rattle.ln_syntax.specs.Raw.{Span, Token, Item, Is, span_at, same, Kind, Name, Number, ParL, ParR, Dot, Plus, Minus, Star, Caret}
+use Rattle.ln_names.specs.Rules.{RawArg, RawLet, Scope, scope, has_let, has_param_arg, is_site_arg, is_param_arg}
 use Rattle.ln_syntax.specs.Place.{depth_behind, depth_after, IsShallow}
-use Rattle.ln_syntax.specs.Expression.{Tree, Sort, Atom, Term, Sum, Factors, Terms, Derives, number, name, input, parens}
-use Rattle.ln_syntax.specs.Expression.{plain, power, base, minus, term, no_factor, times, sum, no_term, plus, less}
+use Rattle.ln_syntax.specs.Expression.{Tree, Sort, Atom, Term, Sum, Factors, Terms, Derives, number, name, input, parens, plain, power, base, minus, term}
+use Rattle.ln_syntax.specs.Expression.{no_factor, times, sum, no_term, plus, less}
 use Rattle.ln_syntax.proofs.Recognising.Depth.{depth_taken}
-use Rattle.ln_names.specs.Rules.{Scope, scope, has_let, has_param_arg, is_site_arg, is_param_arg}
-use Rattle.ln_tree.specs.Formula.{Formula}
-use Rattle.ln_tree.specs.Table.{ArgOf, SiteArg, ParamArg}
+use Rattle.ln_parse.specs.Says.{Formula, ArgOf, SiteArg, ParamArg, place, name_of, resolved}
 use Rattle.ln_tree.specs.Whole.{tightness, pairs, nesting, input_tokens, tokens_of}
-use Rattle.ln_parse.specs.Says.{place, name_of, resolved}
 use Rattle.ln_parse.specs.Ready.{Fit}
 use Rattle.ln_parse.proofs.Expressions.Found.{found_at, no_position}
 use Rattle.ln_parse.proofs.Expressions.Fitting.{said, said_at, said_param}

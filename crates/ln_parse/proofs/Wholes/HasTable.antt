@@ -3,15 +3,13 @@ use Rattle.std.proofs.Common.{◌≡◌, ℕ, suc, ◌+◌, ◌≤◌, ◌<◌, 
 use Rattle.std.specs.List.{list_all}
 use Rattle.std.proofs.lemmas.Bool.{and_parts, ltb-true}
 use Rattle.ln_tree.specs.declared.shape.VarInfo.{VarInfo}
-use Rattle.ln_tree.specs.Formula.{Formula, tree}
+use Rattle.ln_parse.specs.Written.{Formula, tree, CoordOf, SiteOf, ArgOf, SiteArg, ParamArg, PredOf, TableOf, Naming, naming}
 use Rattle.ln_tree.specs.Fits.{is_fit, lets_fit}
-use Rattle.ln_tree.specs.Table.{CoordOf, SiteOf, ArgOf, SiteArg, ParamArg, PredOf, TableOf}
 use Rattle.ln_tree.specs.Whole.{vars_behind, is_one_of, nesting}
 use Rattle.ln_parse.specs.Canonical.{canonical, lexemes}
 use Rattle.ln_parse.specs.ReadsBack.{Every, CoordNamed, SiteNamed, ArgNamed, LetsNamed, PredNamed, TableNamed}
 use Rattle.ln_parse.specs.Spanless.{IsTextUpToSpans}
 use Rattle.ln_parse.specs.WholeTable.{IsShortName, SiteNames, ArgNames, PredKept, IsWhole}
-use Rattle.ln_parse.specs.Written.{Naming, naming}
 use Rattle.ln_parse.proofs.Texts.ItemsBack.{like_sites, like_params}
 use Rattle.ln_parse.proofs.Texts.ClearText.{PredDeep, table_clear, table_back}
 use Rattle.ln_parse.proofs.ReadBack.FileClean.{file_done}

@@ -2,12 +2,10 @@
 use Rattle.std.proofs.Common.{◌≡◌, ℕ, suc, ◌+◌, ◌*◌, ◌<◌, Bool, true, false, List, [], ◌∷◌, length, refl, arith, codes}
 use Rattle.std.specs.Prelude.{ℤ, pos, int_lt, unsigned_abs}
 use Rattle.ln_lex.specs.declared.token.Kind.TheVariants.{ParR, BraceL, BraceR, Semi, Dots}
-use Rattle.ln_tree.specs.Formula.{Formula}
-use Rattle.ln_tree.specs.Table.{CoordOf, SiteOf, ArgOf, SiteArg, ParamArg, PredOf, TableOf}
+use Rattle.ln_parse.specs.Written.{Formula, CoordOf, SiteOf, ArgOf, SiteArg, ParamArg, PredOf, TableOf, Naming, naming}
 use Rattle.ln_tree.specs.Whole.{tokens_of, total, end_tokens, range_tokens, site_tokens, param_tokens, pred_tokens, text_tokens}
-use Rattle.ln_parse.specs.Lexemes.{Lexeme, gap, line, word, signed, minus_if, number, each}
-use Rattle.ln_parse.specs.Written.{Naming, naming}
-use Rattle.ln_parse.specs.Canonical.{ranged, coord, site, param, arg, further, args, lets, root, pred, lexemes}
+use Rattle.ln_parse.specs.Canonical.{Lexeme, gap, line, word, signed, minus_if, number, each, ranged, coord, site, param, arg, further, args, lets, root, pred}
+use Rattle.ln_parse.specs.Canonical.{lexemes}
 use Rattle.ln_parse.specs.ReadsBack.{Every}
 use Rattle.ln_parse.specs.WholeTable.{PredKept}
 use Rattle.ln_parse.proofs.Texts.Nested.{words, whole_words}

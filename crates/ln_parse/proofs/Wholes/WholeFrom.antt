@@ -1,6 +1,6 @@
 -- The table of a file without a fault is whole.
-use Rattle.std.proofs.Common.{◌≡◌, ℕ, zero, suc, ◌+◌, ◌*◌, ◌<◌, ◌≤◌, ◌==◌, ◌&&◌, ◌||◌, Bool, true, false, nat_lt, List, [], ◌∷◌, ◌++◌}
-use Rattle.std.proofs.Common.{length, map, Option, Some, None, refl, ap, sym, ◌∙◌, subst, arith, append_assoc, append-nil}
+use Rattle.std.proofs.Common.{◌≡◌, ℕ, zero, suc, ◌+◌, ◌*◌, ◌<◌, ◌≤◌, ◌==◌, ◌&&◌, ◌||◌, Bool, true, false, nat_lt, List}
+use Rattle.std.proofs.Common.{[], ◌∷◌, ◌++◌, length, map, Option, Some, None, refl, ap, sym, ◌∙◌, subst, arith, append_assoc, append-nil}
 use Rattle.std.specs.Prelude.{filter_map, ℤ, pos, int_lt, nat_le, slice_get, bytes_eq, count_by}
 use Rattle.std.specs.List.{list_any, list_all}
 use Rattle.std.specs.Ordering.{int_eq}
@@ -11,31 +11,21 @@ use Rattle.std.proofs.lemmas.List.{length-map, map-append}
 use Rattle.std.proofs.lemmas.List.Folds.{list_any-append}
 use Rattle.std.proofs.lemmas.Slice.Eq.{bytes_eq-Decides}
 use Rattle.ln_base.specs.Limits.{most_tokens}
-use Rattle.ln_base.specs.declared.span.Span.{Span}
-use Rattle.ln_lex.specs.declared.token.Token.{Token}
-use Rattle.ln_syntax.specs.declared.raw.RawCoord.{RawCoord}
-use Rattle.ln_syntax.specs.declared.raw.RawRange.{RawRange}
-use Rattle.ln_syntax.specs.declared.raw.RawEnd.{RawEnd}
-use Rattle.ln_syntax.specs.declared.raw.RawArg.{RawArg}
-use Rattle.ln_syntax.specs.declared.raw.RawLet.{RawLet}
-use Rattle.ln_syntax.specs.declared.raw.Places.{Places}
-use Rattle.ln_syntax.specs.Raw.{Item, SiteItem, ParamItem, PredItem, item_name, is_param, span_at, text, same}
+use Rattle.ln_syntax.specs.Raw.{Span, Token, Item, SiteItem, ParamItem, PredItem, item_name, is_param, span_at, text, same}
+use Rattle.ln_names.specs.Rules.{RawCoord, RawRange, RawEnd, RawArg, RawLet, Places, scope}
 use Rattle.ln_syntax.specs.Place.{IsShallow}
 use Rattle.ln_syntax.specs.File as file
 use Rattle.ln_syntax.specs.File.{Spelt}
 use Rattle.ln_syntax.proofs.Spellings.OneTree.{one_tree}
 use Rattle.ln_names.specs.Numbers.{number, signed, end_value}
-use Rattle.ln_names.specs.Rules.{scope}
 use Rattle.ln_names.specs.Limits.{Each, CoordWithin, IsKnown, ArgWithin, LetWithin, ItemWithin, FileWithin}
 use Rattle.ln_tree.specs.declared.shape.VarInfo.{VarInfo}
 use Rattle.ln_tree.specs.Variables.{same_site}
-use Rattle.ln_tree.specs.Formula.{Formula}
-use Rattle.ln_tree.specs.Table.{CoordOf, SiteOf, ArgOf, PredOf, TableOf}
-use Rattle.ln_tree.specs.Whole.{is_new, differ, is_range, site_whole, is_one_of, is_param_said, arg_name, range_name, same_var, same_vars}
-use Rattle.ln_tree.specs.Whole.{nesting, tokens_of, total, end_tokens, range_tokens, site_tokens, param_tokens, pred_tokens, text_tokens}
-use Rattle.ln_tree.specs.Whole.{item_names, pred_whole, vars_behind, is_whole}
-use Rattle.ln_parse.specs.Says.{place, ranged, resolved, Says, LetsSay, PredSays, PredsSay, ItemsSay, arg_said, site_names, param_names, sites_said}
-use Rattle.ln_parse.specs.Says.{params_said, is_site_said}
+use Rattle.ln_parse.specs.Says.{Formula, CoordOf, SiteOf, ArgOf, PredOf, TableOf, place, ranged, resolved, Says, LetsSay, PredSays, PredsSay, ItemsSay}
+use Rattle.ln_parse.specs.Says.{arg_said, site_names, param_names, sites_said, params_said, is_site_said}
+use Rattle.ln_tree.specs.Whole.{is_new, differ, is_range, site_whole, is_one_of, is_param_said, arg_name, range_name, same_var, same_vars, nesting, tokens_of}
+use Rattle.ln_tree.specs.Whole.{total, end_tokens, range_tokens, site_tokens, param_tokens, pred_tokens, text_tokens, item_names, pred_whole, vars_behind}
+use Rattle.ln_tree.specs.Whole.{is_whole}
 use Rattle.ln_parse.specs.Ready.{ReadyValue, ReadyLet, ReadyPred, ReadyItem, ReadySite, ReadyFile, Declares}
 use Rattle.ln_parse.proofs.Expressions.Fitting.{said, all_known}
 use Rattle.ln_parse.proofs.Expressions.Found.{found_at, sites_named, params_named, any_param, get_longer, each_weaker}

@@ -1,11 +1,9 @@
 -- Which tokens have to follow in a text that is whole: no expression has a semicolon in it, so the next one ends it.
 use Rattle.std.proofs.Common.{◌≡◌, ℕ, suc, ◌<◌, ◌≤◌, inl, inr, List, subst, arith}
 use Rattle.std.proofs.lemmas.Bool.{cases_lt}
-use Rattle.ln_lex.specs.declared.token.Token.{Token}
-use Rattle.ln_lex.specs.declared.token.Kind.TheVariants.{Semi}
-use Rattle.ln_syntax.specs.Raw.{Is}
-use Rattle.ln_syntax.specs.Expression.{Tree, Sort, Derives, number, name, input, parens, plain, power, base, minus, term, no_factor, times}
-use Rattle.ln_syntax.specs.Expression.{sum, no_term, plus, less, IsExpr}
+use Rattle.ln_syntax.specs.Raw.{Token, Is, Semi}
+use Rattle.ln_syntax.specs.Expression.{Tree, Sort, Derives, number, name, input, parens, plain, power, base, minus, term, no_factor, times, sum, no_term, plus}
+use Rattle.ln_syntax.specs.Expression.{less, IsExpr}
 
 -- from place i up to place j no token is a semicolon
 pub record NoSemi (ts : List Token) (i j : ℕ) : Type 0 where

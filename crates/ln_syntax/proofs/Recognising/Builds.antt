@@ -1,13 +1,7 @@
 -- What the automaton has read is a prefix of a derivation: what a state still wants is the function that takes it.
 use Rattle.std.proofs.Common.{◌≡◌, ℕ, zero, suc, ◌+◌, ◌<◌, List, [], ◌∷◌, length, drop, Some, None, refl, ap, sym, subst, arith}
-use Rattle.ln_lex.specs.declared.token.Token.{Token}
-use Rattle.ln_lex.specs.declared.token.Kind.{Kind}
-use Rattle.ln_lex.specs.declared.token.Kind.TheVariants.{Name, Number, Site, Param, Predicate, Let, Sign, BraceL, BraceR, ParL, ParR, Colon}
-use Rattle.ln_lex.specs.declared.token.Kind.TheVariants.{Semi, Comma, Dot, Dots, Plus, Minus, Star, Caret, Equals}
-use Rattle.ln_syntax.specs.declared.raw.RawEnd.{RawEnd}
-use Rattle.ln_syntax.specs.declared.raw.RawCoord.{RawCoord}
-use Rattle.ln_syntax.specs.declared.raw.RawArg.{RawArg}
-use Rattle.ln_syntax.specs.declared.raw.RawLet.{RawLet}
+use Rattle.ln_syntax.specs.Raw.{Token, RawEnd, RawCoord, RawArg, RawLet, Item, Is, span_at, Kind, Name, Number, Site, Param, Predicate, Let, Sign, BraceL}
+use Rattle.ln_syntax.specs.Raw.{BraceR, ParL, ParR, Colon, Semi, Comma, Dot, Dots, Plus, Minus, Star, Caret, Equals}
 use Rattle.ln_syntax.specs.declared.place.Ranged.{Ranged}
 use Rattle.ln_syntax.specs.declared.place.Ranged.TheVariants.{Coordinate, Parameter}
 use Rattle.ln_syntax.specs.declared.place.Part.{Part}
@@ -15,15 +9,13 @@ use Rattle.ln_syntax.specs.declared.place.Part.TheVariants.{Value, Root}
 use Rattle.ln_syntax.specs.declared.place.Last.{Last}
 use Rattle.ln_syntax.specs.declared.place.Last.TheVariants.{Named, Whole, Raised}
 use Rattle.ln_syntax.specs.declared.place.State.{State}
-use Rattle.ln_syntax.specs.declared.place.State.TheVariants.{AnItem, SiteName, SiteOpen, CoordName, CoordColon, CoordOrEnd, ParamName}
-use Rattle.ln_syntax.specs.declared.place.State.TheVariants.{ParamColon, Low, LowNumber, Between, High, HighNumber, RangeEnd, PredicateName}
-use Rattle.ln_syntax.specs.declared.place.State.TheVariants.{PredicateOpen, ArgName, ArgColon, ArgKind, ArgEnd, BodyOpen, Body, LetName}
-use Rattle.ln_syntax.specs.declared.place.State.TheVariants.{LetEquals, Operand, InputName, Exponent, After, BodyEnd}
-use Rattle.ln_syntax.specs.Raw.{Item, Is, span_at}
-use Rattle.ln_syntax.specs.Expression.{Tree, TAdd, TSub, TMul, Sort, Atom, Power, Unary, Sum, Factors, Terms, Derives, number, name, input}
-use Rattle.ln_syntax.specs.Expression.{parens, plain, power, base, minus, term, no_factor, times, sum, no_term, plus, less}
-use Rattle.ln_syntax.specs.File.{End, range, Coords, no_coord, coord, Arg, site_arg, param_arg, Args, last_arg, more_args, Lets, no_let}
-use Rattle.ln_syntax.specs.File.{a_let, site, param, predicate, Items, no_item, an_item}
+use Rattle.ln_syntax.specs.declared.place.State.TheVariants.{AnItem, SiteName, SiteOpen, CoordName, CoordColon, CoordOrEnd, ParamName, ParamColon, Low}
+use Rattle.ln_syntax.specs.declared.place.State.TheVariants.{LowNumber, Between, High, HighNumber, RangeEnd, PredicateName, PredicateOpen, ArgName, ArgColon}
+use Rattle.ln_syntax.specs.declared.place.State.TheVariants.{ArgKind, ArgEnd, BodyOpen, Body, LetName, LetEquals, Operand, InputName, Exponent, After, BodyEnd}
+use Rattle.ln_syntax.specs.Expression.{Tree, TAdd, TSub, TMul, Sort, Atom, Power, Unary, Sum, Factors, Terms, Derives, number, name, input, parens, plain}
+use Rattle.ln_syntax.specs.Expression.{power, base, minus, term, no_factor, times, sum, no_term, plus, less}
+use Rattle.ln_syntax.specs.File.{End, range, Coords, no_coord, coord, Arg, site_arg, param_arg, Args, last_arg, more_args, Lets, no_let, a_let, site, param}
+use Rattle.ln_syntax.specs.File.{predicate, Items, no_item, an_item}
 use Rattle.ln_syntax.specs.File as File
 use Rattle.ln_syntax.specs.Place.{IsText}
 use Rattle.ln_syntax.specs.Automaton.{Standing, next_of, behind, next_at, goes, start}

@@ -1,10 +1,7 @@
 -- How deep parentheses are nested at the tokens that were read.
 use Rattle.std.proofs.Common.{◌≡◌, ℕ, zero, suc, ◌+◌, ◌<◌, List, [], ◌∷◌, length, take, ap, subst, arith, inl, inr}
 use Rattle.std.proofs.lemmas.Bool.{cases_lt}
-use Rattle.ln_lex.specs.declared.token.Token.{Token}
-use Rattle.ln_lex.specs.declared.token.Kind.{Kind}
-use Rattle.ln_lex.specs.declared.token.Kind.TheVariants.{ParL}
-use Rattle.ln_syntax.specs.Raw.{Is}
+use Rattle.ln_syntax.specs.Raw.{Token, Is, Kind, ParL}
 use Rattle.ln_syntax.specs.Place.{depth_behind, depth_after, IsShallow, IsNestingFault}
 
 -- the depth after one more token

@@ -1,13 +1,10 @@
 -- Tokens have a fault of nesting or none, and of syntax.
-use Rattle.std.proofs.Common.{◌≡◌, ℕ, zero, suc, ◌+◌, ◌<◌, ◌≤◌, ◌⊎◌, inl, inr, Bool, true, false, List, [], ◌∷◌, length, take, Option, Some}
-use Rattle.std.proofs.Common.{None, refl, arith, subst}
+use Rattle.std.proofs.Common.{◌≡◌, ℕ, zero, suc, ◌+◌, ◌<◌, ◌≤◌, ◌⊎◌, inl, inr, Bool, true, false, List, [], ◌∷◌, length, take}
+use Rattle.std.proofs.Common.{Option, Some, None, refl, arith, subst}
 use Rattle.std.proofs.lemmas.Bool.{cases_lt}
-use Rattle.ln_lex.specs.declared.token.Token.{Token}
-use Rattle.ln_lex.specs.declared.token.Kind.{Kind}
-use Rattle.ln_lex.specs.declared.token.Kind.TheVariants.{ParL, ParR}
+use Rattle.ln_syntax.specs.Raw.{Token, Is, Kind, ParL, ParR}
 use Rattle.ln_syntax.specs.declared.place.State.{State}
 use Rattle.ln_syntax.specs.declared.place.State.TheVariants.{AnItem}
-use Rattle.ln_syntax.specs.Raw.{Is}
 use Rattle.ln_syntax.specs.Automaton.{next_of, is_end, start, goes}
 use Rattle.ln_syntax.specs.Place.{depth_behind, depth_after, IsShallow, IsNestingFault, IsText, IsSyntaxFault}
 use Rattle.ln_syntax.proofs.Recognising.Depth.{ShallowTo, depth_more, shallow_more, shallow_all}

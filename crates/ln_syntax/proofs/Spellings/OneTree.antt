@@ -1,12 +1,9 @@
 -- An expression before a semicolon has one end and one tree: two derivations of a sort from one place are the same, if neither goes on after its end.
 use Rattle.std.proofs.Common.{◌≡◌, ℕ, suc, ◌<◌, List, refl, ap, sym, subst, arith}
-use Rattle.ln_lex.specs.declared.token.Token.{Token}
-use Rattle.ln_lex.specs.declared.token.Kind.{Kind}
-use Rattle.ln_lex.specs.declared.token.Kind.TheVariants.{ParR, Dot, Plus, Minus, Star, Caret, Semi}
-use Rattle.ln_syntax.specs.Raw.{Is, kind_at, span_at}
+use Rattle.ln_syntax.specs.Raw.{Token, Is, kind_at, span_at, Kind, ParR, Dot, Plus, Minus, Star, Caret, Semi}
 use Rattle.ln_syntax.specs.Stops.{strength, strength_of, bar, Stops}
-use Rattle.ln_syntax.specs.Expression.{Tree, TNeg, TAdd, TSub, TMul, Sort, Atom, Power, Unary, Term, Sum, Factors, Terms, Derives, number}
-use Rattle.ln_syntax.specs.Expression.{name, input, parens, plain, power, base, minus, term, no_factor, times, sum, no_term, plus, less}
+use Rattle.ln_syntax.specs.Expression.{Tree, TNeg, TAdd, TSub, TMul, Sort, Atom, Power, Unary, Term, Sum, Factors, Terms, Derives, number, name, input, parens}
+use Rattle.ln_syntax.specs.Expression.{plain, power, base, minus, term, no_factor, times, sum, no_term, plus, less}
 
 -- the same end and the same tree
 pub record SameTree (i j : ℕ) (e f : Tree) : Type 0 where

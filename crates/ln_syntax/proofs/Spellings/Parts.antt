@@ -1,20 +1,13 @@
 -- The parts of an item, one after the other: what a part is, where it is, and where the next one begins.
-use Rattle.std.proofs.Common.{◌≡◌, true, false, ℕ, zero, suc, ◌+◌, ◌<◌, ◌≤◌, inl, inr, List, [], ◌∷◌, ◌++◌, length, refl, ap, sym, ◌∙◌}
-use Rattle.std.proofs.Common.{subst, arith, append_assoc, ◌^◌, Fits, w64}
+use Rattle.std.proofs.Common.{◌≡◌, ℕ, zero, suc, ◌+◌, ◌<◌, ◌≤◌, inl, inr, List, [], ◌∷◌, ◌++◌, length, refl, ap}
+use Rattle.std.proofs.Common.{sym, ◌∙◌, subst, arith, append_assoc, ◌^◌, Fits, w64}
+use Rattle.std.proofs.Math.Numerals.{add-one, add-two, add-three, add-four}
 use Rattle.std.proofs.lemmas.Bool.{cases_lt}
-use Rattle.ln_base.specs.declared.span.Span.{Span}
-use Rattle.ln_lex.specs.declared.token.Token.{Token}
-use Rattle.ln_lex.specs.declared.token.Kind.{Kind}
-use Rattle.ln_lex.specs.declared.token.Kind.TheVariants.{Name, Number, Site, Param, Let, Sign, BraceR, ParR, Colon, Semi, Comma, Dots, Minus}
-use Rattle.ln_syntax.specs.declared.raw.RawEnd.{RawEnd}
-use Rattle.ln_syntax.specs.declared.raw.RawRange.{RawRange}
-use Rattle.ln_syntax.specs.declared.raw.RawCoord.{RawCoord}
-use Rattle.ln_syntax.specs.declared.raw.RawArg.{RawArg}
-use Rattle.ln_syntax.specs.declared.raw.RawLet.{RawLet}
-use Rattle.ln_syntax.specs.Raw.{Item, SiteItem, ParamItem, PredItem, Is, span_at}
+use Rattle.ln_syntax.specs.Raw.{Span, Token, RawEnd, RawRange, RawCoord, RawArg, RawLet, Item, SiteItem, ParamItem, PredItem, Is, span_at, Kind, Name}
+use Rattle.ln_syntax.specs.Raw.{Site, Param, Let, Sign, BraceR, ParR, Colon, Semi, Comma, Dots}
 use Rattle.ln_syntax.specs.Expression.{IsExpr}
-use Rattle.ln_syntax.specs.File.{End, plain, minus, Range, range, Coords, no_coord, coord, Arg, site_arg, param_arg, Args, last_arg}
-use Rattle.ln_syntax.specs.File.{more_args, Lets, no_let, a_let, IsItem, site, param, predicate, Items, no_item, an_item, Spelt}
+use Rattle.ln_syntax.specs.File.{End, plain, minus, Range, range, Coords, no_coord, coord, Arg, site_arg, param_arg, Args, last_arg, more_args, Lets, no_let}
+use Rattle.ln_syntax.specs.File.{a_let, IsItem, site, param, predicate, Items, no_item, an_item, Spelt}
 use Rattle.ln_syntax.specs.Reading.{HasEnd, HasRange, HasCoords, HasArg, HasArgs, HasLets, HasExpr}
 use Rattle.ln_syntax.proofs.Recognising.Ahead.{NoSemi, no_semi, one_end}
 use Rattle.ln_syntax.proofs.Spellings.OneSpelling.{end_same, range_same, coords_same, args_same, lets_same, item_same, no_more}
@@ -74,15 +67,6 @@ high_there {ts = ts} {j = j} {k = k} (range {j = q} {b = b} l m h) d =
     let e : suc q ≡ j + 1 = omega arith in
     record { to = k; value = b; derives = subst (λ (w : ℕ). End ts w k b) e h }
 
--- so is the place after the first token of an end
-pub end_fits : {ts : List Token} {i j : ℕ} {e : RawEnd} → End ts i j e → length ts < 2 ^ 32 → Fits w64 (i + 1)
-end_fits {ts = ts} {i = i} (plain m) s = near_fits ts i 1 Number m s (omega arith)
-end_fits {ts = ts} {i = i} (minus m n) s = near_fits ts i 1 Minus m s (omega arith)
-
--- the place after the dots of a range is small
-pub low_fits : {ts : List Token} {i j k : ℕ} {a : RawEnd} {r : RawRange} → Range ts i k r → End ts i j a → length ts < 2 ^ 32 → Fits w64 (j + 1)
-low_fits {ts = ts} {j = j} (range l d h) x s = near_fits ts j 1 Dots (subst (λ (w : ℕ). Is ts w Dots) (end_same l x).place d) s (omega arith)
-
 -- the places of an argument are small
 pub arg_fits : {ts : List Token} {i : ℕ} {a : RawArg} (m : ℕ) → Arg ts i a → length ts < 2 ^ 32 → m ≤ 4 → Fits w64 (i + m)
 arg_fits {ts = ts} {i = i} m (site_arg n c k) s l = near_fits ts i m Name n s l
@@ -92,8 +76,7 @@ arg_fits {ts = ts} {i = i} m (param_arg n c k) s l = near_fits ts i m Name n s l
 pub range_read : {ts : List Token} {i j k m : ℕ} {a b : RawEnd} {r : RawRange} → Range ts i k r → End ts i j a → End ts (j + 1) m b
     → Range ts i m (record { low = a; high = b })
 range_read {ts = ts} {j = j} {m = m} {b = b} (range l d h) x y =
-    let e : j + 1 ≡ suc j = omega arith in
-    range x (subst (λ (w : ℕ). Is ts w Dots) (end_same l x).place d) (subst (λ (w : ℕ). End ts w m b) e y)
+    range x (subst (λ (w : ℕ). Is ts w Dots) (end_same l x).place d) (rw add-one at y)
 
 -- the coordinates up to place i, and what follows
 pub record CoordsRead (ts : List Token) (at i : ℕ) (cs : List RawCoord) : Type 0 where
@@ -108,16 +91,14 @@ coords_begin h = record { done = no_coord; rest = h }
 pub coord_range : {ts : List Token} {i k : ℕ} {cs : List RawCoord} → Coords ts i k cs → Is ts k BraceR → Is ts i Name → HasRange ts (i + 2)
 coord_range no_coord b n = absurd (cc)
 coord_range {ts = ts} {i = i} (coord {j = j} {r = r} p q d s t) b n =
-    let e : suc (suc i) ≡ i + 2 = omega arith in
-    record { to = j; value = r; derives = subst (λ (w : ℕ). Range ts w j r) e d }
+    record { to = j; value = r; derives = rw add-two d }
 
 -- after the range of a coordinate comes its semicolon
 pub coord_semi : {ts : List Token} {i j k : ℕ} {r : RawRange} {cs : List RawCoord} → Coords ts i k cs → Is ts k BraceR → Is ts i Name
     → Range ts (i + 2) j r → Is ts j Semi
 coord_semi no_coord b n x = absurd (cc)
 coord_semi {ts = ts} {i = i} {j = j} {r = r} (coord p q d s t) b n x =
-    let e : i + 2 ≡ suc (suc i) = omega arith in
-    let y : Range ts (suc (suc i)) j r = subst (λ (w : ℕ). Range ts w j r) e x in
+    let y : Range ts (suc (suc i)) j r = rw add-two at x in
     subst (λ (w : ℕ). Is ts w Semi) (range_same d y).place s
 
 -- one more coordinate after the others
@@ -133,79 +114,43 @@ pub coord_more : {ts : List Token} {at i j k : ℕ} {cs ds : List RawCoord} {r :
     → CoordsRead ts at (j + 1) (cs ++ (record { name = sp; range = r } ∷ []))
 coord_more a no_coord b n q x = absurd (cc)
 coord_more {ts = ts} {at = at} {i = i} {j = j} {k = k} {cs = cs} {r = r} {sp = sp} a (coord {j = m} {cs = es} p c d s t) b n q x =
-    let e : i + 2 ≡ suc (suc i) = omega arith in
-    let y : Range ts (suc (suc i)) j r = subst (λ (w : ℕ). Range ts w j r) e x in
+    let y : Range ts (suc (suc i)) j r = rw add-two at x in
     let o = (range_same d y).place in
-    let f : suc j ≡ j + 1 = omega arith in
     let g : suc m ≡ j + 1 = omega arith in
     let v : Coords ts at (suc j) (cs ++ (record { name = span_at ts i; range = r } ∷ [])) = coords_with a n c y (subst (λ (w : ℕ). Is ts w Semi) o s) in
     record {
-      done = subst (λ (w : ℕ). Coords ts at w (cs ++ (record { name = sp; range = r } ∷ []))) f (rw q v);
+      done = rw add-one (rw q v);
       rest = record { to = k; value = es; derives = subst (λ (w : ℕ). Coords ts w k es) g t; stops = b };
     }
-
--- an end of a range with a minus sign
-pub end_minus : {ts : List Token} {i k : ℕ} {r : RawEnd} → End ts i k r → Is ts i Minus → End ts i (i + 2) (record { negative = true; at = span_at ts (i + 1) })
-end_minus (plain p) m = absurd (cc)
-end_minus {ts = ts} {i = i} (minus p q) m =
-    let e : suc (suc i) ≡ i + 2 = omega arith in
-    let f : suc i ≡ i + 1 = omega arith in
-    subst (λ (w : ℕ). End ts i w (record { negative = true; at = span_at ts (i + 1) })) e
-    (subst (λ (w : ℕ). End ts i (suc (suc i)) (record { negative = true; at = span_at ts w })) f (minus p q))
-
--- an end of a range without a minus sign
-pub end_plain : {ts : List Token} {i k : ℕ} {r : RawEnd} → End ts i k r → (Is ts i Minus → ⊥)
-    → End ts i (i + 1) (record { negative = false; at = span_at ts i })
-end_plain {ts = ts} {i = i} (plain p) n =
-    let f : suc i ≡ i + 1 = omega arith in
-    subst (λ (w : ℕ). End ts i w (record { negative = false; at = span_at ts i })) f (plain p)
-end_plain (minus p q) n = absurd (n p)
 
 -- the arguments before place i, at which one more begins
 pub record ArgsRead (ts : List Token) (at i : ℕ) (as' : List RawArg) : Type 0 where
   pub joins : (k : ℕ) (bs : List RawArg) → Args ts i k bs → Args ts at k (as' ++ bs)
   pub rest : HasArgs ts i
 
--- no argument is read at the start
-pub args_begin : {ts : List Token} {at : ℕ} → HasArgs ts at → ArgsRead ts at at []
-args_begin h = record { joins = λ k bs r. r; rest = h }
-
 -- arguments begin with an argument
 pub arg_first : {ts : List Token} {i k : ℕ} {as' : List RawArg} → Args ts i k as' → HasArg ts i
 arg_first (last_arg {a = a} d) = record { value = a; derives = d }
 arg_first (more_args {a = a} d c r) = record { value = a; derives = d }
 
--- where no comma follows an argument, the parenthesis does
-pub args_stop : {ts : List Token} {i k : ℕ} {as' : List RawArg} → Args ts i k as' → Is ts k ParR → (Is ts (i + 3) Comma → ⊥) → Is ts (i + 3) ParR
-args_stop {ts = ts} {i = i} (last_arg d) p n =
-    let e : suc (suc (suc i)) ≡ i + 3 = omega arith in
-    subst (λ (w : ℕ). Is ts w ParR) e p
-args_stop {ts = ts} {i = i} (more_args d c r) p n =
-    let e : suc (suc (suc i)) ≡ i + 3 = omega arith in
-    absurd (n (subst (λ (w : ℕ). Is ts w Comma) e c))
-
 -- the last argument
 pub args_last : {ts : List Token} {at i : ℕ} {as' : List RawArg} {a : RawArg} → ArgsRead ts at i as' → Arg ts i a → Args ts at (i + 3) (as' ++ (a ∷ []))
 args_last {ts = ts} {at = at} {i = i} {as' = as'} {a = a} s d =
-    let e : suc (suc (suc i)) ≡ i + 3 = omega arith in
-    subst (λ (w : ℕ). Args ts at w (as' ++ (a ∷ []))) e (s.joins (suc (suc (suc i))) (a ∷ []) (last_arg d))
+    rw add-three (s.joins (suc (suc (suc i))) (a ∷ []) (last_arg d))
 
 args_rest_by : {ts : List Token} {i k : ℕ} {as' : List RawArg} → Args ts i k as' → Is ts k ParR → Is ts (i + 3) Comma → HasArgs ts (i + 4)
 args_rest_by {ts = ts} {i = i} (last_arg d) p c =
     let e : i + 3 ≡ suc (suc (suc i)) = omega arith in
-    let x : Is ts (suc (suc (suc i))) Comma = subst (λ (w : ℕ). Is ts w Comma) e c in absurd (cc)
+    let x : Is ts (suc (suc (suc i))) Comma = rw add-three at c in absurd (cc)
 args_rest_by {ts = ts} {i = i} {k = k} (more_args {rest = bs} d m r) p c =
-    let e : suc (suc (suc (suc i))) ≡ i + 4 = omega arith in
-    record { to = k; value = bs; derives = subst (λ (w : ℕ). Args ts w k bs) e r; stops = p }
+    record { to = k; value = bs; derives = rw add-four r; stops = p }
 
 -- an argument before a comma
 pub args_more : {ts : List Token} {at i : ℕ} {as' : List RawArg} {a : RawArg} → ArgsRead ts at i as' → Arg ts i a → Is ts (i + 3) Comma
     → ArgsRead ts at (i + 4) (as' ++ (a ∷ []))
 args_more {ts = ts} {at = at} {i = i} {as' = as'} {a = a} s d c =
-    let e : i + 3 ≡ suc (suc (suc i)) = omega arith in
-    let f : i + 4 ≡ suc (suc (suc (suc i))) = omega arith in
     record {
-      joins = λ k bs r. rw append_assoc (s.joins k (a ∷ bs) (more_args d (subst (λ (w : ℕ). Is ts w Comma) e c) (subst (λ (w : ℕ). Args ts w k bs) f r)));
+      joins = λ k bs r. rw append_assoc (s.joins k (a ∷ bs) (more_args d (rw add-three at c) (rw add-four at r)));
       rest = args_rest_by s.rest.derives s.rest.stops c;
     }
 
@@ -217,18 +162,6 @@ pub record LetsRead (ts : List Token) (at i : ℕ) (ls : List RawLet) : Type 0 w
 -- no let is read at the start
 pub lets_begin : {ts : List Token} {at : ℕ} → HasLets ts at → LetsRead ts at at []
 lets_begin h = record { done = no_let; rest = h }
-
--- after the name of a let and `=` comes an expression
-pub let_expr : {ts : List Token} {i k : ℕ} {ls : List RawLet} → Lets ts i k ls → Is ts k Sign → Is ts i Let → HasExpr ts (i + 3)
-let_expr no_let s n = absurd (cc)
-let_expr {ts = ts} {i = i} (a_let {j = j} p c r e m t) s n =
-    let o : suc (suc (suc i)) ≡ i + 3 = omega arith in
-    record { to = j; derives = subst (λ (w : ℕ). IsExpr ts w j) o e; stops = m }
-
--- where no let begins, `sign` does
-pub lets_stop : {ts : List Token} {i k : ℕ} {ls : List RawLet} → Lets ts i k ls → Is ts k Sign → (Is ts i Let → ⊥) → Is ts i Sign
-lets_stop no_let s n = s
-lets_stop (a_let p c r e m t) s n = absurd (n p)
 
 -- one more let after the others
 lets_with : {ts : List Token} {i j k : ℕ} {ls : List RawLet} {x : RawLet} → Lets ts i j ls → Lets ts j k (x ∷ []) → Lets ts i k (ls ++ (x ∷ []))
@@ -244,14 +177,13 @@ let_more {ts = ts} {at = at} {i = i} {j = j} {k = k} {ls = ls} {sp = sp} a (a_le
     let o : i + 3 ≡ suc (suc (suc i)) = omega arith in
     let w : IsExpr ts (suc (suc (suc i))) j = subst (λ (w : ℕ). IsExpr ts w j) o x in
     let z = one_end e semi w y in
-    let f : suc j ≡ j + 1 = omega arith in
     let g : suc m ≡ j + 1 = omega arith in
     let b : i + 1 ≡ suc i = omega arith in
     let q2 : sp ≡ span_at ts (suc i) = q ∙ ap (span_at ts) b in
     let v : Lets ts at (suc j) (ls ++ (record { name = span_at ts (suc i); value = record { from = suc (suc (suc i)); to = j } } ∷ [])) =
     lets_with a (a_let p c r w y no_let) in
     record {
-      done = subst (λ (u : ℕ). Lets ts at u (ls ++ (record { name = sp; value = record { from = i + 3; to = j } } ∷ []))) f (rw (q2, o) v);
+      done = rw add-one (rw (q2, o) v);
       rest = record { to = k; value = us; derives = subst (λ (u : ℕ). Lets ts u k us) g t; stops = s };
     }
 
@@ -262,8 +194,7 @@ item_is {ts = ts} {i = i} {j = j} {y = y} d p q = subst (λ (w : ℕ). IsItem ts
 -- a site type has coordinates
 pub site_coords : {ts : List Token} {i j : ℕ} {x : Item} → IsItem ts i j x → Is ts i Site → HasCoords ts (i + 3)
 site_coords {ts = ts} {i = i} (site {j = j} {c = c} {cs = cs} a b m d e) k =
-    let o : suc (suc (suc i)) ≡ i + 3 = omega arith in
-    record { to = j; value = c ∷ cs; derives = subst (λ (w : ℕ). Coords ts w j (c ∷ cs)) o d; stops = e }
+    record { to = j; value = c ∷ cs; derives = rw add-three d; stops = e }
 site_coords (param a b m d e) k = absurd (cc)
 site_coords (predicate a b m d e f g h v s r) k = absurd (cc)
 
@@ -271,9 +202,8 @@ site_coords (predicate a b m d e f g h v s r) k = absurd (cc)
 pub site_read : {ts : List Token} {i j k : ℕ} {x : Item} {sp : Span} {ds : List RawCoord} → IsItem ts i j x → Is ts i Site
     → sp ≡ span_at ts (i + 1) → Coords ts (i + 3) k ds → Is ts k BraceR → IsItem ts i (k + 1) (SiteItem sp ds)
 site_read {ts = ts} {i = i} {k = k} {sp = sp} {ds = ds} (site {j = j} {c = c} {cs = cs} a b m d e) n q x y =
-    let o : i + 3 ≡ suc (suc (suc i)) = omega arith in
     let b1 : suc i ≡ i + 1 = omega arith in
-    let s = coords_same d e (subst (λ (w : ℕ). Coords ts w k ds) o x) y in
+    let s = coords_same d e (rw add-three at x) y in
     let p = s.place in
     let r : suc j ≡ k + 1 = omega arith in
     let q2 : span_at ts (suc i) ≡ sp = ap (span_at ts) b1 ∙ sym q in
@@ -285,16 +215,14 @@ site_read (predicate a b m d e f g h v s r) n q x y = absurd (cc)
 pub param_range : {ts : List Token} {i j : ℕ} {x : Item} → IsItem ts i j x → Is ts i Param → HasRange ts (i + 3)
 param_range (site a b m d e) k = absurd (cc)
 param_range {ts = ts} {i = i} (param {j = j} {r = r} a b m d e) k =
-    let o : suc (suc (suc i)) ≡ i + 3 = omega arith in
-    record { to = j; value = r; derives = subst (λ (w : ℕ). Range ts w j r) o d }
+    record { to = j; value = r; derives = rw add-three d }
 param_range (predicate a b m d e f g h v s r) k = absurd (cc)
 
 -- after the range of a param comes its semicolon
 pub param_semi : {ts : List Token} {i j k : ℕ} {x : Item} {r : RawRange} → IsItem ts i j x → Is ts i Param → Range ts (i + 3) k r → Is ts k Semi
 param_semi (site a b m d e) n y = absurd (cc)
 param_semi {ts = ts} {i = i} {k = k} {r = r} (param a b m d e) n y =
-    let o : i + 3 ≡ suc (suc (suc i)) = omega arith in
-    subst (λ (w : ℕ). Is ts w Semi) (range_same d (subst (λ (w : ℕ). Range ts w k r) o y)).place e
+    subst (λ (w : ℕ). Is ts w Semi) (range_same d (rw add-three at y)).place e
 param_semi (predicate a b m d e f g h v s r) n y = absurd (cc)
 
 -- a name and a range make the item of a param
@@ -302,9 +230,8 @@ pub param_read : {ts : List Token} {i j k : ℕ} {x : Item} {sp : Span} {r : Raw
     → Range ts (i + 3) k r → IsItem ts i (k + 1) (ParamItem sp r)
 param_read (site a b m d e) n q y = absurd (cc)
 param_read {ts = ts} {i = i} {k = k} {sp = sp} {r = r} (param {j = j} {r = t} a b m d e) n q y =
-    let o : i + 3 ≡ suc (suc (suc i)) = omega arith in
     let b1 : suc i ≡ i + 1 = omega arith in
-    let s = range_same d (subst (λ (w : ℕ). Range ts w k r) o y) in
+    let s = range_same d (rw add-three at y) in
     let p = s.place in
     let v : suc j ≡ k + 1 = omega arith in
     let q2 : span_at ts (suc i) ≡ sp = ap (span_at ts) b1 ∙ sym q in
@@ -316,8 +243,7 @@ pub pred_args : {ts : List Token} {i j : ℕ} {x : Item} → IsItem ts i j x →
 pred_args (site a b m d e) n p = absurd (n a)
 pred_args (param a b m d e) n p = absurd (p a)
 pred_args {ts = ts} {i = i} (predicate {j = j} {args = args} a b m d e f g h v s r) n p =
-    let o : suc (suc (suc i)) ≡ i + 3 = omega arith in
-    record { to = j; value = args; derives = subst (λ (w : ℕ). Args ts w j args) o d; stops = e }
+    record { to = j; value = args; derives = rw add-three d; stops = e }
 
 -- after its arguments come its lets
 pub pred_lets : {ts : List Token} {i j k : ℕ} {x : Item} {us : List RawArg} → IsItem ts i k x → (Is ts i Site → ⊥) → (Is ts i Param → ⊥)
@@ -325,8 +251,7 @@ pub pred_lets : {ts : List Token} {i j k : ℕ} {x : Item} {us : List RawArg} �
 pred_lets (site a b m d e) n p y z = absurd (n a)
 pred_lets (param a b m d e) n p y z = absurd (p a)
 pred_lets {ts = ts} {i = i} {j = j} {us = us} (predicate {j = q} {k = k} {ls = ls} a b m d e f g h v s r) n p y z =
-    let o : i + 3 ≡ suc (suc (suc i)) = omega arith in
-    let t = (args_same d e (subst (λ (w : ℕ). Args ts w j us) o y) z).place in
+    let t = (args_same d e (rw add-three at y) z).place in
     let u : suc (suc q) ≡ j + 2 = omega arith in
     record { to = k; value = ls; derives = subst (λ (w : ℕ). Lets ts w k ls) u g; stops = h }
 
@@ -337,8 +262,7 @@ pub pred_expr : {ts : List Token} {i j k l : ℕ} {x : Item} {us : List RawArg} 
 pred_expr (site a b m d e) n p y z g2 h2 = absurd (n a)
 pred_expr (param a b m d e) n p y z g2 h2 = absurd (p a)
 pred_expr {ts = ts} {i = i} {j = j} {k = k} {us = us} {vs = vs} (predicate {j = q} {k = c} {l = l} a b m d e f g h v s r) n p y z g2 h2 =
-    let o : i + 3 ≡ suc (suc (suc i)) = omega arith in
-    let t = (args_same d e (subst (λ (w : ℕ). Args ts w j us) o y) z).place in
+    let t = (args_same d e (rw add-three at y) z).place in
     let u : j + 2 ≡ suc (suc q) = omega arith in
     let w = (lets_same g h (subst (λ (w : ℕ). Lets ts w k vs) u g2) h2).place in
     let x : suc c ≡ k + 1 = omega arith in
@@ -353,10 +277,9 @@ pred_read (site a b m d e) n p q y z g2 h2 v2 s2 = absurd (n a)
 pred_read (param a b m d e) n p q y z g2 h2 v2 s2 = absurd (p a)
 pred_read {ts = ts} {i = i} {j = j} {k = k} {l = l} {sp = sp} {us = us} {vs = vs} (predicate {j = a1} {k = a2} {l = a3} a b m d e f g h v s
     r) n p q y z g2 h2 v2 s2 =
-    let o : i + 3 ≡ suc (suc (suc i)) = omega arith in
     let b1 : suc i ≡ i + 1 = omega arith in
     let q2 : span_at ts (suc i) ≡ sp = ap (span_at ts) b1 ∙ sym q in
-    let t = args_same d e (subst (λ (w : ℕ). Args ts w j us) o y) z in
+    let t = args_same d e (rw add-three at y) z in
     let tp = t.place in
     let u : j + 2 ≡ suc (suc a1) = omega arith in
     let t2 = lets_same g h (subst (λ (w : ℕ). Lets ts w k vs) u g2) h2 in

@@ -16,13 +16,6 @@ returns-in-Some-coord_at-clause-fine c =
     (ap (λ (cs : List RawCoord). coord_place c.args.bytes.now cs c.args.at) (sym c.arg_coords.ensures) ∙ sym c.coord_at.ensures.place
     ∙ c.in-Some-coord_at.is)).0
 
-pub returns-in-Some-coord_at-clause-what : goal.returns-in-Some-coord_at-clause-what
-returns-in-Some-coord_at-clause-what c =
-    (coord_found c.args.bytes.now (visible c.args.seen) c.args.arg c.args.at (sym c.long_name.ensures ∙ c.if-long_name.false) c.in-Some.a c.in-Some-coord_at.c
-    (sym c.arg_at.ensures.place ∙ c.in-Some.is)
-    (ap (λ (cs : List RawCoord). coord_place c.args.bytes.now cs c.args.at) (sym c.arg_coords.ensures) ∙ sym c.coord_at.ensures.place
-    ∙ c.in-Some-coord_at.is)).1
-
 pub returns-in-None-clause-err : goal.returns-in-None-clause-err
 returns-in-None-clause-err c =
     no_coord c.args.bytes.now (visible c.args.seen) c.args.arg c.args.at (sym c.long_name.ensures ∙ c.if-long_name.false)

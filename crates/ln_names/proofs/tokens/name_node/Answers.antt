@@ -8,20 +8,10 @@ returns-in-Some-clause-fine c =
     (name_let c.args.bytes.now (visible c.args.seen) c.args.before c.args.at (sym c.long_name.ensures ∙ c.if-long_name.false)
     c.if-before-eq2048.false c.in-Some.j (sym c.let_place.ensures.place ∙ c.in-Some.is)).0
 
-pub returns-in-Some-clause-what : goal.returns-in-Some-clause-what
-returns-in-Some-clause-what c =
-    (name_let c.args.bytes.now (visible c.args.seen) c.args.before c.args.at (sym c.long_name.ensures ∙ c.if-long_name.false)
-    c.if-before-eq2048.false c.in-Some.j (sym c.let_place.ensures.place ∙ c.in-Some.is)).1
-
 pub returns-in-Some-arg_at-clause-fine : goal.returns-in-Some-arg_at-clause-fine
 returns-in-Some-arg_at-clause-fine c =
     (name_param c.args.bytes.now (visible c.args.seen) c.args.before c.args.at (sym c.long_name.ensures ∙ c.if-long_name.false)
     c.if-before-eq2048.false c.in-Some-arg_at.a (sym c.let_place.ensures.place ∙ c.in_default.is) (sym c.arg_at.ensures.place ∙ c.in-Some-arg_at.is)).0
-
-pub returns-in-Some-arg_at-clause-what : goal.returns-in-Some-arg_at-clause-what
-returns-in-Some-arg_at-clause-what c =
-    (name_param c.args.bytes.now (visible c.args.seen) c.args.before c.args.at (sym c.long_name.ensures ∙ c.if-long_name.false)
-    c.if-before-eq2048.false c.in-Some-arg_at.a (sym c.let_place.ensures.place ∙ c.in_default.is) (sym c.arg_at.ensures.place ∙ c.in-Some-arg_at.is)).1
 
 pub returns-in-None-clause-err : goal.returns-in-None-clause-err
 returns-in-None-clause-err c =

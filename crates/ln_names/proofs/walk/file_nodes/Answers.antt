@@ -1,12 +1,7 @@
-use Rattle.std.proofs.Common.{List, [], refl, subst}
 use Rattle.std.proofs.lemmas.Result.{err_from_is_err_and}
-use Rattle.ln_syntax.specs.Raw.{Item}
-use Rattle.ln_names.specs.Nodes.{ArePairedBy, BodyIs}
-use Rattle.ln_names.proofs.Walking.{items_walked, items_stop, items_next, items_done, items_taken}
+use Rattle.ln_names.specs.Nodes.{BodyIs}
+use Rattle.ln_names.proofs.Walking.{items_walked, items_stop, items_next}
 use Rattle.ln_names.proofs.walk.file_nodes.Goals as goal
-
-pub loop-i-init : goal.loop-i-init
-loop-i-init c = (refl, rw c.new-bodies.ensures tt)
 
 pub returns-in_err-item_nodes-clause-err : goal.returns-in_err-item_nodes-clause-err
 returns-in_err-item_nodes-clause-err c =
@@ -21,11 +16,3 @@ loop-i-preserved c = (
   rw c.in_ok-push.ensures.ok (items_next (BodyIs c.args.bytes.now c.args.ts.now) c.args.its.now c.loop-i.bodies c.loop-i.i c.index-its-i.result _
       c.loop-i-test.true c.index-its-i.is c.loop-i.invariant.1 c.in_ok-item_nodes.ensures.nodes),
 )
-
-pub returns-clause-fine : goal.returns-clause-fine
-returns-clause-fine c = items_done c.args.bytes.now c.args.ts.now c.args.its.now c.loop-i.i c.loop-i-test.false c.loop-i.invariant.0
-
-pub returns-clause-nodes : goal.returns-clause-nodes
-returns-clause-nodes c =
-    subst (λ (w : List Item). ArePairedBy (BodyIs c.args.bytes.now c.args.ts.now) [] w c.loop-i.bodies)
-    (items_taken c.args.its.now c.loop-i.i c.loop-i-test.false) c.loop-i.invariant.1

@@ -3,8 +3,7 @@ use Rattle.std.specs.List.{list_all}
 use Rattle.ln_syntax.specs.Raw.{items}
 use Rattle.ln_tree.specs.declared.items.Site.{Site}
 use Rattle.ln_tree.specs.declared.items.Param.{Param}
-use Rattle.ln_tree.specs.Table.{TableOf, site_of, param_of, pred_fits, table_of}
-use Rattle.ln_parse.specs.Says.{ItemsSay}
+use Rattle.ln_parse.specs.Says.{TableOf, site_of, param_of, pred_fits, table_of, ItemsSay}
 use Rattle.ln_parse.proofs.Building.Kept.{table_kept}
 use Rattle.ln_parse.proofs.build.build.Goals as goal
 

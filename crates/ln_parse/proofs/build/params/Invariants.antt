@@ -1,5 +1,4 @@
-use Rattle.ln_tree.specs.Table.{param_of}
-use Rattle.ln_parse.specs.Says.{param_said}
+use Rattle.ln_parse.specs.Says.{param_of, param_said}
 use Rattle.ln_parse.proofs.Building.Said.{SaidOn}
 use Rattle.ln_parse.proofs.build.params.Given as goal
 

@@ -3,8 +3,7 @@ use Rattle.std.specs.List.{list_all}
 use Rattle.std.proofs.lemmas.Bool.{and_from}
 use Rattle.std.proofs.lemmas.List.{map_push, map-append}
 use Rattle.std.proofs.lemmas.List.Folds.{list_all-append}
-use Rattle.ln_syntax.specs.declared.raw.RawArg.{RawArg}
-use Rattle.ln_syntax.specs.declared.raw.RawLet.{RawLet}
+use Rattle.ln_names.specs.Rules.{RawArg, RawLet}
 use Rattle.ln_syntax.specs.Raw.{Item, PredItem, item, items}
 use Rattle.ln_names.specs.Nodes.{BodyIs}
 use Rattle.ln_tree.specs.declared.pred.Pred.{Pred}

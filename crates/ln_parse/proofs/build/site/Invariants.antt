@@ -1,6 +1,5 @@
 use Rattle.std.proofs.Common.{◌≡◌, map, take}
-use Rattle.ln_tree.specs.Table.{coord_of}
-use Rattle.ln_parse.specs.Says.{ranged}
+use Rattle.ln_parse.specs.Says.{coord_of, ranged}
 use Rattle.ln_parse.proofs.build.site.Given as goal
 
 abbrev pub invariant-coords : goal.invariant-coords

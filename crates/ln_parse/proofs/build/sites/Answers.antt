@@ -1,8 +1,6 @@
 use Rattle.std.proofs.Common.{List, take, Some, ◌∙◌, ap, sym, subst, arith}
-use Rattle.ln_syntax.specs.declared.raw.RawCoord.{RawCoord}
+use Rattle.ln_parse.specs.Says.{RawCoord, site_said, site_of}
 use Rattle.ln_syntax.specs.Raw.{Item, SiteItem, item, items}
-use Rattle.ln_tree.specs.Table.{site_of}
-use Rattle.ln_parse.specs.Says.{site_said}
 use Rattle.ln_parse.specs.Ready.{ReadyItem, ReadySite}
 use Rattle.ln_parse.proofs.Building.Loops.{item_index}
 use Rattle.ln_parse.proofs.Building.Said.{no_site, said_more, said_skip}

@@ -1,5 +1,4 @@
-use Rattle.ln_tree.specs.Table.{site_of}
-use Rattle.ln_parse.specs.Says.{site_said}
+use Rattle.ln_parse.specs.Says.{site_of, site_said}
 use Rattle.ln_parse.proofs.Building.Said.{SaidOn}
 use Rattle.ln_parse.proofs.build.sites.Given as goal
 

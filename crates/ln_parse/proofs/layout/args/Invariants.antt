@@ -1,7 +1,6 @@
 use Rattle.std.proofs.Common.{◌≡◌, map, take}
 use Rattle.ln_syntax.specs.Raw.{items}
-use Rattle.ln_tree.specs.Table.{arg_of}
-use Rattle.ln_parse.specs.Says.{arg_said}
+use Rattle.ln_parse.specs.Says.{arg_of, arg_said}
 use Rattle.ln_parse.proofs.layout.args.Given as goal
 
 abbrev pub invariant-args-2 : goal.invariant-args-2

@@ -1,6 +1,5 @@
 use Rattle.std.proofs.Common.{◌≡◌, ◌++◌, map, drop}
-use Rattle.ln_tree.specs.Table.{coord_of}
-use Rattle.ln_parse.specs.Says.{site_vars}
+use Rattle.ln_parse.specs.Says.{coord_of, site_vars}
 use Rattle.ln_parse.proofs.layout.coords_vars.Given as goal
 
 abbrev pub invariant-coords : goal.invariant-coords

@@ -1,7 +1,6 @@
 use Rattle.std.proofs.Common.{◌≡◌, ◌+◌, ◌++◌, map, drop}
 use Rattle.std.specs.Prelude.{count_by}
-use Rattle.ln_tree.specs.Table.{arg_of, site_of, param_of}
-use Rattle.ln_parse.specs.Says.{vars_behind, is_site_said}
+use Rattle.ln_parse.specs.Says.{arg_of, site_of, param_of, vars_behind, is_site_said}
 use Rattle.ln_parse.proofs.layout.laid_out.Given as goal
 
 abbrev pub invariant-args-2 : goal.invariant-args-2

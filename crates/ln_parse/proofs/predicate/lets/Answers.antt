@@ -1,13 +1,11 @@
 use Rattle.std.proofs.Common.{List, [], map, ap, subst, ◌∙◌, arith}
 use Rattle.std.proofs.lemmas.List.{map_push, take_all}
-use Rattle.ln_syntax.specs.declared.raw.RawLet.{RawLet}
+use Rattle.ln_names.specs.Rules.{RawLet, scope}
 use Rattle.ln_syntax.specs.Raw.{items}
 use Rattle.ln_names.specs.Nodes.{AreNodes}
-use Rattle.ln_names.specs.Rules.{scope}
 use Rattle.ln_names.proofs.Walking.{paired_next}
 use Rattle.ln_tree.specs.declared.expr.Expr.{Expr}
-use Rattle.ln_tree.specs.Formula.{formula}
-use Rattle.ln_parse.specs.Says.{Says, LetsSay}
+use Rattle.ln_parse.specs.Says.{formula, Says, LetsSay}
 use Rattle.ln_parse.proofs.Building.Loops.{is_narrow, let_at, paired_length}
 use Rattle.ln_parse.proofs.predicate.lets.Goals as goal
 

@@ -1,7 +1,6 @@
 use Rattle.std.proofs.Common.{[], map, take}
 use Rattle.ln_syntax.specs.Raw.{items}
-use Rattle.ln_tree.specs.Formula.{formula}
-use Rattle.ln_parse.specs.Says.{LetsSay}
+use Rattle.ln_parse.specs.Says.{formula, LetsSay}
 use Rattle.ln_parse.proofs.predicate.lets.Given as goal
 
 abbrev pub invariant-lets : goal.invariant-lets

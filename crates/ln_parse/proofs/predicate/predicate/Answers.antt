@@ -1,12 +1,9 @@
-use Rattle.std.proofs.Common.{List, map, refl, ◌∙◌, ap, arith}
+use Rattle.std.proofs.Common.{List, map, ◌∙◌, ap, arith}
 use Rattle.std.specs.Prelude.{count_by}
-use Rattle.ln_base.specs.declared.span.Span.{Span}
-use Rattle.ln_syntax.specs.declared.raw.Places.{Places}
-use Rattle.ln_syntax.specs.Raw.{items}
+use Rattle.ln_syntax.specs.Raw.{Span, items}
+use Rattle.ln_parse.specs.Says.{Places, vars_behind, is_site_said, arg_of, site_of, param_of}
 use Rattle.ln_tree.specs.declared.items.Arg.{Arg}
-use Rattle.ln_tree.specs.Table.{arg_of, site_of, param_of}
 use Rattle.ln_parse.specs.declared.predicate.Scene.{Scene}
-use Rattle.ln_parse.specs.Says.{vars_behind, is_site_said}
 use Rattle.ln_parse.proofs.Building.Predicates.{PredAt}
 use Rattle.ln_parse.proofs.Building.Kept.{PredReady, few_args, shape_kept, pred_kept, args_kept, as_many}
 use Rattle.ln_parse.proofs.predicate.predicate.Goals as goal
@@ -69,18 +66,3 @@ returns-clause-fits c =
     args_kept c.args.sites.now c.args.params.now c.shape-shape.result.vars d
     (c.shape-shape.ensures.same.1 ∙ c.in_ok-layout.ensures.vars
     ∙ ap (λ (w : List Arg). vars_behind (map site_of c.args.sites.now) (map param_of c.args.params.now) 0 0 (map arg_of w)) c.as_slice.ensures)
-
-pub returns-clause-says : goal.returns-clause-says
-returns-clause-says c t s p =
-    record {
-      name_is = c.name_at-named.ensures;
-      at_is = refl;
-      args_are = c.in_ok-args.ensures;
-      shape_is = c.shape-shape.ensures.name ∙ c.name_at-named.ensures;
-      sites_are = c.shape-shape.ensures.same.0 ∙ c.in_ok-layout.ensures.sites ∙ ap (λ (w : List Arg). count_by is_site_said (map arg_of w)) c.as_slice.ensures;
-      vars_are = rw (s, p) (c.shape-shape.ensures.same.1 ∙ c.in_ok-layout.ensures.vars
-          ∙ ap (λ (w : List Arg). vars_behind (map site_of c.args.sites.now) (map param_of c.args.params.now) 0 0 (map arg_of w)) c.as_slice.ensures);
-      names_are = c.in_ok-body.ensures.names;
-      lets_are = c.in_ok-body.ensures.lets;
-      root_is = c.in_ok-body.ensures.root;
-    }

@@ -5,12 +5,9 @@ use Rattle.std.specs.Prelude.{IfOk, unsigned_abs, unwrap_or, slice_get, map}
 use Rattle.std.proofs.lemmas.Result.{IfOk-weaker}
 use Rattle.ln_tree.specs.declared.expr.Expr.{Expr}
 use Rattle.ln_tree.specs.Names.{name_bytes}
-use Rattle.ln_tree.specs.Formula.{formula}
-use Rattle.ln_tree.specs.Table.{table_of, pred_of}
+use Rattle.ln_parse.specs.Written.{formula, table_of, pred_of, Written, naming, written}
 use Rattle.ln_parse.specs.declared.printer.Room.TheVariants.{OfUnary, OfAtom}
-use Rattle.ln_parse.specs.Lexemes.{text_of}
-use Rattle.ln_parse.specs.Written.{Written, naming, written}
-use Rattle.ln_parse.specs.Canonical.{inside}
+use Rattle.ln_parse.specs.Canonical.{text_of, inside}
 use Rattle.ln_base.specs.Lines.{Appends}
 use Rattle.ln_base.proofs.Texts.Putting.{puts_then}
 use Rattle.ln_parse.proofs.Texts.Putting.{wraps, puts_name, puts_number, puts_equal, two_put}

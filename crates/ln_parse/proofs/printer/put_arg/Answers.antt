@@ -1,9 +1,8 @@
 use Rattle.std.proofs.Common.{map}
 use Rattle.std.specs.Prelude.{slice_get}
 use Rattle.std.proofs.lemmas.Result.{IfOk-weaker}
-use Rattle.ln_base.proofs.Texts.Putting.{puts_last, puts_then}
-use Rattle.ln_tree.specs.Table.{site_of, param_of}
-use Rattle.ln_parse.specs.Written.{site_name, range_name}
+use Rattle.ln_base.proofs.Texts.Putting.{puts_then}
+use Rattle.ln_parse.specs.Written.{site_of, site_name}
 use Rattle.ln_parse.proofs.Texts.Putting.{puts_name}
 use Rattle.ln_parse.proofs.printer.put_arg.Goals as goal
 
@@ -12,9 +11,3 @@ returns-in_ok-put_tokens-in-Site c =
     rw c.in-Site.is (IfOk-weaker c.put.result _ _ (λ x h. puts_then c.in_ok-put_name-in-Site.ensures
     (puts_then c.in_ok-put_tokens-in-Site.ensures (puts_name (site_name (slice_get (map site_of c.args.t.now.sites) c.in-Site.s)) c.site_name.ensures h)))
     c.put.ensures)
-
-pub returns-in_ok-put-in-Param : goal.returns-in_ok-put-in-Param
-returns-in_ok-put-in-Param c =
-    rw c.in-Param.is (puts_last c.put_tokens-in-Param.result _ _
-    (puts_name (range_name (slice_get (map param_of c.args.t.now.params) c.in-Param.p)) c.param_name.ensures c.in_ok-put-in-Param.ensures)
-    c.put_tokens-in-Param.ensures)

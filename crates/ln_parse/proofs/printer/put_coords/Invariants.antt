@@ -1,8 +1,7 @@
 use Rattle.std.proofs.Common.{drop, map}
 use Rattle.ln_base.specs.Lines.{Leaves}
 use Rattle.ln_tree.specs.Table.{coord_of}
-use Rattle.ln_parse.specs.Canonical.{coord}
-use Rattle.ln_parse.specs.Lexemes.{each, text_of}
+use Rattle.ln_parse.specs.Canonical.{coord, each, text_of}
 use Rattle.ln_parse.proofs.printer.put_coords.Given as goal
 
 abbrev pub invariant-coords : goal.invariant-coords

@@ -1,8 +1,7 @@
 use Rattle.std.proofs.Common.{drop, map}
 use Rattle.ln_base.specs.Lines.{Leaves}
 use Rattle.ln_tree.specs.Table.{arg_of, table_of}
-use Rattle.ln_parse.specs.Canonical.{further}
-use Rattle.ln_parse.specs.Lexemes.{each, text_of}
+use Rattle.ln_parse.specs.Canonical.{further, each, text_of}
 use Rattle.ln_parse.proofs.printer.put_further.Given as goal
 
 abbrev pub invariant-args-2 : goal.invariant-args-2

@@ -2,8 +2,7 @@ use Rattle.std.proofs.Common.{◌≡◌, ℕ, refl, ap, sym, ◌∙◌, None, ma
 use Rattle.std.specs.Prelude.{slice_get, option_map}
 use Rattle.std.proofs.lemmas.Option.{slice_get-map}
 use Rattle.std.proofs.lemmas.Result.{IfOk-weaker}
-use Rattle.ln_tree.specs.Table.{arg_of, site_of, param_of}
-use Rattle.ln_parse.specs.Written.{coord_name, range_name}
+use Rattle.ln_parse.specs.Written.{arg_of, site_of, param_of, coord_name, range_name}
 use Rattle.ln_base.proofs.Texts.Putting.{puts_then}
 use Rattle.ln_parse.proofs.Texts.Putting.{puts_name, found}
 use Rattle.ln_parse.proofs.printer.put_input.Goals as goal

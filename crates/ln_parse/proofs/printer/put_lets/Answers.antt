@@ -1,6 +1,5 @@
 use Rattle.std.proofs.Common.{inl, inr}
-use Rattle.ln_tree.specs.Table.{table_of, pred_of}
-use Rattle.ln_parse.specs.Written.{naming}
+use Rattle.ln_parse.specs.Written.{table_of, pred_of, naming}
 use Rattle.ln_parse.proofs.Texts.Putting.{lets_end}
 use Rattle.ln_parse.proofs.printer.put_lets.Goals as goal
 

@@ -1,11 +1,8 @@
 use Rattle.std.proofs.Common.{map}
 use Rattle.ln_base.specs.Lines.{Leaves}
-use Rattle.ln_tree.specs.Formula.{formula}
+use Rattle.ln_parse.specs.Written.{formula, table_of, pred_of, naming}
 use Rattle.ln_tree.specs.Names.{name_bytes}
-use Rattle.ln_tree.specs.Table.{table_of, pred_of}
-use Rattle.ln_parse.specs.Canonical.{lets}
-use Rattle.ln_parse.specs.Lexemes.{text_of}
-use Rattle.ln_parse.specs.Written.{naming}
+use Rattle.ln_parse.specs.Canonical.{lets, text_of}
 use Rattle.ln_parse.proofs.printer.put_lets.Given as goal
 
 abbrev pub invariant-lets : goal.invariant-lets

@@ -1,8 +1,7 @@
 use Rattle.std.proofs.Common.{drop, map}
 use Rattle.ln_base.specs.Lines.{Leaves}
 use Rattle.ln_tree.specs.Table.{param_of}
-use Rattle.ln_parse.specs.Canonical.{param}
-use Rattle.ln_parse.specs.Lexemes.{each, text_of}
+use Rattle.ln_parse.specs.Canonical.{param, each, text_of}
 use Rattle.ln_parse.proofs.printer.put_params.Given as goal
 
 abbrev pub invariant-params : goal.invariant-params

@@ -1,8 +1,7 @@
 use Rattle.std.proofs.Common.{drop, map}
 use Rattle.ln_base.specs.Lines.{Leaves}
 use Rattle.ln_tree.specs.Table.{pred_of, table_of}
-use Rattle.ln_parse.specs.Canonical.{pred}
-use Rattle.ln_parse.specs.Lexemes.{each, text_of}
+use Rattle.ln_parse.specs.Canonical.{pred, each, text_of}
 use Rattle.ln_parse.proofs.printer.put_preds.Given as goal
 
 abbrev pub invariant-preds : goal.invariant-preds

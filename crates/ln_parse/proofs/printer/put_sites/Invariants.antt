@@ -1,8 +1,7 @@
 use Rattle.std.proofs.Common.{drop, map}
 use Rattle.ln_base.specs.Lines.{Leaves}
 use Rattle.ln_tree.specs.Table.{site_of}
-use Rattle.ln_parse.specs.Canonical.{site}
-use Rattle.ln_parse.specs.Lexemes.{each, text_of}
+use Rattle.ln_parse.specs.Canonical.{site, each, text_of}
 use Rattle.ln_parse.proofs.printer.put_sites.Given as goal
 
 abbrev pub invariant-sites : goal.invariant-sites

@@ -1,8 +1,7 @@
 use Rattle.std.proofs.Common.{List, inl, subst}
 use Rattle.ln_syntax.specs.declared.raw.RawItem.{RawItem}
 use Rattle.ln_syntax.specs.Raw.{items}
-use Rattle.ln_names.specs.First.{FirstFault, NoFault}
-use Rattle.ln_names.specs.Nodes.{BodiesAre}
+use Rattle.ln_names.specs.First.{FirstFault}
 use Rattle.ln_parse.specs.Fault.{nesting, syntax, names}
 use Rattle.ln_parse.proofs.source.checked.Goals as goal
 
@@ -18,17 +17,3 @@ returns-in-Err-Found-clause-err c =
     let f = subst (λ (w : List RawItem). FirstFault c.args.bytes.now c.args.ts.now (items w) c.in-Err-Found.found)
     c.deref.ensures.value (rw c.in-Err-Found.field-0-is at c.in-Err-Found.ensures.err) in
     rw c.stop_of.ensures (inl (names c.requires.lexed c.requires.few c.in_default.ensures.none c.in-Ok.ensures.ok f))
-
-pub returns-in-Ok-check_names-clause-ok : goal.returns-in-Ok-check_names-clause-ok
-returns-in-Ok-check_names-clause-ok c =
-    record {
-      lexed = c.requires.lexed;
-      few = c.requires.few;
-      shallow = c.in_default.ensures.none;
-      spelt = c.in-Ok.ensures.ok;
-      clean = subst (λ (w : List RawItem). NoFault c.args.bytes.now c.args.ts.now (items w)) c.deref.ensures.value c.in-Ok-check_names.ensures.ok;
-    }
-
-pub returns-in-Ok-check_names-clause-nodes : goal.returns-in-Ok-check_names-clause-nodes
-returns-in-Ok-check_names-clause-nodes c = subst
-    (λ (w : List RawItem). BodiesAre c.args.bytes.now c.args.ts.now (items w) c.in-Ok-check_names.nodes) c.deref.ensures.value c.in-Ok-check_names.ensures.nodes

@@ -1,7 +1,7 @@
-use Rattle.std.proofs.Common.{sym, ◌∙◌, true≢false, arith}
+use Rattle.std.proofs.Common.{arith}
 use Rattle.ln_lex.specs.declared.token.Kind.TheVariants.{Let, Semi}
 use Rattle.ln_syntax.proofs.Recognising.Ahead.{no_semi}
-use Rattle.ln_syntax.proofs.Spellings.Parts.{is_within, let_expr, let_more, lets_begin, lets_stop}
+use Rattle.ln_syntax.proofs.Spellings.Parts.{is_within, let_more, lets_begin}
 use Rattle.ln_syntax.proofs.items.lets_at.Goals as goal
 
 pub lets-init : goal.lets-init
@@ -33,9 +33,3 @@ lets-preserved c =
     let h = c.lets.invariant in
     rw c.in_ok-push.ensures.items (let_more h.done h.rest.derives h.rest.stops
     (c.is.ensures.0 c.lets-test.true) c.span_of-name.ensures c.expression_end-to.ensures.expression c.expression_end-to.ensures.stops)
-
-pub expression_end-to-requires-clause-there : goal.expression_end-to-requires-clause-there
-expression_end-to-requires-clause-there c = let_expr c.lets.invariant.rest.derives c.lets.invariant.rest.stops (c.is.ensures.0 c.lets-test.true)
-
-pub returns-clause-stops : goal.returns-clause-stops
-returns-clause-stops c = lets_stop c.lets.invariant.rest.derives c.lets.invariant.rest.stops (λ q. true≢false (sym (c.is.ensures.1 q) ∙ c.lets-test.false))

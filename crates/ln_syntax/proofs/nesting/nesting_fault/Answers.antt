@@ -1,14 +1,7 @@
-use Rattle.std.proofs.Common.{◌≡◌, length, Some, sym, ap, ◌∙◌, arith}
+use Rattle.std.proofs.Common.{◌≡◌, length, arith}
 use Rattle.ln_syntax.proofs.Recognising.Fault.{is_at}
 use Rattle.ln_syntax.proofs.Recognising.Depth.{depth_more, shallow_more, shallow_all}
 use Rattle.ln_syntax.proofs.nesting.nesting_fault.Goals as goal
-
-pub returns-in_default-clause-some : goal.returns-in_default-clause-some
-returns-in_default-clause-some c = record {
-  opens = is_at c.args.ts.now c.tokens.i _ c.tokens-test.true ∙ ap (λ k. Some k) c.in_default.ensures.opens;
-  deep = sym c.tokens.invariant.at ∙ c.in_default.ensures.full;
-  first = c.tokens.invariant.shallow;
-}
 
 pub tokens-preserved : goal.tokens-preserved
 tokens-preserved c =
