@@ -36,13 +36,6 @@ pub wrote_same : {A B : Type 0} {told : A → B} {a b c : Draft A} {l : List (Li
     → Wrote told a c l p
 wrote_same {told = told} {a = a} {c = c} {l = l} {p = p} v w = subst (λ n. Wrote told a c n p) (append-nil l) (wrote_more v w)
 
--- where nothing is put the bound stays
-pub nothing_put : {A B : Type 0} (told : A → B) (a : Draft A) (want : B) (z : A) → told z ≡ want → Gives told a a [] want z
-nothing_put told a want z e = record {
-  bound = e;
-  wrote = record { code = sym (append-nil (map (told_line told) a.code)); kept = sym (append-nil a.kept) };
-}
-
 -- ---- powers
 
 -- one factor more at the end
@@ -62,11 +55,6 @@ Raises told y t w j a b z =
     Gives told a b (line (Set 64) y.none ∷ (line (Get 64) (y.mark t) ∷ factors y t w 1 j)) (y.mark (raised_to t (suc j) w)) z
 
 module _ {A B : Type 0} (told : A → B) (y : Style B) (t : Typed) (w : Width) where
-  -- before the first factor
-  pub raises_first : (a b c : Draft A) (o z : A) → told o ≡ y.none → told z ≡ y.mark t → y.mark (raised_to t 1 w) ≡ y.mark t
-      → Wrote told a b (line (Set 64) (told o) ∷ []) [] → Wrote told b c (line (Get 64) (told z) ∷ []) [] → Raises told y t w 0 a c z
-  raises_first a b c o z e f q v u = record { bound = f ∙ sym q; wrote = rw (e, f) at (wrote_then v u) }
-
   -- one factor more
   pub raises_next : (a b c : Draft A) (j : ℕ) (r p z x : A) → told r ≡ y.mark t → told p ≡ y.raw (raised_to t (suc (j + 1)) w)
       → (1 ≤ suc j → y.mark (raised_to t (suc (suc j)) w) ≡ after_excess y (y.raw (raised_to t (suc (suc j)) w))) → Raises told y t w j a b z

@@ -1,13 +1,13 @@
 -- Facts on the memory, and on numbers that fit a width.
 use Rattle.std.proofs.Common.{◌≡◌, ◌≢◌, ℕ, ℤ, ◌≤◌, ◌<◌, true, List, ◌∷◌, length, refl, zero, suc, ap, arith, pos, unsigned_abs}
 use Rattle.std.proofs.Common.{get_or-set_same, get_or-set_other}
-use Rattle.std.proofs.Common.{to_z, of_z, FitsSigned}
+use Rattle.std.proofs.Common.{to_z, of_z}
 use mir.Syntax.{w64, w128}
 use Rattle.std.proofs.lemmas.Int.{fits_signed_from_abs, to_z-of_z}
 use Rattle.std.specs.Prelude.{slice_set}
 use Rattle.std.proofs.lemmas.Bool.{leb-true}
 use Rattle.ln_bound.specs.declared.fitted.Width.{Width}
-use Rattle.ln_bound.specs.declared.fitted.Width.TheVariants.{W64, W128}
+use Rattle.ln_bound.specs.declared.fitted.Width.TheVariants.{W64}
 use Rattle.ln_code.specs.Numbers.{fits}
 use Rattle.ln_code.specs.Memory.{seen}
 
@@ -29,18 +29,6 @@ pub record Two64 (f : ℤ → ℤ → ℤ) (w : Width) (x y : ℤ) : Type 0 wher
   pub right : fits w y ≡ true
   pub result : fits w (f x y) ≡ true
 
--- a number of 64 bits is cast out of 128 bits
-pub cast_64 : (w : Width) (x : ℤ) → w ≡ W64 → fits w x ≡ true → FitsSigned w64 (to_z w128 (of_z w128 x))
-cast_64 w x e h = let a = fits_64 w x e h in rw (small_128 x a) (fits_signed_from_abs w64 x (omega (arith, a)))
-
--- the result fits
-pub fits_two : (f : ℤ → ℤ → ℤ) (w : Width) (x y : ℤ) → Two64 f w x y
-    → FitsSigned w64 (f (to_z w64 (of_z w64 (to_z w128 (of_z w128 x)))) (to_z w64 (of_z w64 (to_z w128 (of_z w128 y)))))
-fits_two f w x y h =
-    let a = fits_64 w x h.is h.left in
-    let b = fits_64 w y h.is h.right in
-    rw (small_128 x a, small_128 y b, small_64 x a, small_64 y b) (fits_signed_from_abs w64 (f x y) (omega (arith, fits_64 w (f x y) h.is h.result)))
-
 -- the result, out of and into 128 bits
 pub two_64 : (f : ℤ → ℤ → ℤ) (w : Width) (x y r : ℤ) → Two64 f w x y
     → r ≡ to_z w64 (of_z w64 (f (to_z w64 (of_z w64 (to_z w128 (of_z w128 x)))) (to_z w64 (of_z w64 (to_z w128 (of_z w128 y))))))
@@ -50,12 +38,6 @@ two_64 f w x y r h e =
     let b = fits_64 w y h.is h.right in
     let d = fits_64 w (f x y) h.is h.result in
     rw (e, small_128 x a, small_128 y b, small_64 x a, small_64 y b, small_64 (f x y) d) (small_128 (f x y) d)
-
--- the result of two numbers of 128 bits fits
-pub fits_wide : (f : ℤ → ℤ → ℤ) (w : Width) (x y : ℤ) → w ≡ W128 → FitsSigned w128 x → FitsSigned w128 y → fits w (f x y) ≡ true
-    → FitsSigned w128 (f (to_z w128 (of_z w128 x)) (to_z w128 (of_z w128 y)))
-fits_wide f w x y e a b h =
-    rw (to_z-of_z w128 x a, to_z-of_z w128 y b) (fits_signed_from_abs w128 (f x y) (omega (arith, leb-true _ _ (rw e at h))))
 
 -- a write above the top isn't seen
 pub seen-above : (xs : List ℤ) (k n : ℕ) (z : ℤ) → n ≤ k → seen (slice_set xs k z) n ≡ seen xs n

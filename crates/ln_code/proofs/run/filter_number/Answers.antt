@@ -37,9 +37,3 @@ pub returns-clause-made : goal.returns-clause-made
 returns-clause-made c =
     made_again c.args.p.now c.args.s.now _ _ c.requires.made (c.run_filter.ensures.size ∙ ap length c.as_mut_slice.ensures.value)
     (c.run_filter.ensures.locals ∙ ap length c.as_mut_slice-2.ensures.value)
-
-pub run_filter-requires-clause-locals : goal.run_filter-requires-clause-locals
-run_filter-requires-clause-locals c = rw c.as_mut_slice-2.ensures.value c.requires.made.locals
-
-pub run_filter-requires-clause-bounded : goal.run_filter-requires-clause-bounded
-run_filter-requires-clause-bounded c = rw (c.ops.ensures, c.triples.ensures.value) c.triples.ensures.kept.rules.bounded

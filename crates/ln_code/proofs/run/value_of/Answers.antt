@@ -34,6 +34,3 @@ pub returns-clause-made : goal.returns-clause-made
 returns-clause-made c =
     made_again c.args.p.now c.args.s.now _ _ c.requires.made (c.run_block.ensures.size ∙ ap length c.as_mut_slice.ensures.value)
     (c.run_block.ensures.locals ∙ ap length c.as_mut_slice-2.ensures.value)
-
-pub run_block-requires-clause-locals : goal.run_block-requires-clause-locals
-run_block-requires-clause-locals c = rw c.as_mut_slice-2.ensures.value c.requires.made.locals

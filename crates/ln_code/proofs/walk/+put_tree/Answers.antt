@@ -17,26 +17,6 @@ put_power-requires-clause-is g t c =
     let z : suc (c.in-Pow.n - 1) ≡ c.in-Pow.n = omega arith in
     (range c.args.t.now.pair, rw (z, c.in-Pow.is, c.deref-else-n-eq0-2.ensures) refl)
 
-pub put_left-requires-clause-left : goal.put_left-requires-clause-left
-put_left-requires-clause-left g t c =
-    let e = trees.two_is c.args.t.now c.in-Add.x c.in-Add.y c.in-Add.is in
-    rw c.deref-in-Add-2.ensures (g.met.M.Marks.operands c.args.m.now (operation (typed c.args.t.now)) (typed c.in-Add.x.value)
-    (typed c.in-Add.y.value) (range c.args.t.now.pair) c.args.t.now.width (subst (λ u. g.M.Marks.good c.args.m.now u) e c.requires.good)).0
-
-pub put_left-requires-clause-right : goal.put_left-requires-clause-right
-put_left-requires-clause-right g t c =
-    let e = trees.two_is c.args.t.now c.in-Add.x c.in-Add.y c.in-Add.is in
-    rw c.deref-in-Add-3.ensures (g.met.M.Marks.operands c.args.m.now (operation (typed c.args.t.now)) (typed c.in-Add.x.value)
-    (typed c.in-Add.y.value) (range c.args.t.now.pair) c.args.t.now.width (subst (λ u. g.M.Marks.good c.args.m.now u) e c.requires.good)).1
-
-pub second-requires-clause-is : goal.second-requires-clause-is
-second-requires-clause-is g t c = rw (c.deref-in-Add-5.ensures, c.deref-in-Add-6.ensures)
-    (range c.args.t.now.pair, trees.two_is c.args.t.now c.in-Add.x c.in-Add.y c.in-Add.is)
-
-pub put_two-requires-clause-is : goal.put_two-requires-clause-is
-put_two-requires-clause-is g t c = rw (c.deref-in-Add-7.ensures, c.deref-in-Add-8.ensures)
-    (range c.args.t.now.pair, trees.two_is c.args.t.now c.in-Add.x c.in-Add.y c.in-Add.is)
-
 pub put_kept-requires-in-Add-clause-bound : goal.put_kept-requires-in-Add-clause-bound
 put_kept-requires-in-Add-clause-bound g t c =
     let f = rw (c.deref-in-Add-7.ensures, c.deref-in-Add-8.ensures) at c.in_ok-c-in-Add.ensures in
