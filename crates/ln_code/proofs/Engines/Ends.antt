@@ -1,10 +1,10 @@
 -- Where a run of the processor ends.
-use Rattle.std.proofs.Common.{◌≡◌, ℕ, ℤ, ◌≤◌, true, List, [], ◌∷◌, length, drop, refl, zero, suc, ap}
+use Rattle.std.proofs.Common.{◌≡◌, ℕ, ℤ, ◌≤◌, true, List, [], length, drop, refl, zero, suc, ap}
 use Rattle.std.proofs.lemmas.List.{drop_all}
 use Rattle.std.specs.Prelude.{Some, is_some, IsSome}
 use Rattle.ln_code.specs.declared.op.Op.{Op}
 use Rattle.ln_code.specs.declared.op.Triple.{Triple}
-use Rattle.ln_code.specs.Engine.{Engine, Line, State, step, run, only, answer}
+use Rattle.ln_code.specs.Engine.{Engine, Line, run, only, answer}
 use Rattle.ln_code.specs.Memory.{seen, at, plain, shifted}
 
 only_seen : (buf : List ℤ) (top : ℕ) → is_some (only (seen buf top)) ≡ true → only (seen buf top) ≡ Some (at buf 0)
@@ -37,9 +37,3 @@ filter_ends e ops ts i buf top l m h r a =
     let d : drop i ops ≡ [] = drop_all i ops h in
     let f : shifted (drop i ops) (drop i ts) ≡ [] = rw d refl in
     ends e (shifted (drop i ops) (drop i ts)) (shifted ops ts) buf top l m f r a
-
--- the run goes on after its next operation
-pub goes_on : (e : Engine ℕ ℤ (ℕ → ℤ)) (o : Op) (k : ℕ) (now rest lines : List (Line ℕ)) (s : List ℤ) (m l : ℕ → ℤ) (t : State ℤ (ℕ → ℤ)) →
-    now ≡ record { op = o; bound = k } ∷ rest → run e now (record { stack = s; locals = m }) ≡ run e lines (record { stack = []; locals = l }) →
-    step e o k m s ≡ Some t → run e rest t ≡ run e lines (record { stack = []; locals = l })
-goes_on e o k now rest lines s m l t d r q = rw (d, q) at r

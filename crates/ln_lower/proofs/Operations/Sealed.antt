@@ -1,5 +1,5 @@
 -- What the lowered block is.
-use Rattle.std.proofs.Common.{◌≡◌, inl, inr, ℕ, ◌+◌, ◌*◌, ◌≤◌, ◌<◌, List, [], ◌∷◌, ◌++◌, length, map, refl, zero, suc, ap, arith, ◌∙◌, sym, subst}
+use Rattle.std.proofs.Common.{◌≡◌, inl, inr, ℕ, ◌+◌, ◌*◌, ◌≤◌, ◌<◌, List, [], ◌∷◌, ◌++◌, length, map, refl, ap, arith, ◌∙◌, sym, subst}
 use Rattle.std.proofs.Common.{get_or}
 use Rattle.std.specs.Prelude.{Option, Some, All, pos, slice_index_or}
 use Rattle.std.proofs.lemmas.List.{length-map}

@@ -4,7 +4,6 @@ use Rattle.std.specs.Prelude.{Some, slice_get}
 use Rattle.std.proofs.lemmas.List.{length-map}
 use Rattle.ln_interval.specs.Range.{Range}
 use Rattle.ln_bound.specs.declared.fitted.Width.{Width}
-use Rattle.ln_bound.specs.declared.fitted.Two.{Two}
 use Rattle.ln_bound.specs.Typed.{Typed, TNum, TInput, TLet, TNeg, TTwo, TPow, operation}
 use Rattle.ln_lower.specs.declared.distinct.Key.{Key}
 use Rattle.ln_lower.specs.declared.distinct.KeyOp.{KeyOp}

@@ -1,31 +1,15 @@
 use Rattle.std.proofs.Common.{◌≡◌, ◌+◌, ◌-◌, [], ◌∷◌, ◌++◌, arith, drop, length, map, subst, suc, take}
 use Rattle.std.specs.Prelude.{Some}
-use Rattle.std.proofs.lemmas.List.Elements.{All-push}
 use Rattle.std.proofs.lemmas.Result.{IfOk-weaker}
 use Rattle.ln_bound.specs.Typed.{untyped}
 use Rattle.ln_bound.specs.View.{typed}
 use Rattle.ln_code.specs.declared.op.Op.TheVariants.{Set}
 use Rattle.ln_code.specs.Kept.{no_triple}
 use Rattle.ln_code.specs.StackCode.{line}
-use Rattle.ln_filter.specs.Tried.{IsSmall}
 use Rattle.ln_filter.specs.Wrote.{LetsPut, SteadyPut}
 use Rattle.ln_filter.proofs.Operations.Writes.{lets_more}
-use Rattle.ln_filter.proofs.Slices.{first_rest, rest_length}
+use Rattle.ln_filter.proofs.Slices.{first_rest}
 use Rattle.ln_filter.proofs.emit.+put_lets.Goals as goal
-
-pub put_lets-requires : goal.put_lets-requires
-put_lets-requires t c =
-    let n = rest_length c.args.lets.now c.in-len1-up.len_at_least in
-    let d = c.decreases in
-    let f = c.requires.few in
-    let p : SteadyPut c.args.vars.now c.args.done c.args.draft.now c.put_steady.new.draft (untyped (typed c.t-item.result)) (Some c.in-Some.a) =
-    rw (c.as_slice.ensures, c.in-Some.is) at c.in_ok-put_steady-in-len1-up.ensures in (
-      omega (arith, n, d),
-      (
-        rw c.in_ok-push-in-Some-2.ensures.ok (All-push IsSmall c.args.done c.in-Some.a c.requires.done p.small),
-        (omega (arith, n, f), p.wrote.kept),
-      ),
-    )
 
 pub returns-in_ok-push-in-Some-2 : goal.returns-in_ok-push-in-Some-2
 returns-in_ok-push-in-Some-2 t c =

@@ -12,9 +12,6 @@ put_tree-requires-clause-good c = record {
   steady = (tried_steady c.args.vars.now c.args.lets.now (untyped (typed c.args.t.now)) c.in-Some.field-0 (sym c.in-Some.ensures.value)).steady;
 }
 
-pub returns-in-None : goal.returns-in-None
-returns-in-None c = record { tried = c.in-None.ensures.value; small = tt; wrote = tt }
-
 pub returns-in_ok-a-in-Some : goal.returns-in_ok-a-in-Some
 returns-in_ok-a-in-Some c = steady_put c.args.vars.now c.args.lets.now (typed c.args.t.now) _ _ c.in-Some.field-0 c.in_ok-a-in-Some.a
     c.requires.kept c.in-Some.ensures c.in_ok-a-in-Some.ensures

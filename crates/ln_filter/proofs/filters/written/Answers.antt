@@ -1,29 +1,12 @@
-use Rattle.std.proofs.Common.{◌≡◌, [], map, refl, arith}
+use Rattle.std.proofs.Common.{◌≡◌, [], map, refl}
 use Rattle.std.specs.Prelude.{None, Some}
-use Rattle.std.proofs.lemmas.List.Elements.{All-nil}
-use Rattle.ln_tree.proofs.KeptLemmas.{laid_out}
 use Rattle.ln_bound.specs.Typed.{untyped}
 use Rattle.ln_bound.specs.View.{typed}
-use Rattle.ln_filter.specs.Tried.{IsSmall, lets_tried, tried}
+use Rattle.ln_filter.specs.Tried.{lets_tried, tried}
 use Rattle.ln_filter.specs.Wrote.{LetsPut, SteadyPut}
 use Rattle.ln_filter.proofs.Truncation.Steady.{no_lets_filter, no_root_filter}
 use Rattle.ln_filter.proofs.Operations.Sealed.{sealed}
 use Rattle.ln_filter.proofs.filters.written.Goals as goal
-
-pub narrow-requires : goal.narrow-requires
-narrow-requires c = rw c.as_slice-vars.ensures (laid_out c.args.p.now.shape.sites c.args.p.now.shape.vars c.args.p.now.shape.kept).ranges
-
-pub put_lets-requires-clause-done : goal.put_lets-requires-clause-done
-put_lets-requires-clause-done c = rw c.new.ensures (All-nil IsSmall)
-
-pub put_lets-requires-clause-few : goal.put_lets-requires-clause-few
-put_lets-requires-clause-few c = let n = c.args.p.now.few in rw c.as_slice.ensures (omega (arith, n))
-
-pub put_steady-requires-clause-lets : goal.put_steady-requires-clause-lets
-put_steady-requires-clause-lets c = rw c.as_slice-in-Some.ensures (rw c.in-Some.is at c.in_ok-put_lets.ensures.small)
-
-pub put_steady-requires-clause-kept : goal.put_steady-requires-clause-kept
-put_steady-requires-clause-kept c = (rw c.in-Some.is at c.in_ok-put_lets.ensures.wrote).kept
 
 pub returns-in-None : goal.returns-in-None
 returns-in-None c =

@@ -1,7 +1,6 @@
 use Rattle.std.proofs.Common.{[], map, subst, sym}
 use Rattle.std.proofs.lemmas.Result.{IfOk-weaker}
 use Rattle.ln_bound.specs.View.{typed}
-use Rattle.ln_code.specs.Part.{Code}
 use Rattle.ln_lower.specs.Lowered.{IsLoweredBlock}
 use Rattle.ln_lower.proofs.Operations.Sealed.{all_fit, root_fits, sealed}
 use Rattle.ln_lower.proofs.blocks.lowered.Goals as goal

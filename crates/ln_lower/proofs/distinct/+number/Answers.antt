@@ -5,7 +5,7 @@ use Rattle.ln_interval.specs.View.{range}
 use Rattle.ln_bound.specs.declared.fitted.Width.{Width}
 use Rattle.ln_bound.specs.Typed.{TNeg, TTwo, TPow, operation}
 use Rattle.ln_bound.specs.View.{typed}
-use Rattle.ln_bound.proofs.Trees.TypedOperands.{two_costs, two_typed}
+use Rattle.ln_bound.proofs.Trees.TypedOperands.{two_typed}
 use Rattle.ln_lower.proofs.Subtrees.Numbering.{numbered_neg, numbered_two, numbered_pow}
 use Rattle.ln_lower.proofs.distinct.+number.Goals as goal
 
@@ -17,24 +17,6 @@ returns-in_ok-a-in-Neg t c =
     IfOk-weaker c.noted-in-Neg.result _ _
     (λ k h. numbered_neg _ _ _ c.in_ok-a-in-Neg.a k (typed c.deref.result.now) (typed c.args.t.now)
     (record { range = p; width = w; is = e }) c.in_ok-a-in-Neg.ensures h) c.noted-in-Neg.ensures
-
-pub number-requires-in-Add : goal.number-requires-in-Add
-number-requires-in-Add t c =
-    let x = typed c.deref-in-Add.result.now in
-    let y = typed c.in-Add.y.value in
-    let e : typed c.args.t.now ≡ TTwo (operation (typed c.args.t.now)) x y (range c.args.t.now.pair) c.args.t.now.width =
-    rw c.deref-in-Add.ensures (two_typed c.args.t.now.op _ _ _ (typed c.in-Add.x.value) (typed c.in-Add.y.value)
-    (range c.args.t.now.pair) c.args.t.now.width c.in-Add.is refl refl refl) in
-    ((two_costs t (typed c.args.t.now) (operation (typed c.args.t.now)) x y (range c.args.t.now.pair) c.args.t.now.width e c.decreases).0, tt)
-
-pub number-requires-in-Add-2 : goal.number-requires-in-Add-2
-number-requires-in-Add-2 t c =
-    let x = typed c.deref-in-Add.result.now in
-    let y = typed c.deref-in-Add-2.result.now in
-    let e : typed c.args.t.now ≡ TTwo (operation (typed c.args.t.now)) x y (range c.args.t.now.pair) c.args.t.now.width =
-    rw (c.deref-in-Add.ensures, c.deref-in-Add-2.ensures) (two_typed c.args.t.now.op _ _ _ (typed c.in-Add.x.value) (typed c.in-Add.y.value)
-    (range c.args.t.now.pair) c.args.t.now.width c.in-Add.is refl refl refl) in
-    ((two_costs t (typed c.args.t.now) (operation (typed c.args.t.now)) x y (range c.args.t.now.pair) c.args.t.now.width e c.decreases).1, tt)
 
 pub returns-in_ok-b-in-Add : goal.returns-in_ok-b-in-Add
 returns-in_ok-b-in-Add t c =
