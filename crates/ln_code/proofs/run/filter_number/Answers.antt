@@ -1,22 +1,8 @@
 use Rattle.std.proofs.Common.{◌∙◌, FitsSigned, ap, length, rules}
 use Rattle.std.proofs.lemmas.Int.{to_z-of_z}
 use mir.Syntax.{w128}
-use Rattle.ln_code.proofs.Verdicts.Calls.{FilterCall, filter_answers, filter_gives, made_again}
+use Rattle.ln_code.proofs.Verdicts.Calls.{FilterCall, filter_gives, made_again}
 use Rattle.ln_code.proofs.run.filter_number.Goals as goal
-
-pub run_filter-requires-clause-answers : goal.run_filter-requires-clause-answers
-run_filter-requires-clause-answers c =
-    let call : FilterCall c.args.p.now c.args.f.now c.args.values.now c.ops.result.now c.triples.result.now c.as_mut_slice.result.now c.args.s.now = record {
-      program = c.requires.program;
-      made = c.requires.made;
-      row = c.requires.row;
-      filter_is = c.requires.filter;
-      ops_is = c.ops.ensures;
-      triples_is = c.triples.ensures.value;
-      stack_is = c.as_mut_slice.ensures.value;
-    } in
-    filter_answers c.args.p.now c.args.f.now c.args.values.now c.ops.result.now c.triples.result.now c.as_mut_slice.result.now
-    c.as_mut_slice-2.result.now c.args.s.now call
 
 pub returns-clause-value : goal.returns-clause-value
 returns-clause-value c =
