@@ -87,7 +87,6 @@ fn numbered_value(p: &Program, number: usize, values: &[i64], s: &mut Scratch) -
 }
 
 // The number that the filter of the program leaves on a row with these values.
-#[tactic(auto, using(crate::proofs::Verdicts::Calls::filter_answers))]
 fn filter_number(p: &Program, f: &FilterBlock, values: &[i64], s: &mut Scratch) -> i128
     requires program { IsProgram p.now }
     requires filter { p.now.filter ≡ Some f.now }
