@@ -94,10 +94,10 @@ again_code y is_number shares ns t k j h n kept are =
     kept_at (m ∷ ms) (u ∷ us) (suc i) a e = kept_at ms us i a.1 e
 
 -- a leaf, or a tree that is kept
-pub puts_leaf : {A B : Type 0} (told : A → B) (y : Style B) (is_number : ℕ → Typed → Type 0) (shares : Type 0) (a b : Draft A) (t : Typed)
-    (lines : List (Line B)) (c : Bool) (z : A) → ((kept : List Typed) → AreKeptNumbers is_number a.kept kept → IsCode y kept t lines [] c)
+pub puts_leaf : {A B : Type 0} {told : A → B} {y : Style B} {is_number : ℕ → Typed → Type 0} {shares : Type 0} {a b : Draft A} {t : Typed}
+    {lines : List (Line B)} (c : Bool) {z : A} → ((kept : List Typed) → AreKeptNumbers is_number a.kept kept → IsCode y kept t lines [] c)
     → Gives told a b lines (y.mark t) z → Puts told y is_number shares a b t z
-puts_leaf told y is_number shares a b t lines c z h g = record {
+puts_leaf {lines = lines} c h g = record {
   lines = lines;
   more = [];
   computed = c;
@@ -108,13 +108,11 @@ puts_leaf told y is_number shares a b t lines c z h g = record {
 }
 
 -- a variable
-pub puts_variable : {A B : Type 0} (told : A → B) (y : Style B) (is_number : ℕ → Typed → Type 0) (shares : Type 0) (a b : Draft A) (t : Typed)
-    (v : ℕ) (p : Range) (w : Width) (r x z : A) → t ≡ TInput v p w → told r ≡ y.raw t → told z ≡ y.mark t
+pub puts_variable : {A B : Type 0} {told : A → B} {y : Style B} {is_number : ℕ → Typed → Type 0} {shares : Type 0} {a b : Draft A} {t : Typed}
+    {v : ℕ} {p : Range} {w : Width} (r : A) {x : A} (z : A) → t ≡ TInput v p w → told r ≡ y.raw t → told z ≡ y.mark t
     → Gives told a b (with_division y (Input v) (told r)) (after_excess y (told r)) x → Puts told y is_number shares a b t z
-puts_variable told y is_number shares a b t v p w r x z e f h g =
-    let l : Wrote told a b (with_division y (Input v) (y.raw t)) [] = subst (λ c. Wrote told a b (with_division y (Input v) c) []) f g.wrote in
-    puts_leaf told y is_number shares a b t (with_division y (Input v) (y.raw t)) true z
-    (λ kept are. subst (λ u. IsCode y kept u (with_division y (Input v) (y.raw u)) [] true) (sym e) (variable v p w)) (record { bound = h; wrote = l })
+puts_variable {v = v} {p = p} {w = w} r z e f h g =
+    puts_leaf true (λ kept are. rw e (variable v p w)) (record { bound = h; wrote = rw f at g.wrote })
 
 -- numbers of trees in two lists, one after the other
 pub all_append : (is_number : ℕ → Typed → Type 0) (ms ns : List ℕ) (ts us : List Typed) → AreKeptNumbers is_number ms ts → AreKeptNumbers is_number ns us
@@ -132,13 +130,13 @@ all_length is_number (n ∷ ns) [] a = absurd a
 all_length is_number (n ∷ ns) (t ∷ ts) a = ap suc (all_length is_number ns ts a.1)
 
 -- ---- trees with operands
-module _ {A B : Type 0} (told : A → B) (y : Style B) (is_number : ℕ → Typed → Type 0) (shares : Type 0) where
+module _ {A B : Type 0} {told : A → B} {y : Style B} {is_number : ℕ → Typed → Type 0} {shares : Type 0} where
   -- what is computed may be kept
-  pub puts_kept : (a b c : Draft A) (t : Typed) (k : ℕ) (z : A) → is_number k t → told z ≡ y.mark t → MayKeep told y shares b c k (y.mark t)
+  pub puts_kept : {a b c : Draft A} {t : Typed} {k : ℕ} {z : A} → is_number k t → told z ≡ y.mark t → MayKeep told y shares b c k (y.mark t)
       → Done told y is_number shares a b t → Puts told y is_number shares a c t z
-  puts_kept a b c t k z s e (inl h) x =
+  puts_kept s e (inl h) x =
       record { lines = x.lines; more = x.more; computed = true; wrote = wrote_same x.wrote h; coded = x.coded; bound = e; none_kept = x.none_kept }
-  puts_kept a b c t k z s e (inr h) x = record {
+  puts_kept {a = a} {b = b} {t = t} {k = k} s e (inr h) x = record {
     lines = x.lines ++ keeping y.none (65 + length b.kept) (y.mark t);
     more = x.more ++ (k ∷ []);
     computed = false;
@@ -157,9 +155,9 @@ module _ {A B : Type 0} (told : A → B) (y : Style B) (is_number : ℕ → Type
           rw (← n) (record { new = q.new ++ (t ∷ []); are = all_append is_number x.more (k ∷ []) q.new (t ∷ []) q.are (s, tt); code = keep q.code })
 
   -- a negation is done by its operand and its operation
-  pub done_neg : (a b c : Draft A) (t u : Typed) (p : Range) (w : Width) (z x : A) → u ≡ TNeg t p w → Puts told y is_number shares a b t z
+  pub done_neg : {a b c : Draft A} {t u : Typed} {p : Range} {w : Width} {z x : A} → u ≡ TNeg t p w → Puts told y is_number shares a b t z
       → Gives told b c (line (Neg (y.at_width w)) (y.mark u) ∷ []) (y.mark u) x → Done told y is_number shares a c u
-  done_neg a b c t u p w z x e f g = rw e (record {
+  done_neg {t = t} {p = p} {w = w} e f g = rw e (record {
     lines = f.lines ++ (line (Neg (y.at_width w)) (y.mark (TNeg t p w)) ∷ []);
     more = f.more;
     wrote = wrote_more f.wrote (rw e at g.wrote);
@@ -168,10 +166,10 @@ module _ {A B : Type 0} (told : A → B) (y : Style B) (is_number : ℕ → Type
   })
 
   -- an operation on two is done by its operands, what divides the left one, and its operation
-  pub done_two : (a b c d e : Draft A) (o : Two) (t u v : Typed) (p : Range) (w : Width) (z x : A) → v ≡ TTwo o t u p w
+  pub done_two : {a b c d e : Draft A} {o : Two} {t u v : Typed} {p : Range} {w : Width} {z x : A} → v ≡ TTwo o t u p w
       → Puts told y is_number shares a b t z → Wrote told b c (after_left y o t u) [] → Puts told y is_number shares c d u x
       → Wrote told d e (after_right y o t u p w) [] → Done told y is_number shares a e v
-  done_two a b c d e o t u v p w z x q f l r h = rw q (record {
+  done_two {a = a} {b = b} {c = c} {o = o} {t = t} {u = u} {p = p} {w = w} q f l r h = rw q (record {
     lines = f.lines ++ (after_left y o t u ++ (r.lines ++ after_right y o t u p w));
     more = f.more ++ r.more;
     wrote = wrote_then f.wrote (wrote_then l (wrote_more r.wrote h));
@@ -188,9 +186,9 @@ module _ {A B : Type 0} (told : A → B) (y : Style B) (is_number : ℕ → Type
           record { new = q.new ++ s.new; are = all_append is_number f.more r.more q.new s.new q.are s.are; code = two o p w q.code s.code }
 
   -- the power 0 is done by the number 1
-  pub done_zeroth : (a b : Draft A) (t u : Typed) (p : Range) (w : Width) (x : A) → u ≡ TPow t 0 p w
+  pub done_zeroth : {a b : Draft A} {t u : Typed} {p : Range} {w : Width} {x : A} → u ≡ TPow t 0 p w
       → Gives told a b (line (Push (pos 1)) (y.mark u) ∷ []) (y.mark u) x → Done told y is_number shares a b u
-  done_zeroth a b t u p w x e g = rw e (record {
+  done_zeroth {t = t} {p = p} {w = w} e g = rw e (record {
     lines = line (Push (pos 1)) (y.mark (TPow t 0 p w)) ∷ [];
     more = [];
     wrote = rw e at g.wrote;
@@ -199,9 +197,9 @@ module _ {A B : Type 0} (told : A → B) (y : Style B) (is_number : ℕ → Type
   })
 
   -- any other power is done by its base and the factors after it
-  pub done_power : (a b c : Draft A) (t u : Typed) (n : ℕ) (p : Range) (w : Width) (z : A) → u ≡ TPow t (suc n) p w
+  pub done_power : {a b c : Draft A} {t u : Typed} {n : ℕ} {p : Range} {w : Width} {z : A} → u ≡ TPow t (suc n) p w
       → Puts told y is_number shares a b t z → Wrote told b c (power_of y t w n) [] → Done told y is_number shares a c u
-  done_power a b c t u n p w z e f h = rw e (record {
+  done_power {t = t} {n = n} {p = p} {w = w} e f h = rw e (record {
     lines = f.lines ++ power_of y t w n;
     more = f.more;
     wrote = wrote_more f.wrote h;
