@@ -1,16 +1,14 @@
 -- Drafts, one piece after the other.
-use Rattle.std.proofs.Common.{◌≡◌, ◌≢◌, ap₂, Bool, inl, inr, ℕ, true, false, ◌+◌, ◌≤◌, List, [], ◌∷◌, ◌++◌, length, map, refl, zero, suc, ap, arith}
-use Rattle.std.proofs.Common.{◌∙◌, sym, subst}
-use Rattle.std.proofs.Common.{append_assoc, append-nil}
+use Rattle.std.proofs.Common.{◌≡◌, ◌≢◌, ap₂, Bool, inl, inr, ℕ, true, false, ◌+◌, ◌≤◌, List, [], ◌∷◌, ◌++◌, length, map}
+use Rattle.std.proofs.Common.{refl, zero, suc, ap, arith, ◌∙◌, sym, subst, append_assoc, append-nil}
 use Rattle.std.specs.Prelude.{Some, slice_get, pos}
 use Rattle.ln_bound.specs.declared.fitted.Width.{Width}
 use Rattle.ln_bound.specs.declared.fitted.Two.{Two}
 use Rattle.ln_interval.specs.Range.{Range}
 use Rattle.ln_bound.specs.Typed.{Typed, TInput, TNeg, TPow, TTwo}
 use Rattle.ln_code.specs.Engine.{Line}
-use Rattle.ln_code.specs.StackCode.{IsCode, Style, after_left, after_right, again, factors, keep, keeping, line, name, number, opposite, power_of}
-use Rattle.ln_code.specs.StackCode.{raised, raised_to}
-use Rattle.ln_code.specs.StackCode.{two, variable, with_division, zeroth}
+use Rattle.ln_code.specs.StackCode.{IsCode, Style, after_left, after_right, again, factors, keep, keeping, line, name, number, opposite, power_of, raised}
+use Rattle.ln_code.specs.StackCode.{raised_to, two, variable, with_division, zeroth}
 use Rattle.ln_code.specs.Walk.{AreKeptNumbers, Coded, Done, Gives, KeptIn, MayKeep, Puts, Wrote, plain, told_line, after_excess}
 use Rattle.ln_code.specs.declared.draft.Draft.{Draft}
 use Rattle.ln_code.specs.declared.op.Op.TheVariants.{Get, Input, Mul, Neg, Push, Set}

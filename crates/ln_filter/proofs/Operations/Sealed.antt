@@ -202,11 +202,11 @@ filter_is p code f d e b =
     }
 
 -- where the lets and then the sign expression were written and nothing before them, what was written is the filter of the predicate
-pub sealed : (p : FittedPred) (a b c : Draft Triple) (ts : List Triple) (t : Triple) (code : FilterCode)
+pub sealed : (p : FittedPred) {a b c : Draft Triple} (ts : List Triple) (t : Triple) (code : FilterCode)
     → ((v : ℕ) → sizes p.shape.vars v < 2 ^ 63) → a.code ≡ []
     → LetsPut p.shape.vars 0 [] a b (map untyped (map typed p.lets)) (Some ts) → SteadyPut p.shape.vars ts b c (untyped (typed p.root)) (Some t)
     → code.depth ≡ 2048 → lines_of code.ops code.triples ≡ c.code → length code.ops ≡ length code.triples → Sealed (predicate_of p) code
-sealed p a b c ts t code narrow n l r d e k =
+sealed p {b = b} {c = c} ts t code narrow n l r d e k =
     let vars : List VarInfo = p.shape.vars in
     let ls : List Tree = map untyped (map typed p.lets) in
     let root : Tree = untyped (typed p.root) in
