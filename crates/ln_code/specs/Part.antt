@@ -1,5 +1,5 @@
 -- Parts: what a program is, and what one predicate of a listing is.
-use Rattle.std.specs.Prelude.{ℕ, ◌+◌, Bool, true, false, List, [], ◌∷◌, length, count_by, slice_get, Option, Some, None}
+use Rattle.std.specs.Prelude.{ℕ, ◌+◌, Bool, true, false, List, [], ◌∷◌, length, count_by, slice_get, Option, Some, None, ℤ}
 use Rattle.ln_interval.specs.Range.{Range}
 use Rattle.ln_tree.specs.Exps.{Pairs}
 use Rattle.ln_tree.specs.declared.shape.Shape.{Shape}
@@ -14,7 +14,6 @@ use Rattle.ln_code.specs.Numbers.{no_locals}
 use Rattle.ln_code.specs.Exact.{Held, exact, exact_filter}
 use Rattle.ln_code.specs.Rules.{Known, rules}
 use Rattle.ln_code.specs.FilterRules.{FilterKnown, filter_rules}
-use Rattle.std.specs.Prelude.{ℤ}
 
 -- a block: the exponents of its derivative, its operations, a range for each, and how deep its stack may be
 pub record Code : Type 0 where

@@ -1,11 +1,13 @@
 //! The operations of the processor, which check nothing.
 ghost use Rattle.std.specs.Prelude.{◌≡◌, ◌+◌, ◌-◌, ◌<◌, ◌≤◌, ◌∷◌, ◌==◌, if◌then◌else◌, ◌+ℤ◌, ◌-ℤ◌, ◌*ℤ◌, neg_ℤ, true, length};
+ghost use Rattle.ln_bound.specs.declared.fitted.Width.TheVariants.{W64};
 ghost use Rattle.ln_code.specs.Numbers.{result_of, cut_by, fits};
 ghost use Rattle.ln_code.specs.Memory.{at, seen, TwoReady};
 
 use ln_bound::{Two, Width};
 
 // Pushes a number onto the stack, whose top is `top`.
+#[tactic(auto, using(crate::proofs::Engines::Cells::seen_push))]
 pub(crate) fn push(stack: &mut [i128], top: usize, z: i128) -> usize
     requires { top < length stack.old }
     ensures next { result ≡ top + 1 }
@@ -16,6 +18,14 @@ pub(crate) fn push(stack: &mut [i128], top: usize, z: i128) -> usize
     top + 1
 }
 
+// A number that fits 64 bits.
+fn narrow(z: i128) -> i64
+    requires { fits W64 z ≡ true }
+    ensures { result ≡ z }
+{
+    z as i64
+}
+
 fn add(width: Width, x: i128, y: i128) -> i128
     requires left { fits width x ≡ true }
     requires right { fits width y ≡ true }
@@ -23,7 +33,7 @@ fn add(width: Width, x: i128, y: i128) -> i128
     ensures { result ≡ x +ℤ y }
 {
     match width {
-        Width::W64 => i128::from((x as i64) + (y as i64)),
+        Width::W64 => i128::from(narrow(x) + narrow(y)),
         Width::W128 => x + y,
     }
 }
@@ -35,7 +45,7 @@ fn subtract(width: Width, x: i128, y: i128) -> i128
     ensures { result ≡ x -ℤ y }
 {
     match width {
-        Width::W64 => i128::from((x as i64) - (y as i64)),
+        Width::W64 => i128::from(narrow(x) - narrow(y)),
         Width::W128 => x - y,
     }
 }
@@ -47,7 +57,7 @@ fn multiply(width: Width, x: i128, y: i128) -> i128
     ensures { result ≡ x *ℤ y }
 {
     match width {
-        Width::W64 => i128::from((x as i64) * (y as i64)),
+        Width::W64 => i128::from(narrow(x) * narrow(y)),
         Width::W128 => x * y,
     }
 }
@@ -57,7 +67,7 @@ fn negate(width: Width, x: i128) -> i128
     ensures { result ≡ neg_ℤ x }
 {
     match width {
-        Width::W64 => i128::from(-(x as i64)),
+        Width::W64 => i128::from(-narrow(x)),
         Width::W128 => -x,
     }
 }
@@ -76,6 +86,7 @@ fn combine(kind: Two, width: Width, x: i128, y: i128) -> i128
 }
 
 /// z divided by 2^n, towards 0.
+#[tactic(auto, using(crate::proofs::Filters::Cutting::cut_far, crate::proofs::Filters::Cutting::halved, crate::proofs::Filters::Cutting::negated_fits))]
 pub fn cut(z: i128, n: u8) -> i128
     ensures { result ≡ cut_by n z }
 {

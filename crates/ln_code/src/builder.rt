@@ -60,6 +60,7 @@ impl<B> Builder<B> {
 
 impl<B: Drop> Builder<B> {
     /// Appends an operation and its bound. Where the allocation fails, nothing is appended.
+    #[tactic(auto, using(crate::proofs::Lines::lines_snoc))]
     pub fn push(&mut self, op: Op, bound: B) -> Result<(), NoMemory>
         ensures ok { OnOk result (self.new ≡ self.old ++ line op bound ∷ []) }
         ensures err { OnErr result (self.new ≡ self.old) }

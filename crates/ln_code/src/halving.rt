@@ -10,6 +10,7 @@ pub fn shifted(h: u128, n: u32) -> u128
 }
 
 /// The error after a division by 2^n: the error divided by it, rounded up, and 1 for the division's own. With n = 0 it stays.
+#[tactic(auto, using(crate::proofs::Engines::Quotients::ceil_fits, crate::proofs::Engines::Quotients::unit_is))]
 pub fn error_after(n: u32, e: u64) -> u64
     ensures value { result ≡ error_after n e }
     ensures most { result ≤ e + 2 }

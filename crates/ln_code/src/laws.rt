@@ -6,6 +6,7 @@ ghost use Rattle.ln_code.specs.MachineLaw.{ListsAreStageLists, ProgramsRun, Rows
 /// On every row in range a block that follows the rules has a result, the value of the expression that it carries, and so each
 /// of its values stays in its pair and its width; a filter that follows them leaves a number near the value, and above its
 /// error the two have one sign.
+#[tactic(auto, using(crate::proofs::Following::Means::blocks_mean, crate::proofs::Following::Means::filters_mean))]
 pub fn rules_keep_values()
     ensures blocks { BlocksMean }
     ensures filters { FiltersMean }

@@ -15,6 +15,7 @@ fn value_of(values: &[i64], v: u8) -> i128
 }
 
 // One operation. What it needs is there, and what it makes fits. A number is pushed divided by 2^k.
+#[tactic(auto, using(crate::proofs::leads_push, crate::proofs::leads_input, crate::proofs::leads_get, crate::proofs::two_leads, crate::proofs::cut_leads))]
 fn apply(
     op: Op,
     k: u8,
@@ -46,6 +47,7 @@ fn apply(
 }
 
 // Runs the operations of a block from an empty stack.
+#[tactic(auto, using(crate::proofs::Engines::Ends::block_ends))]
 pub(crate) fn run_block(ops: &[Op], values: &[i64], stack: &mut [i128], locals: &mut [i128]) -> i128
     requires locals { 256 ≤ length locals.old }
     requires answers { IsSome (bare_value (plain ops.now) values.now stack.old locals.old) }
@@ -61,6 +63,7 @@ pub(crate) fn run_block(ops: &[Op], values: &[i64], stack: &mut [i128], locals: 
 }
 
 // Runs the operations of a filter from an empty stack.
+#[tactic(auto, using(crate::proofs::Engines::Ends::filter_ends))]
 pub(crate) fn run_filter(
     ops: &[Op],
     triples: &[Triple],

@@ -134,6 +134,7 @@ impl Program {
     }
 
     // The list of the order of the arguments.
+    #[tactic(auto, using(crate::proofs::OneOrder::turn_end, crate::proofs::OneOrder::turn_next))]
     fn list_in_turn(&self, alloc: Global) -> Result<Vec<u32>, NoMemory>
         ensures { IfOk result (λ v. v.items ≡ list_in_turn self.now) }
     {

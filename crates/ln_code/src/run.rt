@@ -160,6 +160,7 @@ fn next_site(o: &Order, j: u8, indices: &[i64]) -> Order
 
 // Runs the segments of the row's order until a block isn't 0, after `entered` calls. A site is found only where all blocks of the
 // segment before it are 0.
+#[tactic(auto, using(ln_tree::proofs::KeptLemmas::laid_out))]
 fn run_segments(
     p: &Program,
     indices: &[i64],
@@ -248,6 +249,7 @@ fn run_through(p: &Program, indices: &[i64], values: &[i64], s: &mut Scratch) ->
 /// Returns the verdict on a row in range, by a scratch made for the program: exactly that of the machine over integers. Where the filter
 /// decides, that is one call and no operation in 128 bits. A site of the row's order is looked for only where all blocks before it are 0. It
 /// allocates nothing and refuses nothing.
+#[tactic(auto, using(ln_tree::proofs::KeptLemmas::few_vars))]
 pub fn run_row(p: &Program, s: &mut Scratch, r: &Row) -> Verdict
     requires made { MadeFor p.now s.old }
     requires row { InRange p.now.shape.sites p.now.shape.vars (row_of p.now.shape.sites p.now.shape.vars r.now) }
@@ -262,6 +264,7 @@ pub fn run_row(p: &Program, s: &mut Scratch, r: &Row) -> Verdict
 
 /// Returns the value of a block of the program on a row in range, by a scratch made for the program: exactly that of the machine over integers.
 /// No filter is asked. It allocates nothing.
+#[tactic(auto, using(ln_tree::proofs::KeptLemmas::few_vars))]
 pub fn block_value(b: &Block, p: &Program, s: &mut Scratch, r: &Row) -> i128
     requires block { Contains p.now.blocks b.now }
     requires made { MadeFor p.now s.old }

@@ -15,6 +15,7 @@ pub struct Scratch {
 }
 
 // The larger depth of a block and of those before it.
+#[tactic(auto, using(crate::proofs::Engines::Depths::deeper))]
 fn deepest(blocks: &[Block]) -> u32
     ensures { All (λ c. c.depth ≤ result) blocks.now }
 {

@@ -226,6 +226,7 @@ fn keep<M: Marks>(draft: &mut Draft<M::Bound>, m: &M, k: usize, b: M::Bound) -> 
 }
 
 // The end of a tree that is computed: its value may be kept.
+#[tactic(auto, using(crate::proofs::Building::Walks::puts_kept))]
 fn put_kept<M: Marks>(
     draft: &mut Draft<M::Bound>,
     m: &M,

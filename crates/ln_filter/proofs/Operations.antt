@@ -5,7 +5,6 @@ pub mod Meaning
 pub mod Nodes
 pub mod Leaves
 pub mod Costs
-pub mod Operands
 pub mod Marks
 pub mod Writes
 pub mod Sealed

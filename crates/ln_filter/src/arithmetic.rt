@@ -25,6 +25,7 @@ pub(crate) struct Raw {
 }
 
 /// By which power of 2 a number up to `n` is divided so that 31 binary digits remain.
+#[tactic(auto, using(crate::proofs::Truncation::Bits::bits_by_zeros))]
 pub(crate) fn excess(n: u128) -> u32
     ensures value { result ≡ excess n }
     ensures most { result ≤ 97 }
@@ -53,6 +54,7 @@ pub(crate) fn whole(m: u128) -> Raw
 }
 
 /// The triple of a number up to `m`, which may be divided so that 31 binary digits remain.
+#[tactic(auto, using(crate::proofs::Truncation::Bits::excess_leaves))]
 pub(crate) fn leaf(m: u128) -> Triple
     ensures value { result ≡ leaf m }
     ensures small { IsSmall result }
@@ -66,6 +68,7 @@ pub(crate) fn leaf(m: u128) -> Triple
 }
 
 // The triple after the cut to 31 binary digits, or none where its error or its exponent is too large.
+#[tactic(auto, using(crate::proofs::Truncation::Bits::excess_leaves))]
 fn trimmed(r: Raw) -> Option<Triple>
     requires { r.k ≤ 1000 }
     ensures value { result ≡ settled (trimmed (of_raw r)) }

@@ -13,6 +13,7 @@ use ln_code::{Draft, Op, Triple, put_tree};
 use ln_tree::VarInfo;
 
 /// The operations of a tree after lets of these triples, and its triple; none where one of its nodes isn't steady.
+#[tactic(auto, using(crate::proofs::Truncation::Steady::tried_steady, crate::proofs::Truncation::Steady::triple_small))]
 pub(crate) fn put_steady(
     draft: &mut Draft<Triple>,
     vars: &[VarInfo],
@@ -34,6 +35,7 @@ pub(crate) fn put_steady(
 
 /// The operations of the lets from number j on, each into the local of its number, and the triples of all lets; none where a node
 /// isn't steady.
+#[tactic(auto, using(crate::proofs::Operations::Writes::lets_more, crate::proofs::Slices::first_rest))]
 pub(crate) fn put_lets(
     draft: &mut Draft<Triple>,
     vars: &[VarInfo],

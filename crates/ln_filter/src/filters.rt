@@ -22,6 +22,7 @@ use ln_code::{Draft, FilterBlock};
 use std::alloc::Global;
 
 // The filter, or none, with all that is known of it.
+#[tactic(auto, using(crate::proofs::Truncation::Steady::no_lets_filter, crate::proofs::Truncation::Steady::no_root_filter))]
 fn written(alloc: Global, p: &FittedPred) -> Result<Option<FilterBlock>, NoMemory>
     ensures { IfOk result (λ o. IsPlan p.now.shape.vars (map typed p.now.lets) (typed p.now.root) o) }
 {

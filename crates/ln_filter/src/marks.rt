@@ -67,6 +67,7 @@ impl<'a> Marks for Scope<'a> {
         Width::W64
     }
 
+    #[tactic(auto, using(crate::proofs::Truncation::Steady::steady_tried))]
     fn mark(&self, t: &Fitted) -> Triple {
         match tried(self.vars, self.lets, t) {
             Some(a) => a,

@@ -1,5 +1,4 @@
 -- Equal subtrees, kept in locals.
 pub mod KeyLaws
 pub mod Bounding
-pub mod Roots
 pub mod Numbering

@@ -63,6 +63,7 @@ fn put_let(
 }
 
 // The operations of the lets, whose subtrees have these numbers, each into the local of its own number.
+#[tactic(auto, using(crate::proofs::Subtrees::Numbering::stands_at, crate::proofs::Operations::Writes::no_lets_put))]
 fn put_lets(
     draft: &mut Draft<Pair>,
     distinct: &Distinct,
@@ -131,6 +132,7 @@ fn finished(alloc: Global, a: &Exps, code: Built<Pair>) -> Result<Block, NoMemor
 }
 
 // The block of a tree with its lets, and what is known of it.
+#[tactic(auto, using(crate::proofs::Operations::Sealed::all_fit, crate::proofs::Operations::Sealed::root_fits))]
 fn lowered(
     alloc: Global,
     a: &Exps,

@@ -41,6 +41,7 @@ impl Keys {
     }
 
     /// The number of a subtree, a new one where it isn't there, and whether it is new.
+    #[tactic(auto, using(crate::proofs::Subtrees::KeyLaws::key_added))]
     pub(crate) fn insert(&mut self, key: Key) -> Result<(usize, bool), NoMemory>
         ensures { IfOk result (λ r. Added self.old self.new r.0 key) }
     {

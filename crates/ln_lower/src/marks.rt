@@ -54,18 +54,22 @@ impl Marks for Distinct {
         w
     }
 
+    #[tactic(auto, using(ln_bound::proofs::Trees::Views::pair_typed))]
     fn mark(&self, t: &Fitted) -> Pair {
         t.pair
     }
 
+    #[tactic(auto, using(ln_bound::proofs::Trees::Views::pair_typed))]
     fn left(&self, t: &Fitted, _b: Pair) -> Pair {
         t.pair
     }
 
+    #[tactic(auto, using(ln_bound::proofs::Trees::Views::pair_typed))]
     fn input(&self, t: &Fitted, _v: u8) -> Pair {
         t.pair
     }
 
+    #[tactic(auto, using(ln_bound::proofs::Trees::Views::pair_typed))]
     fn two(&self, t: &Fitted, _x: &Fitted, _y: &Fitted, _a: Pair, _b: Pair) -> Pair {
         t.pair
     }
@@ -94,6 +98,7 @@ impl Marks for Distinct {
         Distinct::right(self, k)
     }
 
+    #[tactic(auto, using(crate::proofs::Subtrees::Numbering::unique))]
     fn is_shared(&self, k: usize) -> bool {
         Distinct::is_shared(self, k)
     }

@@ -10,10 +10,9 @@ use Rattle.ln_bound.specs.declared.fitted.Two.TheVariants.{Plus, Minus, Times}
 use Rattle.ln_code.specs.declared.op.Op.TheVariants.{Get, Input, Mul, Neg, Push, Set}
 use Rattle.ln_code.specs.Engine.{Line, State, next, op_of, pushed, step}
 use Rattle.ln_code.specs.Numbers.{no_locals, with_local}
-use Rattle.ln_code.specs.StackCode.{AreCode, IsCode, IsCodeIn, Style, after_left, division}
-use Rattle.ln_code.specs.StackCode.{factors, keeping, after_right, line, power_of, raised_to, with_division}
+use Rattle.ln_code.specs.StackCode.{AreCode, IsCode, IsCodeIn, Style, after_left, division, factors, keeping, after_right, line, power_of, raised_to}
+use Rattle.ln_code.specs.StackCode.{with_division, again, keep, name, number, opposite, raised, two, variable, zeroth, more, none}
 use Rattle.ln_code.specs.Kept.{stores}
-use Rattle.ln_code.specs.StackCode.{again, keep, name, number, opposite, raised, two, variable, zeroth, more, none}
 use Rattle.ln_code.proofs.Following.NodeLists.{need_positive}
 use Rattle.ln_code.proofs.Building.Names.{NamesBelow}
 use Rattle.ln_code.proofs.Building.Runs.{Cuts, Is, IsMachine, Leaves, Locals, Meaning, Runs, Trims, cuts_leave, get_leaves, is_pushed}

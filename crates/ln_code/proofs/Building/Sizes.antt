@@ -8,9 +8,8 @@ use Rattle.ln_bound.specs.Typed.{Typed, TNum, TInput, TLet, TNeg, TTwo, TPow, co
 use Rattle.ln_code.specs.declared.op.Op.TheVariants.{Mul, Neg, Set}
 use Rattle.ln_code.specs.Engine.{Line, op_of}
 use Rattle.ln_code.specs.Kept.{StoresHave}
-use Rattle.ln_code.specs.StackCode.{AreCode, IsCode, IsCodeIn, Style, after_left, division}
-use Rattle.ln_code.specs.StackCode.{factors, keeping, after_right, line, power_of, raised_to, with_division}
-use Rattle.ln_code.specs.StackCode.{again, keep, name, number, opposite, raised, two, variable, zeroth, more, none}
+use Rattle.ln_code.specs.StackCode.{AreCode, IsCode, IsCodeIn, Style, after_left, division, factors, keeping, after_right, line, power_of, raised_to}
+use Rattle.ln_code.specs.StackCode.{with_division, again, keep, name, number, opposite, raised, two, variable, zeroth, more, none}
 
 -- ---- how many
 

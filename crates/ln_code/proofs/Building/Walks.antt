@@ -1,16 +1,14 @@
 -- Drafts, one piece after the other.
-use Rattle.std.proofs.Common.{◌≡◌, ◌≢◌, ap₂, Bool, inl, inr, ℕ, true, false, ◌+◌, ◌≤◌, List, [], ◌∷◌, ◌++◌, length, map, refl, zero, suc, ap, arith}
-use Rattle.std.proofs.Common.{◌∙◌, sym, subst}
-use Rattle.std.proofs.Common.{append_assoc, append-nil}
+use Rattle.std.proofs.Common.{◌≡◌, ◌≢◌, ap₂, Bool, inl, inr, ℕ, true, false, ◌+◌, ◌≤◌, List, [], ◌∷◌, ◌++◌, length, map}
+use Rattle.std.proofs.Common.{refl, zero, suc, ap, arith, ◌∙◌, sym, subst, append_assoc, append-nil}
 use Rattle.std.specs.Prelude.{Some, slice_get, pos}
 use Rattle.ln_bound.specs.declared.fitted.Width.{Width}
 use Rattle.ln_bound.specs.declared.fitted.Two.{Two}
 use Rattle.ln_interval.specs.Range.{Range}
 use Rattle.ln_bound.specs.Typed.{Typed, TInput, TNeg, TPow, TTwo}
 use Rattle.ln_code.specs.Engine.{Line}
-use Rattle.ln_code.specs.StackCode.{IsCode, Style, after_left, after_right, again, factors, keep, keeping, line, name, number, opposite, power_of}
-use Rattle.ln_code.specs.StackCode.{raised, raised_to}
-use Rattle.ln_code.specs.StackCode.{two, variable, with_division, zeroth}
+use Rattle.ln_code.specs.StackCode.{IsCode, Style, after_left, after_right, again, factors, keep, keeping, line, name, number, opposite, power_of, raised}
+use Rattle.ln_code.specs.StackCode.{raised_to, two, variable, with_division, zeroth}
 use Rattle.ln_code.specs.Walk.{AreKeptNumbers, Coded, Done, Gives, KeptIn, MayKeep, Puts, Wrote, plain, told_line, after_excess}
 use Rattle.ln_code.specs.declared.draft.Draft.{Draft}
 use Rattle.ln_code.specs.declared.op.Op.TheVariants.{Get, Input, Mul, Neg, Push, Set}
@@ -36,13 +34,6 @@ pub wrote_same : {A B : Type 0} {told : A → B} {a b c : Draft A} {l : List (Li
     → Wrote told a c l p
 wrote_same {told = told} {a = a} {c = c} {l = l} {p = p} v w = subst (λ n. Wrote told a c n p) (append-nil l) (wrote_more v w)
 
--- where nothing is put the bound stays
-pub nothing_put : {A B : Type 0} (told : A → B) (a : Draft A) (want : B) (z : A) → told z ≡ want → Gives told a a [] want z
-nothing_put told a want z e = record {
-  bound = e;
-  wrote = record { code = sym (append-nil (map (told_line told) a.code)); kept = sym (append-nil a.kept) };
-}
-
 -- ---- powers
 
 -- one factor more at the end
@@ -62,11 +53,6 @@ Raises told y t w j a b z =
     Gives told a b (line (Set 64) y.none ∷ (line (Get 64) (y.mark t) ∷ factors y t w 1 j)) (y.mark (raised_to t (suc j) w)) z
 
 module _ {A B : Type 0} (told : A → B) (y : Style B) (t : Typed) (w : Width) where
-  -- before the first factor
-  pub raises_first : (a b c : Draft A) (o z : A) → told o ≡ y.none → told z ≡ y.mark t → y.mark (raised_to t 1 w) ≡ y.mark t
-      → Wrote told a b (line (Set 64) (told o) ∷ []) [] → Wrote told b c (line (Get 64) (told z) ∷ []) [] → Raises told y t w 0 a c z
-  raises_first a b c o z e f q v u = record { bound = f ∙ sym q; wrote = rw (e, f) at (wrote_then v u) }
-
   -- one factor more
   pub raises_next : (a b c : Draft A) (j : ℕ) (r p z x : A) → told r ≡ y.mark t → told p ≡ y.raw (raised_to t (suc (j + 1)) w)
       → (1 ≤ suc j → y.mark (raised_to t (suc (suc j)) w) ≡ after_excess y (y.raw (raised_to t (suc (suc j)) w))) → Raises told y t w j a b z
@@ -106,10 +92,10 @@ again_code y is_number shares ns t k j h n kept are =
     kept_at (m ∷ ms) (u ∷ us) (suc i) a e = kept_at ms us i a.1 e
 
 -- a leaf, or a tree that is kept
-pub puts_leaf : {A B : Type 0} (told : A → B) (y : Style B) (is_number : ℕ → Typed → Type 0) (shares : Type 0) (a b : Draft A) (t : Typed)
-    (lines : List (Line B)) (c : Bool) (z : A) → ((kept : List Typed) → AreKeptNumbers is_number a.kept kept → IsCode y kept t lines [] c)
+pub puts_leaf : {A B : Type 0} {told : A → B} {y : Style B} {is_number : ℕ → Typed → Type 0} {shares : Type 0} {a b : Draft A} {t : Typed}
+    {lines : List (Line B)} (c : Bool) {z : A} → ((kept : List Typed) → AreKeptNumbers is_number a.kept kept → IsCode y kept t lines [] c)
     → Gives told a b lines (y.mark t) z → Puts told y is_number shares a b t z
-puts_leaf told y is_number shares a b t lines c z h g = record {
+puts_leaf {lines = lines} c h g = record {
   lines = lines;
   more = [];
   computed = c;
@@ -120,13 +106,11 @@ puts_leaf told y is_number shares a b t lines c z h g = record {
 }
 
 -- a variable
-pub puts_variable : {A B : Type 0} (told : A → B) (y : Style B) (is_number : ℕ → Typed → Type 0) (shares : Type 0) (a b : Draft A) (t : Typed)
-    (v : ℕ) (p : Range) (w : Width) (r x z : A) → t ≡ TInput v p w → told r ≡ y.raw t → told z ≡ y.mark t
+pub puts_variable : {A B : Type 0} {told : A → B} {y : Style B} {is_number : ℕ → Typed → Type 0} {shares : Type 0} {a b : Draft A} {t : Typed}
+    {v : ℕ} {p : Range} {w : Width} (r : A) {x : A} (z : A) → t ≡ TInput v p w → told r ≡ y.raw t → told z ≡ y.mark t
     → Gives told a b (with_division y (Input v) (told r)) (after_excess y (told r)) x → Puts told y is_number shares a b t z
-puts_variable told y is_number shares a b t v p w r x z e f h g =
-    let l : Wrote told a b (with_division y (Input v) (y.raw t)) [] = subst (λ c. Wrote told a b (with_division y (Input v) c) []) f g.wrote in
-    puts_leaf told y is_number shares a b t (with_division y (Input v) (y.raw t)) true z
-    (λ kept are. subst (λ u. IsCode y kept u (with_division y (Input v) (y.raw u)) [] true) (sym e) (variable v p w)) (record { bound = h; wrote = l })
+puts_variable {v = v} {p = p} {w = w} r z e f h g =
+    puts_leaf true (λ kept are. rw e (variable v p w)) (record { bound = h; wrote = rw f at g.wrote })
 
 -- numbers of trees in two lists, one after the other
 pub all_append : (is_number : ℕ → Typed → Type 0) (ms ns : List ℕ) (ts us : List Typed) → AreKeptNumbers is_number ms ts → AreKeptNumbers is_number ns us
@@ -144,13 +128,13 @@ all_length is_number (n ∷ ns) [] a = absurd a
 all_length is_number (n ∷ ns) (t ∷ ts) a = ap suc (all_length is_number ns ts a.1)
 
 -- ---- trees with operands
-module _ {A B : Type 0} (told : A → B) (y : Style B) (is_number : ℕ → Typed → Type 0) (shares : Type 0) where
+module _ {A B : Type 0} {told : A → B} {y : Style B} {is_number : ℕ → Typed → Type 0} {shares : Type 0} where
   -- what is computed may be kept
-  pub puts_kept : (a b c : Draft A) (t : Typed) (k : ℕ) (z : A) → is_number k t → told z ≡ y.mark t → MayKeep told y shares b c k (y.mark t)
+  pub puts_kept : {a b c : Draft A} {t : Typed} {k : ℕ} {z : A} → is_number k t → told z ≡ y.mark t → MayKeep told y shares b c k (y.mark t)
       → Done told y is_number shares a b t → Puts told y is_number shares a c t z
-  puts_kept a b c t k z s e (inl h) x =
+  puts_kept s e (inl h) x =
       record { lines = x.lines; more = x.more; computed = true; wrote = wrote_same x.wrote h; coded = x.coded; bound = e; none_kept = x.none_kept }
-  puts_kept a b c t k z s e (inr h) x = record {
+  puts_kept {a = a} {b = b} {t = t} {k = k} s e (inr h) x = record {
     lines = x.lines ++ keeping y.none (65 + length b.kept) (y.mark t);
     more = x.more ++ (k ∷ []);
     computed = false;
@@ -169,9 +153,9 @@ module _ {A B : Type 0} (told : A → B) (y : Style B) (is_number : ℕ → Type
           rw (← n) (record { new = q.new ++ (t ∷ []); are = all_append is_number x.more (k ∷ []) q.new (t ∷ []) q.are (s, tt); code = keep q.code })
 
   -- a negation is done by its operand and its operation
-  pub done_neg : (a b c : Draft A) (t u : Typed) (p : Range) (w : Width) (z x : A) → u ≡ TNeg t p w → Puts told y is_number shares a b t z
+  pub done_neg : {a b c : Draft A} {t u : Typed} {p : Range} {w : Width} {z x : A} → u ≡ TNeg t p w → Puts told y is_number shares a b t z
       → Gives told b c (line (Neg (y.at_width w)) (y.mark u) ∷ []) (y.mark u) x → Done told y is_number shares a c u
-  done_neg a b c t u p w z x e f g = rw e (record {
+  done_neg {t = t} {p = p} {w = w} e f g = rw e (record {
     lines = f.lines ++ (line (Neg (y.at_width w)) (y.mark (TNeg t p w)) ∷ []);
     more = f.more;
     wrote = wrote_more f.wrote (rw e at g.wrote);
@@ -180,10 +164,10 @@ module _ {A B : Type 0} (told : A → B) (y : Style B) (is_number : ℕ → Type
   })
 
   -- an operation on two is done by its operands, what divides the left one, and its operation
-  pub done_two : (a b c d e : Draft A) (o : Two) (t u v : Typed) (p : Range) (w : Width) (z x : A) → v ≡ TTwo o t u p w
+  pub done_two : {a b c d e : Draft A} {o : Two} {t u v : Typed} {p : Range} {w : Width} {z x : A} → v ≡ TTwo o t u p w
       → Puts told y is_number shares a b t z → Wrote told b c (after_left y o t u) [] → Puts told y is_number shares c d u x
       → Wrote told d e (after_right y o t u p w) [] → Done told y is_number shares a e v
-  done_two a b c d e o t u v p w z x q f l r h = rw q (record {
+  done_two {a = a} {b = b} {c = c} {o = o} {t = t} {u = u} {p = p} {w = w} q f l r h = rw q (record {
     lines = f.lines ++ (after_left y o t u ++ (r.lines ++ after_right y o t u p w));
     more = f.more ++ r.more;
     wrote = wrote_then f.wrote (wrote_then l (wrote_more r.wrote h));
@@ -200,9 +184,9 @@ module _ {A B : Type 0} (told : A → B) (y : Style B) (is_number : ℕ → Type
           record { new = q.new ++ s.new; are = all_append is_number f.more r.more q.new s.new q.are s.are; code = two o p w q.code s.code }
 
   -- the power 0 is done by the number 1
-  pub done_zeroth : (a b : Draft A) (t u : Typed) (p : Range) (w : Width) (x : A) → u ≡ TPow t 0 p w
+  pub done_zeroth : {a b : Draft A} {t u : Typed} {p : Range} {w : Width} {x : A} → u ≡ TPow t 0 p w
       → Gives told a b (line (Push (pos 1)) (y.mark u) ∷ []) (y.mark u) x → Done told y is_number shares a b u
-  done_zeroth a b t u p w x e g = rw e (record {
+  done_zeroth {t = t} {p = p} {w = w} e g = rw e (record {
     lines = line (Push (pos 1)) (y.mark (TPow t 0 p w)) ∷ [];
     more = [];
     wrote = rw e at g.wrote;
@@ -211,9 +195,9 @@ module _ {A B : Type 0} (told : A → B) (y : Style B) (is_number : ℕ → Type
   })
 
   -- any other power is done by its base and the factors after it
-  pub done_power : (a b c : Draft A) (t u : Typed) (n : ℕ) (p : Range) (w : Width) (z : A) → u ≡ TPow t (suc n) p w
+  pub done_power : {a b c : Draft A} {t u : Typed} {n : ℕ} {p : Range} {w : Width} {z : A} → u ≡ TPow t (suc n) p w
       → Puts told y is_number shares a b t z → Wrote told b c (power_of y t w n) [] → Done told y is_number shares a c u
-  done_power a b c t u n p w z e f h = rw e (record {
+  done_power {t = t} {n = n} {p = p} {w = w} e f h = rw e (record {
     lines = f.lines ++ power_of y t w n;
     more = f.more;
     wrote = wrote_more f.wrote h;

@@ -1,12 +1,11 @@
 -- Where a run of the processor ends.
-use Rattle.std.proofs.Common.{◌≡◌, ℕ, ℤ, ◌+◌, ◌≤◌, ◌<◌, true, List, [], ◌∷◌, length, drop, drop-cons, refl, zero, suc, ap, arith, add-one}
+use Rattle.std.proofs.Common.{◌≡◌, ℕ, ℤ, ◌≤◌, true, List, [], length, drop, refl, zero, suc, ap}
 use Rattle.std.proofs.lemmas.List.{drop_all}
-use Rattle.std.specs.Prelude.{Some, is_some, IsSome, slice_index_or}
+use Rattle.std.specs.Prelude.{Some, is_some, IsSome}
 use Rattle.ln_code.specs.declared.op.Op.{Op}
 use Rattle.ln_code.specs.declared.op.Triple.{Triple}
-use Rattle.ln_code.specs.Engine.{Engine, Line, State, step, run, only, answer}
+use Rattle.ln_code.specs.Engine.{Engine, Line, run, only, answer}
 use Rattle.ln_code.specs.Memory.{seen, at, plain, shifted}
-use Rattle.ln_code.proofs.Engines.Steps.{next_is_some}
 
 only_seen : (buf : List ℤ) (top : ℕ) → is_some (only (seen buf top)) ≡ true → only (seen buf top) ≡ Some (at buf 0)
 only_seen buf zero h = cc
@@ -38,27 +37,3 @@ filter_ends e ops ts i buf top l m h r a =
     let d : drop i ops ≡ [] = drop_all i ops h in
     let f : shifted (drop i ops) (drop i ts) ≡ [] = rw d refl in
     ends e (shifted (drop i ops) (drop i ts)) (shifted ops ts) buf top l m f r a
-
--- the first line of those that remain
-pub plain_at : (ops : List Op) (i : ℕ) (o : Op) → i < length ops →
-    plain (drop i ops) ≡ record { op = slice_index_or ops i o; bound = 0 } ∷ plain (drop (i + 1) ops)
-plain_at ops i o h = rw (add-one, drop-cons ops i o h) refl
-
--- the same of a filter
-pub shifted_at : (ops : List Op) (ts : List Triple) (i : ℕ) (o : Op) (a : Triple) → length ops ≡ length ts → i < length ops →
-    shifted (drop i ops) (drop i ts) ≡ record { op = slice_index_or ops i o; bound = (slice_index_or ts i a).k } ∷ shifted (drop (i + 1) ops) (drop (i + 1) ts)
-shifted_at ops ts i o a e h = let k : i < length ts = omega arith in rw (add-one, drop-cons ops i o h, drop-cons ts i a k) refl
-
--- where the run has a result, its next operation has one
-pub leads_on : (e : Engine ℕ ℤ (ℕ → ℤ)) (o : Op) (k : ℕ) (now rest lines : List (Line ℕ)) (s : List ℤ) (m l : ℕ → ℤ) →
-    now ≡ record { op = o; bound = k } ∷ rest → run e now (record { stack = s; locals = m }) ≡ run e lines (record { stack = []; locals = l }) →
-    IsSome (answer e l lines) → IsSome (step e o k m s)
-leads_on e o k now rest lines s m l d r a =
-    let q : is_some (run e now (record { stack = s; locals = m })) ≡ true = rw r (next_is_some _ _ a) in
-    next_is_some _ _ (rw d at q)
-
--- the run goes on after its next operation
-pub goes_on : (e : Engine ℕ ℤ (ℕ → ℤ)) (o : Op) (k : ℕ) (now rest lines : List (Line ℕ)) (s : List ℤ) (m l : ℕ → ℤ) (t : State ℤ (ℕ → ℤ)) →
-    now ≡ record { op = o; bound = k } ∷ rest → run e now (record { stack = s; locals = m }) ≡ run e lines (record { stack = []; locals = l }) →
-    step e o k m s ≡ Some t → run e rest t ≡ run e lines (record { stack = []; locals = l })
-goes_on e o k now rest lines s m l t d r q = rw (d, q) at r

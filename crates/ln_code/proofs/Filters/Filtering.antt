@@ -1,8 +1,7 @@
 -- What the machine does after a filter.
-use Rattle.std.proofs.Common.{◌≡◌, ◌∙◌, ap, sym, ℕ, ◌<◌, ◌≤◌, true, false, ltb, List, refl, arith, unsigned_abs, ℤ}
+use Rattle.std.proofs.Common.{◌≡◌, ℕ, ◌<◌, ◌≤◌, true, false, ltb, List, refl, arith, unsigned_abs, ℤ}
 use Rattle.std.specs.Prelude.{Option, Some}
 use Rattle.std.proofs.lemmas.Bool.Decides.{nat_tests}
-use Rattle.ln_base.specs.declared.sign.Sign.{Sign}
 use Rattle.ln_code.specs.declared.verdict.Verdict.{Verdict}
 use Rattle.ln_code.specs.declared.verdict.By.TheVariants.{Filter}
 use Rattle.ln_code.specs.Exact.{Held}
@@ -22,22 +21,3 @@ decides-above left rest h = let t : ltb left.error (unsigned_abs left.number) �
 -- within it the blocks do
 pub decides-within : (left : Held) (rest : Option Verdict) → unsigned_abs left.number ≤ left.error → decides left rest ≡ rest
 decides-within left rest h = let t : ltb left.error (unsigned_abs left.number) ≡ false = grind (arith, nat_tests) in rw t refl
-
--- the same of a program's parts: the number n remains, whose absolute value is a, with the error e
-pub filtered-above : (zs : List ℤ) (c : FilterCode) (n : ℤ) (a e : ℕ) (s : Sign) (blocks : List Code) (list : List ℕ)
-    → filter_value zs c ≡ Some (record { number = n; error = e }) → a ≡ unsigned_abs n → e < a → s ≡ sign_of n
-    → through (Some c) zs blocks list ≡ Some (record { sign = s; by = Filter; wide = 0; calls = 1 })
-filtered-above zs c n a e s blocks list h p q t =
-    let left : Held = record { number = n; error = e } in
-    let above : e < unsigned_abs n = rw (← p) q in
-    through-decides zs c left blocks list h ∙ decides-above left _ above
-    ∙ ap (λ (x : Sign). Some (record { sign = x; by = Filter; wide = 0; calls = 1 })) (sym t)
-
--- within its error the filter leaves the verdict to the blocks
-pub filtered-within : (zs : List ℤ) (c : FilterCode) (n : ℤ) (a e : ℕ) (v : Verdict) (blocks : List Code) (list : List ℕ)
-    → filter_value zs c ≡ Some (record { number = n; error = e }) → a ≡ unsigned_abs n → a ≤ e → along zs blocks list 0 0 1 ≡ Some v
-    → through (Some c) zs blocks list ≡ Some v
-filtered-within zs c n a e v blocks list h p q t =
-    let left : Held = record { number = n; error = e } in
-    let within : unsigned_abs n ≤ e = rw (← p) q in
-    through-decides zs c left blocks list h ∙ decides-within left _ within ∙ t

@@ -6,7 +6,7 @@ use Rattle.ln_algebra.specs.Tree.{Tree, Pow, inlined, inlined_after}
 use Rattle.ln_bound.specs.declared.fitted.Width.{Width}
 use Rattle.ln_bound.specs.declared.fitted.Two.TheVariants.{Plus, Minus, Times}
 use Rattle.ln_bound.specs.Typed.{Typed, TNum, TInput, TLet, TNeg, TTwo, TPow, need, untyped, width}
-use Rattle.ln_code.specs.Nodes.{IsLetNode, IsNode, IsNodeOf}
+use Rattle.ln_code.specs.Nodes.{IsLetNode, IsNode}
 use Rattle.ln_code.specs.NodeList.{NodesAreListed, Sized, IsAmong, nodes_in, nodes_in_lets, powers_from, powers_to}
 
 -- the root of a tree is a node of it

@@ -1,18 +1,16 @@
 -- A block and the filter of a program, on a row in range.
-use Rattle.std.proofs.Common.{◌≡◌, ℕ, ℤ, ◌≤◌, ◌<◌, List, length, refl, ap, arith, get_or, ◌∙◌, sym, subst}
-use Rattle.std.specs.Prelude.{All, Contains, Option, Some, None, IsSome, slice_get, IfSome}
+use Rattle.std.proofs.Common.{◌≡◌, ℕ, ℤ, ◌≤◌, ◌<◌, List, length, ap, arith, get_or, ◌∙◌, sym, subst}
+use Rattle.std.specs.Prelude.{All, Contains, Option, Some, None, slice_get, IfSome}
 use Rattle.std.specs.Vec.{with_items}
 use Rattle.std.proofs.lemmas.List.{with_items_is}
 use Rattle.std.proofs.lemmas.Option.{slice_get-get_or}
 use Rattle.ln_tree.specs.Row.{AreWithin}
-use Rattle.ln_code.specs.declared.op.Op.{Op}
-use Rattle.ln_code.specs.declared.op.Triple.{Triple}
 use Rattle.ln_code.specs.declared.scratch.Scratch.{Scratch}
 use Rattle.ln_code.specs.Part.{Code, FilterCode, Part, block_value, filter_value}
 use Rattle.ln_code.specs.Errors.{left_error}
 use Rattle.ln_code.specs.Kept.{FollowsRules, FollowsFilterRules, IsProgram}
 use Rattle.ln_code.specs.Memory.{MadeFor, at, plain, shifted, bare_value}
-use Rattle.ln_code.proofs.Engines.Runs.{Runs, block_runs, FilterRuns, filter_runs}
+use Rattle.ln_code.proofs.Engines.Runs.{block_runs, filter_runs}
 
 if_at : {X : Type 0} (P : X → Type 0) (o : Option X) (x : X) → IfSome o P → o ≡ Some x → P x
 if_at P None x h e = cc
@@ -30,36 +28,14 @@ made_again p s stack locals m e f =
       filter = subst (λ n. IfSome p.filter (λ (g : FilterCode). g.depth ≤ n)) (sym a) m.filter;
     }
 
--- what a call of a block has
-pub record BlockCall (p : Part) (block : Code) (zs : List ℤ) (ops : List Op) (stack : List ℤ) (s : Scratch) : Type 0 where
-  pub program : IsProgram p
-  pub made : MadeFor p s
-  pub row : AreWithin p.shape.vars zs
-  pub its : Contains p.blocks block
-  pub ops_is : ops ≡ block.ops
-  pub stack_is : stack ≡ s.stack.items
-
-call_runs : (p : Part) (block : Code) (zs : List ℤ) (ops : List Op) (stack locals : List ℤ) (s : Scratch) → BlockCall p block zs ops stack s
-    → Runs p.shape.vars zs block (length stack) (at locals)
-call_runs p block zs ops stack locals s c =
-    let f : FollowsRules p.shape.vars block = subst (FollowsRules p.shape.vars) c.its.2 (c.program.blocks c.its.0 block c.its.1) in
-    let d : block.depth ≤ length s.stack.items = subst (λ (b : Code). b.depth ≤ length s.stack.items) c.its.2 (c.made.blocks c.its.0 block c.its.1) in
-    block_runs p.shape.vars zs block (length stack) (at locals) f c.row (rw c.stack_is d)
-
--- on such a call the processor has a result
-pub block_answers : (p : Part) (block : Code) (zs : List ℤ) (ops : List Op) (stack locals : List ℤ) (s : Scratch)
-    → BlockCall p block zs ops stack s → IsSome (bare_value (plain ops) zs stack locals)
-block_answers p block zs ops stack locals s c =
-    let r = call_runs p block zs ops stack locals s c in
-    rw (c.ops_is, r.barely) refl
-
--- and the result is the block's value
-pub block_gives : (p : Part) (block : Code) (zs : List ℤ) (ops : List Op) (stack locals : List ℤ) (s : Scratch) (z : ℤ)
-    → BlockCall p block zs ops stack s → bare_value (plain ops) zs stack locals ≡ Some z → block_value zs block ≡ Some z
-block_gives p block zs ops stack locals s z c h =
-    let r = call_runs p block zs ops stack locals s c in
-    let g : bare_value (plain block.ops) zs stack locals ≡ Some z = rw c.ops_is at h in
-    r.exactly ∙ sym r.barely ∙ g
+-- on a row in range the processor has a result, the block's value
+pub block_gives : {p : Part} {s : Scratch} {stack : List ℤ} (block : Code) (zs locals : List ℤ) → IsProgram p → MadeFor p s → AreWithin p.shape.vars zs
+    → Contains p.blocks block → stack ≡ s.stack.items → (z : ℤ) × (bare_value (plain block.ops) zs stack locals ≡ Some z) × (block_value zs block ≡ Some z)
+block_gives {p = p} {s = s} {stack = stack} block zs locals program made row its e =
+    let f : FollowsRules p.shape.vars block = subst (FollowsRules p.shape.vars) its.2 (program.blocks its.0 block its.1) in
+    let d : block.depth ≤ length s.stack.items = subst (λ (b : Code). b.depth ≤ length s.stack.items) its.2 (made.blocks its.0 block its.1) in
+    let r = block_runs p.shape.vars zs block (length stack) (at locals) f row (rw e d) in
+    (_, r.barely, r.exactly)
 
 -- the block with this number is one of them, and no other has the number
 pub its_block : (cs : List Code) (number : ℕ) (block : Code) → number < length cs → block ≡ get_or cs number block → Contains cs block
@@ -75,37 +51,12 @@ the_block zs cs number block z h e v c q =
     let i : c ≡ block = cc in
     rw i v
 
--- what a call of the filter has
-pub record FilterCall (p : Part) (f : FilterCode) (zs : List ℤ) (ops : List Op) (triples : List Triple) (stack : List ℤ) (s : Scratch) : Type 0 where
-  pub program : IsProgram p
-  pub made : MadeFor p s
-  pub row : AreWithin p.shape.vars zs
-  pub filter_is : p.filter ≡ Some f
-  pub ops_is : ops ≡ f.ops
-  pub triples_is : triples ≡ f.triples
-  pub stack_is : stack ≡ s.stack.items
-
-filter_call_runs : (p : Part) (f : FilterCode) (zs : List ℤ) (ops : List Op) (triples : List Triple) (stack locals : List ℤ) (s : Scratch)
-    → FilterCall p f zs ops triples stack s → FilterRuns p.shape.vars zs f (length stack) (at locals)
-filter_call_runs p f zs ops triples stack locals s c =
-    let r : FollowsFilterRules p.shape.vars f = if_at (FollowsFilterRules p.shape.vars) p.filter f c.program.filter c.filter_is in
-    let d : f.depth ≤ length s.stack.items = if_at (λ (g : FilterCode). g.depth ≤ length s.stack.items) p.filter f c.made.filter c.filter_is in
-    filter_runs p.shape.vars zs f (length stack) (at locals) r c.row (rw c.stack_is d)
-
--- on such a call the processor has a result
-pub filter_answers : (p : Part) (f : FilterCode) (zs : List ℤ) (ops : List Op) (triples : List Triple) (stack locals : List ℤ) (s : Scratch)
-    → FilterCall p f zs ops triples stack s → IsSome (bare_value (shifted ops triples) zs stack locals)
-filter_answers p f zs ops triples stack locals s c =
-    let r = filter_call_runs p f zs ops triples stack locals s c in
-    rw (c.ops_is, c.triples_is, r.barely) refl
-
--- and the result is what the filter leaves, with the error of the operation that pushed it
-pub filter_gives : (p : Part) (f : FilterCode) (zs : List ℤ) (ops : List Op) (triples : List Triple) (stack locals : List ℤ) (s : Scratch)
-    (z : ℤ) → FilterCall p f zs ops triples stack s → bare_value (shifted ops triples) zs stack locals ≡ Some z →
-    filter_value zs f ≡ Some (record { number = z; error = left_error f.ops f.triples 0 0 })
-filter_gives p f zs ops triples stack locals s z c h =
-    let r = filter_call_runs p f zs ops triples stack locals s c in
-    let g : bare_value (shifted f.ops f.triples) zs stack locals ≡ Some z = rw (c.ops_is, c.triples_is) at h in
-    let q : Some r.left.number ≡ Some z = sym r.barely ∙ g in
-    let i : r.left.number ≡ z = cc in
-    rw (← i, ← r.error) r.exactly
+-- on a row in range the processor has a result, what the filter leaves, with the error of the operation that pushed it
+pub filter_gives : {p : Part} {s : Scratch} {stack : List ℤ} (f : FilterCode) (zs locals : List ℤ) → IsProgram p → MadeFor p s → AreWithin p.shape.vars zs
+    → p.filter ≡ Some f → stack ≡ s.stack.items → (z : ℤ) × (bare_value (shifted f.ops f.triples) zs stack locals ≡ Some z)
+    × (filter_value zs f ≡ Some (record { number = z; error = left_error f.ops f.triples 0 0 }))
+filter_gives {p = p} {s = s} {stack = stack} f zs locals program made row its e =
+    let h : FollowsFilterRules p.shape.vars f = if_at (FollowsFilterRules p.shape.vars) p.filter f program.filter its in
+    let d : f.depth ≤ length s.stack.items = if_at (λ (g : FilterCode). g.depth ≤ length s.stack.items) p.filter f made.filter its in
+    let r = filter_runs p.shape.vars zs f (length stack) (at locals) h row (rw e d) in
+    (_, r.barely, rw (← r.error) r.exactly)

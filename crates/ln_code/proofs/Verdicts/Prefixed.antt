@@ -22,7 +22,7 @@ use Rattle.ln_code.proofs.Verdicts.Stages.{Turn, rest_is, settled_other, block_t
 use Rattle.ln_code.proofs.Verdicts.Sums.{list_few}
 
 -- ---- one block after the other
-module _ (zs : List ℤ) (cs : List Code) (answer : Option Verdict) (segment rest : List ℕ) (i n : ℕ) (c : Code) (z : ℤ) (w place wide calls : ℕ)
+module _ {zs : List ℤ} {cs : List Code} {answer : Option Verdict} {segment : List ℕ} (rest : List ℕ) {i n : ℕ} {c : Code} {z : ℤ} {w place wide calls : ℕ}
     (t : Turn zs cs segment i n c z w) (m : IsMet zs cs answer (drop i segment ++ rest) (record { place = place; wide = wide; calls = calls }))
   where
     ahead : drop i segment ++ rest ≡ n ∷ (drop (i + 1) segment ++ rest)
@@ -82,9 +82,9 @@ module _ (zs : List ℤ) (cs : List Code) (answer : Option Verdict) (segment res
         }
 
 -- after the last block the rest remains
-pub all_passed : (zs : List ℤ) (cs : List Code) (answer : Option Verdict) (segment rest : List ℕ) (i : ℕ) (met : Met) → length segment ≤ i
+pub all_passed : {zs : List ℤ} {cs : List Code} {answer : Option Verdict} (segment rest : List ℕ) {i : ℕ} {met : Met} → length segment ≤ i
     → IsMet zs cs answer (drop i segment ++ rest) met → IsMet zs cs answer rest met
-all_passed zs cs answer segment rest i met h m = subst (λ (y : List ℕ). IsMet zs cs answer (y ++ rest) met) (drop_all i segment h) m
+all_passed {zs = zs} {cs = cs} {answer = answer} segment rest {i = i} {met = met} h m = subst (λ (y : List ℕ). IsMet zs cs answer (y ++ rest) met) (drop_all i segment h) m
 
 -- ---- one prefix after the other
 -- the list from the j-th prefix on is that prefix's segment, and then the list from the next prefix on
@@ -110,7 +110,7 @@ met_first p zs indices o entered k e r f =
     let b = few.members in
     record { goes_on = refl; places = omega (arith, b, f); calls = omega (arith, b, f); wides = omega (arith, a, f) }
 
-module _ (p : Part) (zs indices : List ℤ) (order : List ℕ) (j : ℕ) (segment : List ℕ) (met : Met) (entered : ℕ)
+module _ (p : Part) {zs indices : List ℤ} (order : List ℕ) {j : ℕ} {segment : List ℕ} {met : Met} (entered : ℕ)
     (size : length order ≡ length indices) (within : j ≤ length indices)
     (front : (o : List ℕ) → IsOrder indices o → take j order ≡ take j o) (segment_there : segment ≡ segment_of p (take j order))
     (so_far : (o : List ℕ) → IsOrder indices o → IsMet zs p.blocks (along zs p.blocks (list_of p o) 0 0 entered) (list_from p o j) met) where

@@ -23,6 +23,12 @@ pub record Turn (zs : List ℤ) (cs : List Code) (list : List ℕ) (i n : ℕ) (
   pub value : (b : Code) → slice_get cs n ≡ Some b → block_value zs b ≡ Some z
   pub wide : w ≡ wide_in c.ops
 
+-- the number at place i is the one of its block
+pub a_turn : {zs : List ℤ} {cs : List Code} {list : List ℕ} {i : ℕ} {c : Code} {z : ℤ} {w : ℕ} → i < length list → get_or list i 0 < length cs
+    → c ≡ get_or cs (get_or list i 0) c → ((b : Code) → slice_get cs (get_or list i 0) ≡ Some b → block_value zs b ≡ Some z) → w ≡ wide_in c.ops
+    → Turn zs cs list i (get_or list i 0) c z w
+a_turn below within is value wide = record { below = below; named = refl; within = within; block_is = is; value = value; wide = wide }
+
 -- so the block with that number is c
 pub block_there : (zs : List ℤ) (cs : List Code) (list : List ℕ) (i n : ℕ) (c : Code) (z : ℤ) (w : ℕ) → Turn zs cs list i n c z w → slice_get cs n ≡ Some c
 block_there zs cs list i n c z w t = slice_get-get_or cs n c t.within ∙ ap Some (sym t.block_is)

@@ -1,8 +1,7 @@
 -- What the filter of a predicate is.
 use Rattle.std.proofs.Common.{◌≡◌, ℕ, ℤ, ◌≤◌, ◌<◌, ◌^◌, List, [], ◌∷◌, length, map, refl, ap, arith, ◌∙◌, sym, inl, inr}
 use Rattle.std.proofs.Common.{append_assoc, append-nil, ◌*◌, ◌++◌, subst}
-use Rattle.std.specs.Prelude.{All, IfOk, Option, Result, Some, None, IfSome, IsSome, ◌↔◌}
-use Rattle.std.proofs.lemmas.Result.{IfOk-weaker}
+use Rattle.std.specs.Prelude.{All, Some}
 use Rattle.std.proofs.lemmas.List.{length-map}
 use Rattle.std.proofs.lemmas.List.Elements.{All-nil, All-push}
 use Rattle.ln_algebra.specs.Coefficient.{Series, normal_coefficient}
@@ -37,7 +36,7 @@ use Rattle.ln_filter.specs.Steady.{AreLetsSteady, HasFilter}
 use Rattle.ln_filter.specs.Tried.{IsSmall}
 use Rattle.ln_filter.specs.Lines.{all_lines, filter_lines}
 use Rattle.ln_filter.specs.Wrote.{LetsPut, SteadyPut, Wrote}
-use Rattle.ln_filter.specs.Planned.{IsPlanned, IsPlan}
+use Rattle.ln_filter.specs.Planned.{IsPlanned}
 use Rattle.ln_filter.proofs.Truncation.Steady.{has_filter, lets_tried_steady, triple_small}
 use Rattle.ln_code.proofs.Building.Names.{closed, closed_snoc}
 use Rattle.ln_code.proofs.Building.Lands.{AreGood, CodeLands, code_lands}
@@ -203,11 +202,11 @@ filter_is p code f d e b =
     }
 
 -- where the lets and then the sign expression were written and nothing before them, what was written is the filter of the predicate
-pub sealed : (p : FittedPred) (a b c : Draft Triple) (ts : List Triple) (t : Triple) (code : FilterCode)
+pub sealed : (p : FittedPred) {a b c : Draft Triple} (ts : List Triple) (t : Triple) (code : FilterCode)
     → ((v : ℕ) → sizes p.shape.vars v < 2 ^ 63) → a.code ≡ []
     → LetsPut p.shape.vars 0 [] a b (map untyped (map typed p.lets)) (Some ts) → SteadyPut p.shape.vars ts b c (untyped (typed p.root)) (Some t)
     → code.depth ≡ 2048 → lines_of code.ops code.triples ≡ c.code → length code.ops ≡ length code.triples → Sealed (predicate_of p) code
-sealed p a b c ts t code narrow n l r d e k =
+sealed p {b = b} {c = c} ts t code narrow n l r d e k =
     let vars : List VarInfo = p.shape.vars in
     let ls : List Tree = map untyped (map typed p.lets) in
     let root : Tree = untyped (typed p.root) in
@@ -224,19 +223,3 @@ sealed p a b c ts t code narrow n l r d e k =
     }) d (e ∙ x) k
 
 -- ---- the clauses of the public call
-
--- a plan has a filter exactly where the predicate has one
-pub where_is : (p : FittedPred) (o : Option FilterCode) → IsPlan p.shape.vars (map typed p.lets) (typed p.root) o
-    → IsSome o ↔ HasFilter p.shape.vars (map untyped (map typed p.lets)) (untyped (typed p.root))
-where_is p None h = (λ e. cc, λ f. absurd (h f))
-where_is p (Some f) h = (λ e. h.has, λ g. refl)
-
--- what holds of each filter as planned holds of that of a plan, if it has one
-pub plan_gives : {E : Type 0} (p : FittedPred) (P : FilterCode → Type 0)
-    → ((f : FilterCode) → IsPlanned p.shape.vars (map typed p.lets) (typed p.root) f → P f) → (r : Result (Option FilterCode) E)
-    → IfOk r (IsPlan p.shape.vars (map typed p.lets) (typed p.root)) → IfOk r (λ o. IfSome o P)
-plan_gives p P g r h = IfOk-weaker r _ _ given h
-  where
-    given : (o : Option FilterCode) → IsPlan p.shape.vars (map typed p.lets) (typed p.root) o → IfSome o P
-    given None h = tt
-    given (Some f) h = g f h

@@ -16,8 +16,7 @@ use Rattle.ln_code.proofs.Following.Known.{in_size}
 use Rattle.ln_code.proofs.Filters.Near.{cut_stands, product_stands, sum_stands, difference_stands, exact_stands, minus_stands}
 use Rattle.ln_code.proofs.Filters.Near.{decides_positive, decides_negative}
 use Rattle.ln_filter.specs.Triples.{excess, whole, leaf, added, multiplied, powered, triple, let_triples}
-use Rattle.ln_filter.specs.Truncated.{leaf_number, sum_number, difference_number, product_number, power_number, number, let_numbers}
-use Rattle.ln_filter.specs.Truncated.{root_triple, root_number}
+use Rattle.ln_filter.specs.Truncated.{leaf_number, sum_number, difference_number, product_number, power_number, number, let_numbers, root_triple, root_number}
 use Rattle.ln_filter.specs.Law.{plain_value, NumbersStand, NeverWrong}
 
 leaf_stands : (m : ℕ) (x : ℤ) → unsigned_abs x ≤ m → Approximates (leaf m) (leaf_number m x) x

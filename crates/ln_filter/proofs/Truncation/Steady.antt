@@ -1,21 +1,18 @@
 -- Triples that are worked out: where there is a result each node is steady, and where each is there is one.
-use Rattle.std.proofs.Common.{◌≡◌, ◌⊎◌, inl, inr, ℕ, ◌≤◌, ◌<◌, true, List, [], ◌∷◌, ◌++◌, refl, zero, suc, ap, arith, ap₂, sym, ◌∙◌, nat_le, ◌-◌}
-use Rattle.std.specs.Prelude.{Option, Some, None, All, IfSome, slice_index_or, ◌≢◌}
+use Rattle.std.proofs.Common.{◌≡◌, ◌⊎◌, inl, inr, ℕ, ◌≤◌, ◌<◌, true, List, [], ◌∷◌, ◌++◌, refl, zero, suc, arith, sym, ◌∙◌, nat_le, ◌-◌}
+use Rattle.std.specs.Prelude.{Some, None, All, slice_index_or}
 use Rattle.std.proofs.lemmas.Bool.{leb-true, le-leb, and_parts, cases_lt}
 use Rattle.std.proofs.lemmas.List.Elements.{All-head, All-tail}
 use Rattle.ln_algebra.specs.Tree.{Tree, Num, Input, Name, Neg, Add, Sub, Mul, Pow}
 use Rattle.ln_tree.specs.declared.shape.VarInfo.{VarInfo}
-use Rattle.ln_bound.specs.declared.fitted.Two.{Two}
-use Rattle.ln_bound.specs.declared.fitted.Two.TheVariants.{Plus, Minus, Times}
-use Rattle.ln_bound.specs.Typed.{two_of}
 use Rattle.ln_code.specs.declared.op.Triple.{Triple}
 use Rattle.ln_code.specs.Engine.{next}
 use Rattle.ln_code.specs.Kept.{no_triple}
 use Rattle.ln_code.proofs.Engines.Follow.{when_some}
 use Rattle.ln_code.proofs.Following.Known.{next_some}
-use Rattle.ln_filter.specs.Triples.{bits, both, whole, leaf, trimmed, added, multiplied, powered, triple, let_triples}
+use Rattle.ln_filter.specs.Triples.{bits, whole, leaf, trimmed, added, multiplied, powered, triple, let_triples}
 use Rattle.ln_filter.specs.Steady.{IsSteady, ArePowersSteady, AreSteady, AreLetsSteady, HasFilter}
-use Rattle.ln_filter.specs.Tried.{is_steady, settled, power_tried, tried, lets_tried, IsSmall, IsTried}
+use Rattle.ln_filter.specs.Tried.{is_steady, settled, power_tried, tried, lets_tried, IsSmall}
 use Rattle.ln_filter.proofs.Truncation.Bits.{excess_leaves}
 
 -- a steady triple passes the test
@@ -50,16 +47,6 @@ powers_tried a (suc zero) s = refl
 powers_tried a (suc (suc n)) s =
     let h : power_tried a (suc n) ≡ Some (powered a (suc n)) = powers_tried a (suc n) (λ m l k. s m l (omega arith)) in
     rw h (settled_is (multiplied (powered a (suc n)) a) (s (suc (suc n)) (omega arith) (omega arith)))
-
--- one step of the way to a power
-pub power_step : (a p : Triple) (n : ℕ) (o : Option Triple) → n ≢ 0 → n ≢ 1 → Some p ≡ power_tried a (n - 1)
-    → o ≡ settled (multiplied p a) → o ≡ power_tried a n
-power_step a p zero o y z h k = absurd (y refl)
-power_step a p (suc zero) o y z h k = absurd (z refl)
-power_step a p (suc (suc n)) o y z h k =
-    let e : suc (suc n) - 1 ≡ suc n = omega arith in
-    let f : Some p ≡ power_tried a (suc n) = rw e at h in
-    rw (← f) k
 
 one_more : (a : Triple) (n j : ℕ) → j ≡ suc n → ArePowersSteady a n → IsSteady (powered a j) → ArePowersSteady a j
 one_more a n j e h s m l k = by_case (cases_lt m j)
@@ -225,46 +212,3 @@ triple_small vars lets (Mul e f) g s = trimmed_small _ s.2
 triple_small vars lets (Pow e n) g s = powered_small (triple vars lets e) n (triple_small vars lets e g s.0) s.1
 
 -- ---- a tree from its operands
-
--- `settled` of a small triple is that triple
-pub settled_small : (a : Triple) → IsSmall a → settled a ≡ Some a
-settled_small a s =
-    let e = s.error in
-    let k = s.power in
-    settled_is a (record { error = omega arith; power = omega arith })
-
--- the result for a number or a variable
-pub tried_leaf : (vars : List VarInfo) (lets : List Triple) (t : Tree) (a b : Triple) → tried vars lets t ≡ settled b → a ≡ b → IsSmall a
-    → IsTried vars lets t (Some a)
-tried_leaf vars lets t a b e h s = record { value = sym (settled_small a s) ∙ ap settled h ∙ sym e; small = s }
-
--- the result for the name of a let
-pub tried_let : (vars : List VarInfo) (lets : List Triple) (t : Tree) (j : ℕ) (a : Triple) → t ≡ Name j
-    → a ≡ slice_index_or lets j no_triple → IsSmall a → IsTried vars lets t (Some a)
-tried_let vars lets t j a e h s = record { value = ap Some h ∙ ap (tried vars lets) (sym e); small = s }
-
--- the result for a negation is that for its operand
-pub tried_neg : (vars : List VarInfo) (lets : List Triple) (t x : Tree) (o : Option Triple) → t ≡ Neg x → IsTried vars lets x o → IsTried vars lets t o
-tried_neg vars lets t x o e h = rw e (record { value = h.value; small = h.small })
-
-two_tries : (vars : List VarInfo) (lets : List Triple) (k : Two) (x y : Tree)
-    → tried vars lets (two_of k x y) ≡ next (tried vars lets x) (λ a. next (tried vars lets y) (λ b. settled (both k a b)))
-two_tries vars lets Plus x y = refl
-two_tries vars lets Minus x y = refl
-two_tries vars lets Times x y = refl
-
--- the result for an operation on two, by those for its operands
-pub tried_both : (vars : List VarInfo) (lets : List Triple) (k : Two) (x y : Tree) (o p r : Option Triple) → IsTried vars lets x o
-    → IsTried vars lets y p → r ≡ next o (λ a. next p (λ b. settled (both k a b))) → IfSome r (λ a. IsSmall a) → IsTried vars lets (two_of k x y) r
-tried_both vars lets k x y o p r u v i s = record {
-  value = i ∙ ap₂ (λ (m n : Option Triple). next m (λ a. next n (λ b. settled (both k a b)))) u.value v.value ∙ sym (two_tries vars lets k x y);
-  small = s;
-}
-
--- the result for a power, by that for its base
-pub tried_raised : (vars : List VarInfo) (lets : List Triple) (t x : Tree) (n : ℕ) (o r : Option Triple) → t ≡ Pow x n
-    → IsTried vars lets x o → r ≡ next o (λ a. power_tried a n) → IfSome r (λ a. IsSmall a) → IsTried vars lets t r
-tried_raised vars lets t x n o r e u i s = record {
-  value = i ∙ ap (λ (m : Option Triple). next m (λ a. power_tried a n)) u.value ∙ ap (tried vars lets) (sym e);
-  small = s;
-}

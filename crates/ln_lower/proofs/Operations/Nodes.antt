@@ -4,7 +4,7 @@ use Rattle.std.specs.Prelude.{Option, Some, None, slice_get}
 use Rattle.std.proofs.lemmas.Bool.{le-leb}
 use Rattle.std.proofs.Math.Nat.{pow-suc, pow-zero}
 use Rattle.ln_algebra.specs.Tree as tree
-use Rattle.ln_algebra.specs.Tree.{Tree, inlined}
+use Rattle.ln_algebra.specs.Tree.{Tree}
 use Rattle.ln_tree.specs.declared.shape.VarInfo.{VarInfo}
 use Rattle.ln_interval.specs.Range.{Range, Covers, magnitude, opposite, point, power}
 use Rattle.ln_interval.proofs.Magnitudes.{power_ordered}

@@ -1,5 +1,5 @@
 -- What the lowered block is.
-use Rattle.std.proofs.Common.{◌≡◌, inl, inr, ℕ, ◌+◌, ◌*◌, ◌≤◌, ◌<◌, List, [], ◌∷◌, ◌++◌, length, map, refl, zero, suc, ap, arith, ◌∙◌, sym, subst}
+use Rattle.std.proofs.Common.{◌≡◌, inl, inr, ℕ, ◌+◌, ◌*◌, ◌≤◌, ◌<◌, List, [], ◌∷◌, ◌++◌, length, map, refl, ap, arith, ◌∙◌, sym, subst}
 use Rattle.std.proofs.Common.{get_or}
 use Rattle.std.specs.Prelude.{Option, Some, All, pos, slice_index_or}
 use Rattle.std.proofs.lemmas.List.{length-map}
@@ -25,7 +25,7 @@ use Rattle.ln_code.specs.Engine.{Line, run}
 use Rattle.ln_code.specs.Rules.{Known, rules}
 use Rattle.ln_code.specs.Part.{Code, lines_of, known_of}
 use Rattle.ln_code.specs.Numbers.{no_locals}
-use Rattle.ln_code.specs.Kept.{FollowsRules}
+use Rattle.ln_code.specs.Kept.{FollowsRules, nothing}
 use Rattle.ln_code.proofs.Following.Means.{blocks_mean}
 use Rattle.ln_code.proofs.Lines.{lines_length}
 use Rattle.ln_code.specs.StackCode.{line}
@@ -36,7 +36,6 @@ use Rattle.ln_code.specs.Walk.{told_line}
 use Rattle.ln_code.specs.Nodes.{IsLetNode, IsNodeOf}
 use Rattle.ln_lower.specs.Nodes.{HasPolynomial}
 use Rattle.ln_lower.specs.declared.distinct.Key.{Key}
-use Rattle.ln_code.specs.Kept.{nothing}
 use Rattle.ln_lower.specs.Lowered.{IsLoweredBlock, PowersFit}
 use Rattle.ln_lower.specs.StackCode.{IsCodeOf, block_style}
 use Rattle.ln_lower.specs.Wrote.{Drafted}

@@ -4,7 +4,6 @@ use Rattle.std.specs.Prelude.{Some, slice_get}
 use Rattle.std.proofs.lemmas.List.{length-map}
 use Rattle.ln_interval.specs.Range.{Range}
 use Rattle.ln_bound.specs.declared.fitted.Width.{Width}
-use Rattle.ln_bound.specs.declared.fitted.Two.{Two}
 use Rattle.ln_bound.specs.Typed.{Typed, TNum, TInput, TLet, TNeg, TTwo, TPow, operation}
 use Rattle.ln_lower.specs.declared.distinct.Key.{Key}
 use Rattle.ln_lower.specs.declared.distinct.KeyOp.{KeyOp}
@@ -12,7 +11,6 @@ use Rattle.ln_lower.specs.declared.distinct.KeyOp.TheVariants.{Number, Variable,
 use Rattle.ln_bound.specs.declared.fitted.Fitted.{Fitted}
 use Rattle.ln_bound.specs.View.{typed}
 use Rattle.ln_code.proofs.Building.Walks.{all_append, all_length}
-use Rattle.ln_lower.proofs.Subtrees.Roots.{HasRoot}
 use Rattle.ln_lower.specs.Distinct.{key, IsNumberOf, AreNumbersOf, Extends, Added, Numbered}
 
 -- ---- one number, one tree
@@ -77,36 +75,29 @@ extends_then ks ls ms a b k x h = b k x (a k x h)
 -- ---- trees
 
 -- a negation is numbered where its operand is and then the subtree of its root is added
-pub numbered_neg : (ks ls ms : List Key) (a k : ℕ) (t u : Typed) (r : HasRoot (TNeg t) u) → Numbered ks ls a t
-    → Added ls ms k (key (Opposite a) r.range r.width) → Numbered ks ms k u
-numbered_neg ks ls ms a k t u r n d = subst (λ v. Numbered ks ms k v) (sym r.is) (record {
+pub numbered_neg : {ks ls ms : List Key} {a k : ℕ} {t u : Typed} {p : Range} {w : Width} → u ≡ TNeg t p w → Numbered ks ls a t
+    → Added ls ms k (key (Opposite a) p w) → Numbered ks ms k u
+numbered_neg {ks = ks} {ls = ls} {ms = ms} {a = a} {k = k} {t = t} e n d = subst (λ v. Numbered ks ms k v) (sym e) (record {
   stands = (a, d.there, stands_more ls ms t a d.more n.stands);
   more = extends_then ks ls ms n.more d.more;
 })
 
 -- a power is numbered where its base is and then the subtree of its root is added
-pub numbered_pow : (ks ls ms : List Key) (a k : ℕ) (t u : Typed) (n : ℕ) (r : HasRoot (TPow t n) u) → Numbered ks ls a t
-    → Added ls ms k (key (Raised a n) r.range r.width) → Numbered ks ms k u
-numbered_pow ks ls ms a k t u n r m d = subst (λ v. Numbered ks ms k v) (sym r.is) (record {
+pub numbered_pow : {ks ls ms : List Key} {a k : ℕ} {t u : Typed} {n : ℕ} {p : Range} {w : Width} → u ≡ TPow t n p w → Numbered ks ls a t
+    → Added ls ms k (key (Raised a n) p w) → Numbered ks ms k u
+numbered_pow {ks = ks} {ls = ls} {ms = ms} {a = a} {k = k} {t = t} e m d = subst (λ v. Numbered ks ms k v) (sym e) (record {
   stands = (a, d.there, stands_more ls ms t a d.more m.stands);
   more = extends_then ks ls ms m.more d.more;
 })
 
--- two operands are numbered, one after the other
-pub record BothNumbered (ks ms : List Key) (a b : ℕ) (s t : Typed) : Type 0 where
-  pub between : List Key
-  pub first : Numbered ks between a s
-  pub second : Numbered between ms b t
-
--- a sum, difference or product is numbered where both operands are and then the subtree of its root is added
-pub numbered_two : (ks ms ns : List Key) (a b k : ℕ) (s t u : Typed) (r : HasRoot (TTwo (operation u) s t) u) → BothNumbered ks ms a b s t
-    → Added ms ns k (key (Both (operation u) a b) r.range r.width) → Numbered ks ns k u
-numbered_two ks ms ns a b k s t u r n d =
-    let ls = n.between in
-    let more = extends_then ls ms ns n.second.more d.more in
-    subst (λ v. Numbered ks ns k v) (sym r.is) (record {
-      stands = (a, b, d.there, stands_more ls ns s a more n.first.stands, stands_more ms ns t b d.more n.second.stands);
-      more = extends_then ks ls ns n.first.more more;
+-- a sum, difference or product is numbered where its operands are, one after the other, and then the subtree of its root is added
+pub numbered_two : {ks ls ms ns : List Key} {a b k : ℕ} {s t u : Typed} {p : Range} {w : Width} → u ≡ TTwo (operation u) s t p w
+    → Numbered ks ls a s → Numbered ls ms b t → Added ms ns k (key (Both (operation u) a b) p w) → Numbered ks ns k u
+numbered_two {ks = ks} {ls = ls} {ms = ms} {ns = ns} {a = a} {b = b} {k = k} {s = s} {t = t} e m n d =
+    let more = extends_then ls ms ns n.more d.more in
+    subst (λ v. Numbered ks ns k v) (sym e) (record {
+      stands = (a, b, d.there, stands_more ls ns s a more m.stands, stands_more ms ns t b d.more n.stands);
+      more = extends_then ks ls ns m.more more;
     })
 
 -- ---- several trees

@@ -1,8 +1,5 @@
-use Rattle.ln_code.proofs.Verdicts.Machine.{programs-run, rows-have, verdict-unique}
+use Rattle.ln_code.proofs.Verdicts.Machine.{rows-have, verdict-unique}
 use Rattle.ln_code.proofs.laws.rows_have_one_verdict.Goals as goal
-
-pub returns-clause-programs : goal.returns-clause-programs
-returns-clause-programs c = programs-run
 
 pub returns-clause-exists : goal.returns-clause-exists
 returns-clause-exists c = rows-have

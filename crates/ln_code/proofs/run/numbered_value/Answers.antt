@@ -1,12 +1,8 @@
 use Rattle.std.proofs.Common.{FitsSigned, rules}
 use Rattle.std.proofs.lemmas.Int.{to_z-of_z}
 use mir.Syntax.{w128}
-use Rattle.ln_code.proofs.Verdicts.Calls.{its_block, the_block}
+use Rattle.ln_code.proofs.Verdicts.Calls.{the_block}
 use Rattle.ln_code.proofs.run.numbered_value.Goals as goal
-
-pub value_of-requires-clause-block : goal.value_of-requires-clause-block
-value_of-requires-clause-block c = its_block c.args.p.now.blocks c.args.number c.index-blocks-number.result c.requires.number
-    (rw c.blocks-2.ensures.value at c.index-blocks-number.is)
 
 pub returns-clause-value : goal.returns-clause-value
 returns-clause-value c =

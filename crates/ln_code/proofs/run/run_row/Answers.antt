@@ -1,16 +1,9 @@
-use Rattle.std.proofs.Common.{◌≡◌, ◌≤◌, length, arith, refl, subst, ℕ}
-use Rattle.ln_tree.proofs.KeptLemmas.{few_vars}
+use Rattle.std.proofs.Common.{refl, subst, ℕ}
 use Rattle.ln_order.specs.Orders.{IsOrderOf}
 use Rattle.ln_order.proofs.Signs.RowsLemmas.{order-places}
 use Rattle.ln_order.proofs.Listing.OrderExists.{order-exists}
 use Rattle.ln_code.specs.Lists.{list_of}
 use Rattle.ln_code.proofs.run.run_row.Goals as goal
-
-pub shared_ref_as_front-values : goal.shared_ref_as_front-values
-shared_ref_as_front-values c =
-    let h : length c.args.p.now.shape.vars ≤ 168 = few_vars c.args.p.now.shape.sites c.args.p.now.shape.vars c.args.p.now.shape.kept in
-    let e : c.len.result ≡ length c.args.p.now.shape.vars = rw c.shape-shape.ensures at c.len.ensures in
-    omega arith
 
 pub returns-clause-verdict : goal.returns-clause-verdict
 returns-clause-verdict c =

@@ -1,16 +1,9 @@
-use Rattle.std.proofs.Common.{[], map, subst, sym}
+use Rattle.std.proofs.Common.{map, subst, sym}
 use Rattle.std.proofs.lemmas.Result.{IfOk-weaker}
 use Rattle.ln_bound.specs.View.{typed}
-use Rattle.ln_code.specs.Part.{Code}
 use Rattle.ln_lower.specs.Lowered.{IsLoweredBlock}
-use Rattle.ln_lower.proofs.Operations.Sealed.{all_fit, root_fits, sealed}
+use Rattle.ln_lower.proofs.Operations.Sealed.{sealed}
 use Rattle.ln_lower.proofs.blocks.lowered.Goals as goal
-
-pub written-requires-clause-powers : goal.written-requires-clause-powers
-written-requires-clause-powers c = rw c.as_slice.ensures (all_fit c.args.s.now.vars [] c.args.lets.now c.requires.lets)
-
-pub written-requires-clause-root : goal.written-requires-clause-root
-written-requires-clause-root c = root_fits c.args.s.now.vars (map typed c.args.lets.now) (typed c.args.t.now) c.requires.root
 
 pub finished-requires : goal.finished-requires
 finished-requires c =

@@ -1,11 +1,8 @@
 use Rattle.std.proofs.Common.{take, map, arith}
 use Rattle.ln_bound.specs.View.{typed}
-use Rattle.ln_lower.proofs.Subtrees.Numbering.{stand_length, stands_at}
-use Rattle.ln_lower.proofs.Operations.Writes.{next_let, no_lets_put, more_typed, typed_length}
+use Rattle.ln_lower.proofs.Subtrees.Numbering.{stand_length}
+use Rattle.ln_lower.proofs.Operations.Writes.{next_let, more_typed, typed_length}
 use Rattle.ln_lower.proofs.blocks.put_lets.Goals as goal
-
-pub lets-init : goal.lets-init
-lets-init c = no_lets_put _ _ c.requires.code c.requires.kept
 
 pub lets-preserved : goal.lets-preserved
 lets-preserved c =
@@ -18,7 +15,3 @@ bounds-numbers-j c =
     let e = stand_length c.args.distinct.now.keys c.args.numbers.now c.args.lets.now c.requires.stand in
     let t = c.lets-test.true in
     omega (arith, t, e)
-
-pub put_let-requires-clause-stands : goal.put_let-requires-clause-stands
-put_let-requires-clause-stands c =
-    stands_at c.args.distinct.now.keys c.args.numbers.now c.args.lets.now c.lets.j c.index-lets-j.result c.requires.stand c.lets-test.true c.index-lets-j.is

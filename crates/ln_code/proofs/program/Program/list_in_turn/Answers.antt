@@ -1,7 +1,6 @@
 use Rattle.std.proofs.Common.{◌≡◌, ap, ◌∙◌, arith, length}
 use Rattle.std.proofs.lemmas.List.FromFn.{length-range_with_len}
 use Rattle.ln_order.specs.Places.{order_places}
-use Rattle.ln_code.proofs.OneOrder.{turn_end, turn_next}
 use Rattle.ln_code.proofs.program.Program.list_in_turn.Goals as goal
 
 pub segment-requires-clause-order : goal.segment-requires-clause-order
@@ -12,16 +11,3 @@ segment-requires-clause-within c =
     let e : length (order_places c.of_arguments-order.result) ≡ c.args.self.now.shape.sites =
     ap length c.sites.invariant.places ∙ length-range_with_len 0 c.args.self.now.shape.sites in
     omega (arith, e, c.sites-test.true, c.sites.invariant.sites)
-
-pub sites-preserved : goal.sites-preserved
-sites-preserved c = record {
-  within = omega (arith, c.sites-test.true);
-  places = c.sites.invariant.places;
-  sites = c.sites.invariant.sites;
-  list = turn_next c.args.self.now (order_places c.of_arguments-order.result) c.sites.list.items c.extend_from_slice.new.self.items
-      c.segment.result.now c.sites.j c.sites.invariant.places (omega (arith, c.sites-test.true, c.sites.invariant.sites))
-      c.sites.invariant.list c.segment.ensures.value c.in_ok-extend_from_slice.ensures.items;
-}
-
-pub returns : goal.returns
-returns c = turn_end c.args.self.now c.sites.list.items c.sites.j (omega (arith, c.sites-test.false, c.sites.invariant.sites)) c.sites.invariant.list

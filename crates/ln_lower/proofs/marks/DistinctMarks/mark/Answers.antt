@@ -1,6 +1,0 @@
-use Rattle.std.proofs.Common.{sym}
-use Rattle.ln_bound.proofs.Trees.Views.{pair_typed}
-use Rattle.ln_lower.proofs.marks.DistinctMarks.mark.Goals as goal
-
-pub returns : goal.returns
-returns c = sym (pair_typed c.args.t.now)
