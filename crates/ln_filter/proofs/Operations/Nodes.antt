@@ -264,17 +264,13 @@ raw_fits r lets o t u x y g h a b s =
     record { number = raw_narrow o x.triple y.triple p q; size = s }
 
 -- the operands of an operation on two that may be written
-record GoodTwo (r : Setting) (lets : List Typed) (t u : Typed) : Type 0 where
-  left : IsGood r lets t
-  right : IsGood r lets u
-
-good_two : (r : Setting) (lets : List Typed) (o : Two) (t u : Typed) (p : Range) (w : Width) → IsGood r lets (TTwo o t u p w) → GoodTwo r lets t u
+good_two : (r : Setting) (lets : List Typed) (o : Two) (t u : Typed) (p : Range) (w : Width) → IsGood r lets (TTwo o t u p w)
+    → IsGood r lets t × IsGood r lets u
 good_two r lets o t u p w g =
-    let k = operands_steady r.vars (triples_of r.vars lets) o (untyped t) (untyped u) g.steady in
-    record {
-      left = record { sound = sound_left g.sound; steady = k.0; small = g.small; nodes = λ e v h. g.nodes e v (inl (inl h)) };
-      right = record { sound = sound_right g.sound; steady = k.1; small = g.small; nodes = λ e v h. g.nodes e v (inl (inr h)) };
-    }
+    let k = operands_steady r.vars (triples_of r.vars lets) o (untyped t) (untyped u) g.steady in (
+      record { sound = sound_left g.sound; steady = k.0; small = g.small; nodes = λ e v h. g.nodes e v (inl (inl h)) },
+      record { sound = sound_right g.sound; steady = k.1; small = g.small; nodes = λ e v h. g.nodes e v (inl (inr h)) },
+    )
 
 -- the triple of an operation on two is that of the operands' triples
 two_triple : (vars : List VarInfo) (lets : List Triple) (k : Two) (x y : Tree)
@@ -301,8 +297,8 @@ two_right r lets o t u p w x y g i j =
     rw (i.triple, j.triple) (sym (two_triple r.vars (triples_of r.vars lets) o (untyped t) (untyped u))) in
     let v = may_push r lets (TTwo o t u p w) (at (trimmed (raw_of o x.triple y.triple)) (two_of o x.tree y.tree) (bound_of o x.size y.size)) g
     (record { triple = c; fits = f; same = s }) in
-    let m : MayPush r (raw_known o x y) = record { fits = raw_fits r lets o t u x y z.left z.right i.triple j.triple v.fits.size; node = v.node } in
-    cut_is r lets (align o y.triple x.triple) y _ (may_push r lets u y z.right j)
+    let m : MayPush r (raw_known o x y) = record { fits = raw_fits r lets o t u x y z.0 z.1 i.triple j.triple v.fits.size; node = v.node } in
+    cut_is r lets (align o y.triple x.triple) y _ (may_push r lets u y z.1 j)
     (trim_is r lets (op_of o W64) _ (raw_known o x y) (StandsFor r lets (TTwo o t u p w)) m (two_is_known o x y m.fits)
     (record { triple = c; fits = f; same = s }))
 
@@ -314,7 +310,7 @@ two_is r lets o t u p w x g i =
     let b : Triple = triple_in r.vars lets u in
     let z = good_two r lets o t u p w g in
     subst (λ c. Cuts (meaning r) (style_in r.vars lets) (align o a b) c (Beside (meaning r) lets o t u p w) x) i.triple
-    (cut_is r lets (align o a b) x (Beside (meaning r) lets o t u p w) (may_push r lets t x z.left i)
+    (cut_is r lets (align o a b) x (Beside (meaning r) lets o t u p w) (may_push r lets t x z.0 i)
     (λ y j. subst (λ c. Right r lets o t u p w x y c b) i.triple (subst (λ c. Right r lets o t u p w x y x.triple c) j.triple
     (two_right r lets o t u p w x y g i j))))
 
@@ -400,8 +396,8 @@ facts r room narrow = record {
   at_factor = λ lets t n i p w x z g k h b. factor_is r lets t n i p w x z g (base_good r lets t (suc n) p w g) k h b;
   at_power = λ lets t n p w x g h. record { triple = h.triple; fits = h.fits; same = h.same };
   operand = λ lets t p w g. record { sound = sound_opposite g.sound; steady = g.steady; small = g.small; nodes = λ e v h. g.nodes e v (inl h) };
-  left = λ lets o t u p w g. let z = good_two r lets o t u p w g in z.left;
-  right = λ lets o t u p w g. let z = good_two r lets o t u p w g in z.right;
+  left = λ lets o t u p w g. let z = good_two r lets o t u p w g in z.0;
+  right = λ lets o t u p w g. let z = good_two r lets o t u p w g in z.1;
   base = λ lets t n p w g. base_good r lets t n p w g;
   deep = λ lets t g. let s = g.sound in let d = s.deep in omega (arith, d, room);
   let_stands = λ lets t. record { old = λ u v n x. old_stands r lets t u v n x; new = λ v x. new_stands r lets t v x };
