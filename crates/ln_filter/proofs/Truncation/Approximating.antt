@@ -75,10 +75,9 @@ stand_snoc _ _ _ a h v (more q s) p = more q (stand_snoc _ _ _ a h v s p)
 -- the value of a variable is at most its M; one that there isn't is 0
 size_stands : (vars : List VarInfo) (zs : List ℤ) (v : ℕ) → AreWithin vars zs → unsigned_abs (values zs v) ≤ sizes vars v
 size_stands [] [] v h = omega arith
-size_stands [] (z ∷ zs) v h = absurd h
-size_stands (i ∷ is) [] v h = absurd h
 size_stands (i ∷ is) (z ∷ zs) zero h = let s = in_size (i ∷ is) (z ∷ zs) h 0 i refl in rw (← s.same) s.small
 size_stands (i ∷ is) (z ∷ zs) (suc v) h = size_stands is zs v h.2
+size_stands _ _ v h = absurd h
 
 -- the truncated number of an expression stands for its value, where those of the lets do
 pub tree_stands : (vars : List VarInfo) (zs : List ℤ) (ts : List Triple) (hs vs : List ℤ) → AreWithin vars zs → AllStand ts hs vs
