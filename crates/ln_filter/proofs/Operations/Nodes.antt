@@ -5,7 +5,7 @@ use Rattle.std.specs.Prelude.{Option, Some, None, slice_get, ◌==◌}
 use Rattle.std.specs.Int.{div_ceil}
 use Rattle.std.proofs.lemmas.Bool.{le-leb, eq-eqb}
 use Rattle.std.proofs.lemmas.Nat.{mul-le}
-use Rattle.std.proofs.Math.Nat.{pow-suc, pow-zero, div-le_self}
+use Rattle.std.proofs.Math.Nat.{pow-suc, pow-zero, div-le_self, le_refl}
 use Rattle.ln_algebra.specs.Coefficient.{Series}
 use Rattle.ln_algebra.specs.Tree as tree
 use Rattle.ln_algebra.specs.Tree.{Tree}
@@ -41,10 +41,6 @@ use Rattle.ln_filter.proofs.Operations.Style.{style_in, triple_in, triples_of}
 use Rattle.ln_filter.proofs.Operations.Meaning.{Fits, IsGood, MayPush, Setting, StandsFor, at, cut_known, meaning, neg_known, number_known}
 use Rattle.ln_filter.proofs.Operations.Meaning.{raw_known, variable_known}
 
--- a number is at most itself
-le_self : (n : ℕ) → n ≤ n
-le_self n = omega arith
-
 -- ---- known values
 
 -- a triple that covers what it has to
@@ -56,7 +52,7 @@ known_at k h e x y z p f =
 
 -- a value covers itself
 self_known : (k : FilterKnown) → Fits k → filter_known k.triple.k k.triple.h k.triple.e k.size k.tree k.triple ≡ Some k
-self_known k f = known_at k.triple.k k.triple.h k.triple.e k refl (le_self k.triple.h) (le_self k.triple.e) f
+self_known k f = known_at k.triple.k k.triple.h k.triple.e k refl (le_refl k.triple.h) (le_refl k.triple.e) f
 
 cut_fits : (n : ℕ) (k : FilterKnown) → Fits k → Fits (cut_known n k)
 cut_fits n k f =
@@ -79,7 +75,7 @@ number_is_known r c f =
     let n : ℕ = excess (unsigned_abs c) in
     let z : 0 + n ≡ n = omega arith in
     known_at (0 + n) (m / 2 ^ (0 + n)) (push_error (0 + n)) (number_known c) refl
-    (subst (λ j. m / 2 ^ j ≤ m / 2 ^ n) (sym z) (le_self (m / 2 ^ n))) (subst (λ j. push_error j ≤ error_after n 0) (sym z) (push_covers n)) f
+    (subst (λ j. m / 2 ^ j ≤ m / 2 ^ n) (sym z) (le_refl (m / 2 ^ n))) (subst (λ j. push_error j ≤ error_after n 0) (sym z) (push_covers n)) f
 
 aligned_power : (a b : ℕ) → a + (b - a) ≡ b + (a - b)
 aligned_power a b = omega arith
@@ -98,7 +94,7 @@ sum_is_known x y t f =
     let a : Triple = aligned x.triple y.triple in
     let b : Triple = aligned y.triple x.triple in
     at_one_power a.k b.k _ _ (aligned_power x.triple.k y.triple.k) (known_at a.k (a.h + b.h) (a.e + b.e) (at (sum_of x.triple y.triple) t (x.size + y.size))
-    (largest_power x.triple.k y.triple.k) (le_self (a.h + b.h)) (le_self (a.e + b.e)) f)
+    (largest_power x.triple.k y.triple.k) (le_refl (a.h + b.h)) (le_refl (a.e + b.e)) f)
 
 -- a sum, a difference or a product of two operands as the operation wants them
 two_is_known : (k : Two) (x y : FilterKnown) → Fits (raw_known k x y) → two_known k (raw_of k x.triple y.triple)
@@ -221,7 +217,7 @@ input_is r lets v p w n g =
     let q : next (slice_get r.vars v) (λ i. filter_known 0 (size_of i) 0 1 (tree.Input v) (whole (sizes r.vars v)))
     ≡ Some (variable_known r.vars v) = rw (x.1, e) k in
     trim_is r lets (Input v) _ (variable_known r.vars v) (StandsFor r lets (TInput v p w)) m q
-    (record { triple = refl; fits = le_self 1; same = same_self (tree.Input v) })
+    (record { triple = refl; fits = le_refl 1; same = same_self (tree.Input v) })
 
 -- a value from a local
 get_is : (r : Setting) (lets : List Typed) (t : Typed) (j : ℕ) (v : FilterKnown) → IsGood r lets t → StandsFor r lets t v
@@ -264,17 +260,13 @@ raw_fits r lets o t u x y g h a b s =
     record { number = raw_narrow o x.triple y.triple p q; size = s }
 
 -- the operands of an operation on two that may be written
-record GoodTwo (r : Setting) (lets : List Typed) (t u : Typed) : Type 0 where
-  left : IsGood r lets t
-  right : IsGood r lets u
-
-good_two : (r : Setting) (lets : List Typed) (o : Two) (t u : Typed) (p : Range) (w : Width) → IsGood r lets (TTwo o t u p w) → GoodTwo r lets t u
+good_two : (r : Setting) (lets : List Typed) (o : Two) (t u : Typed) (p : Range) (w : Width) → IsGood r lets (TTwo o t u p w)
+    → IsGood r lets t × IsGood r lets u
 good_two r lets o t u p w g =
-    let k = operands_steady r.vars (triples_of r.vars lets) o (untyped t) (untyped u) g.steady in
-    record {
-      left = record { sound = sound_left g.sound; steady = k.0; small = g.small; nodes = λ e v h. g.nodes e v (inl (inl h)) };
-      right = record { sound = sound_right g.sound; steady = k.1; small = g.small; nodes = λ e v h. g.nodes e v (inl (inr h)) };
-    }
+    let k = operands_steady r.vars (triples_of r.vars lets) o (untyped t) (untyped u) g.steady in (
+      record { sound = sound_left g.sound; steady = k.0; small = g.small; nodes = λ e v h. g.nodes e v (inl (inl h)) },
+      record { sound = sound_right g.sound; steady = k.1; small = g.small; nodes = λ e v h. g.nodes e v (inl (inr h)) },
+    )
 
 -- the triple of an operation on two is that of the operands' triples
 two_triple : (vars : List VarInfo) (lets : List Triple) (k : Two) (x y : Tree)
@@ -301,8 +293,8 @@ two_right r lets o t u p w x y g i j =
     rw (i.triple, j.triple) (sym (two_triple r.vars (triples_of r.vars lets) o (untyped t) (untyped u))) in
     let v = may_push r lets (TTwo o t u p w) (at (trimmed (raw_of o x.triple y.triple)) (two_of o x.tree y.tree) (bound_of o x.size y.size)) g
     (record { triple = c; fits = f; same = s }) in
-    let m : MayPush r (raw_known o x y) = record { fits = raw_fits r lets o t u x y z.left z.right i.triple j.triple v.fits.size; node = v.node } in
-    cut_is r lets (align o y.triple x.triple) y _ (may_push r lets u y z.right j)
+    let m : MayPush r (raw_known o x y) = record { fits = raw_fits r lets o t u x y z.0 z.1 i.triple j.triple v.fits.size; node = v.node } in
+    cut_is r lets (align o y.triple x.triple) y _ (may_push r lets u y z.1 j)
     (trim_is r lets (op_of o W64) _ (raw_known o x y) (StandsFor r lets (TTwo o t u p w)) m (two_is_known o x y m.fits)
     (record { triple = c; fits = f; same = s }))
 
@@ -314,7 +306,7 @@ two_is r lets o t u p w x g i =
     let b : Triple = triple_in r.vars lets u in
     let z = good_two r lets o t u p w g in
     subst (λ c. Cuts (meaning r) (style_in r.vars lets) (align o a b) c (Beside (meaning r) lets o t u p w) x) i.triple
-    (cut_is r lets (align o a b) x (Beside (meaning r) lets o t u p w) (may_push r lets t x z.left i)
+    (cut_is r lets (align o a b) x (Beside (meaning r) lets o t u p w) (may_push r lets t x z.0 i)
     (λ y j. subst (λ c. Right r lets o t u p w x y c b) i.triple (subst (λ c. Right r lets o t u p w x y x.triple c) j.triple
     (two_right r lets o t u p w x y g i j))))
 
@@ -388,7 +380,7 @@ base_good r lets t n p w g =
 pub facts : (r : Setting) → 2048 ≤ r.depth → ((v : ℕ) → sizes r.vars v < 2 ^ 63) → Facts (meaning r)
 facts r room narrow = record {
   machine = record { room = λ n h. le-leb n r.depth h; got = λ l j. refl; put = λ l j v. refl };
-  at_number = λ lets c p w g. push_is r lets (TNum c p w) c refl g (le_self (unsigned_abs c)) (same_self (tree.Num c));
+  at_number = λ lets c p w g. push_is r lets (TNum c p w) c refl g (le_refl (unsigned_abs c)) (same_self (tree.Num c));
   at_variable = λ lets i p w g. input_is r lets i p w (narrow i) g;
   at_zeroth = λ lets t p w g. push_is r lets (TPow t zero p w) (pos 1) refl g
       (let n : size_in lets t ^ 0 ≡ 1 = pow-zero (size_in lets t) in omega (arith, n)) (same_zeroth (tree_in lets t));
@@ -400,8 +392,8 @@ facts r room narrow = record {
   at_factor = λ lets t n i p w x z g k h b. factor_is r lets t n i p w x z g (base_good r lets t (suc n) p w g) k h b;
   at_power = λ lets t n p w x g h. record { triple = h.triple; fits = h.fits; same = h.same };
   operand = λ lets t p w g. record { sound = sound_opposite g.sound; steady = g.steady; small = g.small; nodes = λ e v h. g.nodes e v (inl h) };
-  left = λ lets o t u p w g. let z = good_two r lets o t u p w g in z.left;
-  right = λ lets o t u p w g. let z = good_two r lets o t u p w g in z.right;
+  left = λ lets o t u p w g. let z = good_two r lets o t u p w g in z.0;
+  right = λ lets o t u p w g. let z = good_two r lets o t u p w g in z.1;
   base = λ lets t n p w g. base_good r lets t n p w g;
   deep = λ lets t g. let s = g.sound in let d = s.deep in omega (arith, d, room);
   let_stands = λ lets t. record { old = λ u v n x. old_stands r lets t u v n x; new = λ v x. new_stands r lets t v x };

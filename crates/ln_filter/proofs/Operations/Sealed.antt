@@ -210,7 +210,7 @@ sealed p {b = b} {c = c} ts t code narrow n l r d e k =
     let vars : List VarInfo = p.shape.vars in
     let ls : List Tree = map untyped (map typed p.lets) in
     let root : Tree = untyped (typed p.root) in
-    let z : triples_of vars (map typed p.lets) ≡ ts = (lets_tried_steady vars [] ls ts (sym l.tried)).is in
+    let z : triples_of vars (map typed p.lets) ≡ ts = (lets_tried_steady vars [] ls ts (sym l.tried)).1 in
     let own : List (Line Triple) = filter_lines vars (triples_of vars (map typed p.lets)) root in
     let w : Wrote b c own = rw z r.wrote in
     let x : c.code ≡ lines_in (predicate_of p) = w.code ∙ ap (λ m. m ++ own) (rw n at l.wrote.code) in
@@ -221,5 +221,3 @@ sealed p {b = b} {c = c} ts t code narrow n l r d e k =
       has = has_filter vars ls root ts t l.tried r.tried;
       narrow = narrow;
     }) d (e ∙ x) k
-
--- ---- the clauses of the public call

@@ -50,7 +50,7 @@ tree_put vars lets t a b z e p =
 pub steady_put : (vars : List VarInfo) (lets : List Triple) (t : Typed) (a b : Draft Triple) (x z : Triple) → a.kept ≡ []
     → IsTried vars lets (untyped t) (Some x) → WalkPuts vars lets a b t z → SteadyPut vars lets a b (untyped t) (Some z)
 steady_put vars lets t a b x z e h p =
-    let i : z ≡ x = p.bound ∙ (tried_steady vars lets (untyped t) x (sym h.value)).is in
+    let i : z ≡ x = p.bound ∙ (tried_steady vars lets (untyped t) x (sym h.value)).1 in
     rw i (record { tried = h.value; small = h.small; wrote = tree_put vars lets t a b z e p })
 
 -- a let, its store, and the lets after it
@@ -58,7 +58,7 @@ pub lets_more : (vars : List VarInfo) (j : ℕ) (done : List Triple) (t : Tree) 
     (o : Option (List Triple)) → SteadyPut vars done a b t (Some z) → c.code ≡ b.code ++ (line (Set j) no_triple ∷ [])
     → LetsPut vars (suc j) (done ++ (z ∷ [])) c d ts o → LetsPut vars j done a d (t ∷ ts) o
 lets_more vars j done t ts z a b c d o p s r =
-    let i : triple vars done t ≡ z = (tried_steady vars done t z (sym p.tried)).is in
+    let i : triple vars done t ≡ z = (tried_steady vars done t z (sym p.tried)).1 in
     let f : Some z ≡ tried vars done t = p.tried in
     let own : List (Line Triple) = filter_lines vars done t in
     let set : List (Line Triple) = line (Set j) no_triple ∷ [] in

@@ -56,40 +56,27 @@ powered_stands a z v (suc (suc n)) s =
     multiplied_stands (powered a (suc n)) a (power_number a z (suc n)) z (power v (suc n)) v (powered_stands a z v (suc n) s) s
 
 -- what stands for each let
-abbrev pub AllStand : List Triple → List ℤ → List ℤ → Type 0
-AllStand [] [] [] = Unit {0}
-AllStand [] [] (v ∷ vs) = ⊥
-AllStand [] (h ∷ hs) vs = ⊥
-AllStand (a ∷ as') [] vs = ⊥
-AllStand (a ∷ as') (h ∷ hs) [] = ⊥
-AllStand (a ∷ as') (h ∷ hs) (v ∷ vs) = Approximates a h v × AllStand as' hs vs
+pub data AllStand : List Triple → List ℤ → List ℤ → Type 0 where
+  none : AllStand [] [] []
+  more : {a : Triple} {h v : ℤ} {ts : List Triple} {hs vs : List ℤ} → Approximates a h v → AllStand ts hs vs → AllStand (a ∷ ts) (h ∷ hs) (v ∷ vs)
 
 stand_at : (ts : List Triple) (hs vs : List ℤ) (j : ℕ) → AllStand ts hs vs
     → Approximates (slice_index_or ts j no_triple) (slice_index_or hs j (pos 0)) (slice_index_or vs j (pos 0))
-stand_at [] [] [] j s = exact_stands 0 (pos 0) (omega arith)
-stand_at [] [] (v ∷ vs) j s = absurd s
-stand_at [] (h ∷ hs) vs j s = absurd s
-stand_at (a ∷ ts) [] vs j s = absurd s
-stand_at (a ∷ ts) (h ∷ hs) [] j s = absurd s
-stand_at (a ∷ ts) (h ∷ hs) (v ∷ vs) zero s = s.0
-stand_at (a ∷ ts) (h ∷ hs) (v ∷ vs) (suc j) s = stand_at ts hs vs j s.1
+stand_at _ _ _ j none = exact_stands 0 (pos 0) (omega arith)
+stand_at _ _ _ zero (more p s) = p
+stand_at _ _ _ (suc j) (more p s) = stand_at _ _ _ j s
 
 stand_snoc : (ts : List Triple) (hs vs : List ℤ) (a : Triple) (h v : ℤ) → AllStand ts hs vs → Approximates a h v
     → AllStand (ts ++ (a ∷ [])) (hs ++ (h ∷ [])) (vs ++ (v ∷ []))
-stand_snoc [] [] [] a h v s p = (p, tt)
-stand_snoc [] [] (w ∷ vs) a h v s p = absurd s
-stand_snoc [] (g ∷ hs) vs a h v s p = absurd s
-stand_snoc (b ∷ ts) [] vs a h v s p = absurd s
-stand_snoc (b ∷ ts) (g ∷ hs) [] a h v s p = absurd s
-stand_snoc (b ∷ ts) (g ∷ hs) (w ∷ vs) a h v s p = (s.0, stand_snoc ts hs vs a h v s.1 p)
+stand_snoc _ _ _ a h v none p = more p none
+stand_snoc _ _ _ a h v (more q s) p = more q (stand_snoc _ _ _ a h v s p)
 
 -- the value of a variable is at most its M; one that there isn't is 0
 size_stands : (vars : List VarInfo) (zs : List ℤ) (v : ℕ) → AreWithin vars zs → unsigned_abs (values zs v) ≤ sizes vars v
 size_stands [] [] v h = omega arith
-size_stands [] (z ∷ zs) v h = absurd h
-size_stands (i ∷ is) [] v h = absurd h
 size_stands (i ∷ is) (z ∷ zs) zero h = let s = in_size (i ∷ is) (z ∷ zs) h 0 i refl in rw (← s.same) s.small
 size_stands (i ∷ is) (z ∷ zs) (suc v) h = size_stands is zs v h.2
+size_stands _ _ v h = absurd h
 
 -- the truncated number of an expression stands for its value, where those of the lets do
 pub tree_stands : (vars : List VarInfo) (zs : List ℤ) (ts : List Triple) (hs vs : List ℤ) → AreWithin vars zs → AllStand ts hs vs
@@ -112,7 +99,7 @@ lets_stand vars zs ts hs vs (t ∷ lets) r l = lets_stand vars zs (ts ++ (triple
 
 -- the truncated number of a sign expression stands for its plain value
 pub numbers_stand : NumbersStand
-numbers_stand vars zs lets root r = tree_stands vars zs _ _ _ r (lets_stand vars zs [] [] [] lets r tt) root
+numbers_stand vars zs lets root r = tree_stands vars zs _ _ _ r (lets_stand vars zs [] [] [] lets r none) root
 
 -- ---- signs
 

@@ -56,21 +56,20 @@ one_more a n j e h s m l k = by_case (cases_lt m j)
     by_case (inr p) = let q : m ≡ j = omega arith in rw q s
 
 -- the products on the way to the power are steady, and this is its triple
-pub record PowerTried (a p : Triple) (n : ℕ) : Type 0 where
-  pub steady : ArePowersSteady a n
-  pub is : powered a n ≡ p
+abbrev pub PowerTried : Triple → Triple → ℕ → Type 0
+PowerTried a p n = ArePowersSteady a n × (powered a n ≡ p)
 
 -- where a triple is worked out for a power, the products on the way are steady, and it is the power's
 pub tried_powers : (a p : Triple) (n : ℕ) → power_tried a n ≡ Some p → PowerTried a p n
-tried_powers a p zero h = let w = settled_some (leaf 1) p h in record { steady = λ m l k. absurd (omega arith); is = w.1 }
-tried_powers a p (suc zero) h = record { steady = λ m l k. absurd (omega arith); is = cc }
+tried_powers a p zero h = let w = settled_some (leaf 1) p h in (λ m l k. absurd (omega arith), w.1)
+tried_powers a p (suc zero) h = (λ m l k. absurd (omega arith), cc)
 tried_powers a p (suc (suc n)) h =
     let w = next_some (power_tried a (suc n)) (λ (q : Triple). settled (multiplied q a)) p h in
     let r = tried_powers a w.0 (suc n) w.1 in
     let v = settled_some (multiplied w.0 a) p w.2 in
-    let s : IsSteady (multiplied (powered a (suc n)) a) = rw r.is v.0 in
-    let e : multiplied (powered a (suc n)) a ≡ p = rw r.is v.1 in
-    record { steady = one_more a (suc n) (suc (suc n)) refl r.steady s; is = e }
+    let s : IsSteady (multiplied (powered a (suc n)) a) = rw r.1 v.0 in
+    let e : multiplied (powered a (suc n)) a ≡ p = rw r.1 v.1 in
+    (one_more a (suc n) (suc (suc n)) refl r.0 s, e)
 
 -- ---- trees
 
@@ -86,50 +85,39 @@ steady_tried vars lets (Mul e f) s = rw (steady_tried vars lets e s.0, steady_tr
 steady_tried vars lets (Pow e n) s = rw (steady_tried vars lets e s.0) (powers_tried (triple vars lets e) n s.1)
 
 -- the nodes of the expression are steady, and this is its triple
-pub record Tried (vars : List VarInfo) (lets : List Triple) (t : Tree) (a : Triple) : Type 0 where
-  pub steady : AreSteady vars lets t
-  pub is : triple vars lets t ≡ a
+abbrev pub Tried : List VarInfo → List Triple → Tree → Triple → Type 0
+Tried vars lets t a = AreSteady vars lets t × (triple vars lets t ≡ a)
 
 -- where a triple is worked out for an operation on two, the operands have one each, and it is that of the operation on these
-record TwoTried (vars : List VarInfo) (lets : List Triple) (e f : Tree) (join : Triple → Triple → Triple) (x : Triple) : Type 0 where
-  left : AreSteady vars lets e
-  right : AreSteady vars lets f
-  steady : IsSteady (join (triple vars lets e) (triple vars lets f))
-  is : join (triple vars lets e) (triple vars lets f) ≡ x
-
 two_tried : (vars : List VarInfo) (lets : List Triple) (e f : Tree) (join : Triple → Triple → Triple) (x : Triple)
     → ((a : Triple) → tried vars lets e ≡ Some a → Tried vars lets e a) → ((a : Triple) → tried vars lets f ≡ Some a → Tried vars lets f a)
-    → next (tried vars lets e) (λ a. next (tried vars lets f) (λ b. settled (join a b))) ≡ Some x → TwoTried vars lets e f join x
+    → next (tried vars lets e) (λ a. next (tried vars lets f) (λ b. settled (join a b))) ≡ Some x
+    → (AreSteady vars lets e × AreSteady vars lets f × IsSteady (join (triple vars lets e) (triple vars lets f)))
+    × (join (triple vars lets e) (triple vars lets f) ≡ x)
 two_tried vars lets e f join x u v h =
     let m = next_some (tried vars lets e) (λ (a : Triple). next (tried vars lets f) (λ b. settled (join a b))) x h in
     let n = next_some (tried vars lets f) (λ (b : Triple). settled (join m.0 b)) x m.2 in
     let w = settled_some (join m.0 n.0) x n.2 in
     let r = u m.0 m.1 in
     let s = v n.0 n.1 in
-    record { left = r.steady; right = s.steady; steady = rw (r.is, s.is) w.0; is = rw (r.is, s.is) w.1 }
+    ((r.0, s.0, rw (r.1, s.1) w.0), rw (r.1, s.1) w.1)
 
 -- where a triple is worked out for an expression, its nodes are steady, and it is the expression's
 pub tried_steady : (vars : List VarInfo) (lets : List Triple) (t : Tree) (a : Triple) → tried vars lets t ≡ Some a → Tried vars lets t a
-tried_steady vars lets (Num c) a h = let w = settled_some _ a h in record { steady = w.0; is = w.1 }
-tried_steady vars lets (Input v) a h = let w = settled_some _ a h in record { steady = w.0; is = w.1 }
-tried_steady vars lets (Name j) a h = record { steady = tt; is = cc }
-tried_steady vars lets (Neg e) a h = let r = tried_steady vars lets e a h in record { steady = r.steady; is = r.is }
-tried_steady vars lets (Add e f) a h =
-    let w = two_tried vars lets e f added a (tried_steady vars lets e) (tried_steady vars lets f) h in
-    record { steady = (w.left, w.right, w.steady); is = w.is }
-tried_steady vars lets (Sub e f) a h =
-    let w = two_tried vars lets e f added a (tried_steady vars lets e) (tried_steady vars lets f) h in
-    record { steady = (w.left, w.right, w.steady); is = w.is }
-tried_steady vars lets (Mul e f) a h =
-    let w = two_tried vars lets e f multiplied a (tried_steady vars lets e) (tried_steady vars lets f) h in
-    record { steady = (w.left, w.right, w.steady); is = w.is }
+tried_steady vars lets (Num c) a h = settled_some _ a h
+tried_steady vars lets (Input v) a h = settled_some _ a h
+tried_steady vars lets (Name j) a h = (tt, cc)
+tried_steady vars lets (Neg e) a h = tried_steady vars lets e a h
+tried_steady vars lets (Add e f) a h = two_tried vars lets e f added a (tried_steady vars lets e) (tried_steady vars lets f) h
+tried_steady vars lets (Sub e f) a h = two_tried vars lets e f added a (tried_steady vars lets e) (tried_steady vars lets f) h
+tried_steady vars lets (Mul e f) a h = two_tried vars lets e f multiplied a (tried_steady vars lets e) (tried_steady vars lets f) h
 tried_steady vars lets (Pow e n) a h =
     let w = next_some (tried vars lets e) (λ (b : Triple). power_tried b n) a h in
     let r = tried_steady vars lets e w.0 w.1 in
     let p = tried_powers w.0 a n w.2 in
-    let z : ArePowersSteady (triple vars lets e) n = rw r.is p.steady in
-    let i : powered (triple vars lets e) n ≡ a = rw r.is p.is in
-    record { steady = (r.steady, z); is = i }
+    let z : ArePowersSteady (triple vars lets e) n = rw r.1 p.0 in
+    let i : powered (triple vars lets e) n ≡ a = rw r.1 p.1 in
+    ((r.0, z), i)
 
 -- ---- lets
 
@@ -140,20 +128,19 @@ steady_lets_tried vars done [] s = refl
 steady_lets_tried vars done (t ∷ ts) s = rw (steady_tried vars done t s.0) (steady_lets_tried vars (done ++ (triple vars done t ∷ [])) ts s.1)
 
 -- the nodes of the lets are steady, and these are their triples
-pub record LetsTried (vars : List VarInfo) (done : List Triple) (ts : List Tree) (xs : List Triple) : Type 0 where
-  pub steady : AreLetsSteady vars done ts
-  pub is : let_triples vars done ts ≡ xs
+abbrev pub LetsTried : List VarInfo → List Triple → List Tree → List Triple → Type 0
+LetsTried vars done ts xs = AreLetsSteady vars done ts × (let_triples vars done ts ≡ xs)
 
 -- where triples are worked out for the lets, their nodes are steady, and these are the triples of the lets
 pub lets_tried_steady : (vars : List VarInfo) (done : List Triple) (ts : List Tree) (xs : List Triple) → lets_tried vars done ts ≡ Some xs
     → LetsTried vars done ts xs
-lets_tried_steady vars done [] xs h = record { steady = tt; is = cc }
+lets_tried_steady vars done [] xs h = (tt, cc)
 lets_tried_steady vars done (t ∷ ts) xs h =
     let w = next_some (tried vars done t) (λ (a : Triple). lets_tried vars (done ++ (a ∷ [])) ts) xs h in
     let s = tried_steady vars done t w.0 w.1 in
-    let q : lets_tried vars (done ++ (triple vars done t ∷ [])) ts ≡ Some xs = rw s.is w.2 in
+    let q : lets_tried vars (done ++ (triple vars done t ∷ [])) ts ≡ Some xs = rw s.1 w.2 in
     let r = lets_tried_steady vars (done ++ (triple vars done t ∷ [])) ts xs q in
-    record { steady = (s.steady, r.steady); is = r.is }
+    ((s.0, r.0), r.1)
 
 -- ---- which predicates have a filter
 
@@ -163,7 +150,7 @@ pub has_filter : (vars : List VarInfo) (lets : List Tree) (root : Tree) (ts : Li
 has_filter vars lets root ts a h k =
     let l = lets_tried_steady vars [] lets ts (sym h) in
     let r = tried_steady vars ts root a (sym k) in
-    record { lets_steady = l.steady; root_steady = rw l.is r.steady }
+    record { lets_steady = l.0; root_steady = rw l.1 r.0 }
 
 -- a predicate has no filter where no triples are worked out for its lets
 pub no_lets_filter : (vars : List VarInfo) (lets : List Tree) (root : Tree) → None ≡ lets_tried vars [] lets → HasFilter vars lets root → ⊥
@@ -174,7 +161,7 @@ pub no_root_filter : (vars : List VarInfo) (lets : List Tree) (root : Tree) (ts 
     → None ≡ tried vars ts root → HasFilter vars lets root → ⊥
 no_root_filter vars lets root ts h k f =
     let l = lets_tried_steady vars [] lets ts (sym h) in
-    let s : AreSteady vars ts root = rw l.is at f.root_steady in
+    let s : AreSteady vars ts root = rw l.1 at f.root_steady in
     let e : None ≡ Some (triple vars ts root) = k ∙ steady_tried vars ts root s in
     cc
 
@@ -210,5 +197,3 @@ triple_small vars lets (Add e f) g s = trimmed_small _ s.2
 triple_small vars lets (Sub e f) g s = trimmed_small _ s.2
 triple_small vars lets (Mul e f) g s = trimmed_small _ s.2
 triple_small vars lets (Pow e n) g s = powered_small (triple vars lets e) n (triple_small vars lets e g s.0) s.1
-
--- ---- a tree from its operands

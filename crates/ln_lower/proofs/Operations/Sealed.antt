@@ -81,12 +81,6 @@ all_fit vars done (u ∷ us) s = All-cons (λ u. PowersFit (typed u)) u us (root
 
 -- ---- the block
 
--- at most 64 sound lets, and a tree that is sound over them
-record SoundBlock (vars : List VarInfo) (lets : List Typed) (t : Typed) : Type 0 where
-  few : length lets ≤ 64
-  lets_sound : AreSound vars [] lets
-  root : Sound vars lets t
-
 -- sound lets may be written
 lets_good : (at : Setting) (done ts : List Typed) → AreSound at.vars done ts → ((e : Tree) (v : Width) → IsLetNode (closed done) ts e v → at.is_node e v)
     → AreGood (meaning at) done ts
@@ -110,15 +104,15 @@ lets_are_kept at lets kept l k j h =
 top_is : (o : Option Known) (v k : Known) → o ≡ Some v → o ≡ Some k → v ≡ k
 top_is o v k a b = let e : Some v ≡ Some k = sym a ∙ b in cc
 
--- code of sound lets and of a sound tree after them is a lowered block
+-- code of at most 64 sound lets and of a sound tree after them is a lowered block
 lowered_is : (vars : List VarInfo) (code : Code) (t : Typed) (lets : List Typed) (all : List (Line Range)) → IsCodeOf lets t all
-    → SoundBlock vars lets t → code.depth ≡ 2048 → lines_of code.ops code.pairs ≡ all → length code.ops ≡ length code.pairs
+    → length lets ≤ 64 → AreSound vars [] lets → Sound vars lets t → code.depth ≡ 2048 → lines_of code.ops code.pairs ≡ all → length code.ops ≡ length code.pairs
     → IsLoweredBlock vars code.exps lets t code
-lowered_is vars code t lets all w s d e b =
+lowered_is vars code t lets all w few ls s d e b =
     let deep : 2048 ≤ code.depth = omega (arith, d) in
     let at : Setting = record { vars = vars; depth = code.depth; is_node = IsNodeOf lets t } in
-    let x = code_lands (meaning at) (facts at deep) lets t all w s.few (lets_good at [] lets s.lets_sound (λ e v h. inl h))
-    (record { sound = s.root; nodes = λ e v h. inr h }) in
+    let x = code_lands (meaning at) (facts at deep) lets t all w few (lets_good at [] lets ls (λ e v h. inl h))
+    (record { sound = s; nodes = λ e v h. inr h }) in
     let ends : run (rules vars code.depth) all (record { stack = []; locals = no_locals }) ≡ Some (record { stack = x.value ∷ []; locals = x.locals }) =
     x.runs.ends in
     let f : known_of vars code ≡ Some x.value = rw (e, ends) refl in
@@ -128,7 +122,6 @@ lowered_is vars code t lets all w s d e b =
     let n : length code.ops ≡ length all = lines_length code.ops code.pairs b ∙ ap (λ (l : List (Line Range)). length l) e in
     let c = code_weight (λ done. block_style) 0 (λ t. 3 * cost t) (λ done. block_weighs) lets t all w in
     let a = all_weigh lets in
-    let few = s.few in
     record {
       exponents = refl;
       block = record {
@@ -173,5 +166,5 @@ sealed vars a t lets d b few sound root x e n =
     } in
     let i : lines_of b.ops (map range b.bounds) ≡ v.lines ++ w.lines = lines_ranged b.ops b.bounds
     ∙ ap (λ (l : List (Line Pair)). map (told_line range) l) e ∙ w.wrote.code ∙ ap (λ l. l ++ w.lines) v.is in
-    lowered_is vars (sealed_from a b) t (map typed lets) all code (record { few = simp length-map few; lets_sound = sound; root = root }) refl i
+    lowered_is vars (sealed_from a b) t (map typed lets) all code (simp length-map few) sound root refl i
     (simp length-map n)

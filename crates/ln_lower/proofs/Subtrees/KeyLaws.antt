@@ -20,62 +20,27 @@ use Rattle.ln_lower.specs.contracts.distinct.KeyOpPartialEq.TheImpl as op
 
 same_both : (o p : Two) (x y z w : ℕ) → (op.ghosts).eq (Both o x y) (Both p z w) ≡ true → Both o x y ≡ Both p z w
 same_both Plus Plus x y z w h = let k = and_parts (x == z) (y == w) h in ap (λ (a : ℕ). Both Plus a y) (eqb-true x z k.0) ∙ ap (Both Plus z) (eqb-true y w k.1)
-same_both Plus Minus x y z w h = absurd (true≢false (sym h))
-same_both Plus Times x y z w h = absurd (true≢false (sym h))
-same_both Minus Plus x y z w h = absurd (true≢false (sym h))
 same_both Minus Minus x y z w h =
     let k = and_parts (x == z) (y == w) h in
     ap (λ (a : ℕ). Both Minus a y) (eqb-true x z k.0) ∙ ap (Both Minus z) (eqb-true y w k.1)
-same_both Minus Times x y z w h = absurd (true≢false (sym h))
-same_both Times Plus x y z w h = absurd (true≢false (sym h))
-same_both Times Minus x y z w h = absurd (true≢false (sym h))
 same_both Times Times x y z w h =
     let k = and_parts (x == z) (y == w) h in
     ap (λ (a : ℕ). Both Times a y) (eqb-true x z k.0) ∙ ap (Both Times z) (eqb-true y w k.1)
+same_both o p x y z w h = absurd (true≢false (sym h))
 
 same_op : (a b : KeyOp) → (op.ghosts).eq a b ≡ true → a ≡ b
 same_op (Number c) (Number d) h = ap Number ((signed_Decides c d).0 h)
-same_op (Number c) (Variable d) h = absurd (true≢false (sym h))
-same_op (Number c) (Name d) h = absurd (true≢false (sym h))
-same_op (Number c) (Opposite d) h = absurd (true≢false (sym h))
-same_op (Number c) (Both p z w) h = absurd (true≢false (sym h))
-same_op (Number c) (Raised y n) h = absurd (true≢false (sym h))
-same_op (Variable c) (Number d) h = absurd (true≢false (sym h))
 same_op (Variable c) (Variable d) h = ap Variable (eqb-true c d h)
-same_op (Variable c) (Name d) h = absurd (true≢false (sym h))
-same_op (Variable c) (Opposite d) h = absurd (true≢false (sym h))
-same_op (Variable c) (Both p z w) h = absurd (true≢false (sym h))
-same_op (Variable c) (Raised y n) h = absurd (true≢false (sym h))
-same_op (Name c) (Number d) h = absurd (true≢false (sym h))
-same_op (Name c) (Variable d) h = absurd (true≢false (sym h))
 same_op (Name c) (Name d) h = ap Name (eqb-true c d h)
-same_op (Name c) (Opposite d) h = absurd (true≢false (sym h))
-same_op (Name c) (Both p z w) h = absurd (true≢false (sym h))
-same_op (Name c) (Raised y n) h = absurd (true≢false (sym h))
-same_op (Opposite c) (Number d) h = absurd (true≢false (sym h))
-same_op (Opposite c) (Variable d) h = absurd (true≢false (sym h))
-same_op (Opposite c) (Name d) h = absurd (true≢false (sym h))
 same_op (Opposite c) (Opposite d) h = ap Opposite (eqb-true c d h)
-same_op (Opposite c) (Both p z w) h = absurd (true≢false (sym h))
-same_op (Opposite c) (Raised y n) h = absurd (true≢false (sym h))
-same_op (Both o x y) (Number d) h = absurd (true≢false (sym h))
-same_op (Both o x y) (Variable d) h = absurd (true≢false (sym h))
-same_op (Both o x y) (Name d) h = absurd (true≢false (sym h))
-same_op (Both o x y) (Opposite d) h = absurd (true≢false (sym h))
 same_op (Both o x y) (Both p z w) h = same_both o p x y z w h
-same_op (Both o x y) (Raised z n) h = absurd (true≢false (sym h))
-same_op (Raised x m) (Number d) h = absurd (true≢false (sym h))
-same_op (Raised x m) (Variable d) h = absurd (true≢false (sym h))
-same_op (Raised x m) (Name d) h = absurd (true≢false (sym h))
-same_op (Raised x m) (Opposite d) h = absurd (true≢false (sym h))
-same_op (Raised x m) (Both p z w) h = absurd (true≢false (sym h))
 same_op (Raised x m) (Raised y n) h = let k = and_parts (x == y) (m == n) h in ap (λ (a : ℕ). Raised a m) (eqb-true x y k.0) ∙ ap (Raised y) (eqb-true m n k.1)
+same_op a b h = absurd (true≢false (sym h))
 
 same_width : (v w : Width) → (width.ghosts).eq v w ≡ true → v ≡ w
 same_width W64 W64 h = refl
-same_width W64 W128 h = absurd (true≢false (sym h))
-same_width W128 W64 h = absurd (true≢false (sym h))
 same_width W128 W128 h = refl
+same_width v w h = absurd (true≢false (sym h))
 
 key_by : (x y : Key) → x.op ≡ y.op → x.low ≡ y.low → x.high ≡ y.high → x.width ≡ y.width → x ≡ y
 key_by x y a b c d =

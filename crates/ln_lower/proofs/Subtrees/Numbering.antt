@@ -104,9 +104,8 @@ numbered_two {ks = ks} {ls = ls} {ms = ms} {ns = ns} {a = a} {b = b} {k = k} {s 
 
 all_more : (ks ls : List Key) (ns : List ℕ) (ts : List Typed) → Extends ks ls → AreNumbersOf ks ns ts → AreNumbersOf ls ns ts
 all_more ks ls [] [] e a = tt
-all_more ks ls [] (t ∷ ts) e a = a
-all_more ks ls (n ∷ ns) [] e a = a
 all_more ks ls (n ∷ ns) (t ∷ ts) e a = (stands_more ks ls t n e a.0, all_more ks ls ns ts e a.1)
+all_more ks ls _ _ e a = absurd a
 
 -- one tree more
 pub next_stands : (ks ls : List Key) (ns os : List ℕ) (ts us : List Typed) (k : ℕ) (t : Typed) → us ≡ ts ++ (t ∷ [])
@@ -121,10 +120,9 @@ stand_behind ks ls ns ts k t n a = all_more ks ls ns ts n.more a
 pub stands_at : (ks : List Key) (ns : List ℕ) (us : List Fitted) (j : ℕ) (u : Fitted) → AreNumbersOf ks ns (map typed us) → j < length us
     → u ≡ get_or us j u → IsNumberOf ks (get_or ns j 0) (typed u)
 stands_at ks [] [] j u a h e = absurd (omega arith)
-stands_at ks [] (v ∷ vs) j u a h e = absurd a
-stands_at ks (m ∷ ms) [] j u a h e = absurd a
 stands_at ks (m ∷ ms) (v ∷ vs) zero u a h e = rw e a.0
 stands_at ks (m ∷ ms) (v ∷ vs) (suc j) u a h e = stands_at ks ms vs j u a.1 (omega arith) e
+stands_at ks _ _ j u a h e = absurd a
 
 -- there are as many numbers as trees
 pub stand_length : (ks : List Key) (ns : List ℕ) (us : List Fitted) → AreNumbersOf ks ns (map typed us) → length ns ≡ length us
