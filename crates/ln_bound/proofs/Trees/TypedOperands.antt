@@ -1,12 +1,11 @@
 -- Typed trees with two operands, by their operation.
-use Rattle.std.proofs.Common.{◌≡◌, ℕ, ◌<◌, ◌+◌, arith, refl, ap}
+use Rattle.std.proofs.Common.{◌≡◌, refl}
 use mathlib.Core.Logic.{◌⊎◌, inl, inr}
 use Rattle.ln_interval.specs.Range.{Range}
 use Rattle.ln_bound.specs.declared.fitted.Width.{Width}
 use Rattle.ln_bound.specs.declared.fitted.FitOp.{FitOp}
-use Rattle.ln_bound.specs.declared.fitted.Two.{Two}
 use Rattle.ln_bound.specs.declared.fitted.Two.TheVariants.{Plus, Minus, Times}
-use Rattle.ln_bound.specs.Typed.{Typed, TTwo, cost, operation}
+use Rattle.ln_bound.specs.Typed.{Typed, TTwo, operation}
 use Rattle.ln_bound.specs.View.{op_typed}
 
 -- what is a sum, a difference or a product is the tree of its operation
@@ -16,9 +15,3 @@ pub two_typed : (n x y z : FitOp) (s t : Typed) (p : Range) (w : Width) → (n �
 two_typed n x y z s t p w (inl e) a b c = rw (e, a) refl
 two_typed n x y z s t p w (inr (inl e)) a b c = rw (e, b) refl
 two_typed n x y z s t p w (inr (inr e)) a b c = rw (e, c) refl
-
--- its operands are smaller
-pub two_costs : (n : ℕ) (u : Typed) (o : Two) (s t : Typed) (p : Range) (w : Width) → u ≡ TTwo o s t p w → cost u ≡ n → (cost s < n) × (cost t < n)
-two_costs n u o s t p w e d =
-    let c : cost u ≡ cost s + cost t + 1 = ap cost e in
-    (omega (arith, c, d), omega (arith, c, d))

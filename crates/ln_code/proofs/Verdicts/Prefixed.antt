@@ -84,7 +84,8 @@ module _ {zs : List ℤ} {cs : List Code} {answer : Option Verdict} {segment : L
 -- after the last block the rest remains
 pub all_passed : {zs : List ℤ} {cs : List Code} {answer : Option Verdict} (segment rest : List ℕ) {i : ℕ} {met : Met} → length segment ≤ i
     → IsMet zs cs answer (drop i segment ++ rest) met → IsMet zs cs answer rest met
-all_passed {zs = zs} {cs = cs} {answer = answer} segment rest {i = i} {met = met} h m = subst (λ (y : List ℕ). IsMet zs cs answer (y ++ rest) met) (drop_all i segment h) m
+all_passed {zs = zs} {cs = cs} {answer = answer} segment rest {i = i} {met = met} h m =
+    subst (λ (y : List ℕ). IsMet zs cs answer (y ++ rest) met) (drop_all i segment h) m
 
 -- ---- one prefix after the other
 -- the list from the j-th prefix on is that prefix's segment, and then the list from the next prefix on

@@ -106,7 +106,8 @@ top_is o v k a b = let e : Some v ≡ Some k = sym a ∙ b in cc
 
 -- code of at most 64 sound lets and of a sound tree after them is a lowered block
 lowered_is : (vars : List VarInfo) (code : Code) (t : Typed) (lets : List Typed) (all : List (Line Range)) → IsCodeOf lets t all
-    → length lets ≤ 64 → AreSound vars [] lets → Sound vars lets t → code.depth ≡ 2048 → lines_of code.ops code.pairs ≡ all → length code.ops ≡ length code.pairs
+    → length lets ≤ 64 → AreSound vars [] lets → Sound vars lets t → code.depth ≡ 2048 → lines_of code.ops code.pairs ≡ all
+    → length code.ops ≡ length code.pairs
     → IsLoweredBlock vars code.exps lets t code
 lowered_is vars code t lets all w few ls s d e b =
     let deep : 2048 ≤ code.depth = omega (arith, d) in

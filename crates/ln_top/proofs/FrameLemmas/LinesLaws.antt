@@ -33,9 +33,6 @@ both_twice o e out err (Some s) = rw (append_assoc s.out o out, append_assoc s.e
 pub ok_err : {T E : Type 0} {P : Type 0} {a : T} {b : E} → (let r : Result T E = Ok a in r ≡ Err b) → P
 ok_err e = cc
 
-front_all : (text : List ℕ) → IsPrefix text text
-front_all text = record { rest = []; is = sym (append-nil text) }
-
 -- more after a text, and more before one
 pub front_wider : (text next front : List ℕ) → IsPrefix text front → IsPrefix (text ++ next) front
 front_wider text next front f = record { rest = f.rest ++ next; is = ap (λ t. t ++ next) f.is ∙ append_assoc front f.rest next }
