@@ -1,4 +1,3 @@
 -- C without filters: the functions that are written, and the ends of the call.
-pub mod BareLaws
 pub mod TurningLaws
 pub mod AnswerLaws

@@ -1,6 +1,7 @@
 pub mod TextLaws
 pub mod CheckLaws
 pub mod EmitLaws
+pub mod WrittenLaws
 pub mod ListLaws
 pub mod OneCounts
 pub mod GoodLines

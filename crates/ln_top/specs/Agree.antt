@@ -2,6 +2,7 @@
 use Rattle.std.specs.Prelude.{◌≡◌, ◌≢◌, ℕ, pos, List, [], Option, Some, Contains}
 use Rattle.ln_base.specs.Outside.{Shelf, Shown}
 use Rattle.ln_base.specs.declared.sign.Sign.{Sign}
+use Rattle.ln_algebra.specs.Orders.{BySmallest}
 use Rattle.ln_tree.specs.Row.{InRange, Row}
 use Rattle.ln_tree.specs.Table.{PredOf}
 use Rattle.ln_code.specs.declared.verdict.By.{By}
@@ -31,7 +32,7 @@ pub record SaysPerturbedSign (p : PredOf) (row : Row) (line : List ℕ) : Type 0
   pub sign : Sign
   pub counts : Counts
   pub says : line ≡ sign_words (sign_number sign) counts.wide counts.calls
-  pub perturbed : IsSignOn p row sign
+  pub perturbed : IsSignOn BySmallest p row sign
   pub never_zero : NotZeroWithoutParams p sign
   pub narrow : FilterDecides p row → counts.wide ≡ 0
   pub plain : plain_value p row ≢ pos 0 → (by : By) × IsByValue p row sign by counts.calls counts.wide

@@ -2,6 +2,7 @@
 use Rattle.std.specs.Prelude.{◌≡◌, ◌≢◌, ℕ, pos, All, List, [], map, Option, Some}
 use Rattle.ln_base.specs.Outside.{Shelf, Shown}
 use Rattle.ln_base.specs.declared.sign.Sign.{Sign}
+use Rattle.ln_algebra.specs.Orders.{BySmallest}
 use Rattle.ln_tree.specs.Row.{Row}
 use Rattle.ln_tree.specs.Table.{PredOf}
 use Rattle.ln_code.specs.declared.verdict.By.{By}
@@ -27,7 +28,7 @@ pub record CallsPerturbedSign (file : List Fun) (p : PredOf) (row : Row) : Type 
   pub sign : Sign
   pub counts : Counts
   pub called : CCall file (call_name p.name) row.index row.values ≡ Some (Signed (sign_number sign) counts)
-  pub perturbed : IsSignOn p row sign
+  pub perturbed : IsSignOn BySmallest p row sign
   pub never_zero : NotZeroWithoutParams p sign
   pub narrow : FilterDecides p row → counts.wide ≡ 0
   pub plain : plain_value p row ≢ pos 0 → (by : By) × IsByValue p row sign by counts.calls counts.wide

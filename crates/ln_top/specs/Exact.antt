@@ -1,25 +1,19 @@
 -- What the program writes and how it ends: as `lnc emit` with its file, but for the C.
-use Rattle.std.specs.Prelude.{◌≡◌, ℕ, ◌≤◌, All, bytes_eq, codes, if◌then◌else◌, length, List, [], ◌∷◌, map, take, Option, Some, None}
-use Rattle.ln_base.specs.Limits.{most_stages}
+use Rattle.std.specs.Prelude.{◌≡◌, ℕ, bytes_eq, codes, if◌then◌else◌, List, [], ◌∷◌, Option, Some, None}
 use Rattle.ln_base.specs.Outside.{Shelf, Shown}
 use Rattle.ln_tree.specs.Table.{PredOf}
-use Rattle.ln_code.specs.Part.{Part, without_filter}
-use Rattle.ln_compile.specs.Compiled.{AreProgramsOf, IsProgramAt}
-use Rattle.ln_cemit.specs.Emitted.{BeginsFile, BeginsFileAs}
-use Rattle.ln_cemit.specs.Whole.{Entered}
 use Rattle.ln_top.specs.declared.frame.status.End.TheVariants.{Done}
 use Rattle.ln_top.specs.declared.frame.stop.Why.{Why}
 use Rattle.ln_top.specs.declared.frame.stop.Why.TheVariants.{Usage}
-use Rattle.ln_top.specs.declared.unfiltered.Style.{Style}
-use Rattle.ln_top.specs.declared.unfiltered.Style.TheVariants.{EveryRow, OneOrder}
+use Rattle.ln_top.specs.declared.texts.written.Style.{Style}
+use Rattle.ln_top.specs.declared.texts.written.Style.TheVariants.{EveryRow, Filtered, OneOrder}
 use Rattle.ln_top.specs.declared.words.Command.TheVariants.{Emit}
 use Rattle.ln_top.specs.Frame.Said.{Said, put_both, whole}
 use Rattle.ln_top.specs.Frame.Stop.{said_of}
 use Rattle.ln_top.specs.Plan.{Plan, plan_of}
 use Rattle.ln_top.specs.Frame.Given.{Given, gives, stops}
 use Rattle.ln_top.specs.Steps.{Prepares, WhereGiven}
-use Rattle.ln_top.specs.ExactSigns.{IsExactC}
-use Rattle.ln_top.specs.OneOrder.{AreReducedOf, IsTurningC}
+use Rattle.ln_top.specs.Texts.Written.{IsCIn}
 
 -- the style of the C that a word before the file asks for
 abbrev pub style_named : List ℕ → Style
@@ -34,6 +28,7 @@ style_of words = EveryRow
 abbrev pub words_after : Style → List ℕ → List ℕ → List (List ℕ)
 words_after OneOrder word file = file ∷ []
 words_after EveryRow word file = word ∷ file ∷ []
+words_after Filtered word file = word ∷ file ∷ []
 
 -- the file that the words name, where they name one
 abbrev pub file_words : List (List ℕ) → List (List ℕ)
@@ -43,11 +38,6 @@ file_words words = words
 -- the words with which `lnc` takes the same steps
 abbrev pub emit_words : List (List ℕ) → List (List ℕ)
 emit_words words = codes "emit" ∷ file_words words
-
--- the C of each style
-abbrev pub IsCIn : Style → List PredOf → List ℕ → Type 0
-IsCIn EveryRow preds text = IsExactC preds text
-IsCIn OneOrder preds text = IsTurningC preds text
 
 -- what may be said of a source that is accepted: C of this style for its predicates
 pub data ExactSaid (style : Style) (g : Given) : Said → Type 0 where
@@ -76,23 +66,3 @@ abbrev pub TurningCallsAreSigns : List (List ℕ) → Shelf → Option Shown →
 TurningCallsAreSigns words shelf was now =
     (file : List ℕ) → words ≡ codes "turning" ∷ file ∷ []
     → WhereGiven (codes "emit" ∷ file ∷ []) shelf Emit (λ g. PutIn OneOrder g.table.preds was now)
-
--- a program of predicate number i, with at most 65,536 blocks, without its filter
-pub record IsBareAt (preds : List PredOf) (i : ℕ) (part : Part) : Type 0 where
-  pub whole : Part
-  pub program : IsProgramAt preds i whole
-  pub small : length whole.blocks ≤ most_stages
-  pub bare : part ≡ without_filter whole
-
--- the bytes begin the C of programs of the first i predicates without their filters, each with at most 65,536 blocks
-pub record BeginsExact (preds : List PredOf) (i : ℕ) (bytes : List ℕ) : Type 0 where
-  pub programs : List Part
-  pub are_programs : AreProgramsOf (take i preds) programs
-  pub small : All (λ (p : Part). length p.blocks ≤ most_stages) programs
-  pub begins : BeginsFile bytes (map without_filter programs)
-
--- the same of C of one order: each part is what is written of a program, for the predicate's entry
-pub record BeginsTurning (preds : List PredOf) (i : ℕ) (bytes : List ℕ) : Type 0 where
-  pub programs : List Entered
-  pub are : AreReducedOf (take i preds) programs
-  pub begins : BeginsFileAs bytes programs

@@ -12,7 +12,7 @@ use Rattle.ln_rows.specs.Record.{read_row}
 use Rattle.ln_top.specs.declared.words.Command.TheVariants.{Graded, Run}
 use Rattle.ln_top.specs.Frame.Said.{line, put_both}
 use Rattle.ln_top.specs.ByValue.{IsVerdictByValue, plain_value}
-use Rattle.ln_top.specs.Perturbed.{IsSignIn, NotZeroWithoutParams}
+use Rattle.ln_top.specs.Perturbed.{IsSignOn, NotZeroWithoutParams}
 use Rattle.ln_top.specs.Steps.{WhereGiven}
 use Rattle.ln_top.specs.Target.Line.{decider_text, sign_text}
 use Rattle.ln_top.specs.Signs.Run.{HasRecords}
@@ -25,7 +25,7 @@ pub record HasPerturbedSign (rank : Rank) (p : PredOf) (row : Row) (text : List 
   pub range : InRange p.sites p.vars row
   pub verdict : Verdict
   pub due : IsDueIn rank p row verdict
-  pub perturbed : IsSignIn rank p row verdict.sign
+  pub perturbed : IsSignOn rank p row verdict.sign
   pub never_zero : NotZeroWithoutParams p verdict.sign
   pub plain : plain_value p row ≢ pos 0 → IsVerdictByValue p row verdict
   pub text_is : text ≡ line (sign_text verdict.sign ++ 32 ∷ decider_text verdict.by)

@@ -2,6 +2,7 @@
 use Rattle.std.specs.Prelude.{◌≡◌, ◌≢◌, ℕ, pos, List, [], ◌∷◌, codes, Option}
 use Rattle.std.specs.List.{AllZip}
 use Rattle.ln_base.specs.Outside.{Shelf, Shown}
+use Rattle.ln_algebra.specs.Orders.{BySmallest}
 use Rattle.ln_tree.specs.declared.shape.Shape.{Shape}
 use Rattle.ln_tree.specs.Names.{name_bytes}
 use Rattle.ln_tree.specs.Row.{InRange, Row}
@@ -27,7 +28,7 @@ use Rattle.ln_top.specs.Judges.Verify.{VerifySaid}
 pub record GivesPerturbedSign (p : PredOf) (part : Part) (row : Row) : Type 0 where
   pub verdict : Verdict
   pub answers : IsVerdict part row verdict
-  pub perturbed : (v : Verdict) → IsVerdict part row v → IsSignOn p row v.sign
+  pub perturbed : (v : Verdict) → IsVerdict part row v → IsSignOn BySmallest p row v.sign
   pub never_zero : (v : Verdict) → IsVerdict part row v → NotZeroWithoutParams p v.sign
 
 -- the same; and where the filter decides, no operation is done in 128 bits; where the value on the row isn't 0, that decides

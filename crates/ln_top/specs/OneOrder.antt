@@ -1,6 +1,5 @@
 -- C of one order: where exchanging two sites turns the sign of a predicate, or keeps it, its function is for rows whose indices rise.
-use Rattle.std.specs.Prelude.{◌≡◌, ◌≤◌, ◌<◌, ℕ, ℤ, pos, negsuc, ◌*ℤ◌, List, [], ◌∷◌, Option, Some, None, length, map, slice_get}
-use Rattle.ln_base.specs.Limits.{most_stages}
+use Rattle.std.specs.Prelude.{◌≡◌, ◌≤◌, ◌<◌, ℕ, ℤ, pos, negsuc, ◌*ℤ◌, List, Option, Some, None, slice_get}
 use Rattle.ln_base.specs.declared.sign.Sign.{Sign}
 use Rattle.ln_algebra.specs.Orders.{BySmallest}
 use Rattle.ln_algebra.specs.Terms.{power_of}
@@ -11,20 +10,15 @@ use Rattle.ln_order.specs.Rows.{RowSign}
 use Rattle.ln_stage.specs.declared.symmetry.Symmetry.{Symmetry}
 use Rattle.ln_stage.specs.declared.symmetry.Symmetry.TheVariants as symmetry
 use Rattle.ln_stage.specs.Symmetry.{neighbour_partners, turn_of}
-use Rattle.ln_code.specs.Kept.{IsProgram}
 use Rattle.ln_code.specs.OneOrder.{in_one_order}
 use Rattle.ln_code.specs.Part.{Part, without_filter}
 use Rattle.ln_due.specs.Due.{sign_number}
 use Rattle.ln_compile.specs.Accepted.{root_of}
-use Rattle.ln_compile.specs.Compiled.{IsProgramOf}
 use Rattle.ln_csyn.specs.Tree.{Fun}
-use Rattle.ln_csyn.specs.Text.{CText}
 use Rattle.ln_csyn.specs.Meaning.{CCall, Counts, Signed}
 use Rattle.ln_cemit.specs.declared.entry.Entry.{Entry}
 use Rattle.ln_cemit.specs.declared.entry.Entry.TheVariants.{Alternating, EveryRow, Symmetric}
-use Rattle.ln_cemit.specs.Heads.{head, heads_as}
 use Rattle.ln_cemit.specs.Names.{entry_name}
-use Rattle.ln_cemit.specs.Whole.{Entered, part_name}
 use Rattle.ln_top.specs.ExactSigns.{CallsSign, MeansSign}
 
 -- the entry of a predicate. `la_NAME` or `ls_NAME`: it has two sites or more, all of one type, and exchanging neighbouring sites turns its
@@ -62,28 +56,6 @@ EntrySigns file p Alternating = RisingSigns file (entry_name Alternating p.name)
 EntrySigns file p Symmetric = RisingSigns file (entry_name Symmetric p.name) p (pos 1)
 EntrySigns file p EveryRow = (row : Row) → InRange p.sites p.vars row → CallsSign file p row
 
--- a program without a filter that is named after the predicate and has its entry, and the calls of its function
-pub record IsTurningOf (file : List Fun) (p : PredOf) (x : Entered) : Type 0 where
-  pub name : part_name x.part ≡ p.name
-  pub bare : x.part.filter ≡ None
-  pub entry : HasEntry p x.entry
-  pub signs : EntrySigns file p x.entry
-
--- one for each predicate, in order
-abbrev pub AreTurningOf : List Fun → List PredOf → List Entered → Type 0
-AreTurningOf file [] [] = Unit {0}
-AreTurningOf file [] (x ∷ xs) = ⊥
-AreTurningOf file (p ∷ ps) [] = ⊥
-AreTurningOf file (p ∷ ps) (x ∷ xs) = IsTurningOf file p x × AreTurningOf file ps xs
-
--- the bytes are a file of the C subset, whose functions are those of these programs and no other
-pub record IsTurningC (preds : List PredOf) (bytes : List ℕ) : Type 0 where
-  pub file : List Fun
-  pub text : CText bytes file
-  pub programs : List Entered
-  pub heads : map head file ≡ heads_as programs
-  pub signs : AreTurningOf file preds programs
-
 -- ---- how it is written
 -- what is written of a program: the program without its filter, or the one of one order of the sites
 abbrev pub reduced : Entry → Part → Part
@@ -91,25 +63,6 @@ reduced EveryRow c = without_filter c
 reduced Alternating c = in_one_order c
 reduced Symmetric c = in_one_order c
 
--- the part is what is written, for this entry, of a program of the predicate with at most 65,536 blocks
-pub record IsReducedOf (p : PredOf) (n : Entry) (part : Part) : Type 0 where
-  pub whole : Part
-  pub program : IsProgramOf p whole
-  pub kept : IsProgram whole
-  pub small : length whole.blocks ≤ most_stages
-  pub is : part ≡ reduced n whole
-
--- the same of predicate number i
-abbrev pub IsReducedAt : List PredOf → ℕ → Entry → Part → Type 0
-IsReducedAt ps i n part = (p : PredOf) → slice_get ps i ≡ Some p → IsReducedOf p n part
-
 -- the entry of predicate number i
 abbrev pub HasEntryAt : List PredOf → ℕ → Entry → Type 0
 HasEntryAt ps i n = (p : PredOf) → slice_get ps i ≡ Some p → HasEntry p n
-
--- each is what is written of a program of its predicate, for the predicate's entry
-abbrev pub AreReducedOf : List PredOf → List Entered → Type 0
-AreReducedOf [] [] = Unit {0}
-AreReducedOf [] (x ∷ xs) = ⊥
-AreReducedOf (p ∷ ps) [] = ⊥
-AreReducedOf (p ∷ ps) (x ∷ xs) = (HasEntry p x.entry × IsReducedOf p x.entry x.part) × AreReducedOf ps xs

@@ -1,26 +1,18 @@
 -- The perturbed sign of a predicate on a row.
-use Rattle.std.specs.Prelude.{◌≢◌, length, All, None}
+use Rattle.std.specs.Prelude.{◌≢◌, All, None}
 use Rattle.ln_base.specs.declared.sign.Sign.{Sign}
 use Rattle.ln_base.specs.declared.sign.Sign.TheVariants.{Zero}
 use Rattle.ln_algebra.specs.Orders.{Rank}
-use Rattle.ln_algebra.specs.Sign.{IsPerturbedSign}
 use Rattle.ln_tree.specs.Row.{Row}
 use Rattle.ln_tree.specs.Table.{PredOf}
-use Rattle.ln_bound.specs.Value.{values}
 use Rattle.ln_order.specs.Rows.{RowSign}
-use Rattle.ln_order.specs.Sites.{row_sites}
 use Rattle.ln_due.specs.Due.{Decided, sign_number}
 use Rattle.ln_compile.specs.Accepted.{root_of}
 use Rattle.ln_compile.specs.Filtered.{Does}
 
 -- it is the sign of the first coefficient that isn't 0, in this order of infinitesimals by the row's own indices
-abbrev pub IsSignIn : Rank → PredOf → Row → Sign → Type 0
-IsSignIn rank p row sign = RowSign rank p.vars (root_of p) row (sign_number sign)
-
--- the same by the smallest infinitesimal in which two vectors differ
-abbrev pub IsSignOn : PredOf → Row → Sign → Type 0
-IsSignOn p row sign =
-    IsPerturbedSign (length p.vars) (row_sites p.vars row.index) (values row.values) (root_of p) (sign_number sign)
+abbrev pub IsSignOn : Rank → PredOf → Row → Sign → Type 0
+IsSignOn rank p row sign = RowSign rank p.vars (root_of p) row (sign_number sign)
 
 -- a predicate without params has no row with the sign 0
 abbrev pub NotZeroWithoutParams : PredOf → Sign → Type 0

@@ -37,7 +37,7 @@ pub record OneIsZeroOn (preds : List PredOf) (row : Row) : Type 0 where
   pub k : ℕ
   pub pred : PredOf
   pub there : slice_get preds k ≡ Some pred
-  pub zero : IsSignOn pred row Zero
+  pub zero : IsSignOn BySmallest pred row Zero
 
 -- the first vector of the product on the row is the sum of the first vectors of the factors, of which each has one
 pub record HasSummedFirsts (p : PredOf) (others : List PredOf) (row : Row) : Type 0 where

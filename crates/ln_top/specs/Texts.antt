@@ -1,4 +1,5 @@
 pub mod Text
 pub mod Check
 pub mod Listing
+pub mod Written
 pub mod Emit

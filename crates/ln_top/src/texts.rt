@@ -6,3 +6,4 @@
 pub mod check;
 pub mod emit;
 pub mod list;
+pub mod written;

@@ -1,9 +1,8 @@
 //! The work of the program: the steps are those of `lnc emit`, and the text is C for programs without filters, each for every row, or for rows whose
 //! indices rise where that is enough.
-ghost use Rattle.std.specs.Prelude.{◌≡◌, ◌≢◌, ◌<◌, ◌+◌, ℕ, List, [], ◌∷◌, codes, Err, IfOk, IfSome, OnOk, Some, length, map, option_map, string_bytes};
+ghost use Rattle.std.specs.Prelude.{◌≡◌, ◌≢◌, ◌<◌, ℕ, List, [], ◌∷◌, codes, Err, IfOk, IfSome, OnOk, Some, length, map, option_map, string_bytes};
 ghost use Rattle.ln_base.specs.Outside.{Rose};
 ghost use Rattle.ln_tree.specs.Table.{pred_of};
-ghost use Rattle.ln_compile.specs.Accepted.{AreSound};
 ghost use Rattle.ln_top.specs.Answer.{IsMissing};
 ghost use Rattle.ln_top.specs.Frame.Carried.{CarriesOut, NoPart};
 ghost use Rattle.ln_top.specs.Causes.{EndsExactly};
@@ -11,63 +10,21 @@ ghost use Rattle.ln_top.specs.Plan.{HasForm, plan_of, with_bytes};
 ghost use Rattle.ln_top.specs.Frame.Ready.{HasStanding, StandsFor};
 ghost use Rattle.ln_top.specs.Frame.Given.{Given};
 ghost use Rattle.ln_top.specs.Frame.Said.{OnConsole, count, status_of};
-ghost use Rattle.ln_top.specs.Exact.{BeginsExact, BeginsTurning, CallsAreSigns, ExactSaid, IsBareAt, IsCIn, Owes, TurningCallsAreSigns};
+ghost use Rattle.ln_top.specs.Exact.{CallsAreSigns, ExactSaid, Owes, TurningCallsAreSigns};
 ghost use Rattle.ln_top.specs.Exact.{emit_words, style_named, style_of};
-ghost use Rattle.ln_top.specs.ExactSigns.{IsExactC};
-ghost use Rattle.ln_top.specs.OneOrder.{HasEntryAt, IsReducedAt, IsTurningC, entry_for};
+ghost use Rattle.ln_top.specs.OneOrder.{HasEntryAt, entry_for};
 
 use crate::frame::ready::Ready;
 use crate::frame::status::{Early, End};
 use crate::frame::stop::{Stop, Why, put_text, say};
 use crate::prepare::prepare;
+use crate::texts::written::{Style, written};
 use crate::words::{Command, Plan};
 use ln_base::{Console, Files, NoMemory};
-use ln_cemit::{Entry, begin_file, put_program, put_program_as};
-use ln_code::Program;
+use ln_cemit::Entry;
 use ln_compile::Checked;
 use ln_stage::Symmetry;
 use std::alloc::Global;
-
-/// The rows that functions are for: every row, or rows whose indices rise where these decide all others.
-#[derive(Clone, Copy)]
-pub enum Style {
-    EveryRow,
-    OneOrder,
-}
-
-// The program of predicate number i without its filter.
-#[tactic(auto, using(crate::proofs::ExactLemmas::BareLaws::bare_at))]
-fn bare(alloc: Global, source: &Checked, i: usize) -> Result<Program, NoMemory>
-    requires { i < length source.now.table.preds }
-    ensures bare { IfOk result (IsBareAt (map pred_of source.now.table.preds) i) }
-{
-    let program = source.program(alloc, i)?;
-    Ok(program.without_filter())
-}
-
-// Appends the functions of the program of predicate number i without its filter. The program is made here, and dropped.
-fn put_exact(alloc: Global, text: &mut Vec<u8>, source: &Checked, i: usize) -> Result<(), NoMemory>
-    requires { i < length source.now.table.preds }
-    ensures { IfOk result (λ x. BeginsExact (map pred_of source.now.table.preds) i text.old.items
-        → BeginsExact (map pred_of source.now.table.preds) (i + 1) text.new.items) }
-{
-    let program = bare(alloc, source, i)?;
-    let done = put_program(alloc, text, &program);
-    drop(program);
-    done
-}
-
-// C without filters for the predicates of a source.
-fn written(alloc: Global, source: &Checked) -> Result<Vec<u8>, NoMemory>
-    requires { AreSound (map pred_of source.now.table.preds) }
-    ensures { IfOk result (λ v. IsExactC (map pred_of source.now.table.preds) v.items) }
-{
-    let mut text = begin_file(alloc)?;
-    'each: for i in 0..source.table().preds.as_slice().len() {
-        put_exact(alloc, &mut text, source, i)?;
-    }
-    Ok(text)
-}
 
 // The entry of a predicate of two sites or more.
 fn entry_for(symmetry: Option<Symmetry>) -> Entry
@@ -80,8 +37,8 @@ fn entry_for(symmetry: Option<Symmetry>) -> Entry
     }
 }
 
-// The entry of predicate number i: which rows its function is for.
-fn entry_of(source: &Checked, i: usize) -> Entry
+/// The entry of predicate number i in C of one order: which rows its function is for.
+pub fn entry_of(source: &Checked, i: usize) -> Entry
     requires { i < length source.now.table.preds }
     ensures { HasEntryAt (map pred_of source.now.table.preds) i result }
 {
@@ -91,67 +48,12 @@ fn entry_of(source: &Checked, i: usize) -> Entry
     entry_for(source.symmetry(i))
 }
 
-// The program of predicate number i without its filter, and of one order of its sites where its function is for rows whose indices rise.
-fn reduced(alloc: Global, source: &Checked, i: usize, entry: Entry) -> Result<Program, NoMemory>
-    requires { i < length source.now.table.preds }
-    ensures { IfOk result (IsReducedAt (map pred_of source.now.table.preds) i entry) }
-{
-    let whole = source.program(alloc, i)?;
-    let _blocks = whole.blocks();
-    match entry {
-        Entry::EveryRow => Ok(whole.without_filter()),
-        Entry::Alternating => whole.in_one_order(alloc),
-        Entry::Symmetric => whole.in_one_order(alloc),
-    }
-}
-
-// Appends the functions of predicate number i, of one order where it has a symmetry. The program is made here, and dropped.
-fn put_turning(
-    alloc: Global,
-    text: &mut Vec<u8>,
-    source: &Checked,
-    i: usize,
-) -> Result<(), NoMemory>
-    requires { i < length source.now.table.preds }
-    ensures { IfOk result (λ x. BeginsTurning (map pred_of source.now.table.preds) i text.old.items
-        → BeginsTurning (map pred_of source.now.table.preds) (i + 1) text.new.items) }
-{
-    let entry = entry_of(source, i);
-    let program = reduced(alloc, source, i, entry)?;
-    let done = put_program_as(alloc, text, &program, entry);
-    drop(program);
-    done
-}
-
-// C without filters for the predicates of a source, of one order where they have a symmetry.
-fn written_turning(alloc: Global, source: &Checked) -> Result<Vec<u8>, NoMemory>
-    requires { AreSound (map pred_of source.now.table.preds) }
-    ensures { IfOk result (λ v. IsTurningC (map pred_of source.now.table.preds) v.items) }
-{
-    let mut text = begin_file(alloc)?;
-    'each: for i in 0..source.table().preds.as_slice().len() {
-        put_turning(alloc, &mut text, source, i)?;
-    }
-    Ok(text)
-}
-
-// The C of a style for the predicates of a source.
-fn text_of(alloc: Global, source: &Checked, style: Style) -> Result<Vec<u8>, NoMemory>
-    requires { AreSound (map pred_of source.now.table.preds) }
-    ensures { IfOk result (λ v. IsCIn style (map pred_of source.now.table.preds) v.items) }
-{
-    match style {
-        Style::EveryRow => written(alloc, source),
-        Style::OneOrder => written_turning(alloc, source),
-    }
-}
-
 // Writes the C; all of it is made before the first byte is written.
 fn work<C: Console>(alloc: Global, con: &mut C, ready: Ready, style: Style) -> Result<End, Early>
     requires { HasStanding ready }
     ensures { (g : Given) → StandsFor ready g → OnConsole C.faults C.shown con.old result con.new (CarriesOut (ExactSaid style g) NoPart ⊥ ⊥) }
 {
-    let made = text_of(alloc, &ready.compiled, style);
+    let made = written(alloc, &ready.compiled, style);
     drop(ready);
     let text = made?;
     put_text(con, &text, End::Done)
@@ -198,6 +100,7 @@ fn after_word<'a>(word: &str, file: &'a str) -> Option<Plan<'a>>
 {
     match style_named(word) {
         Style::OneOrder => Some(emit_of(file)),
+        Style::Filtered => None,
         Style::EveryRow => None,
     }
 }

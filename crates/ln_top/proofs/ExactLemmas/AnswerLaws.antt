@@ -13,7 +13,7 @@ use Rattle.ln_top.specs.declared.frame.status.End.TheVariants.{Done}
 use Rattle.ln_top.specs.declared.frame.stop.Stop.{Stop}
 use Rattle.ln_top.specs.declared.frame.stop.Stop.TheVariants as stop
 use Rattle.ln_top.specs.declared.frame.stop.Why.TheVariants.{Usage}
-use Rattle.ln_top.specs.declared.unfiltered.Style.{Style}
+use Rattle.ln_top.specs.declared.texts.written.Style.{Style}
 use Rattle.ln_top.specs.declared.words.Command.TheVariants as command
 use Rattle.ln_top.specs.Answer.{IsMissing, planned, stopped}
 use Rattle.ln_top.specs.Frame.Carried as c
@@ -34,7 +34,8 @@ use Rattle.ln_top.proofs.Steps.Chain.{one_prepares}
 use Rattle.ln_top.proofs.Steps.TopLaws as top
 use Rattle.ln_top.proofs.Steps.TopLaws.{counted_rose, one_end, one_status, same_given, some_plan, stops_gives}
 use Rattle.ln_top.specs.Exact as own
-use Rattle.ln_top.specs.Exact.{CallsAreSigns, ExactSaid, IsCIn, Owes, PutIn, TurningCallsAreSigns, emit_words, file_words, style_of}
+use Rattle.ln_top.specs.Texts.Written.{IsCIn}
+use Rattle.ln_top.specs.Exact.{CallsAreSigns, ExactSaid, Owes, PutIn, TurningCallsAreSigns, emit_words, file_words, style_of}
 
 -- what the words owe
 abbrev duty : List (List ℕ) → Option Shelf → Type 0 → Duty

@@ -8,6 +8,7 @@ use Rattle.ln_lex.specs.Tokens.{Lexed}
 use Rattle.ln_syntax.specs.Raw.{Item}
 use Rattle.ln_syntax.specs.File.{Spelt}
 use Rattle.ln_parse.specs.Says.{ItemsSay}
+use Rattle.ln_algebra.specs.Orders.{BySmallest}
 use Rattle.ln_tree.specs.declared.shape.VarInfo.{VarInfo}
 use Rattle.ln_tree.specs.Row.{InRange, Row}
 use Rattle.ln_tree.specs.Table.{PredOf, TableOf}
@@ -42,7 +43,7 @@ pub record Tells (bytes : List ℕ) (t : TableOf) : Type 0 where
 -- the text begins with the perturbed sign of the predicate on the row and a space; without params the sign isn't 0
 pub record BeginsWithSign (p : PredOf) (row : Row) (text : List ℕ) : Type 0 where
   pub sign : Sign
-  pub perturbed : IsSignOn p row sign
+  pub perturbed : IsSignOn BySmallest p row sign
   pub never_zero : NotZeroWithoutParams p sign
   pub rest : List ℕ
   pub is : text ≡ sign_text sign ++ 32 ∷ rest
@@ -85,7 +86,7 @@ pub record CallMeansSign (file : List Fun) (p : PredOf) (row : Row) : Type 0 whe
   pub sign : Sign
   pub counts : Counts
   pub called : CCall file (call_name p.name) row.index row.values ≡ Some (Signed (sign_number sign) counts)
-  pub perturbed : IsSignOn p row sign
+  pub perturbed : IsSignOn BySmallest p row sign
   pub never_zero : NotZeroWithoutParams p sign
 
 -- the text of such a C file was written to standard output

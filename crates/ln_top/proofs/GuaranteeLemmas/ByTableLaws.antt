@@ -382,7 +382,7 @@ is_part p c o k sound named = record {
     there : (row : Row) → InRange p.shape.sites p.shape.vars row → InRange c.shape.sites c.shape.vars row
     there row range = rw (o.sites, o.vars) range
 
-    sign : (row : Row) → InRange p.shape.sites p.shape.vars row → (v : Verdict) → IsVerdict c row v → IsSignOn (pred_of p) row v.sign
+    sign : (row : Row) → InRange p.shape.sites p.shape.vars row → (v : Verdict) → IsVerdict c row v → IsSignOn BySmallest (pred_of p) row v.sign
     sign row range v m =
         let d = programs_answer (pred_of p) c row v k o range m in
         due-sign BySmallest p.shape.vars (root_of (pred_of p)) row d.filtering v d.due

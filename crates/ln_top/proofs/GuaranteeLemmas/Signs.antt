@@ -6,6 +6,7 @@ use Rattle.ln_base.specs.declared.sign.Sign.{Sign}
 use Rattle.ln_algebra.specs.Earlier.{Sites}
 use Rattle.ln_algebra.specs.Sign.{IsPerturbedSign}
 use Rattle.ln_algebra.specs.Tree.{Tree}
+use Rattle.ln_algebra.specs.Orders.{BySmallest}
 use Rattle.ln_tree.specs.declared.shape.VarInfo.{VarInfo}
 use Rattle.ln_tree.specs.Table.{PredOf}
 use Rattle.ln_due.specs.Due.{sign_number}
@@ -32,7 +33,7 @@ index_is (n ∷ ns) (suc k) = index_is ns k
 
 -- so its perturbed sign is the declared one's
 pub sign_there : (q : PredOf) (p : Predicate) (ns : List ℕ) (zs : List ℤ) (sign : Sign) → Agrees q p
-    → IsSignOn q (record { index = map pos ns; values = zs }) sign → HasSign p ns zs (sign_number sign)
+    → IsSignOn BySmallest q (record { index = map pos ns; values = zs }) sign → HasSign p ns zs (sign_number sign)
 sign_there q p ns zs sign a h =
     let n : length q.vars ≡ length (sites_after 0 p.args) = sym (length-map q.vars (λ (i : VarInfo). i.site)) ∙ ap length a.sites in
     let site : (v : ℕ) → site_of q.vars v ≡ slice_index_or (sites_after 0 p.args) v None = λ v. site_at q.vars v

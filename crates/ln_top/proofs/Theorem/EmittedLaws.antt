@@ -1,6 +1,7 @@
 -- The calls of the C that was written mean the perturbed signs, under the names of the source's predicates.
-use Rattle.std.proofs.Common.{◌≡◌, ℕ, All, List, [], ◌∷◌, map, Option, ap, refl, ◌∙◌, subst}
-use Rattle.std.proofs.lemmas.List.Elements.{All-cons, All-head, All-nil, All-tail}
+use Rattle.std.proofs.Common.{◌≡◌, ℕ, All, List, [], ◌∷◌, ◌++◌, map, Option, ap, refl, ◌∙◌, subst}
+use Rattle.std.specs.List.{AllZip}
+use Rattle.std.proofs.lemmas.List.Elements.{All-cons, All-nil}
 use Rattle.ln_base.specs.Outside.{Shown}
 use Rattle.ln_algebra.specs.Orders.{BySmallest}
 use Rattle.ln_watch.specs.Panel.{State}
@@ -19,7 +20,11 @@ use Rattle.ln_top.specs.declared.frame.status.Status.{Status}
 use Rattle.ln_top.specs.Frame.Said.{Said, put_both}
 use Rattle.ln_top.specs.Frame.Given.{Given}
 use Rattle.ln_top.specs.declared.words.Command.TheVariants.{Emit}
-use Rattle.ln_top.specs.Texts.Emit.{CallIsDue, EmitSaid}
+use Rattle.ln_top.specs.Texts.Emit.{EmitSaid}
+use Rattle.ln_top.specs.Texts.Written.{CallIsDue, IsWrittenOf}
+use Rattle.ln_top.specs.declared.texts.written.Style.TheVariants as style
+use Rattle.ln_cemit.specs.Heads.{heads_as, heads_of, part_heads}
+use Rattle.ln_cemit.specs.Whole.{Entered, every_row, part_name, parts_entered}
 use Rattle.ln_top.specs.Texts.Text.{prints}
 use Rattle.ln_top.specs.Emitted.{CallsPerturbedSign, PutC}
 use Rattle.ln_top.specs.ByValue.{IsByValue, IsVerdictByValue, Takes}
@@ -77,26 +82,37 @@ call_signed file p row sound range d =
       plain = λ z. called_by_value file (pred_of p) row d (by_value BySmallest p.shape (pred_of p) row d.verdict refl refl range z d.due);
     }
 
-all_signed : (file : List Fun) (ps : List Pred) → AreSound (map pred_of ps) → All (OnRows (CallIsDue file)) (map pred_of ps)
+all_signed : (file : List Fun) (ps : List Pred) (xs : List Entered) → AreSound (map pred_of ps) → AllZip (IsWrittenOf style.Filtered file) (map pred_of ps) xs
     → All (OnRows (CallsPerturbedSign file)) (map pred_of ps)
-all_signed file [] s d = All-nil (OnRows (CallsPerturbedSign file))
-all_signed file (p ∷ ps) s d =
-    let due = OnRows (CallIsDue file) in
-    All-cons (OnRows (CallsPerturbedSign file)) (pred_of p) (map pred_of ps)
-    (λ row range. call_signed file p row s.0 range (All-head due (pred_of p) (map pred_of ps) d row range))
-    (all_signed file ps s.1 (All-tail due (pred_of p) (map pred_of ps) d))
+all_signed file [] xs s w = All-nil (OnRows (CallsPerturbedSign file))
+all_signed file (p ∷ ps) [] s w = absurd w
+all_signed file (p ∷ ps) (x ∷ xs) s w =
+    All-cons (OnRows (CallsPerturbedSign file)) (pred_of p) (map pred_of ps) (λ row range. call_signed file p row s.0 range (w.0.calls row range))
+    (all_signed file ps xs s.1 w.1)
+
+-- the functions of the file are those of programs with the predicates' names
+named_so : (file : List Fun) (ps : List PredOf) (xs : List Entered) → AllZip (IsWrittenOf style.Filtered file) ps xs
+    → (map part_name (parts_entered xs) ≡ map (λ (p : PredOf). p.name) ps) × (heads_as xs ≡ heads_of (parts_entered xs))
+named_so file [] [] w = (refl, refl)
+named_so file [] (x ∷ xs) w = absurd w
+named_so file (p ∷ ps) [] w = absurd w
+named_so file (p ∷ ps) (x ∷ xs) w =
+    let same : x ≡ every_row x.part = ap (λ n. record { entry = n; part = x.part }) w.0.entry in
+    let rest = named_so file ps xs w.1 in
+    (λ i. w.0.name i ∷ rest.0 i, λ i. part_heads (same i) ++ rest.1 i)
 
 -- what is required for a source's predicates
 put_c : (g : Given) (a : Said) (was now : Option Shown) → IsGrounded g → EmitSaid g a
     → now ≡ put_both a.out a.err was → PutC g.table.preds was now
 put_c g a was now i (prints text c) q =
     let preds : map pred_of i.table.preds ≡ g.table.preds = ap (λ (t : TableOf). t.preds) i.is in
+    let n = named_so c.file g.table.preds c.programs c.written in
     record {
       bytes = text;
       file = c.file;
       text = c.text;
-      functions = record { programs = c.programs; names = c.names; heads = c.heads };
-      signs = rw (← preds) (all_signed c.file i.table.preds (rw preds i.sound) (rw preds c.due));
+      functions = record { programs = parts_entered c.programs; names = n.0; heads = c.heads ∙ n.1 };
+      signs = rw (← preds) (all_signed c.file i.table.preds c.programs (rw preds i.sound) (rw preds c.written));
       shown = q;
     }
 

@@ -86,7 +86,7 @@ module _ (rank : Rank) (p : Pred) (row : Row) where
 
 -- the same by the smallest infinitesimal in which two vectors differ
 pub never_zero : (p : Pred) (row : Row) → InRange p.shape.sites p.shape.vars row → IsSound (pred_of p)
-    → All (λ i. i.site ≢ None) p.shape.vars → (s : Sign) → IsSignOn (pred_of p) row s → s ≢ Zero
+    → All (λ i. i.site ≢ None) p.shape.vars → (s : Sign) → IsSignOn BySmallest (pred_of p) row s → s ≢ Zero
 never_zero p row = never_zero_in BySmallest p row
 
 -- ---- lines

@@ -85,7 +85,7 @@ zero_of (p ∷ ps) row (v ∷ vs) d (inl z) = record {
   k = 0;
   pred = p;
   there = refl;
-  zero = subst (λ (s : Sign). IsSignOn p row s) (sign-number-same v.sign Zero z)
+  zero = subst (λ (s : Sign). IsSignOn BySmallest p row s) (sign-number-same v.sign Zero z)
       (due-sign BySmallest p.vars (root_of p) row d.0.filtering v d.0.due);
 }
 zero_of (p ∷ ps) row (v ∷ vs) d (inr h) =
@@ -94,7 +94,7 @@ zero_of (p ∷ ps) row (v ∷ vs) d (inr h) =
 
 -- and the other way round
 zero_from : (s : Shape) (row : Row) → InRange s.sites s.vars row → (ps : List PredOf) (vs : List Verdict)
-    → Every (IsOver s.sites s.vars) ps → AreDue ps row vs → (k : ℕ) (x : PredOf) → slice_get ps k ≡ Some x → IsSignOn x row Zero
+    → Every (IsOver s.sites s.vars) ps → AreDue ps row vs → (k : ℕ) (x : PredOf) → slice_get ps k ≡ Some x → IsSignOn BySmallest x row Zero
     → OneIsZero (numbers_of vs)
 zero_from s row r [] vs o d k x e z = absurd (none-some x e)
 zero_from s row r (p ∷ ps) [] o d k x e z = absurd d
