@@ -1,5 +1,6 @@
 -- States what is promised of the bytes that are emitted.
-use Rattle.std.specs.Prelude.{◌≡◌, ℕ, ℤ, pos, negsuc, true, List, [], ◌∷◌, ◌++◌, map, Some}
+use Rattle.std.specs.Prelude.{◌≡◌, ℕ, ℤ, pos, negsuc, true, List, [], ◌++◌, map, Some}
+use Rattle.std.specs.List.{AllByRecursion}
 use Rattle.ln_base.specs.declared.sign.Sign.{Sign}
 use Rattle.ln_base.specs.declared.sign.Sign.TheVariants.{Minus, Zero, Plus}
 use Rattle.ln_tree.specs.Row as tree
@@ -34,8 +35,7 @@ pub record EntrySays (file : List Fun) (x : Entered) (row : tree.Row) : Type 0 w
 
 -- so for each program, on each row in range
 abbrev pub EntriesSay : List Fun → List Entered → Type 0
-EntriesSay file [] = Unit {0}
-EntriesSay file (x ∷ xs) = ((row : tree.Row) → InRange x.part.shape.sites x.part.shape.vars row → EntrySays file x row) × EntriesSay file xs
+EntriesSay file = AllByRecursion (λ x. (row : tree.Row) → InRange x.part.shape.sites x.part.shape.vars row → EntrySays file x row)
 
 -- the bytes are a file of the subset, which has the functions of these programs and no other, and whose calls return the signs of the machine's
 -- verdicts; it is laid out: after each ; { and } a line ends
@@ -47,22 +47,13 @@ pub record IsEmittedAs (xs : List Entered) (bytes : List ℕ) : Type 0 where
   pub layout : bytes ≡ laid_text (file_of xs)
   pub lines : lines_end bytes ≡ true
 
--- the call of `ln_NAME` says this
-abbrev pub CallSays : List Fun → Part → tree.Row → Type 0
-CallSays file part row = EntrySays file (every_row part) row
-
--- so for each program, on each row in range
-abbrev pub AllSay : List Fun → List Part → Type 0
-AllSay file parts = EntriesSay file (map every_row parts)
-
 -- the bytes are a file in which each program has `ln_NAME`
 abbrev pub IsEmitted : List Part → List ℕ → Type 0
 IsEmitted parts bytes = IsEmittedAs (map every_row parts) bytes
 
 -- each of them is a program
 abbrev pub AreKept : List Part → Type 0
-AreKept [] = Unit {0}
-AreKept (p ∷ ps) = IsProgram p × AreKept ps
+AreKept = AllByRecursion IsProgram
 
 -- the text of the file of programs is one
 abbrev pub FileIsEmitted : Type 0

@@ -54,10 +54,6 @@ parts_back : (ps : List Part) → parts_entered (map every_row ps) ≡ ps
 parts_back [] = refl
 parts_back (p ∷ ps) = ap (λ qs. p ∷ qs) (parts_back ps)
 
--- what begins a file of programs that each have `ln_NAME` has only programs
-pub begun_kept : (ps : List Part) (bytes : List ℕ) → BeginsFile bytes ps → AreKept ps
-begun_kept ps bytes b = subst AreKept (parts_back ps) b.kept
-
 -- the same where each has `ln_NAME`
 pub begun_is_emitted : (ps : List Part) (bytes : List ℕ) → ArePrograms ps → BeginsFile bytes ps → IsEmitted ps bytes
 begun_is_emitted ps bytes a b = begun_is_emitted_as (map every_row ps) bytes (subst ArePrograms (sym (parts_back ps)) a) b

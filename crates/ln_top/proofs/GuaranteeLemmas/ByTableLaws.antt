@@ -42,7 +42,6 @@ use Rattle.ln_top.specs.Signs.Run.{HasRecords}
 use Rattle.ln_top.specs.declared.words.Command.{Command}
 use Rattle.ln_top.specs.declared.words.Command.TheVariants.{Emit, List as ListCommand, Run}
 use Rattle.ln_top.specs.Emitted.{CallsArePerturbed, CallsPerturbedSign, PutC}
-use Rattle.ln_csyn.specs.Tree.{Fun}
 use Rattle.ln_top.specs.Causes as cause
 use Rattle.ln_top.specs.Causes.{Ends, EndsExactly, IsSettled}
 use Rattle.ln_base.specs.Lines.{joined}
@@ -79,7 +78,7 @@ use Rattle.ln_top.specs.Signature.{Asks}
 use Rattle.ln_top.specs.Steps as step
 use Rattle.ln_top.specs.Steps.{Compiles, Each, Finds, Prepares, Reads, WhereGiven}
 use Rattle.ln_top.proofs.GuaranteeLemmas.ByTable as by_table
-use Rattle.ln_top.proofs.GuaranteeLemmas.ByTable.{AreSignLines, no_line, a_line, BeginsWithSign, CallMeansSign, EmitWritesC, FieldsSay}
+use Rattle.ln_top.proofs.GuaranteeLemmas.ByTable.{AreSignLines, no_line, a_line, BeginsWithSign, EmitWritesC, FieldsSay}
 use Rattle.ln_top.proofs.GuaranteeLemmas.ByTable.{IsPartFor, ListWritesListing, WritesC, WritesLines, WritesListing, RunWritesSigns, Tells}
 
 -- ---- the table

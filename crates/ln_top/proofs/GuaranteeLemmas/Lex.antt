@@ -2,7 +2,7 @@
 use Rattle.std.proofs.Common.{◌≡◌, ◌≢◌, ◌⊎◌, inl, inr, ℕ, zero, suc, arith, ◌<◌, ◌≤◌, ◌+◌}
 use Rattle.std.proofs.Common.{◌-◌, length, Bool, true, false, Option, Some, None, refl, ap, sym, ◌∙◌, subst}
 use Rattle.std.proofs.Common.{length-append}
-use Rattle.std.specs.List.{list_all, list_any}
+use Rattle.std.specs.List.{AllZip, list_all, list_any}
 use Rattle.std.proofs.lemmas.Bool.{and_parts, lt-ltb}
 use Rattle.ln_lex.specs.declared.token.Kind.TheVariants as kind
 use Rattle.std.specs.Prelude.{◌&&◌, ◌||◌, ◌==◌, not, nat_lt, nat_eq, bytes_eq, codes, is_some, if◌then◌else◌}
@@ -24,10 +24,7 @@ use Rattle.ln_top.specs.Guarantee as told
 
 -- the tokens have these texts
 abbrev pub Texts : List ℕ → List Token → List Word → Type 0
-Texts bytes [] [] = Unit {0}
-Texts bytes [] (w ∷ ws) = ⊥
-Texts bytes (t ∷ ts) [] = ⊥
-Texts bytes (t ∷ ts) (w ∷ ws) = (text bytes t.span ≡ w) × Texts bytes ts ws
+Texts bytes = AllZip (λ t w. text bytes t.span ≡ w)
 
 -- ---- which texts are tokens
 abbrev byte_of : Word → ℕ

@@ -1,5 +1,6 @@
 -- `emit`: the names of its functions, and its laws.
 use Rattle.std.proofs.Common.{◌≡◌, List, [], ◌∷◌, map, refl}
+use Rattle.std.specs.List.{AllByRecursion}
 use Rattle.ln_base.specs.declared.sign.Sign.{Sign}
 use Rattle.ln_base.specs.declared.sign.Sign.TheVariants.{Minus, Zero, Plus}
 use Rattle.ln_tree.specs.declared.table.Table.{Table}
@@ -17,8 +18,7 @@ use Rattle.ln_top.proofs.TextsLemmas.TextLaws.{lawful as text_lawful}
 
 -- the shape of each predicate has the predicate's name
 abbrev pub AreNamed : List PredOf → Type 0
-AreNamed [] = Unit {0}
-AreNamed (p ∷ ps) = (p.shape_name ≡ p.name) × AreNamed ps
+AreNamed = AllByRecursion (λ p. p.shape_name ≡ p.name)
 
 named : (sites : List SiteOf) (params : List CoordOf) (ps : List PredOf) → Every (PredParts sites params) ps → AreNamed ps
 named sites params [] e = tt

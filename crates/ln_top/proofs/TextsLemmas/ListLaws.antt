@@ -1,5 +1,6 @@
 -- `list`: its listing, program by program, and its laws.
 use Rattle.std.proofs.Common.{◌≡◌, ℕ, ◌+◌, ◌<◌, ◌≤◌, List, [], ◌∷◌, ◌++◌, length, take, map, subst, arith}
+use Rattle.std.specs.List.{AllByRecursion}
 use Rattle.std.proofs.lemmas.List.{length-map, take_all}
 use Rattle.std.specs.Prelude.{IfOk, Result, Ok, Err}
 use Rattle.ln_tree.specs.declared.pred.Pred.{Pred}
@@ -8,22 +9,17 @@ use Rattle.ln_code.specs.Kept.{IsProgram}
 use Rattle.ln_code.specs.Part.{Part}
 use Rattle.ln_compile.specs.Compiled.{AreProgramsOf, IsProgramAt}
 use Rattle.ln_compile.proofs.Making.BuildingLemmas.{program-more}
-use Rattle.ln_cemit.specs.Emitted.{AreKept}
 use Rattle.ln_cert.specs.Listing.{ListText}
 use Rattle.ln_cert.specs.Written.{IsListable, listing_of}
 use Rattle.ln_top.specs.Frame.Signature.{asks_nothing}
-use Rattle.ln_top.specs.Texts.Listing.{AreListable, IsListingOf, IsListingOfFirst, list_work}
+use Rattle.ln_top.specs.Texts.Listing.{IsListingOf, IsListingOfFirst, list_work}
 use Rattle.ln_top.proofs.FrameLemmas.Laws.{IsLawful}
 use Rattle.ln_top.proofs.TextsLemmas.GoodLines.{listing_is}
 use Rattle.ln_top.proofs.TextsLemmas.TextLaws.{lawful as text_lawful}
 
-listable_more : (cs : List Part) (c : Part) → AreListable cs → IsListable c → AreListable (cs ++ c ∷ [])
-listable_more [] c l h = (h, tt)
-listable_more (d ∷ cs) c l h = (l.0, listable_more cs c l.1 h)
-
-kept_more : (cs : List Part) (c : Part) → AreKept cs → IsProgram c → AreKept (cs ++ c ∷ [])
-kept_more [] c k h = (h, tt)
-kept_more (d ∷ cs) c k h = (k.0, kept_more cs c k.1 h)
+all_more : (P : Part → Type 0) (cs : List Part) (c : Part) → AllByRecursion P cs → P c → AllByRecursion P (cs ++ c ∷ [])
+all_more P [] c a h = (h, tt)
+all_more P (d ∷ cs) c a h = (a.0, all_more P cs c a.1 h)
 
 -- what follows from two facts on the value of a result
 pub then_both : {T E : Type 0} (r : Result T E) (P Q R : T → Type 0) → ((x : T) → P x → Q x → R x) → IfOk r P → IfOk r Q → IfOk r R
@@ -44,8 +40,8 @@ pub more : (preds : List Pred) (i : ℕ) (c : Part) (old new : List ℕ) → i <
 more preds i c old new h a k l t f = record {
   programs = f.programs ++ c ∷ [];
   are_programs = program-more (map pred_of preds) i f.programs c (omega (arith, length-map preds pred_of)) a f.are_programs;
-  kept = kept_more f.programs c f.kept k;
-  listable = listable_more f.programs c f.listable l;
+  kept = all_more IsProgram f.programs c f.kept k;
+  listable = all_more IsListable f.programs c f.listable l;
   text = t f.programs f.text;
 }
 

@@ -1,6 +1,6 @@
 -- `list FILE`: the listing of the programs of a source.
-use Rattle.std.specs.Prelude.{◌≡◌, ℕ, List, [], ◌∷◌, take, codes}
-use Rattle.std.specs.List.{AllZip}
+use Rattle.std.specs.Prelude.{◌≡◌, ℕ, List, take, codes}
+use Rattle.std.specs.List.{AllByRecursion, AllZip}
 use Rattle.ln_tree.specs.declared.shape.Shape.{Shape}
 use Rattle.ln_tree.specs.Names.{name_bytes}
 use Rattle.ln_tree.specs.Row.{InRange, Row}
@@ -26,8 +26,7 @@ use Rattle.ln_top.specs.Texts.Text.{Prints, source_signature, text_work}
 -- ---- what a listing can state
 -- each of these programs can be listed
 abbrev pub AreListable : List Part → Type 0
-AreListable [] = Unit {0}
-AreListable (p ∷ ps) = IsListable p × AreListable ps
+AreListable = AllByRecursion IsListable
 
 -- ---- the verdicts of its machine
 -- on this row the machine of the part has a verdict; whatever verdict it has, its sign, its decider and its calls are those that the row requires,
