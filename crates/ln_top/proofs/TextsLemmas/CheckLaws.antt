@@ -8,7 +8,7 @@ use Rattle.ln_tree.specs.declared.pred.Pred.{Pred}
 use Rattle.ln_tree.specs.Table.{PredOf, pred_of, TableOf}
 use Rattle.ln_compile.specs.Compiled.{IsStageCount, IsStageCountAt}
 use Rattle.ln_top.specs.Frame.Said.{line}
-use Rattle.ln_top.specs.Frame.Signature.{asks_nothing}
+use Rattle.ln_top.specs.declared.frame.asked.Asked.TheVariants.{Nothing}
 use Rattle.ln_top.specs.Texts.Check.{AreCounts, none, more, count_text, check_work}
 use Rattle.ln_top.proofs.FrameLemmas.Laws.{IsLawful}
 use Rattle.ln_top.proofs.TextsLemmas.OneCounts.{one_counts}
@@ -58,7 +58,7 @@ count_appended old name b d e f end p q r s =
     ∙ append_assoc old (name ++ b ++ d ++ e ++ f) end
 
 -- the laws of a work hold for `check`
-pub lawful : IsLawful asks_nothing check_work
+pub lawful : IsLawful Nothing check_work
 lawful = text_lawful AreCounts (Unit {0}) (λ v g i x y c d.
     let preds : g.table.preds ≡ map pred_of i.table.preds = sym (ap (λ (t : TableOf). t.preds) i.is) in
     one_counts i.table.preds (rw preds at c) (rw preds at d))

@@ -9,7 +9,7 @@ use Rattle.ln_parse.specs.ReadsBack.{Every}
 use Rattle.ln_parse.proofs.Wholes.WholeParts.{PredParts, table_parts}
 use Rattle.ln_due.specs.Due.{sign_number}
 use Rattle.ln_cemit.specs.Emitted.{sign_as_number}
-use Rattle.ln_top.specs.Frame.Signature.{asks_nothing}
+use Rattle.ln_top.specs.declared.frame.asked.Asked.TheVariants.{Nothing}
 use Rattle.ln_top.specs.declared.texts.written.Style.TheVariants.{Filtered}
 use Rattle.ln_top.specs.Texts.Emit.{emit_work}
 use Rattle.ln_top.specs.Texts.Written.{IsCIn}
@@ -37,5 +37,5 @@ same_number Zero = refl
 same_number Plus = refl
 
 -- the laws of a work hold for `emit`
-pub lawful : IsLawful asks_nothing emit_work
+pub lawful : IsLawful Nothing emit_work
 lawful = text_lawful (IsCIn Filtered) ⊥ (λ v. absurd v)

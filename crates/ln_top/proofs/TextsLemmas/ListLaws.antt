@@ -11,7 +11,7 @@ use Rattle.ln_compile.specs.Compiled.{AreProgramsOf, IsProgramAt}
 use Rattle.ln_compile.proofs.Making.BuildingLemmas.{program-more}
 use Rattle.ln_cert.specs.Listing.{ListText}
 use Rattle.ln_cert.specs.Written.{IsListable, listing_of}
-use Rattle.ln_top.specs.Frame.Signature.{asks_nothing}
+use Rattle.ln_top.specs.declared.frame.asked.Asked.TheVariants.{Nothing}
 use Rattle.ln_top.specs.Texts.Listing.{IsListingOf, IsListingOfFirst, list_work}
 use Rattle.ln_top.proofs.FrameLemmas.Laws.{IsLawful}
 use Rattle.ln_top.proofs.TextsLemmas.GoodLines.{listing_is}
@@ -52,5 +52,5 @@ all preds i text h f =
     listing_is (map pred_of preds) f.programs text (subst (λ ps. AreProgramsOf ps f.programs) e f.are_programs) f.kept f.listable f.text
 
 -- the laws of a work hold for `list`
-pub lawful : IsLawful asks_nothing list_work
+pub lawful : IsLawful Nothing list_work
 lawful = text_lawful IsListingOf ⊥ (λ v. absurd v)

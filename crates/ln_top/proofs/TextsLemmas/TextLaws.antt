@@ -13,7 +13,7 @@ use Rattle.ln_top.specs.Frame.Work as kind_of
 use Rattle.ln_top.specs.Frame.Work.{IsWorkEnd}
 use Rattle.ln_top.specs.Frame.Carried.{CarriesOut, NoPart, PutsText}
 use Rattle.ln_top.specs.Frame.Ready.{StandsFor}
-use Rattle.ln_top.specs.Frame.Signature.{asks_nothing}
+use Rattle.ln_top.specs.declared.frame.asked.Asked.TheVariants.{Nothing}
 use Rattle.ln_top.specs.Texts.Text.{IsDone, Prints, done, prints, text_work}
 use Rattle.ln_top.proofs.FrameLemmas.Carry.{text_carried}
 use Rattle.ln_top.proofs.FrameLemmas.Grounded.{IsGrounded}
@@ -43,7 +43,7 @@ module _ (holds : List PredOf → List ℕ → Type 0) where
 
   -- the laws of a work hold for such a command, whose text is one where it says one thing
   pub lawful : (one : Type 0) → (one → (g : Given) → IsGrounded g → (x y : List ℕ) → holds g.table.preds x → holds g.table.preds y → x ≡ y)
-      → IsLawful asks_nothing (text_work holds one)
+      → IsLawful Nothing (text_work holds one)
   lawful one f = record {
     tells = λ boxes g a h. tells h;
     single = λ g a b h k. single h k;

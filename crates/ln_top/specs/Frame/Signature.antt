@@ -19,10 +19,6 @@ pub record Form : Type 0 where
   pub most : ℕ
   pub files : ℕ
 
--- it asks nothing
-abbrev pub asks_nothing : Asked
-asks_nothing = Nothing
-
 -- the named predicates are as is asked
 abbrev pub AreAsked : Asked → List PredOf → Type 0
 AreAsked Nothing preds = Unit {0}

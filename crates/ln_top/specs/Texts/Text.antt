@@ -6,7 +6,8 @@ use Rattle.ln_top.specs.declared.frame.status.End.TheVariants.{Done}
 use Rattle.ln_top.specs.Frame.Said.{Said, whole}
 use Rattle.ln_top.specs.Frame.Carried.{NoPart}
 use Rattle.ln_top.specs.Frame.Work.{Work}
-use Rattle.ln_top.specs.Frame.Signature.{Signature, asks_nothing}
+use Rattle.ln_top.specs.Frame.Signature.{Signature}
+use Rattle.ln_top.specs.declared.frame.asked.Asked.TheVariants.{Nothing}
 
 -- what may be said: a text of which this holds
 pub data Prints (holds : List ℕ → Type 0) : Said → Type 0 where
@@ -18,7 +19,7 @@ pub data IsDone : End → Type 0 where
 
 -- the signature of a command that takes a source file alone
 abbrev pub source_signature : List ℕ → Signature
-source_signature word = record { word = word; form = record { least = 0; most = 0; files = 0 }; suits = asks_nothing }
+source_signature word = record { word = word; form = record { least = 0; most = 0; files = 0 }; suits = Nothing }
 
 -- the work of a command that writes a text of which this holds, for the predicates of the source; and that it says one thing
 abbrev pub text_work : (List PredOf → List ℕ → Type 0) → Type 0 → Work

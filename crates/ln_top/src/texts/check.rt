@@ -40,8 +40,7 @@ fn counts(alloc: Global, c: &Checked) -> Result<Vec<u8>, NoMemory>
 
 /// Writes the lines of the predicates with their stage counts; all of them are made before the first is written.
 pub fn work<C: Console>(alloc: Global, con: &mut C, ready: &Ready) -> Result<End, Early>
-    ensures { (g : Given) → StandsFor ready.now g → CarriesOut (CheckSaid g) NoPart ⊥ ⊥
-        (count (C.faults con.old) (C.faults con.new)) result (C.shown con.old) (C.shown con.new) }
+    ensures { (g : Given) → StandsFor ready.now g → OnConsole C.faults C.shown con.old result con.new (CarriesOut (CheckSaid g) NoPart ⊥ ⊥) }
 {
     let text = counts(alloc, &ready.compiled)?;
     put_text(con, &text, End::Done)

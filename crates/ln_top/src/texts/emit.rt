@@ -2,7 +2,7 @@
 ghost use Rattle.ln_top.specs.Frame.Carried.{CarriesOut, NoPart};
 ghost use Rattle.ln_top.specs.Texts.Emit.{EmitSaid};
 ghost use Rattle.ln_top.specs.Frame.Ready.{StandsFor};
-ghost use Rattle.ln_top.specs.Frame.Said.{count};
+ghost use Rattle.ln_top.specs.Frame.Said.{OnConsole};
 ghost use Rattle.ln_top.specs.Frame.Given.{Given};
 
 use crate::frame::ready::Ready;
@@ -14,8 +14,7 @@ use std::alloc::Global;
 
 /// Writes C for the predicates; all of it is made before the first byte is written.
 pub fn work<C: Console>(alloc: Global, con: &mut C, ready: &Ready) -> Result<End, Early>
-    ensures { (g : Given) → StandsFor ready.now g → CarriesOut (EmitSaid g) NoPart ⊥ ⊥
-        (count (C.faults con.old) (C.faults con.new)) result (C.shown con.old) (C.shown con.new) }
+    ensures { (g : Given) → StandsFor ready.now g → OnConsole C.faults C.shown con.old result con.new (CarriesOut (EmitSaid g) NoPart ⊥ ⊥) }
 {
     let text = written(alloc, &ready.compiled, Style::Filtered)?;
     put_text(con, &text, End::Done)

@@ -4,7 +4,7 @@ ghost use Rattle.ln_tree.specs.Table.{pred_of};
 ghost use Rattle.ln_top.specs.Frame.Carried.{CarriesOut, NoPart};
 ghost use Rattle.ln_top.specs.Texts.Listing.{IsListingOf, IsListingOfFirst, ListSaid};
 ghost use Rattle.ln_top.specs.Frame.Ready.{StandsFor};
-ghost use Rattle.ln_top.specs.Frame.Said.{count};
+ghost use Rattle.ln_top.specs.Frame.Said.{OnConsole};
 ghost use Rattle.ln_top.specs.Frame.Given.{Given};
 
 use crate::frame::ready::Ready;
@@ -40,8 +40,7 @@ fn listing(alloc: Global, source: &Checked) -> Result<Vec<u8>, NoMemory>
 
 /// Writes the listing of the programs; all of it is made before the first byte is written.
 pub fn work<C: Console>(alloc: Global, con: &mut C, ready: &Ready) -> Result<End, Early>
-    ensures { (g : Given) → StandsFor ready.now g → CarriesOut (ListSaid g) NoPart ⊥ ⊥
-        (count (C.faults con.old) (C.faults con.new)) result (C.shown con.old) (C.shown con.new) }
+    ensures { (g : Given) → StandsFor ready.now g → OnConsole C.faults C.shown con.old result con.new (CarriesOut (ListSaid g) NoPart ⊥ ⊥) }
 {
     let text = listing(alloc, &ready.compiled)?;
     put_text(con, &text, End::Done)
