@@ -13,7 +13,7 @@ use Rattle.ln_top.specs.Frame.Stop.{said_of}
 use Rattle.ln_top.specs.Plan.{Plan, plan_of}
 use Rattle.ln_top.specs.Frame.Given.{Given, gives, stops}
 use Rattle.ln_top.specs.Steps.{Prepares, WhereGiven}
-use Rattle.ln_top.specs.Texts.Written.{IsCIn}
+use Rattle.ln_top.specs.Texts.Written.{IsCOf, promise_of}
 
 -- the style of the C that a word before the file asks for
 abbrev pub style_named : List ℕ → Style
@@ -41,7 +41,7 @@ emit_words words = codes "emit" ∷ file_words words
 
 -- what may be said of a source that is accepted: C of this style for its predicates
 pub data ExactSaid (style : Style) (g : Given) : Said → Type 0 where
-  written : (text : List ℕ) → IsCIn style g.table.preds text → ExactSaid style g (whole Done text)
+  written : (text : List ℕ) → IsCOf (promise_of style) g.table.preds text → ExactSaid style g (whole Done text)
 
 -- what is required: the usage line where the words are no one file, the line of the step that stops, or the C
 pub data Owes (words : List (List ℕ)) (told : Option Shelf) : Said → Type 0 where
@@ -54,7 +54,7 @@ pub data Owes (words : List (List ℕ)) (told : Option Shelf) : Said → Type 0 
 -- what came to Out is C of this style, and nothing came to Err
 pub record PutIn (style : Style) (preds : List PredOf) (was now : Option Shown) : Type 0 where
   pub bytes : List ℕ
-  pub is : IsCIn style preds bytes
+  pub is : IsCOf (promise_of style) preds bytes
   pub shown : now ≡ put_both bytes [] was
 
 -- where the words are a file, and the source that it contains is accepted, C for its predicates came to Out

@@ -34,7 +34,7 @@ use Rattle.ln_top.proofs.Steps.Chain.{one_prepares}
 use Rattle.ln_top.proofs.Steps.TopLaws as top
 use Rattle.ln_top.proofs.Steps.TopLaws.{counted_rose, one_end, one_status, same_given, some_plan, stops_gives}
 use Rattle.ln_top.specs.Exact as own
-use Rattle.ln_top.specs.Texts.Written.{IsCIn}
+use Rattle.ln_top.specs.Texts.Written.{IsCOf, promise_of}
 use Rattle.ln_top.specs.Exact.{CallsAreSigns, ExactSaid, Owes, PutIn, TurningCallsAreSigns, emit_words, file_words, style_of}
 
 -- what the words owe
@@ -43,10 +43,10 @@ duty words told reads = record { owes = Owes words told; part = NoPart; lacks = 
 
 -- the C was written as a whole text
 pub carried : (style : Style) (r : Ready) (g : Given) (text : List ℕ) (puts : Count) (result : Result End Early) (was now : Option Shown)
-    → StandsFor r g → IsCIn style (map pred_of r.compiled.table.preds) text → PutsText text Done puts result was now
+    → StandsFor r g → IsCOf (promise_of style) (map pred_of r.compiled.table.preds) text → PutsText text Done puts result was now
     → CarriesOut (ExactSaid style g) NoPart ⊥ ⊥ puts result was now
 carried style r g text puts result was now s x p = text_carried (ExactSaid style g) NoPart ⊥ ⊥ puts Done text result was now
-    (own.written text (subst (λ t. IsCIn style t text) (sym (ap (λ t. t.preds) s.table)) x)) p
+    (own.written text (subst (λ t. IsCOf (promise_of style) t text) (sym (ap (λ t. t.preds) s.table)) x)) p
 
 -- the work is carried out
 pub work_carried : (words : List (List ℕ)) (style : Style) (plan : Plan) (told : Option Shelf) (g : Given) (reads : Type 0) (puts : Count)
@@ -144,7 +144,7 @@ put_exact words shelf a was now (own.stopped q why e y) s = λ plan g f k p.
     stops_gives (one_prepares plan shelf _ _ (subst (λ r. Prepares r (Some shelf) (stops why)) (some_plan (sym e ∙ f)) y) p)
 put_exact words shelf a was now (own.worked q h e y (own.written text x)) s = λ plan g f k p.
     let same = same_given (one_prepares plan shelf _ _ (subst (λ r. Prepares r (Some shelf) (gives h)) (some_plan (sym e ∙ f)) y) p) in
-    record { bytes = text; is = subst (λ (i : Given). IsCIn (style_of words) i.table.preds text) same x; shown = s }
+    record { bytes = text; is = subst (λ (i : Given). IsCOf (promise_of (style_of words)) i.table.preds text) same x; shown = s }
 
 signs_there : (words : List (List ℕ)) (shelf : Shelf) (reads : Type 0) (puts : Count) (r : Result End Early) (was now : Option Shown) (e : End)
     → r ≡ Ok e → CarriesOut (Owes words (Some shelf)) NoPart (IsMissing (emit_words words) (Some shelf)) reads puts r was now

@@ -86,7 +86,7 @@ few_taken zero cs = omega arith
 few_taken (suc t) [] = omega arith
 few_taken (suc t) (c ∷ cs) = omega (arith, few_taken t cs)
 
--- what is written of a program has no more blocks than it
+-- nor has the whole of it
 pub few_reduced : (n : Entry) (c : Part) → length (reduced n c).blocks ≤ length c.blocks
 few_reduced EveryRow c = omega arith
 few_reduced Alternating c = few_taken (past_all (list_in_turn c)) c.blocks

@@ -10,9 +10,8 @@ use Rattle.ln_parse.proofs.Wholes.WholeParts.{PredParts, table_parts}
 use Rattle.ln_due.specs.Due.{sign_number}
 use Rattle.ln_cemit.specs.Emitted.{sign_as_number}
 use Rattle.ln_top.specs.declared.frame.asked.Asked.TheVariants.{Nothing}
-use Rattle.ln_top.specs.declared.texts.written.Style.TheVariants.{Filtered}
 use Rattle.ln_top.specs.Texts.Emit.{emit_work}
-use Rattle.ln_top.specs.Texts.Written.{IsCIn}
+use Rattle.ln_top.specs.Texts.Written.{IsCOf, with_filters}
 use Rattle.ln_top.proofs.FrameLemmas.Laws.{IsLawful}
 use Rattle.ln_top.proofs.TextsLemmas.TextLaws.{lawful as text_lawful}
 
@@ -38,4 +37,4 @@ same_number Plus = refl
 
 -- the laws of a work hold for `emit`
 pub lawful : IsLawful Nothing emit_work
-lawful = text_lawful (IsCIn Filtered) ⊥ (λ v. absurd v)
+lawful = text_lawful (IsCOf with_filters) ⊥ (λ v. absurd v)

@@ -21,8 +21,7 @@ use Rattle.ln_top.specs.Frame.Said.{Said, put_both}
 use Rattle.ln_top.specs.Frame.Given.{Given}
 use Rattle.ln_top.specs.declared.words.Command.TheVariants.{Emit}
 use Rattle.ln_top.specs.Texts.Emit.{EmitSaid}
-use Rattle.ln_top.specs.Texts.Written.{CallIsDue, IsWrittenOf}
-use Rattle.ln_top.specs.declared.texts.written.Style.TheVariants as style
+use Rattle.ln_top.specs.Texts.Written.{CallIsDue, IsWrittenOf, with_filters}
 use Rattle.ln_cemit.specs.Heads.{heads_as, heads_of, part_heads}
 use Rattle.ln_cemit.specs.Whole.{Entered, every_row, part_name, parts_entered}
 use Rattle.ln_top.specs.Texts.Text.{prints}
@@ -82,7 +81,7 @@ call_signed file p row sound range d =
       plain = λ z. called_by_value file (pred_of p) row d (by_value BySmallest p.shape (pred_of p) row d.verdict refl refl range z d.due);
     }
 
-all_signed : (file : List Fun) (ps : List Pred) (xs : List Entered) → AreSound (map pred_of ps) → AllZip (IsWrittenOf style.Filtered file) (map pred_of ps) xs
+all_signed : (file : List Fun) (ps : List Pred) (xs : List Entered) → AreSound (map pred_of ps) → AllZip (IsWrittenOf with_filters file) (map pred_of ps) xs
     → All (OnRows (CallsPerturbedSign file)) (map pred_of ps)
 all_signed file [] xs s w = All-nil (OnRows (CallsPerturbedSign file))
 all_signed file (p ∷ ps) [] s w = absurd w
@@ -91,7 +90,7 @@ all_signed file (p ∷ ps) (x ∷ xs) s w =
     (all_signed file ps xs s.1 w.1)
 
 -- the functions of the file are those of programs with the predicates' names
-named_so : (file : List Fun) (ps : List PredOf) (xs : List Entered) → AllZip (IsWrittenOf style.Filtered file) ps xs
+named_so : (file : List Fun) (ps : List PredOf) (xs : List Entered) → AllZip (IsWrittenOf with_filters file) ps xs
     → (map part_name (parts_entered xs) ≡ map (λ (p : PredOf). p.name) ps) × (heads_as xs ≡ heads_of (parts_entered xs))
 named_so file [] [] w = (refl, refl)
 named_so file [] (x ∷ xs) w = absurd w

@@ -36,41 +36,47 @@ pub record CallIsDue (file : List Fun) (p : PredOf) (row : Row) : Type 0 where
   pub calls : counts.calls ≡ verdict.calls
   pub narrow : verdict.by ≡ Filter → counts.wide ≡ 0
 
--- what the calls of a predicate's function mean: what its rows require where the C has filters, else the perturbed signs
-abbrev pub CallsIn : Style → List Fun → PredOf → Entry → Type 0
-CallsIn style.Filtered file p n = OnRows (CallIsDue file) p
-CallsIn style.EveryRow file p n = OnRows (CallsSign file) p
-CallsIn style.OneOrder file p n = EntrySigns file p n
+-- what C promises of each predicate: of the program that is written for it, of the rows that its function is for, and of what the calls of that mean
+pub record Promise : Type 1 where
+  pub part : PredOf → Part → Type 0
+  pub entry : PredOf → Entry → Type 0
+  pub calls : List Fun → PredOf → Entry → Type 0
 
--- the entry of a predicate: that for every row, but by its symmetry in C of one order
-abbrev pub HasEntryIn : Style → PredOf → Entry → Type 0
-HasEntryIn style.Filtered p n = n ≡ EveryRow
-HasEntryIn style.EveryRow p n = n ≡ EveryRow
-HasEntryIn style.OneOrder p n = HasEntry p n
+-- with filters a program of the predicate, whose calls return what its rows require
+abbrev pub with_filters : Promise
+with_filters = record { part = IsProgramOf; entry = λ p n. n ≡ EveryRow; calls = λ file p n. OnRows (CallIsDue file) p }
 
--- the part is a program of the predicate where the C has filters, else one without a filter
-abbrev pub IsPartIn : Style → PredOf → Part → Type 0
-IsPartIn style.Filtered p c = IsProgramOf p c
-IsPartIn style.EveryRow p c = c.filter ≡ None
-IsPartIn style.OneOrder p c = c.filter ≡ None
+-- without them a program whose calls mean the perturbed signs, on every row
+abbrev pub for_every_row : Promise
+for_every_row = record { part = λ p c. c.filter ≡ None; entry = λ p n. n ≡ EveryRow; calls = λ file p n. OnRows (CallsSign file) p }
 
--- a program that is named after the predicate and has its entry, and the calls of its function
-pub record IsWrittenOf (s : Style) (file : List Fun) (p : PredOf) (x : Entered) : Type 0 where
+-- or in one order, on the rows that the predicate's symmetry leaves
+abbrev pub of_one_order : Promise
+of_one_order = record { part = λ p c. c.filter ≡ None; entry = HasEntry; calls = EntrySigns }
+
+-- a program that is named after the predicate, for which the promise is kept
+pub record IsWrittenOf (k : Promise) (file : List Fun) (p : PredOf) (x : Entered) : Type 0 where
   pub name : part_name x.part ≡ p.name
-  pub part : IsPartIn s p x.part
-  pub entry : HasEntryIn s p x.entry
-  pub calls : CallsIn s file p x.entry
+  pub part : k.part p x.part
+  pub entry : k.entry p x.entry
+  pub calls : k.calls file p x.entry
 
 -- the bytes are a file of the C subset, whose functions are those of such programs, one for each predicate in order, and no other: of each the
 -- filter's, if there is one, the blocks', and the one that isn't static
-pub record IsCIn (s : Style) (preds : List PredOf) (bytes : List ℕ) : Type 0 where
+pub record IsCOf (k : Promise) (preds : List PredOf) (bytes : List ℕ) : Type 0 where
   pub file : List Fun
   pub text : CText bytes file
   pub programs : List Entered
   pub heads : map head file ≡ heads_as programs
-  pub written : AllZip (IsWrittenOf s file) preds programs
+  pub written : AllZip (IsWrittenOf k file) preds programs
 
 -- ---- how it is written
+-- what C of each style promises
+abbrev pub promise_of : Style → Promise
+promise_of style.Filtered = with_filters
+promise_of style.EveryRow = for_every_row
+promise_of style.OneOrder = of_one_order
+
 -- what is written of a program: the program itself, the one without its filter, or the one of one order of the sites
 abbrev pub written_part : Style → Entry → Part → Part
 written_part style.Filtered n c = c
@@ -92,5 +98,5 @@ OfNumber ps i holds = (p : PredOf) → slice_get ps i ≡ Some p → holds p
 -- the bytes begin the C of what is written of programs of the first i predicates, one for each in order
 pub record BeginsC (s : Style) (preds : List PredOf) (i : ℕ) (bytes : List ℕ) : Type 0 where
   pub programs : List Entered
-  pub are : AllZip (λ p (x : Entered). HasEntryIn s p x.entry × IsWrittenPart s p x.entry x.part) (take i preds) programs
+  pub are : AllZip (λ p (x : Entered). (promise_of s).entry p x.entry × IsWrittenPart s p x.entry x.part) (take i preds) programs
   pub begins : BeginsFileAs bytes programs

@@ -3,7 +3,7 @@ ghost use Rattle.std.specs.Prelude.{◌≡◌, ◌≢◌, ◌<◌, ◌+◌, IfOk
 ghost use Rattle.ln_tree.specs.Table.{pred_of};
 ghost use Rattle.ln_compile.specs.Accepted.{AreSound};
 ghost use Rattle.ln_top.specs.OneOrder.{reduced};
-ghost use Rattle.ln_top.specs.Texts.Written.{BeginsC, HasEntryIn, IsCIn, IsWrittenPart, OfNumber};
+ghost use Rattle.ln_top.specs.Texts.Written.{BeginsC, IsCOf, IsWrittenPart, OfNumber, promise_of};
 
 use crate::unfiltered::entry_of;
 use ln_base::NoMemory;
@@ -24,7 +24,7 @@ pub enum Style {
 // The entry of predicate number i: which rows its function is for.
 fn entry_in(source: &Checked, i: usize, style: Style) -> Entry
     requires { i < length source.now.table.preds }
-    ensures { OfNumber (map pred_of source.now.table.preds) i (λ p. HasEntryIn style p result) }
+    ensures { OfNumber (map pred_of source.now.table.preds) i (λ p. (promise_of style).entry p result) }
 {
     match style {
         Style::Filtered => Entry::EveryRow,
@@ -87,7 +87,7 @@ fn put_written(
 /// C for the predicates of a source, of whose programs no two are there at once.
 pub fn written(alloc: Global, source: &Checked, style: Style) -> Result<Vec<u8>, NoMemory>
     requires { style ≢ Style.Filtered → AreSound (map pred_of source.now.table.preds) }
-    ensures { IfOk result (λ v. IsCIn style (map pred_of source.now.table.preds) v.items) }
+    ensures { IfOk result (λ v. IsCOf (promise_of style) (map pred_of source.now.table.preds) v.items) }
 {
     let mut text = begin_file(alloc)?;
     'each: for i in 0..source.table().preds.as_slice().len() {
