@@ -4,7 +4,7 @@ ghost use Rattle.ln_tree.specs.Table.{pred_of};
 ghost use Rattle.ln_top.specs.Texts.Check.{AreCounts, CheckSaid, count_text};
 ghost use Rattle.ln_top.specs.Frame.Carried.{CarriesOut, NoPart};
 ghost use Rattle.ln_top.specs.Frame.Ready.{StandsFor};
-ghost use Rattle.ln_top.specs.Frame.Said.{count, line};
+ghost use Rattle.ln_top.specs.Frame.Said.{OnConsole, line};
 ghost use Rattle.ln_top.specs.Frame.Given.{Given};
 
 use crate::frame::put::add_number;

@@ -1,5 +1,5 @@
-use Rattle.std.proofs.Common.{ap, sym, ◌∙◌, map}
-use Rattle.ln_tree.specs.Table.{TableOf, pred_of}
+use Rattle.std.proofs.Common.{ap, sym}
+use Rattle.ln_tree.specs.Table.{TableOf}
 use Rattle.ln_top.proofs.JudgesLemmas.VerifyLaws.{text_fault, text_valid}
 use Rattle.ln_top.proofs.judges.verify.first_fault.Goals as goal
 
